@@ -8,7 +8,9 @@ mod drops;
 mod makers;
 mod syntax;
 
-pub use drops::{discard, discard_all, discard_definition, discard_module, discard_pattern};
+pub use drops::{
+    discard, discard_all, discard_definition, discard_definitions, discard_module, discard_pattern,
+};
 pub use syntax::{
     Clause, Expr, Form, Fun, FunDef, FunDefOf, FunName, FunOf, Literal, Mark, Module, Note,
     PatForm, PatSegment, Pattern, Segment, Step, StepOf, TryOf, TryParts, VarName,

@@ -1,0 +1,4 @@
+pub mod Counts
+pub mod ShelfState
+pub mod SinkState
+pub mod Told

@@ -1,0 +1,25 @@
+-- What a shelf and a sink tell of themselves. A fake in memory tells all, and a file system nothing.
+use Rattle.std.specs.Prelude.{◌≡◌, ℕ, ◌≤◌, List, ◌++◌, length, take, Option, Some, None, IfSome, option_map}
+use Rattle.std.specs.Ordering.{nat_cmp}
+use Rattle.std.specs.Cmp.Lexicographic.{slice_cmp}
+use Rattle.std.specs.FinMap.{FinMap, get}
+
+-- what is held: bytes, each under a name
+abbrev pub Files : Type 0
+Files = FinMap (slice_cmp nat_cmp) (List ℕ)
+
+-- These bytes are held under the name, where the shelf tells what it holds.
+abbrev pub Holds : Option Files → List ℕ → List ℕ → Type 0
+Holds told name bytes = IfSome told (λ files. get files name ≡ Some bytes)
+
+-- Nothing is held under the name, where the shelf tells what it holds.
+abbrev pub Lacks : Option Files → List ℕ → Type 0
+Lacks told name = IfSome told (λ files. get files name ≡ None)
+
+-- what was written, with more behind it, where the sink tells what was written
+abbrev pub appended : Option (List ℕ) → List ℕ → Option (List ℕ)
+appended told more = option_map (λ all. all ++ more) told
+
+-- A front of these bytes was written, and nothing else.
+abbrev pub IsFrontAppended : Option (List ℕ) → Option (List ℕ) → List ℕ → Type 0
+IsFrontAppended before now bytes = (n : ℕ) × (n ≤ length bytes) × (now ≡ appended before (take n bytes))

@@ -1,0 +1,23 @@
+//! The outside of the analyser, as traits: a shelf that files are read from, a sink that output goes
+//! to, and a gate that workers pass. With each come a fake in memory, whose every answer is known, and
+//! the one that the program runs on.
+#![tactic(auto)]
+
+mod file_shelf;
+mod gate;
+mod listed;
+mod mem_shelf;
+mod mem_sink;
+mod shelf;
+mod sink;
+mod stdout_sink;
+#[cfg(test)]
+mod tests;
+
+pub use file_shelf::FileShelf;
+pub use gate::{Gate, OpenGate};
+pub use mem_shelf::MemShelf;
+pub use mem_sink::MemSink;
+pub use shelf::{Shelf, ShelfFault};
+pub use sink::{Sink, SinkFault, give};
+pub use stdout_sink::StdoutSink;
