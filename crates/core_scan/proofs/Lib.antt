@@ -1,0 +1,9 @@
+pub mod RunLemmas
+pub mod EscapeLemmas
+pub mod NumberLemmas
+pub mod InsideLemmas
+pub mod Reach
+pub mod OnceLemmas
+pub mod ShapeLemmas
+pub mod PassLemmas
+pub mod AnswerLemmas

@@ -1,0 +1,99 @@
+-- Runs of bytes of a kind, and tables of byte strings.
+use Rattle.std.proofs.Common.{◌≡◌, ℕ, zero, suc, ◌+◌, ◌<◌, ◌≤◌, List, [], ◌∷◌, ◌++◌, length, take, drop, get_or, map, refl, sym, ap, ◌∙◌, subst, ◌⊎◌, inl, inr, Bool, true, false, cond, arith, ◌||◌, ◌&&◌, ◌==◌}
+use Rattle.std.specs.List.{prefix_len, list_all}
+use Rattle.std.proofs.lemmas.Bool.Decides.{Decides-eqb}
+use Rattle.std.proofs.lemmas.List.{take_at}
+use Rattle.core_scan.specs.Escapes.{AllOf, NoneAhead}
+use Rattle.core_scan.specs.Vocabulary.{IsOneOf}
+
+-- ---- runs
+
+pub prefix_len-append : (p : ℕ → Bool) (xs ys : List ℕ) → AllOf p xs → prefix_len p (xs ++ ys) ≡ length xs + prefix_len p ys
+prefix_len-append p [] ys h = omega arith
+prefix_len-append p (x ∷ xs) ys h = rw h.0 (let e : prefix_len p (xs ++ ys) ≡ length xs + prefix_len p ys = prefix_len-append p xs ys h.1 in omega arith)
+
+pub prefix_len-none : (p : ℕ → Bool) (ys : List ℕ) → NoneAhead p ys → prefix_len p ys ≡ 0
+prefix_len-none p [] h = refl
+prefix_len-none p (y ∷ ys) h = rw h refl
+
+-- a whole run, at which another kind of byte follows
+pub prefix_len-run : (p : ℕ → Bool) (xs ys : List ℕ) → AllOf p xs → NoneAhead p ys → prefix_len p (xs ++ ys) ≡ length xs
+prefix_len-run p xs ys h k =
+    let e : prefix_len p (xs ++ ys) ≡ length xs + prefix_len p ys = prefix_len-append p xs ys h in
+    let n : prefix_len p ys ≡ 0 = prefix_len-none p ys k in omega arith
+
+pub take-run : (p : ℕ → Bool) (n : ℕ) (xs : List ℕ) → n ≤ prefix_len p xs → AllOf p (take n xs)
+take-run p zero xs h = tt
+take-run p (suc n) [] h = tt
+take-run p (suc n) (x ∷ xs) h = go (p x) refl (take-run p n xs)
+  where
+    go : (b : Bool) → p x ≡ b → (n ≤ prefix_len p xs → AllOf p (take n xs)) → AllOf p (take (suc n) (x ∷ xs))
+    go true e more = (e, more (let l : suc n ≤ 1 + prefix_len p xs = rw e at h in omega arith))
+    go false e more = absurd (let l : suc n ≤ 0 = rw e at h in omega arith)
+
+pub run_ends : (p : ℕ → Bool) (xs : List ℕ) → NoneAhead p (drop (prefix_len p xs) xs)
+run_ends p [] = tt
+run_ends p (x ∷ xs) = go (p x) refl (run_ends p xs)
+  where
+    go : (b : Bool) → p x ≡ b → NoneAhead p (drop (prefix_len p xs) xs) → NoneAhead p (drop (cond (p x) (1 + prefix_len p xs) 0) (x ∷ xs))
+    go true e more = rw e (let q : 1 + prefix_len p xs ≡ suc (prefix_len p xs) = omega arith in rw q more)
+    go false e more = rw e e
+
+pub AllOf-append : (p : ℕ → Bool) (xs ys : List ℕ) → AllOf p xs → AllOf p ys → AllOf p (xs ++ ys)
+AllOf-append p [] ys h k = k
+AllOf-append p (x ∷ xs) ys h k = (h.0, AllOf-append p xs ys h.1 k)
+
+-- ---- tables
+
+pub one_of_all : (test : List ℕ → Bool) (xs : List (List ℕ)) (x : List ℕ) → list_all test xs ≡ true → IsOneOf xs x → test x ≡ true
+one_of_all test [] x h o = absurd o
+one_of_all test (y ∷ ys) x h o = go (test y) refl h o (one_of_all test ys x)
+  where
+    go : (b : Bool) → test y ≡ b → (test y && list_all test ys) ≡ true → (x ≡ y) ⊎ IsOneOf ys x → (list_all test ys ≡ true → IsOneOf ys x → test x ≡ true) → test x ≡ true
+    go true e k (inl q) more = rw q e
+    go true e k (inr q) more = more (rw e at k) q
+    go false e k o more = let w : false ≡ true = rw e at k in cc
+
+module _ {X : Type 0} (f : X → List ℕ) where
+  pub one_of_at : (xs : List X) (i : ℕ) (d : X) (w : List ℕ) → i < length xs → f (get_or xs i d) ≡ w → IsOneOf (map f xs) w
+  one_of_at [] i d w h e = absurd (omega arith)
+  one_of_at (x ∷ xs) zero d w h e = inl (sym e)
+  one_of_at (x ∷ xs) (suc i) d w h e = inr (one_of_at xs i d w (omega arith) e)
+
+  pub none_of_more : (xs : List X) (i : ℕ) (d : X) (w : List ℕ) → (IsOneOf (map f (take i xs)) w → ⊥) → i < length xs → (f (get_or xs i d) ≡ w → ⊥) → IsOneOf (map f (take (suc i) xs)) w → ⊥
+  none_of_more [] i d w h l n o = omega arith
+  none_of_more (x ∷ xs) zero d w h l n (inl e) = n (sym e)
+  none_of_more (x ∷ xs) zero d w h l n (inr o) = o
+  none_of_more (x ∷ xs) (suc i) d w h l n (inl e) = h (inl e)
+  none_of_more (x ∷ xs) (suc i) d w h l n (inr o) = none_of_more xs i d w (λ z. h (inr z)) (omega arith) n o
+
+-- ---- one test after another
+
+pub or_cases : (P : Type 0) (x y : Bool) → (x ≡ true → P) → (y ≡ true → P) → (x || y) ≡ true → P
+or_cases P true y f g h = f refl
+or_cases P false y f g h = g h
+
+pub eq_from_test : (a b : ℕ) → (a == b) ≡ true → a ≡ b
+eq_from_test a b h = (Decides-eqb a b).0 h
+
+-- the last of several tests on a number
+pub or_last : (P : ℕ → Type 0) (a k : ℕ) (x : Bool) → (x ≡ true → P a) → P k → (x || (a == k)) ≡ true → P a
+or_last P a k x f g = or_cases (P a) x (a == k) f (λ e. subst P (sym (eq_from_test a k e)) g)
+
+pub cond_cases : {A : Type 0} (P : Type 0) (b : Bool) (x y z : A) → (b ≡ true → x ≡ z → P) → (b ≡ false → y ≡ z → P) → cond b x y ≡ z → P
+cond_cases P true x y z f g e = f refl e
+cond_cases P false x y z f g e = g refl e
+
+-- ---- fronts
+
+pub same_front : {X : Type 0} (a b x y : List X) → a ++ x ≡ b ++ y → length a ≡ length b → a ≡ b
+same_front a b x y same long = sym (take_at a x (length a) refl) ∙ ap (take (length a)) same ∙ take_at b y (length a) (sym long)
+
+pub take-add : {X : Type 0} (n m : ℕ) (xs : List X) → take (n + m) xs ≡ take n xs ++ take m (drop n xs)
+take-add zero m xs = let e : 0 + m ≡ m = omega arith in rw e refl
+take-add {X} (suc n) m [] = let e : suc n + m ≡ suc (n + m) = omega arith in rw e (none m)
+  where
+    none : (k : ℕ) → ◌≡◌ {A = List X} [] (take k [])
+    none zero = refl
+    none (suc k) = refl
+take-add {X} (suc n) m (x ∷ xs) = let e : suc n + m ≡ suc (n + m) = omega arith in rw e (ap (λ (l : List X). x ∷ l) (take-add n m xs))

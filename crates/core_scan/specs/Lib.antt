@@ -1,0 +1,7 @@
+pub mod Bytes
+pub mod Vocabulary
+pub mod Escapes
+pub mod Spells
+pub mod Lexed
+pub mod Fronts
+pub mod Found

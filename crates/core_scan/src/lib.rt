@@ -1,0 +1,23 @@
+//! The tokens of Core Erlang: from the bytes of a text to its tokens, or to its first fault.
+#![tactic(auto)]
+
+mod classes;
+mod escapes;
+mod laws;
+mod numbers;
+mod places;
+mod quotes;
+mod runs;
+mod scanner;
+mod shapes;
+mod symbols;
+mod token;
+mod vocabulary;
+
+pub use laws::{first_fault_once, lexed_once, lexed_or_fault, lexed_without_fault};
+pub use places::end_place;
+pub use scanner::scan;
+pub use token::{ScanFault, Token, TokenKind};
+
+#[cfg(test)]
+mod tests;

@@ -1,0 +1,38 @@
+// How many bytes at the front are of a class.
+ghost use Rattle.std.specs.Prelude.{◌≡◌, ◌≤◌, length};
+ghost use Rattle.std.specs.List.{prefix_len};
+ghost use Rattle.core_scan.specs.Bytes.{is_digit, is_octal, is_name_byte, is_no_line_feed};
+
+use crate::classes::{is_digit, is_name_byte, is_octal};
+
+/// Of letters, digits, `_` and `@`.
+pub fn name_len(rest: &[u8]) -> usize
+    ensures run { result ≡ prefix_len is_name_byte rest.now }
+    ensures within { result ≤ length rest.now }
+{
+    rest.iter().take_while(|byte| is_name_byte(**byte)).count()
+}
+
+/// Of decimal digits.
+pub fn digits_len(rest: &[u8]) -> usize
+    ensures run { result ≡ prefix_len is_digit rest.now }
+    ensures within { result ≤ length rest.now }
+{
+    rest.iter().take_while(|byte| is_digit(**byte)).count()
+}
+
+/// Of octal digits.
+pub fn octals_len(rest: &[u8]) -> usize
+    ensures run { result ≡ prefix_len is_octal rest.now }
+    ensures within { result ≤ length rest.now }
+{
+    rest.iter().take_while(|byte| is_octal(**byte)).count()
+}
+
+/// Up to an LF.
+pub fn line_len(rest: &[u8]) -> usize
+    ensures run { result ≡ prefix_len is_no_line_feed rest.now }
+    ensures within { result ≤ length rest.now }
+{
+    rest.iter().take_while(|byte| **byte != b'\n').count()
+}
