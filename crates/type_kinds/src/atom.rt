@@ -1,9 +1,15 @@
-ghost use Rattle.std.specs.Prelude.{◌≡◌, ◌++◌, ◌^◌, ◌<◌, ◌↔◌, length, take, IsTrue, IfOk, OnOk, OnErr};
+ghost use Rattle.std.specs.Prelude.{◌≡◌, ◌++◌, ◌^◌, ◌<◌, ◌↔◌, length, take, IsTrue, IfOk, OnOk, OnErr, nat_eq};
+ghost use Rattle.std.specs.Hash as fed;
+ghost use Rattle.std.specs.Cmp.Lexicographic.{pointwise, nat_list_eq_equiv};
+ghost use Rattle.std.specs.Cmp.{partial_equiv_from_equiv};
+ghost use Rattle.std.specs.Cmp.Rules.{hashing};
+ghost use Rattle.std.proofs.Common.{rules};
 ghost use Rattle.type_kinds.specs.Quoted.{quoted, escaped, all_escaped};
 
 use crate::list::{Bytes, List};
 use crate::memory::Memory;
 use std::alloc::Global;
+use std::hash::{Hash, Hasher};
 use std::marker::Model;
 
 /// An atom. Contracts see its bytes.
@@ -18,6 +24,30 @@ impl Model for Atom {
     ghost Value = { List ℕ };
 
     ghost view = { λ atom. atom.bytes };
+}
+
+impl PartialEq for Atom {
+    ghost eq = { pointwise nat_eq };
+
+    ghost laws = { partial_equiv_from_equiv nat_list_eq_equiv };
+
+    fn eq(&self, other: &Atom) -> bool {
+        self.bytes.as_slice() == other.bytes.as_slice()
+    }
+}
+
+impl Eq for Atom {
+    ghost laws = { nat_list_eq_equiv };
+}
+
+impl Hash for Atom {
+    ghost hash_input = { fed.slice fed.u8 };
+
+    ghost respects_eq = { Prim.search (hashing, rules) };
+
+    fn hash<H: Hasher>(&self, state: &mut H) {
+        self.bytes.as_slice().hash(state);
+    }
 }
 
 impl Atom {

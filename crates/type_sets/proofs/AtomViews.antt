@@ -1,0 +1,147 @@
+-- What the code's set of atoms stands for, by its kinds.
+use Rattle.std.proofs.Common.{◌≡◌, ◌↔◌, IsTrue, Result, IfOk, ℕ, ◌≤◌, ◌<◌, ◌+◌, Bool, true, false, ◌&&◌, ◌||◌, List, [], ◌∷◌, length, filter, take, get_or, refl, sym, ap, ◌∙◌, subst, arith, true≢false}
+use Rattle.std.proofs.lemmas.Result.{IfOk-weaker}
+use Rattle.std.proofs.lemmas.List.{take_all}
+use Rattle.std.proofs.lemmas.List.Folds.{list_any_at, list_any_more}
+use Rattle.std.specs.Ordering.{eq_by_cmp}
+use Rattle.std.specs.List.{list_all}
+use Rattle.type_sets.specs.declared.atom_set.Kind.{Kind}
+use Rattle.type_sets.specs.declared.atom_set.Kind.TheVariants.{Nothing, Listed, Every}
+use Rattle.type_sets.specs.Ascending.{has_item, merged}
+use Rattle.type_sets.specs.Names.{Name, Names, name_cmp, some, every, are_listed, has, Below, none, or_else, listed, meet, join, is_none, or_else-yes}
+use Rattle.type_sets.specs.AtomKinds.{names_of, IsKept}
+use Rattle.type_sets.proofs.Truths.{is_false}
+use Rattle.type_sets.proofs.AscendingLaws as ascending
+use Rattle.type_sets.proofs.NameLaws.{name_total, name_same, not_listed, listed-filter, listed-few, listed-merged, or_else-no, has-meet, join-left, join-right, join-least, is_none-is, same_by, same_names}
+
+pub listed_kind : (k : Kind) (v : List Name) (s : Names) → names_of k ≡ s → IsKept k → k ≡ Listed v → (e : are_listed v ≡ true) × (s ≡ some v e)
+listed_kind k v s view kept is =
+    let e : (are_listed v ≡ true) × (v ≡ [] → ⊥) = subst IsKept is kept in
+    (e.0, sym view ∙ ap names_of is ∙ or_else-yes v none e.0)
+
+filled : (v : List Name) (e : are_listed v ≡ true) → (v ≡ [] → ⊥) → false ≡ is_none (some v e)
+filled [] e h = absurd (h refl)
+filled (x ∷ xs) e h = refl
+
+pub filled_kind : (k : Kind) (v : List Name) (s : Names) → names_of k ≡ s → IsKept k → k ≡ Listed v → false ≡ is_none s
+filled_kind k v s view kept is =
+    let e : (are_listed v ≡ true) × (v ≡ [] → ⊥) = subst IsKept is kept in
+    filled v e.0 e.1 ∙ ap is_none (sym (sym view ∙ ap names_of is ∙ or_else-yes v none e.0))
+
+pub nothing_kind : (k : Kind) (s : Names) → names_of k ≡ s → k ≡ Nothing → s ≡ none
+nothing_kind k s view is = sym view ∙ ap names_of is
+
+pub every_kind : (k : Kind) (s : Names) → names_of k ≡ s → k ≡ Every → s ≡ every
+every_kind k s view is = sym view ∙ ap names_of is
+
+pub nothing_listed : (s : Names) → s ≡ none → s ≡ listed []
+nothing_listed s is = is ∙ sym (or_else-yes [] none refl)
+
+pub none-listed : (s : Names) (v : List Name) → s ≡ none → v ≡ [] → s ≡ listed v
+none-listed s v is empty = is ∙ sym (ap listed empty ∙ or_else-yes [] none refl)
+
+pub empty_when : (r : Bool) (s : Names) → r ≡ is_none s → IsTrue r ↔ (s ≡ none)
+empty_when r s e = (λ h. is_none-is s (sym e ∙ h), λ h. e ∙ ap is_none h)
+
+-- ---- membership
+
+pub found_at : (xs : List Name) (i : ℕ) (q d : Name) → i < length xs → q ≡ get_or xs i d → has_item name_cmp xs q ≡ true
+found_at xs i q d h is = list_any_at (eq_by_cmp name_cmp q) xs i d h (ap (eq_by_cmp name_cmp q) (sym is) ∙ ascending.itself name_total name_same q)
+
+pub not_yet : (xs : List Name) (i : ℕ) (q d : Name) → i < length xs → has_item name_cmp (take i xs) q ≡ false → (q ≡ get_or xs i d → ⊥) → has_item name_cmp (take (i + 1) xs) q ≡ false
+not_yet xs i q d h before other =
+    list_any_more (eq_by_cmp name_cmp q) xs i d h
+    ∙ ap (λ b. b || eq_by_cmp name_cmp q (get_or xs i d)) before
+    ∙ is_false (eq_by_cmp name_cmp q (get_or xs i d)) (λ e. other (ascending.is_it name_total name_same q (get_or xs i d) e))
+
+pub has_listed : (s : Names) (xs : List Name) (e : are_listed xs ≡ true) (r : Bool) (q : Name) → s ≡ some xs e → r ≡ has_item name_cmp xs q → r ≡ has s q
+has_listed s xs e r q is h = h ∙ sym (ap (λ t. has t q) is)
+
+-- ---- inclusion, by the kinds
+
+pub below_listed : (s t : Names) (xs : List Name) (e : are_listed xs ≡ true) (r : Bool) → s ≡ some xs e → r ≡ list_all (has t) xs → IsTrue r ↔ Below s t
+below_listed s t xs e r is all = (
+  λ h q m. ascending.all-item name_total name_same (has t) xs q (sym all ∙ h) (sym (ap (λ u. has u q) is) ∙ m),
+  λ f. all ∙ ascending.all-from_items name_total name_same (has t) xs (λ q m. f q (ap (λ u. has u q) is ∙ m)),
+)
+
+pub every-not_listed : (s t : Names) (ys : List Name) (e : are_listed ys ≡ true) → s ≡ every → t ≡ some ys e → IsTrue false ↔ Below s t
+every-not_listed s t ys e is it = (
+  λ x. absurd (true≢false (sym x)),
+  λ p. absurd (not_listed ys e (λ q. sym (ap (λ u. has u q) it) ∙ p q (ap (λ u. has u q) is))),
+)
+
+pub every-not_none : (s t : Names) → s ≡ every → t ≡ none → IsTrue false ↔ Below s t
+every-not_none s t is it = every-not_listed s t [] refl is it
+
+pub none-below : (s t : Names) → s ≡ none → IsTrue true ↔ Below s t
+none-below s t is = (λ _ q m. absurd (true≢false (sym m ∙ ap (λ u. has u q) is)), λ _. refl)
+
+-- ---- the meet, by the kinds
+
+pub listed-kept : (p : Name → Bool) (xs ys : List Name) (i : ℕ) → are_listed xs ≡ true → length xs ≤ i → ys ≡ filter p (take i xs) → are_listed ys ≡ true
+listed-kept p xs ys i e le is = ap are_listed (is ∙ ap (filter p) (take_all i xs le)) ∙ listed-filter p xs e
+
+pub meet_listed : (s t : Names) (xs : List Name) (e : are_listed xs ≡ true) (r : Names) → s ≡ some xs e → r ≡ listed (filter (has t) xs) → r ≡ meet s t
+unfolding meet
+meet_listed s t xs e r is h = h ∙ sym (ap (λ u. meet u t) is)
+
+pub meet_every : (s t r : Names) → s ≡ every → r ≡ t → r ≡ meet s t
+unfolding meet
+meet_every s t r is h = h ∙ sym (ap (λ u. meet u t) is)
+
+pub meet_none : (s t r : Names) → s ≡ none → r ≡ none → r ≡ meet s t
+meet_none s t r is h = h ∙ same_by none (meet s t) (λ q. sym (has-meet s t q ∙ ap (λ u. has u q && has t q) is))
+
+pub has_meet : (s t r : Names) → r ≡ meet s t → (q : Name) → has r q ≡ (has s q && has t q)
+has_meet s t r is q = ap (λ u. has u q) is ∙ has-meet s t q
+
+-- ---- the join, by the kinds
+
+pub join_listed : (s t : Names) (xs ys : List Name) (e : are_listed xs ≡ true) (f : are_listed ys ≡ true) (r : Names) → s ≡ some xs e → t ≡ some ys f → r ≡ or_else (merged name_cmp xs ys) every → r ≡ join s t
+unfolding join
+join_listed s t xs ys e f r is it h = h ∙ sym (λ i. join (is i) (it i))
+
+-- what is too long before its end isn't listed at its end
+pub join_long : (xs ys : List Name) (i : ℕ) → 13 < length (merged name_cmp xs (take i ys)) → or_else (merged name_cmp xs ys) every ≡ every
+join_long xs ys i long =
+    let longer = ascending.merged-longer name_total name_same xs ys i in
+    or_else-no (merged name_cmp xs ys) every (is_false (are_listed (merged name_cmp xs ys)) (λ e. let few = listed-few (merged name_cmp xs ys) e in absurd (omega arith)))
+
+-- what is short at its end is listed
+pub join_short : (xs ys : List Name) → are_listed xs ≡ true → (i : ℕ) → length ys ≤ i → (zs : List Name) → zs ≡ merged name_cmp xs (take i ys) → length zs < 14 → (are_listed zs ≡ true) × (listed zs ≡ or_else (merged name_cmp xs ys) every)
+join_short xs ys e i le zs is few =
+    let whole : zs ≡ merged name_cmp xs ys = is ∙ ap (merged name_cmp xs) (take_all i ys le) in
+    let short : length (merged name_cmp xs ys) < 14 = omega (arith, ap length whole) in
+    let d : are_listed (merged name_cmp xs ys) ≡ true = listed-merged xs ys e short in
+    (ap are_listed whole ∙ d, ap listed whole ∙ or_else-yes (merged name_cmp xs ys) none d ∙ sym (or_else-yes (merged name_cmp xs ys) every d))
+
+pub join_with_every : (s t : Names) (xs : List Name) (e : are_listed xs ≡ true) (r : Names) → s ≡ some xs e → t ≡ every → r ≡ every → r ≡ join s t
+unfolding join
+join_with_every s t xs e r is it h = h ∙ sym (λ i. join (is i) (it i))
+
+pub join_every : (s t r : Names) → s ≡ every → r ≡ every → r ≡ join s t
+unfolding join
+join_every s t r is h = h ∙ sym (ap (λ u. join u t) is)
+
+pub above_left : (s t r : Names) → r ≡ join s t → Below s r
+above_left s t r is q h = ap (λ u. has u q) is ∙ join-left s t q h
+
+pub above_right : (s t r : Names) → r ≡ join s t → Below t r
+above_right s t r is q h = ap (λ u. has u q) is ∙ join-right s t q h
+
+pub least_above : (s t r : Names) → r ≡ join s t → (u : Names) → Below s u → Below t u → Below r u
+least_above s t r is u f g q h = join-least s t u f g q (sym (ap (λ v. has v q) is) ∙ h)
+
+none-part : (s t : Names) → s ≡ none → Below s t
+none-part s t is q m = absurd (true≢false (sym m ∙ ap (λ u. has u q) is))
+
+pub join_none_left : (s t r : Names) → s ≡ none → r ≡ t → r ≡ join s t
+join_none_left s t r is h = h ∙ same_names t (join s t) (join-right s t) (join-least s t t (none-part s t is) (λ q m. m))
+
+pub join_none_right : (s t r : Names) → t ≡ none → r ≡ s → r ≡ join s t
+join_none_right s t r is h = h ∙ same_names s (join s t) (join-left s t) (join-least s t s (λ q m. m) (none-part t s is))
+
+-- what follows from what is known of the value
+pub ok_then : {X E : Type 0} (r : Result X E) {P Q : X → Type 0} → IfOk r P → ((x : X) → P x → Q x) → IfOk r Q
+ok_then r {P} {Q} h f = IfOk-weaker r P Q f h

@@ -1,0 +1,12 @@
+pub mod AscendingLaws
+mod AtomViews
+pub mod BitHeights
+pub mod BitLaws
+pub mod EndLaws
+pub mod HeightLaws
+mod IntViews
+pub mod NameHeights
+pub mod NameLaws
+pub mod NumberHeights
+pub mod NumberLaws
+pub mod Truths

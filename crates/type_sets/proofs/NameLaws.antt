@@ -1,0 +1,186 @@
+-- The laws of sets of atoms.
+use Rattle.std.proofs.Common.{◌≡◌, ◌≤◌, ◌||◌, ◌↔◌, IsTrue, ◌<◌, Bool, true, false, ◌&&◌, inl, inr, List, [], ◌∷◌, length, filter, refl, sym, ap, ◌∙◌, arith, true≢false}
+use borrow.Author.Tests.{ltb-true, lt-ltb}
+use mathlib.Core.HLevel.{is_prop→PathP}
+use Rattle.std.specs.Prelude.{nat_lt}
+use Rattle.std.specs.Coded.{Coded-set, coded_bool}
+use Rattle.std.specs.Ordering.{eq_by_cmp}
+use Rattle.std.specs.Cmp.{IsTotalOrder}
+use Rattle.std.specs.Cmp.Lexicographic.{nat_list_cmp_total}
+use Rattle.std.specs.FinSet.{IsAntisymmetric, nat_cmp-IsAntisymmetric, slice_cmp-IsAntisymmetric}
+use Rattle.type_sets.specs.Ascending.{is_ascending, has_item, merged}
+use Rattle.type_sets.specs.Names.{Name, name_cmp, Names, some, every, are_listed, has, Below, none, or_else, listed, meet, join, is_none, or_else-yes}
+use Rattle.type_sets.proofs.Truths.{both, first, second, in_first, in_second, either, decided, is_false}
+use Rattle.type_sets.proofs.AscendingLaws as ascending
+
+pub name_total : IsTotalOrder name_cmp
+name_total = nat_list_cmp_total
+
+pub name_same : IsAntisymmetric name_cmp
+name_same = slice_cmp-IsAntisymmetric nat_cmp-IsAntisymmetric
+
+-- ---- what may be listed
+
+pub listed-ascending : (xs : List Name) → are_listed xs ≡ true → is_ascending name_cmp xs ≡ true
+listed-ascending xs e = first (is_ascending name_cmp xs) (nat_lt (length xs) 14) e
+
+pub listed-few : (xs : List Name) → are_listed xs ≡ true → length xs < 14
+listed-few xs e = ltb-true (length xs) 14 (second (is_ascending name_cmp xs) (nat_lt (length xs) 14) e)
+
+pub listed-from : (xs : List Name) → is_ascending name_cmp xs ≡ true → length xs < 14 → are_listed xs ≡ true
+listed-from xs a k = both (is_ascending name_cmp xs) (nat_lt (length xs) 14) a (lt-ltb (length xs) 14 k)
+
+pub listed-filter : (p : Name → Bool) (xs : List Name) → are_listed xs ≡ true → are_listed (filter p xs) ≡ true
+listed-filter p xs e =
+    let le = ascending.length-filter_le name_total name_same p xs in
+    let few = listed-few xs e in
+    listed-from (filter p xs) (ascending.ascending-filter name_total name_same p xs (listed-ascending xs e)) (omega arith)
+
+-- two lists together may be listed where they are few enough
+pub listed-merged : (xs ys : List Name) → are_listed xs ≡ true → length (merged name_cmp xs ys) < 14 → are_listed (merged name_cmp xs ys) ≡ true
+listed-merged xs ys e k = listed-from (merged name_cmp xs ys) (ascending.ascending-merged name_total name_same xs ys (listed-ascending xs e)) k
+
+pub or_else-no : (xs : List Name) (t : Names) → are_listed xs ≡ false → or_else xs t ≡ t
+unfolding or_else
+or_else-no xs t e = elim (are_listed xs) as (λ b. (f : are_listed xs ≡ b) → elim b as (λ c. are_listed xs ≡ c → Names) [ true ↦ λ g. some xs g | false ↦ λ _. t ] f ≡ t) [
+  | true ↦ λ f. absurd (true≢false (sym f ∙ e))
+  | false ↦ λ f. refl
+] refl
+
+pub has-listed : (xs : List Name) (t : Names) (q : Name) → are_listed xs ≡ true → has (or_else xs t) q ≡ has_item name_cmp xs q
+has-listed xs t q e = ap (λ s. has s q) (or_else-yes xs t e)
+
+-- ---- the meet is exact
+
+pub has-meet : (s t : Names) (q : Name) → has (meet s t) q ≡ (has s q && has t q)
+unfolding meet
+has-meet (some xs e) t q = has-listed (filter (has t) xs) none q (listed-filter (has t) xs e) ∙ ascending.has-filter name_total name_same (has t) xs q
+has-meet every t q = refl
+
+-- ---- all atoms are more than thirteen
+
+fourteen : List Name
+fourteen = (0 ∷ []) ∷ (1 ∷ []) ∷ (2 ∷ []) ∷ (3 ∷ []) ∷ (4 ∷ []) ∷ (5 ∷ []) ∷ (6 ∷ []) ∷ (7 ∷ []) ∷ (8 ∷ []) ∷ (9 ∷ []) ∷ (10 ∷ []) ∷ (11 ∷ []) ∷ (12 ∷ []) ∷ (13 ∷ []) ∷ []
+
+fourteen-ascending : is_ascending name_cmp fourteen ≡ true
+unfolding fourteen
+fourteen-ascending = refl
+
+fourteen-length : length fourteen ≡ 14
+unfolding fourteen
+fourteen-length = refl
+
+pub not_listed : (xs : List Name) → are_listed xs ≡ true → ((q : Name) → has_item name_cmp xs q ≡ true) → ⊥
+not_listed xs e f =
+    let le = ascending.length-part name_total name_same xs fourteen fourteen-ascending (listed-ascending xs e) (λ q m. f q) in
+    let few = listed-few xs e in
+    absurd (omega (arith, fourteen-length))
+
+-- ---- the join is the least set of the family above both
+
+merged-part : (xs ys : List Name) (u : Name → Bool) → ((q : Name) → has_item name_cmp xs q ≡ true → u q ≡ true) → ((q : Name) → has_item name_cmp ys q ≡ true → u q ≡ true) → (q : Name) → has_item name_cmp (merged name_cmp xs ys) q ≡ true → u q ≡ true
+merged-part xs ys u f g q h =
+    elim (either (has_item name_cmp xs q) (has_item name_cmp ys q) (sym (ascending.has-merged name_total name_same xs ys q) ∙ h)) [ inl x ↦ f q x | inr y ↦ g q y ]
+
+pub join-left : (s t : Names) → Below s (join s t)
+unfolding join
+join-left (some xs e) (some ys f) q h = elim (decided (are_listed (merged name_cmp xs ys))) [
+  | inl y ↦
+      has-listed (merged name_cmp xs ys) every q y
+      ∙ ascending.has-merged name_total name_same xs ys q
+      ∙ in_first (has_item name_cmp xs q) (has_item name_cmp ys q) h
+  | inr y ↦ ap (λ s. has s q) (or_else-no (merged name_cmp xs ys) every y)
+]
+join-left (some xs e) every q h = refl
+join-left every t q h = refl
+
+pub join-right : (s t : Names) → Below t (join s t)
+unfolding join
+join-right (some xs e) (some ys f) q h = elim (decided (are_listed (merged name_cmp xs ys))) [
+  | inl y ↦
+      has-listed (merged name_cmp xs ys) every q y
+      ∙ ascending.has-merged name_total name_same xs ys q
+      ∙ in_second (has_item name_cmp xs q) (has_item name_cmp ys q) h
+  | inr y ↦ ap (λ s. has s q) (or_else-no (merged name_cmp xs ys) every y)
+]
+join-right (some xs e) every q h = refl
+join-right every t q h = refl
+
+-- what is too much to be listed is no part of what is listed
+too_many : (xs ys us : List Name) → are_listed xs ≡ true → are_listed us ≡ true → ((q : Name) → has_item name_cmp xs q ≡ true → has_item name_cmp us q ≡ true) → ((q : Name) → has_item name_cmp ys q ≡ true → has_item name_cmp us q ≡ true) → are_listed (merged name_cmp xs ys) ≡ false → ⊥
+too_many xs ys us e d f g small =
+    let le = ascending.length-part name_total name_same us (merged name_cmp xs ys) (ascending.ascending-merged name_total name_same xs ys (listed-ascending xs e)) (listed-ascending us d) (merged-part xs ys (has_item name_cmp us) f g) in
+    let few = listed-few us d in
+    true≢false (sym (listed-merged xs ys e (omega arith)) ∙ small)
+
+pub join-least : (s t u : Names) → Below s u → Below t u → Below (join s t) u
+unfolding join
+join-least (some xs e) (some ys f) (some us d) g k q h = elim (decided (are_listed (merged name_cmp xs ys))) [
+  | inl y ↦ merged-part xs ys (has_item name_cmp us) g k q (sym (has-listed (merged name_cmp xs ys) every q y) ∙ h)
+  | inr y ↦ absurd (too_many xs ys us e d g k y)
+]
+join-least (some xs e) (some ys f) every g k q h = refl
+join-least (some xs e) every u g k q h = k q refl
+join-least every t u g k q h = g q refl
+
+-- the join of two lists has just their atoms, where these are few
+pub join-few : (xs ys : List Name) → are_listed xs ≡ true → are_listed ys ≡ true → length (merged name_cmp xs ys) ≤ 13 → (q : Name) → has (join (listed xs) (listed ys)) q ≡ (has_item name_cmp xs q || has_item name_cmp ys q)
+unfolding join
+join-few xs ys e f few q =
+    ap (λ s. has s q) (λ i. join (or_else-yes xs none e i) (or_else-yes ys none f i))
+    ∙ has-listed (merged name_cmp xs ys) every q (listed-merged xs ys e (omega arith))
+    ∙ ascending.has-merged name_total name_same xs ys q
+
+-- and is all where they are many
+pub join-many : (xs ys : List Name) → are_listed xs ≡ true → are_listed ys ≡ true → 13 < length (merged name_cmp xs ys) → join (listed xs) (listed ys) ≡ every
+unfolding join
+join-many xs ys e f many =
+    let wide : are_listed (merged name_cmp xs ys) ≡ false = is_false (are_listed (merged name_cmp xs ys)) (λ d. let few = listed-few (merged name_cmp xs ys) d in absurd (omega arith)) in
+    (λ i. join (or_else-yes xs none e i) (or_else-yes ys none f i)) ∙ or_else-no (merged name_cmp xs ys) every wide
+
+-- ---- inclusion is an order
+
+pub below-itself : (s : Names) → Below s s
+below-itself s q h = h
+
+pub below-below : (s t u : Names) → Below s t → Below t u → Below s u
+below-below s t u f g q h = g q (f q h)
+
+pub some-same : (xs ys : List Name) (e : are_listed xs ≡ true) (f : are_listed ys ≡ true) → xs ≡ ys → some xs e ≡ some ys f
+some-same xs ys e f p = λ i. some (p i) (is_prop→PathP (λ j. are_listed (p j) ≡ true) (λ j. Coded-set coded_bool (are_listed (p j)) true) e f i)
+
+-- sets of the same atoms are equal
+pub same_names : (s t : Names) → Below s t → Below t s → s ≡ t
+same_names (some xs e) (some ys f) g k = some-same xs ys e f (ascending.same-items name_total name_same xs ys (listed-ascending xs e) (listed-ascending ys f) g k)
+same_names (some xs e) every g k = absurd (not_listed xs e (λ q. k q refl))
+same_names every (some ys f) g k = absurd (not_listed ys f (λ q. g q refl))
+same_names every every g k = refl
+
+pub same_by : (s t : Names) → ((q : Name) → has s q ≡ has t q) → s ≡ t
+same_by s t h = same_names s t (λ q e. sym (h q) ∙ e) (λ q e. h q ∙ e)
+
+-- ---- what no atom is in
+
+pub is_none-empty : (s : Names) → is_none s ≡ true → (q : Name) → has s q ≡ false
+is_none-empty (some [] e) h q = refl
+is_none-empty (some (x ∷ xs) e) h q = absurd (true≢false (sym h))
+is_none-empty every h q = absurd (true≢false (sym h))
+
+pub is_none-is : (s : Names) → is_none s ≡ true → s ≡ none
+is_none-is s h = same_by s none (is_none-empty s h)
+
+pub has_some : (s : Names) → is_none s ≡ false → (q : Name) × (has s q ≡ true)
+has_some (some [] e) h = absurd (true≢false h)
+has_some (some (x ∷ xs) e) h = (x, in_first (eq_by_cmp name_cmp x x) (has_item name_cmp xs x) (ascending.itself name_total name_same x))
+has_some every h = ([], refl)
+
+-- ---- the set of one atom
+
+pub has-one : (a q : Name) → IsTrue (has (listed (a ∷ [])) q) ↔ (q ≡ a)
+has-one a q = (
+  λ k. elim (either (eq_by_cmp name_cmp q a) false (sym (has-listed (a ∷ []) none q refl) ∙ k)) [
+    | inl e ↦ ascending.is_it name_total name_same q a e
+    | inr e ↦ absurd (true≢false (sym e))
+  ],
+  λ e. has-listed (a ∷ []) none q refl ∙ in_first (eq_by_cmp name_cmp q a) false (ap (eq_by_cmp name_cmp q) (sym e) ∙ ascending.itself name_total name_same q),
+)

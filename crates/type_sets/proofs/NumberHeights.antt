@@ -1,0 +1,182 @@
+-- How far one can go down from a set of integers.
+use Rattle.std.proofs.Common.{◌≡◌, ℕ, ℤ, pos, negsuc, suc, ◌≤◌, ◌<◌, ◌+◌, true, List, [], ◌∷◌, length, refl, ap, arith}
+use Rattle.std.specs.Ordering.{int_cmp, eq_by_cmp}
+use Rattle.std.specs.Cmp.{int_cmp_total}
+use Rattle.std.specs.FinSet.{int_cmp-IsAntisymmetric}
+use Rattle.std.specs.List.{list_all}
+use Rattle.type_sets.specs.declared.ends.Low.{Low}
+use Rattle.type_sets.specs.declared.ends.Low.TheVariants.{Min, Zero, One}
+use Rattle.type_sets.specs.declared.ends.High.{High}
+use Rattle.type_sets.specs.declared.ends.High.TheVariants.{MinusOne, Byte, Unicode, Max}
+use Rattle.type_sets.specs.Ascending.{is_ascending, is_below_all, has_item}
+use Rattle.type_sets.specs.Ends.{at_least, at_most, in_range, is_range, bottom, top, rises, shrinks}
+use Rattle.type_sets.specs.Numbers.{Numbers, some, between, are_listed, Below, height, low_end, high_end}
+use Rattle.type_sets.specs.Heights.{Falls}
+use Rattle.type_sets.proofs.Truths.{both, first, second, in_second}
+use Rattle.type_sets.proofs.EndLaws.{bottom-least, top-least, bottom-in, top-in}
+use Rattle.type_sets.proofs.AscendingLaws as ascending
+use Rattle.type_sets.proofs.NumberLaws.{listed-ascending, listed-few, listed-narrow, listed-from, not_listed, some-same, between-same}
+use Rattle.type_sets.proofs.HeightLaws.{falls-bound, down, stay}
+
+-- an end that lets in less rises less often
+rises-le : (l m : Low) → at_least m (bottom l) ≡ true → rises l ≤ rises m
+rises-le Min Min h = omega arith
+rises-le Min Zero h = cc
+rises-le Min One h = cc
+rises-le Zero Min h = omega arith
+rises-le Zero Zero h = omega arith
+rises-le Zero One h = cc
+rises-le One Min h = omega arith
+rises-le One Zero h = omega arith
+rises-le One One h = omega arith
+
+rises-less : (l m : Low) → at_least m (bottom l) ≡ true → (l ≡ m → ⊥) → rises l < rises m
+rises-less Min Min h n = absurd (n refl)
+rises-less Min Zero h n = cc
+rises-less Min One h n = cc
+rises-less Zero Min h n = omega arith
+rises-less Zero Zero h n = absurd (n refl)
+rises-less Zero One h n = cc
+rises-less One Min h n = omega arith
+rises-less One Zero h n = omega arith
+rises-less One One h n = absurd (n refl)
+
+-- the interval down from -1 has no other that ends there, and shrinks least
+from_minus_one : (l m : Low) (k : High) → is_range l MinusOne ≡ true → at_least m (bottom l) ≡ true → ((l ≡ m) × (MinusOne ≡ k) → ⊥) → 0 < shrinks m k
+from_minus_one Min Min MinusOne e h n = absurd (n (refl, refl))
+from_minus_one Min Min Byte e h n = omega arith
+from_minus_one Min Min Unicode e h n = omega arith
+from_minus_one Min Min Max e h n = omega arith
+from_minus_one Min Zero k e h n = cc
+from_minus_one Min One k e h n = cc
+from_minus_one Zero m k e h n = cc
+from_minus_one One m k e h n = cc
+
+-- a smaller interval shrinks less often
+shrinks-less : (l m : Low) (h k : High) → is_range l h ≡ true → at_least m (bottom l) ≡ true → at_most k (top h) ≡ true → ((l ≡ m) × (h ≡ k) → ⊥) → shrinks l h < shrinks m k
+shrinks-less l m MinusOne k e f g n = from_minus_one l m k e f n
+shrinks-less l m Byte MinusOne e f g n = cc
+shrinks-less l m Byte Byte e f g n = rises-less l m f (λ p. n (p, refl))
+shrinks-less l m Byte Unicode e f g n = let le = rises-le l m f in omega arith
+shrinks-less l m Byte Max e f g n = let le = rises-le l m f in omega arith
+shrinks-less l m Unicode MinusOne e f g n = cc
+shrinks-less l m Unicode Byte e f g n = cc
+shrinks-less l m Unicode Unicode e f g n = let less = rises-less l m f (λ p. n (p, refl)) in omega arith
+shrinks-less l m Unicode Max e f g n = let le = rises-le l m f in omega arith
+shrinks-less l m Max MinusOne e f g n = cc
+shrinks-less l m Max Byte e f g n = cc
+shrinks-less l m Max Unicode e f g n = cc
+shrinks-less l m Max Max e f g n = let less = rises-less l m f (λ p. n (p, refl)) in omega arith
+
+-- a smaller set has a lower height
+pub height-lower : (s t : Numbers) → Below s t → (s ≡ t → ⊥) → height s < height t
+height-lower (some xs e) (some ys f) p n =
+    ascending.shorter-part int_cmp_total int_cmp-IsAntisymmetric ys xs (listed-ascending xs e) (listed-ascending ys f) p (λ q. n (some-same xs ys e f q))
+height-lower (some xs e) (between m k f) p n = let few = listed-few xs e in omega arith
+height-lower (between l h e) (some ys f) p n = absurd (not_listed l h e ys f p)
+height-lower (between l h e) (between m k f) p n =
+    let a = p (bottom l) (bottom-in l h e) in
+    let b = p (top h) (top-in l h e) in
+    let less = shrinks-less l m h k e (first (at_least m (bottom l)) (at_most k (bottom l)) a) (second (at_least m (top h)) (at_most k (top h)) b) (λ q. n (between-same l m h k e f q.0 q.1)) in
+    omega arith
+
+pub height-bound : (s : Numbers) (n : ℕ) → Falls Below n s → n ≤ height s
+height-bound s n f = falls-bound Below height height-lower n s f
+
+-- ---- the chain that is so long
+
+listed-tail : (x : ℤ) (xs : List ℤ) → are_listed (x ∷ xs) ≡ true → are_listed xs ≡ true
+listed-tail x xs e =
+    let few = listed-few (x ∷ xs) e in
+    listed-from xs (second (is_below_all int_cmp x xs) (is_ascending int_cmp xs) (listed-ascending (x ∷ xs) e)) (omega arith) (λ n m. listed-narrow (x ∷ xs) e n (in_second (eq_by_cmp int_cmp n x) (has_item int_cmp xs n) m))
+
+shorter : (x : ℤ) (xs : List ℤ) (e : are_listed (x ∷ xs) ≡ true) (f : are_listed xs ≡ true) → some xs f ≡ some (x ∷ xs) e → ⊥
+shorter x xs e f p = let q = ap height p in absurd (omega arith)
+
+listed-falls : (xs : List ℤ) (e : are_listed xs ≡ true) → Falls Below (length xs) (some xs e)
+listed-falls [] e = stay Below (some [] e)
+listed-falls (x ∷ xs) e =
+    let f = listed-tail x xs e in
+    down Below (length xs) (some (x ∷ xs) e) (some xs f) (λ n m. in_second (eq_by_cmp int_cmp n x) (has_item int_cmp xs n) m) (shorter x xs e f) (listed-falls xs f)
+
+-- from an interval to thirteen of its numbers
+to_listed : (l : Low) (h : High) (e : is_range l h ≡ true) (xs : List ℤ) (f : are_listed xs ≡ true) → list_all (in_range l h) xs ≡ true → Falls Below (suc (length xs)) (between l h e)
+to_listed l h e xs f inside =
+    down Below (length xs) (between l h e) (some xs f) (λ n m. ascending.all-item int_cmp_total int_cmp-IsAntisymmetric (in_range l h) xs n inside m) (λ p. let q = ap height p in let few = listed-few xs f in absurd (omega arith)) (listed-falls xs f)
+
+-- from an interval to one with nearer ends
+to_interval : (n : ℕ) (l m : Low) (h k : High) (e : is_range l h ≡ true) (f : is_range m k ≡ true) → at_least m (bottom l) ≡ true → at_most k (top h) ≡ true → ((l ≡ m) × (h ≡ k) → ⊥) → Falls Below n (between l h e) → Falls Below (suc n) (between m k f)
+to_interval n l m h k e f low high other rest =
+    down Below n (between m k f) (between l h e) (λ x y. both (at_least m x) (at_most k x) (bottom-least l m x low (first (at_least l x) (at_most h x) y)) (top-least h k x high (second (at_least l x) (at_most h x) y))) (λ p. other (ap low_end p, ap high_end p)) rest
+
+abbrev thirteen : List ℤ
+thirteen = pos 1 ∷ pos 2 ∷ pos 3 ∷ pos 4 ∷ pos 5 ∷ pos 6 ∷ pos 7 ∷ pos 8 ∷ pos 9 ∷ pos 10 ∷ pos 11 ∷ pos 12 ∷ pos 13 ∷ []
+
+abbrev thirteen_negative : List ℤ
+thirteen_negative = negsuc 12 ∷ negsuc 11 ∷ negsuc 10 ∷ negsuc 9 ∷ negsuc 8 ∷ negsuc 7 ∷ negsuc 6 ∷ negsuc 5 ∷ negsuc 4 ∷ negsuc 3 ∷ negsuc 2 ∷ negsuc 1 ∷ negsuc 0 ∷ []
+
+other_low : (l m : Low) (h k : High) → (l ≡ m → ⊥) → (l ≡ m) × (h ≡ k) → ⊥
+other_low l m h k n p = n p.0
+
+other_high : (l m : Low) (h k : High) → (h ≡ k → ⊥) → (l ≡ m) × (h ≡ k) → ⊥
+other_high l m h k n p = n p.1
+
+one_byte : (e : is_range One Byte ≡ true) → Falls Below 14 (between One Byte e)
+one_byte e = to_listed One Byte e thirteen refl refl
+
+zero_byte : (e : is_range Zero Byte ≡ true) → Falls Below 15 (between Zero Byte e)
+zero_byte e = to_interval 14 One Zero Byte Byte refl e refl refl (other_low One Zero Byte Byte (λ p. cc p)) (one_byte refl)
+
+min_byte : (e : is_range Min Byte ≡ true) → Falls Below 16 (between Min Byte e)
+min_byte e = to_interval 15 Zero Min Byte Byte refl e refl refl (other_low Zero Min Byte Byte (λ p. cc p)) (zero_byte refl)
+
+one_unicode : (e : is_range One Unicode ≡ true) → Falls Below 15 (between One Unicode e)
+one_unicode e = to_interval 14 One One Byte Unicode refl e refl refl (other_high One One Byte Unicode (λ p. cc p)) (one_byte refl)
+
+zero_unicode : (e : is_range Zero Unicode ≡ true) → Falls Below 16 (between Zero Unicode e)
+zero_unicode e = to_interval 15 One Zero Unicode Unicode refl e refl refl (other_low One Zero Unicode Unicode (λ p. cc p)) (one_unicode refl)
+
+min_unicode : (e : is_range Min Unicode ≡ true) → Falls Below 17 (between Min Unicode e)
+min_unicode e = to_interval 16 Zero Min Unicode Unicode refl e refl refl (other_low Zero Min Unicode Unicode (λ p. cc p)) (zero_unicode refl)
+
+one_max : (e : is_range One Max ≡ true) → Falls Below 16 (between One Max e)
+one_max e = to_interval 15 One One Unicode Max refl e refl refl (other_high One One Unicode Max (λ p. cc p)) (one_unicode refl)
+
+zero_max : (e : is_range Zero Max ≡ true) → Falls Below 17 (between Zero Max e)
+zero_max e = to_interval 16 One Zero Max Max refl e refl refl (other_low One Zero Max Max (λ p. cc p)) (one_max refl)
+
+min_max : (e : is_range Min Max ≡ true) → Falls Below 18 (between Min Max e)
+min_max e = to_interval 17 Zero Min Max Max refl e refl refl (other_low Zero Min Max Max (λ p. cc p)) (zero_max refl)
+
+between-falls : (l : Low) (h : High) (e : is_range l h ≡ true) → Falls Below (14 + shrinks l h) (between l h e)
+between-falls Min MinusOne e = to_listed Min MinusOne e thirteen_negative refl refl
+between-falls Zero MinusOne e = cc
+between-falls One MinusOne e = cc
+between-falls One Byte e = one_byte e
+between-falls Zero Byte e = zero_byte e
+between-falls Min Byte e = min_byte e
+between-falls One Unicode e = one_unicode e
+between-falls Zero Unicode e = zero_unicode e
+between-falls Min Unicode e = min_unicode e
+between-falls One Max e = one_max e
+between-falls Zero Max e = zero_max e
+between-falls Min Max e = min_max e
+
+pub height-reached : (s : Numbers) → Falls Below (height s) s
+height-reached (some xs e) = listed-falls xs e
+height-reached (between l h e) = between-falls l h e
+
+pub height-most : (s : Numbers) → height s ≤ 18
+height-most (some xs e) = let few = listed-few xs e in omega arith
+height-most (between Min MinusOne e) = omega arith
+height-most (between Min Byte e) = omega arith
+height-most (between Min Unicode e) = omega arith
+height-most (between Min Max e) = omega arith
+height-most (between Zero MinusOne e) = omega arith
+height-most (between Zero Byte e) = omega arith
+height-most (between Zero Unicode e) = omega arith
+height-most (between Zero Max e) = omega arith
+height-most (between One MinusOne e) = omega arith
+height-most (between One Byte e) = omega arith
+height-most (between One Unicode e) = omega arith
+height-most (between One Max e) = omega arith

@@ -1,0 +1,326 @@
+-- The laws of sets of integers.
+use Rattle.std.proofs.Common.{◌≡◌, ◌≤◌, ◌↔◌, IsTrue, ℤ, pos, negsuc, ◌<◌, Bool, true, false, ◌&&◌, ◌||◌, inl, inr, List, [], ◌∷◌, length, filter, refl, sym, ap, ◌∙◌, arith, true≢false}
+use borrow.Author.Tests.{ltb-true, lt-ltb}
+use mathlib.Core.HLevel.{is_prop→PathP}
+use Rattle.std.specs.Prelude.{nat_lt}
+use Rattle.std.specs.Coded.{Coded-set, coded_bool}
+use Rattle.std.specs.Ordering.{int_cmp, eq_by_cmp}
+use Rattle.std.specs.Cmp.{int_cmp_total}
+use Rattle.std.specs.FinSet.{int_cmp-IsAntisymmetric}
+use Rattle.std.specs.List.{list_all}
+use Rattle.type_sets.specs.Ascending.{is_ascending, has_item, merged}
+use Rattle.type_sets.specs.declared.ends.Low.{Low}
+use Rattle.type_sets.specs.declared.ends.Low.TheVariants.{Min, Zero, One}
+use Rattle.type_sets.specs.declared.ends.High.{High}
+use Rattle.type_sets.specs.declared.ends.High.TheVariants.{MinusOne, Byte, Unicode, Max}
+use Rattle.type_sets.specs.Ends.{at_least, at_most, in_range, is_range, lower, raised, higher, lowered, low_of, high_of, bottom, top}
+use Rattle.type_sets.specs.Numbers.{Numbers, some, between, are_listed, is_narrow, has, Below, none, or_else, listed, range, meet, lowest, highest, low_end, high_end, hull, join, is_none, or_else-yes}
+use Rattle.type_sets.proofs.Truths.{both, first, second, in_first, in_second, either, decided, and_swap, and_cross, is_false}
+use Rattle.type_sets.proofs.EndLaws.{at_least-lower, at_least-raised, at_most-higher, at_most-lowered, at_least-low_of, at_most-high_of, low_of-least, high_of-least, bottom-least, top-least, same_low, same_high, bottom-in, top-in, not_in, one_least, minus_one_least}
+use Rattle.type_sets.proofs.AscendingLaws as ascending
+
+-- ---- what may be listed
+
+pub listed-ascending : (xs : List ℤ) → are_listed xs ≡ true → is_ascending int_cmp xs ≡ true
+listed-ascending xs e = first (is_ascending int_cmp xs) (nat_lt (length xs) 14) (first (is_ascending int_cmp xs && nat_lt (length xs) 14) (list_all is_narrow xs) e)
+
+pub listed-few : (xs : List ℤ) → are_listed xs ≡ true → length xs < 14
+listed-few xs e = ltb-true (length xs) 14 (second (is_ascending int_cmp xs) (nat_lt (length xs) 14) (first (is_ascending int_cmp xs && nat_lt (length xs) 14) (list_all is_narrow xs) e))
+
+pub listed-narrow : (xs : List ℤ) → are_listed xs ≡ true → (n : ℤ) → has_item int_cmp xs n ≡ true → is_narrow n ≡ true
+listed-narrow xs e n m =
+    ascending.all-item int_cmp_total int_cmp-IsAntisymmetric is_narrow xs n (second (is_ascending int_cmp xs && nat_lt (length xs) 14) (list_all is_narrow xs) e) m
+
+pub listed-from : (xs : List ℤ) → is_ascending int_cmp xs ≡ true → length xs < 14 → ((n : ℤ) → has_item int_cmp xs n ≡ true → is_narrow n ≡ true) → are_listed xs ≡ true
+listed-from xs a k f =
+    both (is_ascending int_cmp xs && nat_lt (length xs) 14) (list_all is_narrow xs) (both (is_ascending int_cmp xs) (nat_lt (length xs) 14) a (lt-ltb (length xs) 14 k)) (ascending.all-from_items int_cmp_total int_cmp-IsAntisymmetric is_narrow xs f)
+
+pub listed-filter : (p : ℤ → Bool) (xs : List ℤ) → are_listed xs ≡ true → are_listed (filter p xs) ≡ true
+listed-filter p xs e =
+    let le = ascending.length-filter_le int_cmp_total int_cmp-IsAntisymmetric p xs in
+    let few = listed-few xs e in
+    listed-from (filter p xs) (ascending.ascending-filter int_cmp_total int_cmp-IsAntisymmetric p xs (listed-ascending xs e)) (omega arith) (λ n m. listed-narrow xs e n (first (has_item int_cmp xs n) (p n) (sym (ascending.has-filter int_cmp_total int_cmp-IsAntisymmetric p xs n) ∙ m)))
+
+-- two lists together may be listed where they are few enough
+pub listed-merged : (xs ys : List ℤ) → are_listed xs ≡ true → are_listed ys ≡ true → length (merged int_cmp xs ys) < 14 → are_listed (merged int_cmp xs ys) ≡ true
+listed-merged xs ys e f k =
+    listed-from (merged int_cmp xs ys) (ascending.ascending-merged int_cmp_total int_cmp-IsAntisymmetric xs ys (listed-ascending xs e)) k (λ n m. elim (either (has_item int_cmp xs n) (has_item int_cmp ys n) (sym (ascending.has-merged int_cmp_total int_cmp-IsAntisymmetric xs ys n) ∙ m)) [
+      | inl h ↦ listed-narrow xs e n h
+      | inr h ↦ listed-narrow ys f n h
+    ])
+
+pub or_else-no : (xs : List ℤ) (t : Numbers) → are_listed xs ≡ false → or_else xs t ≡ t
+unfolding or_else
+or_else-no xs t e = elim (are_listed xs) as (λ b. (f : are_listed xs ≡ b) → elim b as (λ c. are_listed xs ≡ c → Numbers) [ true ↦ λ g. some xs g | false ↦ λ _. t ] f ≡ t) [
+  | true ↦ λ f. absurd (true≢false (sym f ∙ e))
+  | false ↦ λ f. refl
+] refl
+
+pub has-listed : (xs : List ℤ) (t : Numbers) (n : ℤ) → are_listed xs ≡ true → has (or_else xs t) n ≡ has_item int_cmp xs n
+has-listed xs t n e = ap (λ s. has s n) (or_else-yes xs t e)
+
+pub has-range : (l : Low) (h : High) (n : ℤ) → has (range l h) n ≡ in_range l h n
+unfolding range
+has-range l h n = elim (is_range l h) as (λ b. (e : is_range l h ≡ b) → has (elim b as (λ c. is_range l h ≡ c → Numbers) [ true ↦ λ f. between l h f | false ↦ λ _. none ] e) n ≡ in_range l h n) [
+  | true ↦ λ e. refl
+  | false ↦ λ e. sym (not_in l h n e)
+] refl
+
+-- ---- the meet is exact
+
+pub has-meet : (s t : Numbers) (n : ℤ) → has (meet s t) n ≡ (has s n && has t n)
+unfolding meet
+has-meet (some xs e) t n = has-listed (filter (has t) xs) none n (listed-filter (has t) xs e) ∙ ascending.has-filter int_cmp_total int_cmp-IsAntisymmetric (has t) xs n
+has-meet (between l h e) (some ys f) n =
+    has-listed (filter (in_range l h) ys) none n (listed-filter (in_range l h) ys f)
+    ∙ ascending.has-filter int_cmp_total int_cmp-IsAntisymmetric (in_range l h) ys n
+    ∙ and_swap (has_item int_cmp ys n) (in_range l h n)
+has-meet (between l h e) (between m k f) n =
+    has-range (raised l m) (lowered h k) n ∙ (λ i. at_least-raised l m n i && at_most-lowered h k n i) ∙ and_cross (at_least l n) (at_least m n) (at_most h n) (at_most k n)
+
+-- ---- the hull is above both, and below each interval that is
+
+lowest-in : (xs : List ℤ) (n : ℤ) → has_item int_cmp xs n ≡ true → at_least (lowest xs) n ≡ true
+lowest-in [] n h = absurd (true≢false (sym h))
+lowest-in (x ∷ xs) n h =
+    at_least-lower (low_of x) (lowest xs) n ∙ elim (either (eq_by_cmp int_cmp n x) (has_item int_cmp xs n) h) [
+      | inl e ↦ in_first (at_least (low_of x) n) (at_least (lowest xs) n) (ap (at_least (low_of x)) (ascending.is_it int_cmp_total int_cmp-IsAntisymmetric n x e) ∙ at_least-low_of x)
+      | inr e ↦ in_second (at_least (low_of x) n) (at_least (lowest xs) n) (lowest-in xs n e)
+    ]
+
+highest-in : (xs : List ℤ) (n : ℤ) → has_item int_cmp xs n ≡ true → at_most (highest xs) n ≡ true
+highest-in [] n h = absurd (true≢false (sym h))
+highest-in (x ∷ xs) n h =
+    at_most-higher (high_of x) (highest xs) n ∙ elim (either (eq_by_cmp int_cmp n x) (has_item int_cmp xs n) h) [
+      | inl e ↦ in_first (at_most (high_of x) n) (at_most (highest xs) n) (ap (at_most (high_of x)) (ascending.is_it int_cmp_total int_cmp-IsAntisymmetric n x e) ∙ at_most-high_of x)
+      | inr e ↦ in_second (at_most (high_of x) n) (at_most (highest xs) n) (highest-in xs n e)
+    ]
+
+low_end-in : (s : Numbers) (n : ℤ) → has s n ≡ true → at_least (low_end s) n ≡ true
+low_end-in (some xs e) n h = lowest-in xs n h
+low_end-in (between l k e) n h = first (at_least l n) (at_most k n) h
+
+high_end-in : (s : Numbers) (n : ℤ) → has s n ≡ true → at_most (high_end s) n ≡ true
+high_end-in (some xs e) n h = highest-in xs n h
+high_end-in (between l k e) n h = second (at_least l n) (at_most k n) h
+
+pub has-hull : (s t : Numbers) (n : ℤ) → has (hull s t) n ≡ ((at_least (low_end s) n || at_least (low_end t) n) && (at_most (high_end s) n || at_most (high_end t) n))
+unfolding hull
+has-hull s t n =
+    has-range (lower (low_end s) (low_end t)) (higher (high_end s) (high_end t)) n ∙ (λ i. at_least-lower (low_end s) (low_end t) n i && at_most-higher (high_end s) (high_end t) n i)
+
+hull-left : (s t : Numbers) → Below s (hull s t)
+hull-left s t n h =
+    has-hull s t n
+    ∙ both (at_least (low_end s) n || at_least (low_end t) n) (at_most (high_end s) n || at_most (high_end t) n) (in_first (at_least (low_end s) n) (at_least (low_end t) n) (low_end-in s n h)) (in_first (at_most (high_end s) n) (at_most (high_end t) n) (high_end-in s n h))
+
+hull-right : (s t : Numbers) → Below t (hull s t)
+hull-right s t n h =
+    has-hull s t n
+    ∙ both (at_least (low_end s) n || at_least (low_end t) n) (at_most (high_end s) n || at_most (high_end t) n) (in_second (at_least (low_end s) n) (at_least (low_end t) n) (low_end-in t n h)) (in_second (at_most (high_end s) n) (at_most (high_end t) n) (high_end-in t n h))
+
+lowest-least : (m : Low) (n : ℤ) (xs : List ℤ) → ((x : ℤ) → has_item int_cmp xs x ≡ true → at_least m x ≡ true) → at_least (lowest xs) n ≡ true → at_least m n ≡ true
+lowest-least m n [] f h = one_least m n h
+lowest-least m n (x ∷ xs) f h = elim (either (at_least (low_of x) n) (at_least (lowest xs) n) (sym (at_least-lower (low_of x) (lowest xs) n) ∙ h)) [
+  | inl e ↦ low_of-least m x n (f x (in_first (eq_by_cmp int_cmp x x) (has_item int_cmp xs x) (ascending.itself int_cmp_total int_cmp-IsAntisymmetric x))) e
+  | inr e ↦ lowest-least m n xs (λ y k. f y (in_second (eq_by_cmp int_cmp y x) (has_item int_cmp xs y) k)) e
+]
+
+highest-least : (m : High) (n : ℤ) (xs : List ℤ) → ((x : ℤ) → has_item int_cmp xs x ≡ true → at_most m x ≡ true) → at_most (highest xs) n ≡ true → at_most m n ≡ true
+highest-least m n [] f h = minus_one_least m n h
+highest-least m n (x ∷ xs) f h = elim (either (at_most (high_of x) n) (at_most (highest xs) n) (sym (at_most-higher (high_of x) (highest xs) n) ∙ h)) [
+  | inl e ↦ high_of-least m x n (f x (in_first (eq_by_cmp int_cmp x x) (has_item int_cmp xs x) (ascending.itself int_cmp_total int_cmp-IsAntisymmetric x))) e
+  | inr e ↦ highest-least m n xs (λ y k. f y (in_second (eq_by_cmp int_cmp y x) (has_item int_cmp xs y) k)) e
+]
+
+low_end-least : (s : Numbers) (m : Low) → ((n : ℤ) → has s n ≡ true → at_least m n ≡ true) → (n : ℤ) → at_least (low_end s) n ≡ true → at_least m n ≡ true
+low_end-least (some xs e) m f n h = lowest-least m n xs f h
+low_end-least (between l k e) m f n h = bottom-least l m n (f (bottom l) (bottom-in l k e)) h
+
+high_end-least : (s : Numbers) (m : High) → ((n : ℤ) → has s n ≡ true → at_most m n ≡ true) → (n : ℤ) → at_most (high_end s) n ≡ true → at_most m n ≡ true
+high_end-least (some xs e) m f n h = highest-least m n xs f h
+high_end-least (between l k e) m f n h = top-least k m n (f (top k) (top-in l k e)) h
+
+hull-least : (s t : Numbers) (l : Low) (h : High) (e : is_range l h ≡ true) → Below s (between l h e) → Below t (between l h e) → Below (hull s t) (between l h e)
+hull-least s t l h e f g n k =
+    let a = at_least (low_end s) n in
+    let b = at_least (low_end t) n in
+    let c = at_most (high_end s) n in
+    let d = at_most (high_end t) n in
+    let x : ((a || b) && (c || d)) ≡ true = sym (has-hull s t n) ∙ k in
+    let low : at_least l n ≡ true = elim (either a b (first (a || b) (c || d) x)) [
+      | inl y ↦ low_end-least s l (λ q r. first (at_least l q) (at_most h q) (f q r)) n y
+      | inr y ↦ low_end-least t l (λ q r. first (at_least l q) (at_most h q) (g q r)) n y
+    ] in
+    let high : at_most h n ≡ true = elim (either c d (second (a || b) (c || d) x)) [
+      | inl y ↦ high_end-least s h (λ q r. second (at_least l q) (at_most h q) (f q r)) n y
+      | inr y ↦ high_end-least t h (λ q r. second (at_least l q) (at_most h q) (g q r)) n y
+    ] in
+    both (at_least l n) (at_most h n) low high
+
+-- ---- an interval is no part of a listed set: it has fourteen numbers
+
+fourteen : Low → List ℤ
+fourteen Min = negsuc 13 ∷ negsuc 12 ∷ negsuc 11 ∷ negsuc 10 ∷ negsuc 9 ∷ negsuc 8 ∷ negsuc 7 ∷ negsuc 6 ∷ negsuc 5 ∷ negsuc 4 ∷ negsuc 3 ∷ negsuc 2 ∷ negsuc 1 ∷ negsuc 0 ∷ []
+fourteen Zero = pos 1 ∷ pos 2 ∷ pos 3 ∷ pos 4 ∷ pos 5 ∷ pos 6 ∷ pos 7 ∷ pos 8 ∷ pos 9 ∷ pos 10 ∷ pos 11 ∷ pos 12 ∷ pos 13 ∷ pos 14 ∷ []
+fourteen One = pos 1 ∷ pos 2 ∷ pos 3 ∷ pos 4 ∷ pos 5 ∷ pos 6 ∷ pos 7 ∷ pos 8 ∷ pos 9 ∷ pos 10 ∷ pos 11 ∷ pos 12 ∷ pos 13 ∷ pos 14 ∷ []
+
+fourteen-ascending : (l : Low) → is_ascending int_cmp (fourteen l) ≡ true
+unfolding fourteen
+fourteen-ascending Min = refl
+fourteen-ascending Zero = refl
+fourteen-ascending One = refl
+
+fourteen-length : (l : Low) → length (fourteen l) ≡ 14
+unfolding fourteen
+fourteen-length Min = refl
+fourteen-length Zero = refl
+fourteen-length One = refl
+
+fourteen-in : (l : Low) (h : High) → is_range l h ≡ true → list_all (in_range l h) (fourteen l) ≡ true
+unfolding fourteen
+fourteen-in Min MinusOne e = refl
+fourteen-in Min Byte e = refl
+fourteen-in Min Unicode e = refl
+fourteen-in Min Max e = refl
+fourteen-in Zero MinusOne e = cc
+fourteen-in Zero Byte e = refl
+fourteen-in Zero Unicode e = refl
+fourteen-in Zero Max e = refl
+fourteen-in One MinusOne e = cc
+fourteen-in One Byte e = refl
+fourteen-in One Unicode e = refl
+fourteen-in One Max e = refl
+
+pub not_listed : (l : Low) (h : High) → is_range l h ≡ true → (xs : List ℤ) → are_listed xs ≡ true → ((n : ℤ) → in_range l h n ≡ true → has_item int_cmp xs n ≡ true) → ⊥
+not_listed l h e xs d f =
+    let le = ascending.length-part int_cmp_total int_cmp-IsAntisymmetric xs (fourteen l) (fourteen-ascending l) (listed-ascending xs d) (λ n m. f n (ascending.all-item int_cmp_total int_cmp-IsAntisymmetric (in_range l h) (fourteen l) n (fourteen-in l h e) m)) in
+    let few = listed-few xs d in
+    absurd (omega (arith, fourteen-length l))
+
+-- ---- the join is the least set of the family above both
+
+merged-part : (xs ys : List ℤ) (u : ℤ → Bool) → ((n : ℤ) → has_item int_cmp xs n ≡ true → u n ≡ true) → ((n : ℤ) → has_item int_cmp ys n ≡ true → u n ≡ true) → (n : ℤ) → has_item int_cmp (merged int_cmp xs ys) n ≡ true → u n ≡ true
+merged-part xs ys u f g n h =
+    elim (either (has_item int_cmp xs n) (has_item int_cmp ys n) (sym (ascending.has-merged int_cmp_total int_cmp-IsAntisymmetric xs ys n) ∙ h)) [ inl x ↦ f n x | inr y ↦ g n y ]
+
+pub join-left : (s t : Numbers) → Below s (join s t)
+unfolding join
+join-left (some xs e) (some ys f) n h = elim (decided (are_listed (merged int_cmp xs ys))) [
+  | inl y ↦
+      has-listed (merged int_cmp xs ys) (hull (some xs e) (some ys f)) n y
+      ∙ ascending.has-merged int_cmp_total int_cmp-IsAntisymmetric xs ys n
+      ∙ in_first (has_item int_cmp xs n) (has_item int_cmp ys n) h
+  | inr y ↦ ap (λ s. has s n) (or_else-no (merged int_cmp xs ys) (hull (some xs e) (some ys f)) y) ∙ hull-left (some xs e) (some ys f) n h
+]
+join-left (some xs e) (between m k f) n h = hull-left (some xs e) (between m k f) n h
+join-left (between l k e) t n h = hull-left (between l k e) t n h
+
+pub join-right : (s t : Numbers) → Below t (join s t)
+unfolding join
+join-right (some xs e) (some ys f) n h = elim (decided (are_listed (merged int_cmp xs ys))) [
+  | inl y ↦
+      has-listed (merged int_cmp xs ys) (hull (some xs e) (some ys f)) n y
+      ∙ ascending.has-merged int_cmp_total int_cmp-IsAntisymmetric xs ys n
+      ∙ in_second (has_item int_cmp xs n) (has_item int_cmp ys n) h
+  | inr y ↦ ap (λ s. has s n) (or_else-no (merged int_cmp xs ys) (hull (some xs e) (some ys f)) y) ∙ hull-right (some xs e) (some ys f) n h
+]
+join-right (some xs e) (between m k f) n h = hull-right (some xs e) (between m k f) n h
+join-right (between l k e) t n h = hull-right (between l k e) t n h
+
+-- what is too much to be listed is no part of what is listed
+too_many : (xs ys us : List ℤ) → are_listed xs ≡ true → are_listed ys ≡ true → are_listed us ≡ true → ((n : ℤ) → has_item int_cmp xs n ≡ true → has_item int_cmp us n ≡ true) → ((n : ℤ) → has_item int_cmp ys n ≡ true → has_item int_cmp us n ≡ true) → are_listed (merged int_cmp xs ys) ≡ false → ⊥
+too_many xs ys us e f d p q small =
+    let le = ascending.length-part int_cmp_total int_cmp-IsAntisymmetric us (merged int_cmp xs ys) (ascending.ascending-merged int_cmp_total int_cmp-IsAntisymmetric xs ys (listed-ascending xs e)) (listed-ascending us d) (merged-part xs ys (has_item int_cmp us) p q) in
+    let few = listed-few us d in
+    true≢false (sym (listed-merged xs ys e f (omega arith)) ∙ small)
+
+pub join-least : (s t u : Numbers) → Below s u → Below t u → Below (join s t) u
+unfolding join
+join-least (some xs e) (some ys f) (some us d) p q n h = elim (decided (are_listed (merged int_cmp xs ys))) [
+  | inl y ↦ merged-part xs ys (has_item int_cmp us) p q n (sym (has-listed (merged int_cmp xs ys) (hull (some xs e) (some ys f)) n y) ∙ h)
+  | inr y ↦ absurd (too_many xs ys us e f d p q y)
+]
+join-least (some xs e) (some ys f) (between l k d) p q n h = elim (decided (are_listed (merged int_cmp xs ys))) [
+  | inl y ↦ merged-part xs ys (in_range l k) p q n (sym (has-listed (merged int_cmp xs ys) (hull (some xs e) (some ys f)) n y) ∙ h)
+  | inr y ↦
+      hull-least (some xs e) (some ys f) l k d p q n (sym (ap (λ s. has s n) (or_else-no (merged int_cmp xs ys) (hull (some xs e) (some ys f)) y)) ∙ h)
+]
+join-least (some xs e) (between m k f) (some us d) p q n h = absurd (not_listed m k f us d q)
+join-least (some xs e) (between m k f) (between l j d) p q n h = hull-least (some xs e) (between m k f) l j d p q n h
+join-least (between m k f) t (some us d) p q n h = absurd (not_listed m k f us d p)
+join-least (between m k f) t (between l j d) p q n h = hull-least (between m k f) t l j d p q n h
+
+-- the join of two lists has just their numbers, where these are few
+pub join-few : (xs ys : List ℤ) → are_listed xs ≡ true → are_listed ys ≡ true → length (merged int_cmp xs ys) ≤ 13 → (n : ℤ) → has (join (listed xs) (listed ys)) n ≡ (has_item int_cmp xs n || has_item int_cmp ys n)
+unfolding join
+join-few xs ys e f few n =
+    ap (λ s. has s n) (λ i. join (or_else-yes xs none e i) (or_else-yes ys none f i))
+    ∙ has-listed (merged int_cmp xs ys) (hull (some xs e) (some ys f)) n (listed-merged xs ys e f (omega arith))
+    ∙ ascending.has-merged int_cmp_total int_cmp-IsAntisymmetric xs ys n
+
+-- and is an interval where they are many
+pub join-many : (xs ys : List ℤ) → are_listed xs ≡ true → are_listed ys ≡ true → 13 < length (merged int_cmp xs ys) → join (listed xs) (listed ys) ≡ hull (listed xs) (listed ys)
+unfolding join
+join-many xs ys e f many =
+    let wide : are_listed (merged int_cmp xs ys) ≡ false = is_false (are_listed (merged int_cmp xs ys)) (λ d. let few = listed-few (merged int_cmp xs ys) d in absurd (omega arith)) in
+    (λ i. join (or_else-yes xs none e i) (or_else-yes ys none f i)) ∙ or_else-no (merged int_cmp xs ys) (hull (some xs e) (some ys f)) wide ∙ sym (λ i. hull (or_else-yes xs none e i) (or_else-yes ys none f i))
+
+-- ---- inclusion is an order
+
+pub below-itself : (s : Numbers) → Below s s
+below-itself s n h = h
+
+pub below-below : (s t u : Numbers) → Below s t → Below t u → Below s u
+below-below s t u f g n h = g n (f n h)
+
+pub some-same : (xs ys : List ℤ) (e : are_listed xs ≡ true) (f : are_listed ys ≡ true) → xs ≡ ys → some xs e ≡ some ys f
+some-same xs ys e f p = λ i. some (p i) (is_prop→PathP (λ j. are_listed (p j) ≡ true) (λ j. Coded-set coded_bool (are_listed (p j)) true) e f i)
+
+pub between-same : (l m : Low) (h k : High) (e : is_range l h ≡ true) (f : is_range m k ≡ true) → l ≡ m → h ≡ k → between l h e ≡ between m k f
+between-same l m h k e f p q = λ i. between (p i) (q i) (is_prop→PathP (λ j. is_range (p j) (q j) ≡ true) (λ j. Coded-set coded_bool (is_range (p j) (q j)) true) e f i)
+
+-- sets of the same integers are equal
+pub same_numbers : (s t : Numbers) → Below s t → Below t s → s ≡ t
+same_numbers (some xs e) (some ys f) p q =
+    some-same xs ys e f (ascending.same-items int_cmp_total int_cmp-IsAntisymmetric xs ys (listed-ascending xs e) (listed-ascending ys f) p q)
+same_numbers (some xs e) (between l h f) p q = absurd (not_listed l h f xs e q)
+same_numbers (between l h e) (some ys f) p q = absurd (not_listed l h e ys f p)
+same_numbers (between l h e) (between m k f) p q =
+    let a = p (bottom l) (bottom-in l h e) in
+    let b = q (bottom m) (bottom-in m k f) in
+    let c = p (top h) (top-in l h e) in
+    let d = q (top k) (top-in m k f) in
+    between-same l m h k e f (same_low l m (first (at_least m (bottom l)) (at_most k (bottom l)) a) (first (at_least l (bottom m)) (at_most h (bottom m)) b)) (same_high h k (second (at_least m (top h)) (at_most k (top h)) c) (second (at_least l (top k)) (at_most h (top k)) d))
+
+pub same_by : (s t : Numbers) → ((n : ℤ) → has s n ≡ has t n) → s ≡ t
+same_by s t h = same_numbers s t (λ n e. sym (h n) ∙ e) (λ n e. h n ∙ e)
+
+-- ---- what no integer is in
+
+pub is_none-empty : (s : Numbers) → is_none s ≡ true → (n : ℤ) → has s n ≡ false
+is_none-empty (some [] e) h n = refl
+is_none-empty (some (x ∷ xs) e) h n = absurd (true≢false (sym h))
+is_none-empty (between l k e) h n = absurd (true≢false (sym h))
+
+pub is_none-is : (s : Numbers) → is_none s ≡ true → s ≡ none
+is_none-is s h = same_by s none (is_none-empty s h)
+
+pub has_some : (s : Numbers) → is_none s ≡ false → (n : ℤ) × (has s n ≡ true)
+has_some (some [] e) h = absurd (true≢false h)
+has_some (some (x ∷ xs) e) h = (x, in_first (eq_by_cmp int_cmp x x) (has_item int_cmp xs x) (ascending.itself int_cmp_total int_cmp-IsAntisymmetric x))
+has_some (between l k e) h = (bottom l, bottom-in l k e)
+
+-- ---- the set of one integer
+
+pub one-listed : (n : ℤ) → is_narrow n ≡ true → are_listed (n ∷ []) ≡ true
+one-listed n h = ap (λ b. b && true) h
+
+pub has-one : (n m : ℤ) → is_narrow n ≡ true → IsTrue (has (listed (n ∷ [])) m) ↔ (m ≡ n)
+has-one n m h = (
+  λ k. elim (either (eq_by_cmp int_cmp m n) false (sym (has-listed (n ∷ []) none m (one-listed n h)) ∙ k)) [
+    | inl e ↦ ascending.is_it int_cmp_total int_cmp-IsAntisymmetric m n e
+    | inr e ↦ absurd (true≢false (sym e))
+  ],
+  λ e. has-listed (n ∷ []) none m (one-listed n h) ∙ in_first (eq_by_cmp int_cmp m n) false (ap (eq_by_cmp int_cmp m) (sym e) ∙ ascending.itself int_cmp_total int_cmp-IsAntisymmetric m),
+)

@@ -1,0 +1,9 @@
+use Rattle.std.proofs.Common.{◌≡◌, ◌↔◌, ◌∷◌, ◌++◌, [], sym, subst, ap, ◌∙◌, IsTrue}
+use Rattle.type_sets.specs.Names.{has, listed}
+use Rattle.type_sets.proofs.NameLaws.{has-one}
+use Rattle.type_sets.proofs.atom_set.AtomSet.one.Goals as goal
+
+pub returns-clause-only : goal.returns-clause-only
+returns-clause-only c q =
+    let value : c.listed.result ≡ listed (c.args.atom.now ∷ []) = c.listed.ensures.value ∙ ap listed (c.in_ok-add.ensures ∙ ap (λ xs. xs ++ c.args.atom.now ∷ []) c.new-atoms.ensures) in
+    subst (λ s. IsTrue (has s q) ↔ (q ≡ c.args.atom.now)) (sym value) (has-one c.args.atom.now q)

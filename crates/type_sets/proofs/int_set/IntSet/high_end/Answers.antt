@@ -1,0 +1,14 @@
+use Rattle.std.proofs.Common.{sym, ap, ◌∙◌}
+use Rattle.type_sets.specs.Numbers.{highest, high_end}
+use Rattle.type_sets.proofs.IntViews.{listed_kind, between_kind}
+use Rattle.type_sets.proofs.int_set.IntSet.high_end.Goals as goal
+
+pub returns-in-Listed : goal.returns-in-Listed
+returns-in-Listed c =
+    let k = listed_kind c.self.inside.kind c.in-Listed.numbers c.args.self.now c.self.view_is c.self.invariant c.in-Listed.is in
+    c.highest.ensures ∙ ap highest c.as_slice.ensures.value ∙ sym (ap high_end k.1)
+
+pub returns-in-Between : goal.returns-in-Between
+returns-in-Between c =
+    let k = between_kind c.self.inside.kind c.in-Between.field-0 c.in-Between.high c.args.self.now c.self.view_is c.self.invariant c.in-Between.is in
+    sym (ap high_end k.1)
