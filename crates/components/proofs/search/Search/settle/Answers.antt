@@ -1,0 +1,5 @@
+use Rattle.components.proofs.Steps.{settle_step}
+use Rattle.components.proofs.search.Search.settle.Goals as goal
+
+pub returns-clause-sound : goal.returns-clause-sound
+returns-clause-sound c = settle_step _ _ _ _ _ _ _ _ _ _ c.requires.sound c.requires.top c.requires.known.0 c.requires.known.1 c.pop_last.ensures

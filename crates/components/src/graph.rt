@@ -1,0 +1,83 @@
+ghost use Rattle.std.specs.Prelude.{◌≡◌, ℕ, ◌<◌, ◌^◌, ◌↔◌, ◌⊎◌, [], length, replicate, IfOk, OnOk, OnErr};
+ghost use Rattle.components.specs.Graph.{targets, Leads, IsGraph, with_target, with_pair};
+
+use crate::tools::empty_lists;
+use std::alloc::Global;
+use std::marker::Model;
+use type_kinds::{List, Memory};
+
+/// A graph whose nodes are numbers from 0. Contracts see, for each node, the list of the nodes that it
+/// leads to.
+#[derive(Drop)]
+pub struct Graph {
+    leads: Vec<List<u32>>,
+}
+
+impl Model for Graph {
+    ghost use Rattle.std.specs.Prelude.{List, ℕ};
+
+    ghost Value = { List (List ℕ) };
+
+    ghost use Rattle.components.specs.Graph.{IsGraph};
+
+    ghost view = { λ graph. graph.leads.items };
+
+    ghost invariant = { λ graph. IsGraph graph.leads.items };
+}
+
+impl Graph {
+    /// A graph of so many nodes, without pairs.
+    pub fn new(alloc: Global, count: u32) -> Result<Graph, Memory>
+        ensures value { IfOk result (λ graph. graph ≡ replicate count []) }
+        ensures count { IfOk result (λ graph. length graph ≡ count) }
+        ensures none { IfOk result (λ graph. (f g : ℕ) → Leads graph f g → ⊥) }
+    {
+        let leads = empty_lists(alloc, count)?;
+        Ok(Graph { leads })
+    }
+
+    /// How many nodes there are.
+    pub fn count(&self) -> u32
+        ensures count { result ≡ length self.now }
+        ensures graph { IsGraph self.now }
+    {
+        self.leads.len() as u32
+    }
+
+    /// The nodes that a node leads to.
+    pub(crate) fn targets(&self, node: u32) -> &[u32]
+        requires { node < length self.now }
+        ensures { result.now ≡ targets self.now node }
+    {
+        let found = &self.leads[node as usize];
+        found.as_slice()
+    }
+
+    /// Lets one node lead to another. A pair that is there stays once. Where memory is wanting the graph
+    /// stays as it was.
+    pub fn add(&mut self, from: u32, to: u32) -> Result<(), Memory>
+        requires from { from < length self.old }
+        requires to { to < length self.old }
+        ensures ok { OnOk result (self.new ≡ with_pair self.old from to) }
+        ensures pairs { OnOk result ((f g : ℕ) → Leads self.new f g ↔ (Leads self.old f g ⊎ ((f ≡ from) × (g ≡ to)))) }
+        ensures count { length self.new ≡ length self.old }
+        ensures err { OnErr result (self.new ≡ self.old) }
+    {
+        let found = &mut self.leads[from as usize];
+        include(found, to)
+    }
+}
+
+// Adds a target to a list of targets, which stays once where it is there.
+fn include(found: &mut List<u32>, to: u32) -> Result<(), Memory>
+    ensures ok { OnOk result (found.new ≡ with_target found.old to) }
+    ensures err { OnErr result (found.new ≡ found.old) }
+{
+    if found.as_slice().contains(&to) {
+        return Ok(());
+    }
+    match found.push(to) {
+        Ok(()) => Ok(()),
+        Err(_) => Err(Memory),
+    }
+}

@@ -1,0 +1,16 @@
+//! The strong components of a graph: which nodes reach each other.
+#![tactic(auto)]
+
+mod condensed;
+mod graph;
+mod labels;
+mod node_set;
+mod numbering;
+mod ready;
+mod search;
+#[cfg(test)]
+mod tests;
+mod tools;
+
+pub use graph::Graph;
+pub use numbering::{Comps, components};

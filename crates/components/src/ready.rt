@@ -1,0 +1,197 @@
+ghost use Rattle.std.specs.Prelude.{◌≡◌, ℕ, ◌+◌, ◌<◌, ◌≤◌, ◌^◌, ◌⊎◌, [], ◌∷◌, ◌++◌, length, replicate, sum_by, slice_index, IfOk, OnOk, IfSome, IfNone};
+ghost use Rattle.components.specs.Graph.{Leads};
+ghost use Rattle.components.specs.Order.{IsOrdered, Ordered, unranked, rank_of, Ranked, TakenFrom, AllParts, IsAcyclic, IsInside, InReadyOrder, AllRanked, RanksAre};
+
+use crate::node_set::NodeSet;
+use crate::tools::push;
+use std::alloc::Global;
+use type_kinds::{Filling, List, Memory};
+
+/// A component that waits for the number of one of its callees.
+#[derive(Clone, Copy)]
+pub struct Watcher {
+    /// The component.
+    pub part: u32,
+    /// The place of the callee in the list of its callees.
+    pub at: usize,
+}
+
+/// The state of the numbering.
+#[derive(Drop)]
+pub struct Order {
+    /// The number of each component, if it has one.
+    pub ranks: Vec<Option<u32>>,
+    /// The components whose callees have numbers.
+    pub ready: NodeSet,
+    /// For each component the components that wait for its number.
+    pub watchers: Vec<List<Watcher>>,
+    /// Components that have to look for the next callee without a number.
+    pub again: List<Watcher>,
+    /// How many numbers are given.
+    pub count: u32,
+}
+
+impl Order {
+    // No component has a number, and each has to look for a callee without one.
+    fn new(alloc: Global, callees: &[List<u32>]) -> Result<Order, Memory>
+        requires { length callees.now < 2 ^ 32 }
+        ensures { IfOk result (λ order. IsOrdered callees.now order) }
+    {
+        let mut ranks = Vec::new(alloc);
+        match ranks.resize(callees.len(), None) {
+            Ok(()) => {}
+            Err(_) => return Err(Memory),
+        }
+        let count = callees.len() as u32;
+        Ok(Order {
+            ranks,
+            ready: NodeSet::new(alloc),
+            watchers: no_watchers(alloc, count)?,
+            again: all_parts(alloc, count)?,
+            count: 0,
+        })
+    }
+
+    // Lets every component that has to look do so.
+    fn place_all(&mut self, callees: &[List<u32>]) -> Result<(), Memory>
+        requires inside { IsInside callees.now }
+        requires ordered { IsOrdered callees.now self.old }
+        ensures ordered { OnOk result (IsOrdered callees.now self.new) }
+        ensures again { OnOk result (self.new.again ≡ []) }
+        ensures ranks { self.new.ranks.items ≡ self.old.ranks.items }
+    {
+        while let Some(looking) = self.again.pop() {
+            self.place(callees, looking)?;
+        }
+        Ok(())
+    }
+
+    // Lets a component watch its next callee without a number. Where there is none it is ready.
+    fn place(&mut self, callees: &[List<u32>], looking: Watcher) -> Result<(), Memory>
+        requires inside { IsInside callees.now }
+        requires ordered { Ordered callees.now self.old.ranks.items self.old.ready self.old.watchers.items (self.old.again ++ looking ∷ []) self.old.count }
+        ensures ordered { OnOk result (IsOrdered callees.now self.new) }
+        ensures ranks { self.new.ranks.items ≡ self.old.ranks.items }
+        ensures again { self.new.again ≡ self.old.again }
+    {
+        let Watcher { part, at } = looking;
+        let own = &callees[part as usize];
+        let own = own.as_slice();
+        let to = self.advance(own, at);
+        if to >= own.len() {
+            return self.ready.insert(part);
+        }
+        let callee = own[to];
+        let list = &mut self.watchers[callee as usize];
+        match list.push(Watcher { part, at: to }) {
+            Ok(()) => Ok(()),
+            Err(_) => Err(Memory),
+        }
+    }
+
+    // The first place from here on whose callee has no number, or the end.
+    fn advance(&self, own: &[u32], at: usize) -> usize
+        requires inside { (k : ℕ) → k < length own.now → slice_index own.now k < length self.now.ranks.items }
+        ensures from { at ≤ result }
+        ensures passed { (k : ℕ) → at ≤ k → k < result → k < length own.now → Ranked self.now.ranks.items (slice_index own.now k) }
+        ensures stop { result < length own.now → rank_of self.now.ranks.items (slice_index own.now result) ≡ None }
+    {
+        let mut to = at;
+        while to < own.len() {
+            if let None = self.ranks[own[to] as usize] {
+                return to;
+            }
+            to += 1;
+        }
+        to
+    }
+
+    // Takes the least ready component without a number, if there is one.
+    fn take_ready(&mut self, callees: &[List<u32>]) -> Option<u32>
+        requires ordered { IsOrdered callees.now self.old }
+        ensures some { IfSome result (λ part. TakenFrom callees.now self.new part) }
+        ensures none { IfNone result (IsOrdered callees.now self.new × (self.new.ready ≡ [])) }
+        ensures again { self.new.again ≡ self.old.again }
+        ensures ranks { self.new.ranks.items ≡ self.old.ranks.items }
+    {
+        while let Some(part) = self.ready.take_least() {
+            if let None = self.ranks[part as usize] {
+                return Some(part);
+            }
+        }
+        None
+    }
+
+    // Gives the next number to a component. Those that wait for it have to look again.
+    fn give(&mut self, alloc: Global, callees: &[List<u32>], part: u32)
+        requires short { length callees.now < 2 ^ 32 }
+        requires none { self.old.again ≡ [] }
+        requires taken { TakenFrom callees.now self.old part }
+        ensures ordered { IsOrdered callees.now self.new }
+        ensures unranked { sum_by unranked self.new.ranks.items + 1 ≡ sum_by unranked self.old.ranks.items }
+    {
+        self.ranks[part as usize] = Some(self.count);
+        self.count += 1;
+        let waiting = &mut self.watchers[part as usize];
+        self.again = std::mem::replace(waiting, List::new(alloc));
+    }
+}
+
+/// Numbers for components, from the lists of their callees: each number goes to the least component that
+/// has none and whose callees have theirs. Gives the number of each component, and how many numbers there
+/// are.
+pub fn ready_order(alloc: Global, callees: &[List<u32>]) -> Result<(List<u32>, u32), Memory>
+    requires short { length callees.now < 2 ^ 32 }
+    requires inside { IsInside callees.now }
+    requires acyclic { IsAcyclic callees.now }
+    ensures { IfOk result (λ given. InReadyOrder callees.now given.0 given.1) }
+{
+    let mut order = Order::new(alloc, callees)?;
+    order.place_all(callees)?;
+    while let Some(part) = order.take_ready(callees) {
+        order.give(alloc, callees, part);
+        order.place_all(callees)?;
+    }
+    let numbers = numbers(alloc, order.ranks.as_slice())?;
+    Ok((numbers, order.count))
+}
+
+// The numbers, where each component has one.
+fn numbers(alloc: Global, ranks: &[Option<u32>]) -> Result<List<u32>, Memory>
+    requires { AllRanked ranks.now }
+    ensures { IfOk result (λ numbers. RanksAre ranks.now numbers) }
+{
+    let mut numbers = Filling::new(alloc);
+    for rank in ranks {
+        let Some(number) = *rank else {
+            unreachable!();
+        };
+        match numbers.push(number) {
+            Ok(()) => {}
+            Err(_) => return Err(Memory),
+        }
+    }
+    Ok(numbers.into_list())
+}
+
+// So many empty lists of watchers.
+fn no_watchers(alloc: Global, count: u32) -> Result<Vec<List<Watcher>>, Memory>
+    ensures { IfOk result (λ lists. lists.items ≡ replicate count []) }
+{
+    let mut lists = Vec::new(alloc);
+    for _ in 0..count {
+        push(&mut lists, List::new(alloc))?;
+    }
+    Ok(lists)
+}
+
+// Every component, before its first callee.
+fn all_parts(alloc: Global, count: u32) -> Result<List<Watcher>, Memory>
+    ensures { IfOk result (λ parts. AllParts parts count) }
+{
+    let mut parts = Vec::new(alloc);
+    for part in 0..count {
+        push(&mut parts, Watcher { part, at: 0 })?;
+    }
+    Ok(List::from_vec(parts))
+}

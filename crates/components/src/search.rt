@@ -1,0 +1,231 @@
+ghost use Rattle.std.specs.Prelude.{◌≡◌, ℕ, ◌+◌, ◌-◌, ◌<◌, ◌≤◌, [], ◌∷◌, ◌++◌, length, take, sum_by, slice_index, slice_index_or, IfOk, OnOk, IfSome, IfNone, MatchOption, vec_len};
+ghost use Rattle.components.specs.Graph.{IsGraph};
+ghost use Rattle.components.specs.Search.{mark_of, fresh, Closes};
+ghost use Rattle.components.specs.State.{IsSound, Enterable, Idle, IsLook, TopIs, LeadsBack, IsKnown};
+
+use crate::graph::Graph;
+use crate::tools::{pop_last, push};
+use std::alloc::Global;
+use type_kinds::Memory;
+
+/// How far the search is with a node.
+#[derive(Clone, Copy)]
+pub enum Mark {
+    /// The search hasn't seen it.
+    Unseen,
+    /// It stands on the path, at this place.
+    Open(usize),
+    /// It has this component.
+    Closed(u32),
+}
+
+/// A part of the path whose nodes all reach each other.
+#[derive(Clone, Copy)]
+pub struct Block {
+    /// The place of its first node on the path.
+    pub first: usize,
+    /// How many pending targets are of earlier blocks.
+    pub below: usize,
+}
+
+/// The state of the search.
+#[derive(Drop)]
+pub struct Search {
+    /// How far it is with each node.
+    pub marks: Vec<Mark>,
+    /// The open nodes: each reaches those that come after it.
+    pub path: Vec<u32>,
+    /// Targets of open nodes that have to be looked at.
+    pub pending: Vec<u32>,
+    /// The parts of the path.
+    pub blocks: Vec<Block>,
+    /// All nodes below this one have been seen.
+    pub cursor: u32,
+    /// How many components are closed.
+    pub count: u32,
+}
+
+/// What is to be done with the last block.
+pub enum Look {
+    /// This node, to which the block leads, is to be opened.
+    Enter(u32),
+    /// The block is a whole component.
+    Close,
+    /// The block is of one component with the block before it.
+    Merge,
+    /// The last pending target needs nothing.
+    Settled,
+}
+
+impl Search {
+    /// The search before its first step.
+    pub fn new(alloc: Global, graph: &Graph) -> Result<Search, Memory>
+        ensures { IfOk result (λ search. IsSound graph.now search) }
+    {
+        let count = graph.count() as usize;
+        let mut marks = Vec::new(alloc);
+        match marks.resize(count, Mark::Unseen) {
+            Ok(()) => Ok(Search {
+                marks,
+                path: Vec::new(alloc),
+                pending: Vec::new(alloc),
+                blocks: Vec::new(alloc),
+                cursor: 0,
+                count: 0,
+            }),
+            Err(_) => Err(Memory),
+        }
+    }
+
+    /// Goes on until there is a node to be opened, and gives it; `None` where the search is at its end.
+    pub fn next(&mut self, graph: &Graph) -> Option<u32>
+        requires graph { IsGraph graph.now }
+        requires sound { IsSound graph.now self.old }
+        ensures sound { IsSound graph.now self.new }
+        ensures fresh { sum_by fresh self.new.marks.items ≡ sum_by fresh self.old.marks.items }
+        ensures node { IfSome result (λ node. Enterable graph.now self.new node) }
+        ensures end { IfNone result (Idle graph.now self.new) }
+    {
+        loop {
+            let Some(top) = last_of(&self.blocks) else {
+                return self.next_root(graph);
+            };
+            match self.look(graph, top) {
+                Look::Enter(node) => return Some(node),
+                Look::Close => self.close(graph, top),
+                Look::Merge => self.merge(graph, top),
+                Look::Settled => self.settle(graph, top),
+            }
+        }
+    }
+
+    // Goes on to the next node that hasn't been seen, where no node is open.
+    fn next_root(&mut self, graph: &Graph) -> Option<u32>
+        requires sound { IsSound graph.now self.old }
+        requires empty { self.old.blocks.items ≡ [] }
+        ensures sound { IsSound graph.now self.new }
+        ensures marks { self.new.marks.items ≡ self.old.marks.items }
+        ensures node { IfSome result (λ node. Enterable graph.now self.new node) }
+        ensures end { IfNone result (Idle graph.now self.new) }
+    {
+        let count = graph.count();
+        while self.cursor < count {
+            if let Mark::Unseen = self.marks[self.cursor as usize] {
+                return Some(self.cursor);
+            }
+            self.cursor += 1;
+        }
+        None
+    }
+
+    // What is to be done with the last block.
+    fn look(&self, graph: &Graph, top: Block) -> Look
+        requires graph { IsGraph graph.now }
+        requires sound { IsSound graph.now self.now }
+        requires top { TopIs self.now.blocks.items top }
+        ensures { IsLook graph.now self.now top result }
+    {
+        if self.pending.len() <= top.below {
+            return Look::Close;
+        }
+        let target = self.pending[self.pending.len() - 1];
+        match self.marks[target as usize] {
+            Mark::Unseen => Look::Enter(target),
+            Mark::Closed(_) => Look::Settled,
+            Mark::Open(place) => {
+                if place < top.first {
+                    Look::Merge
+                } else {
+                    Look::Settled
+                }
+            }
+        }
+    }
+
+    // Lets the last block and the block before it be one.
+    fn merge(&mut self, graph: &Graph, top: Block)
+        requires sound { IsSound graph.now self.old }
+        requires top { TopIs self.old.blocks.items top }
+        requires back { LeadsBack self.old top }
+        ensures sound { IsSound graph.now self.new }
+        ensures marks { self.new.marks.items ≡ self.old.marks.items }
+        ensures pending { self.new.pending.items ≡ self.old.pending.items }
+        ensures blocks { length self.new.blocks.items + 1 ≡ length self.old.blocks.items }
+    {
+        let _ = pop_last(&mut self.blocks);
+    }
+
+    // Passes the last pending target.
+    fn settle(&mut self, graph: &Graph, top: Block)
+        requires sound { IsSound graph.now self.old }
+        requires top { TopIs self.old.blocks.items top }
+        requires known { IsKnown self.old top }
+        ensures sound { IsSound graph.now self.new }
+        ensures marks { self.new.marks.items ≡ self.old.marks.items }
+        ensures pending { length self.new.pending.items + 1 ≡ length self.old.pending.items }
+        ensures blocks { self.new.blocks.items ≡ self.old.blocks.items }
+    {
+        let _ = pop_last(&mut self.pending);
+    }
+
+    // Gives the nodes of the last block the next number.
+    fn close(&mut self, graph: &Graph, top: Block)
+        requires graph { IsGraph graph.now }
+        requires sound { IsSound graph.now self.old }
+        requires top { TopIs self.old.blocks.items top }
+        requires idle { length self.old.pending.items ≤ top.below }
+        ensures sound { IsSound graph.now self.new }
+        ensures fresh { sum_by fresh self.new.marks.items ≡ sum_by fresh self.old.marks.items }
+        ensures pending { self.new.pending.items ≡ self.old.pending.items }
+        ensures blocks { length self.new.blocks.items + 1 ≡ length self.old.blocks.items }
+    {
+        shut(&mut self.marks, self.path.as_slice(), top.first, self.count);
+        self.path.truncate(top.first);
+        let _ = pop_last(&mut self.blocks);
+        self.count += 1;
+    }
+
+    /// Opens a node. Where memory is wanting the search can't go on.
+    pub fn open(&mut self, graph: &Graph, node: u32) -> Result<(), Memory>
+        requires sound { IsSound graph.now self.old }
+        requires node { Enterable graph.now self.old node }
+        ensures sound { OnOk result (IsSound graph.now self.new) }
+        ensures fresh { OnOk result (sum_by fresh self.new.marks.items + 1 ≡ sum_by fresh self.old.marks.items) }
+    {
+        let block = Block {
+            first: self.path.len(),
+            below: self.pending.len(),
+        };
+        push(&mut self.blocks, block)?;
+        push(&mut self.path, node)?;
+        match self.pending.extend_from_slice(graph.targets(node)) {
+            Ok(()) => {}
+            Err(_) => return Err(Memory),
+        }
+        self.marks[node as usize] = Mark::Open(block.first);
+        Ok(())
+    }
+}
+
+// Closes the nodes from a place of the path on, with one number.
+fn shut(marks: &mut Vec<Mark>, path: &[u32], first: usize, number: u32)
+    requires first { first ≤ length path.now }
+    requires on_path { (p : ℕ) → p < length path.now → mark_of marks.old.items (slice_index path.now p) ≡ Mark.Open p }
+    requires nodes { (p : ℕ) → p < length path.now → slice_index path.now p < length marks.old.items }
+    ensures { Closes marks.old.items marks.new.items path.now first (length path.now) number }
+{
+    for place in first..path.len() {
+        let node = path[place];
+        marks[node as usize] = Mark::Closed(number);
+    }
+}
+
+// The last block.
+fn last_of(blocks: &Vec<Block>) -> Option<Block>
+    ensures { MatchOption result (blocks.now.items ≡ []) (λ top. TopIs blocks.now.items top) }
+{
+    if blocks.len() == 0 {
+        return None;
+    }
+    Some(blocks[blocks.len() - 1])
+}
