@@ -1,0 +1,14 @@
+pub mod Sorts
+pub mod Grammar
+pub mod Scope
+pub mod Named
+pub mod Sites
+pub mod Numbered
+pub mod Few
+pub mod Dead
+pub mod Settled
+pub mod Report
+pub mod Found
+pub mod Words
+pub mod Codes
+pub mod Outcome

@@ -1,0 +1,153 @@
+ghost use Rattle.std.specs.Prelude.{◌≡◌, ℕ, ◌≤◌, List, ◌++◌, IfOk, OnOk, OnErr};
+ghost use Rattle.dialyze.specs.Words.{texts};
+ghost use Rattle.dialyze.specs.Outcome.{Judged, Intended, line, usage_line, missing as no_file, missing_line, not_built, not_built_line, read_fault_line};
+
+use crate::report::report_on;
+use crate::source::built;
+use crate::status::{Device, Refusal, Status};
+use crate::words::file_of;
+use core_ast::discard_module;
+use da_shelf::{Shelf, ShelfFault};
+use std::alloc::Global;
+use type_kinds::{Bytes, List, Memory};
+
+/// The status that a run means to end with, and its output.
+#[derive(Drop)]
+pub struct Answer {
+    pub status: Status,
+    pub output: Bytes,
+}
+
+/// What a run means to answer: all of it but the writing.
+#[tactic(auto, using(crate::proofs::AnswerExits::intended_exits))]
+pub fn intended<F: Shelf>(alloc: Global, words: &[&str], shelf: &mut F) -> Result<Answer, Memory>
+    ensures intended { IfOk result (λ a. Intended (texts words.now) (F.held shelf.old) (F.read_faults shelf.old) (F.read_faults shelf.new) a.status a.output) }
+    ensures held { F.held shelf.new ≡ F.held shelf.old }
+    ensures counted { F.read_faults shelf.old ≤ F.read_faults shelf.new }
+{
+    let Some(file) = file_of(words) else {
+        return match usage(alloc) {
+            Ok(answer) => Ok(answer),
+            Err(Memory) => Err(Memory),
+        };
+    };
+    match shelf.read(file) {
+        Ok(bytes) => match judge(alloc, file, bytes.as_slice()) {
+            Ok(answer) => Ok(answer),
+            Err(Memory) => Err(Memory),
+        },
+        Err(fault) => match fault {
+            ShelfFault::Missing => match missing(alloc, file) {
+                Ok(answer) => Ok(answer),
+                Err(Memory) => Err(Memory),
+            },
+            ShelfFault::Failed => match unread(alloc, file) {
+                Ok(answer) => Ok(answer),
+                Err(Memory) => Err(Memory),
+            },
+            ShelfFault::Memory => Err(Memory),
+        },
+    }
+}
+
+// The answer where the file isn't held.
+fn missing(alloc: Global, file: &str) -> Result<Answer, Memory>
+    ensures status { IfOk result (λ a. a.status ≡ no_file) }
+    ensures output { IfOk result (λ a. a.output ≡ missing_line file.now) }
+{
+    match told(alloc, refused(26), file, ": refused 26 Missing") {
+        Ok(answer) => Ok(answer),
+        Err(Memory) => Err(Memory),
+    }
+}
+
+// The answer where the shelf failed.
+fn unread(alloc: Global, file: &str) -> Result<Answer, Memory>
+    ensures status { IfOk result (λ a. a.status ≡ Status.DeviceFault (Device.Read 1)) }
+    ensures output { IfOk result (λ a. a.output ≡ read_fault_line file.now) }
+{
+    let status = Status::DeviceFault(Device::Read(1));
+    match told(alloc, status, file, ": device fault read") {
+        Ok(answer) => Ok(answer),
+        Err(Memory) => Err(Memory),
+    }
+}
+
+// The answer where the source isn't built.
+fn unbuilt(alloc: Global, file: &str) -> Result<Answer, Memory>
+    ensures status { IfOk result (λ a. a.status ≡ not_built) }
+    ensures output { IfOk result (λ a. a.output ≡ not_built_line file.now) }
+{
+    match told(alloc, refused(27), file, ": refused 27 NotBuilt") {
+        Ok(answer) => Ok(answer),
+        Err(Memory) => Err(Memory),
+    }
+}
+
+// What a check of a source answers.
+#[tactic(auto, using(crate::proofs::AnswerExits::judged_exits))]
+fn judge(alloc: Global, file: &str, bytes: &[u8]) -> Result<Answer, Memory>
+    ensures { IfOk result (λ a. Judged file.now bytes.now a.status a.output) }
+{
+    let source = match built(alloc, bytes) {
+        Ok(Some(source)) => source,
+        Ok(None) => {
+            return match unbuilt(alloc, file) {
+                Ok(answer) => Ok(answer),
+                Err(Memory) => Err(Memory),
+            };
+        }
+        Err(Memory) => return Err(Memory),
+    };
+    let report = report_on(alloc, &source);
+    discard_module(source);
+    match report {
+        Ok(output) => {
+            if output.is_empty() {
+                let status = Status::Clean;
+                return Ok(Answer { status, output });
+            }
+            let status = Status::Warnings;
+            Ok(Answer { status, output })
+        }
+        Err(Memory) => Err(Memory),
+    }
+}
+
+// The refusal of the file by its number.
+pub fn refused(number: u8) -> Status
+    ensures { result ≡ Status.Refused (record { number = number; word = 1; line = 0; other = 0 }) }
+{
+    Status::Refused(Refusal {
+        number,
+        word: 1,
+        line: 0,
+        other: 0,
+    })
+}
+
+// A status whose output is a line: the file's name and a text.
+fn told(alloc: Global, status: Status, file: &str, text: &str) -> Result<Answer, Memory>
+    ensures status { IfOk result (λ a. a.status ≡ status) }
+    ensures output { IfOk result (λ a. a.output ≡ line (file.now ++ text.now)) }
+{
+    let mut output: Bytes = List::new(alloc);
+    output.append(file.as_bytes())?;
+    output.append(text.as_bytes())?;
+    output.append(b"\n")?;
+    Ok(Answer { status, output })
+}
+
+// The answer to words that are no command.
+fn usage(alloc: Global) -> Result<Answer, Memory>
+    ensures status { IfOk result (λ a. a.status ≡ Status.Usage) }
+    ensures output { IfOk result (λ a. a.output ≡ usage_line) }
+{
+    let mut output: Bytes = List::new(alloc);
+    output.append(b"usage: dialyze check [--plt T] [--out T2] [--workers N] FILE.. | make N")?;
+    output.append(b"\n")?;
+    Ok(Answer {
+        status: Status::Usage,
+        output,
+    })
+}

@@ -1,0 +1,55 @@
+ghost use Rattle.std.specs.Prelude.{◌≡◌, ◌↔◌, ◌⊎◌, ℕ, ◌≤◌, Option, IfSome};
+ghost use Rattle.da_shelf.specs.Told.{Files};
+ghost use Rattle.dialyze.specs.Words.{texts, IsNoCommand};
+ghost use Rattle.dialyze.specs.Outcome.{Answers, FailsToRead, FailsToWrite, IsAnswer, IsPossible, IsMissing, IsRefused, IsChecked, missing, not_built};
+
+use crate::answer::{Answer, intended};
+use crate::status::{Device, Status};
+use da_shelf::{Gate, Shelf, Sink, SinkFault, give};
+use std::alloc::Global;
+use type_kinds::Memory;
+
+/// Carries out a command: `check FILE` reads the file from the shelf and writes a line to the sink for
+/// each discrepancy that it finds.
+///
+/// - `Clean`: the source is built, and its report is empty.
+/// - `Warnings`: the source is built, and its report was written.
+/// - `Usage`: the words are no command.
+/// - `Refused` with number 26: the file isn't held; with number 27: its source isn't built.
+/// - `DeviceFault`: the shelf or the sink failed, and has counted it.
+/// - `Memory`: there was no memory left, and nothing was written.
+///
+/// Nothing that the shelf holds changes.
+#[tactic(auto, using(crate::proofs::CheckExits::check_exits))]
+pub fn dialyze<F: Shelf, K: Sink, G: Gate + Sync>(
+    alloc: Global,
+    words: &[&str],
+    shelf: &mut F,
+    out: &mut K,
+    _gate: &G,
+) -> Status
+    // The headline: the status, and the bytes written, are those of the words and of what is held.
+    ensures outcome { IsAnswer result → IfSome (F.held shelf.old) (λ held. Answers (texts words.now) held result (K.written out.old) (K.written out.new)) }
+
+    // When each answer comes.
+    ensures usage { IsAnswer result → (result ≡ Status.Usage) ↔ IsNoCommand (texts words.now) }
+    ensures missing { IsAnswer result → IfSome (F.held shelf.old) (λ held. (result ≡ missing) ↔ IsMissing (texts words.now) held) }
+    ensures not_built { IsAnswer result → IfSome (F.held shelf.old) (λ held. (result ≡ not_built) ↔ IsRefused (texts words.now) held) }
+    ensures checked { IsAnswer result → IfSome (F.held shelf.old) (λ held. ((result ≡ Status.Clean) ⊎ (result ≡ Status.Warnings)) ↔ IsChecked (texts words.now) held) }
+    ensures read { result ≡ Status.DeviceFault (Device.Read 1) → FailsToRead (texts words.now) (F.read_faults shelf.old) (F.read_faults shelf.new) (K.written out.old) (K.written out.new) }
+    ensures write { result ≡ Status.DeviceFault Device.Write → FailsToWrite (texts words.now) (F.held shelf.old) (F.read_faults shelf.old) (F.read_faults shelf.new) (K.faults out.old) (K.faults out.new) (K.written out.old) (K.written out.new) }
+    ensures memory { result ≡ Status.Memory → K.written out.new ≡ K.written out.old }
+    ensures possible { IsPossible result }
+
+    // What stays.
+    ensures held { F.held shelf.new ≡ F.held shelf.old }
+{
+    let Answer { status, output } = match intended(alloc, words, shelf) {
+        Ok(answer) => answer,
+        Err(Memory) => return Status::Memory,
+    };
+    match give(out, output.as_slice()) {
+        Ok(()) => status,
+        Err(SinkFault::Failed) => Status::DeviceFault(Device::Write),
+    }
+}
