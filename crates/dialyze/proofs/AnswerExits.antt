@@ -1,5 +1,5 @@
 -- What a run means to answer: one lemma for each way out.
-use Rattle.std.proofs.Common.{◌≡◌, ◌≢◌, ℕ, List, [], refl, sym, subst}
+use Rattle.std.proofs.Common.{◌≡◌, ◌≢◌, ℕ, List, [], refl}
 use Rattle.core_ast.specs.Model as m
 use Rattle.da_shelf.specs.Counts.{Rose}
 use Rattle.da_shelf.specs.Told.{Files, Holds, Lacks}

@@ -1,16 +1,15 @@
 -- From what a run means to answer to what it answers, once all is written.
-use Rattle.std.proofs.Common.{◌≡◌, ◌≢◌, ◌↔◌, ◌⊎◌, inl, inr, ℕ, List, [], refl, sym, ◌∙◌, ap, subst, Option, Some, None, arith}
+use Rattle.std.proofs.Common.{◌≡◌, ◌↔◌, ◌⊎◌, inl, inr, ℕ, List, refl, sym, ◌∙◌, ap, subst, Option, Some, None, arith}
 use Rattle.std.specs.Prelude.{IfSome}
 use Rattle.std.specs.FinMap.{get}
 use Rattle.core_ast.specs.Model as m
 use Rattle.da_shelf.specs.Counts.{Rose}
-use Rattle.da_shelf.specs.Told.{Files, Holds, Lacks, appended, IsFrontAppended}
+use Rattle.da_shelf.specs.Told.{Files, appended, IsFrontAppended}
 use Rattle.dialyze.specs.declared.status.Status.{Status}
-use Rattle.dialyze.specs.declared.status.Status.TheVariants.{Clean, Refused, Warnings, TableFault, DeviceFault, Memory, Usage}
-use Rattle.dialyze.specs.declared.status.Device.TheVariants.{Read, Replace, Write}
-use Rattle.dialyze.specs.Words.{IsFile, IsCheck, IsNoCommand}
-use Rattle.dialyze.specs.Report.{IsReport}
-use Rattle.dialyze.specs.Outcome.{IsBuilt, IsNotBuilt, Judged, refused, clean, warned, Outcome, usage, lacking, judged, Intended, no_command, not_held, checked, unread, Answers, FailsToRead, FailsToWrite, IsAnswer, IsPossible, IsMissing, IsRefused, IsChecked, usage_line, missing, missing_line, not_built, not_built_line, read_fault_line}
+use Rattle.dialyze.specs.declared.status.Status.TheVariants.{Clean, Refused, Warnings, DeviceFault, Memory, Usage}
+use Rattle.dialyze.specs.declared.status.Device.TheVariants.{Read, Write}
+use Rattle.dialyze.specs.Words.{IsCheck, IsNoCommand}
+use Rattle.dialyze.specs.Outcome.{IsBuilt, IsNotBuilt, Judged, refused, clean, warned, Outcome, usage, lacking, judged, Intended, no_command, not_held, checked, unread, Answers, FailsToRead, FailsToWrite, IsAnswer, IsPossible, IsMissing, IsRefused, IsChecked, missing, not_built}
 
 -- the file is determined by the words
 one_file : {words : List (List ℕ)} {file other : List ℕ} → IsCheck words file → IsCheck words other → file ≡ other

@@ -34,10 +34,10 @@ numbers_functions x graph c n e d same nodes together downward = record {
 }
 
 -- A dead function has a bad site, and a bad site is mistaken or goes to a dead function elsewhere.
-bad_site : (x : m.Module) (i : ℕ) → Dead x i → (s : Site) × Contains (sites_of x i) s × Bad x i s
+pub bad_site : (x : m.Module) (i : ℕ) → Dead x i → (s : Site) × Contains (sites_of x i) s × Bad x i s
 bad_site x _ (has_bad i s h b) = (s, h, b)
 
-bad_cases : (x : m.Module) (i : ℕ) (s : Site) → Bad x i s → IsMistaken x s.callee ⊎ ((j : ℕ) × GoesTo x s.callee j × Dead x j × (Together x i j → ⊥))
+pub bad_cases : (x : m.Module) (i : ℕ) (s : Site) → Bad x i s → IsMistaken x s.callee ⊎ ((j : ℕ) × GoesTo x s.callee j × Dead x j × (Together x i j → ⊥))
 bad_cases x _ _ (mistaken i s h) = inl h
 bad_cases x _ _ (to_dead i j s goes dead apart) = inr (j, goes, dead, apart)
 

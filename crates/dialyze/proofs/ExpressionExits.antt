@@ -1,6 +1,6 @@
 -- What an expression is read from, and where there is none: one lemma for each way out of the functions
 -- that read expressions.
-use Rattle.std.proofs.Common.{◌≡◌, ℕ, ◌+◌, ◌≤◌, ◌<◌, List, [], ◌∷◌, refl, sym, ap, ◌∙◌, subst, Bool, true, false, length, arith}
+use Rattle.std.proofs.Common.{◌≡◌, ℕ, ◌+◌, ◌≤◌, ◌<◌, List, ◌∷◌, sym, ap, ◌∙◌, subst, Bool, true, false, length, arith}
 use Rattle.type_kinds.specs.declared.place.Place.{Place}
 use Rattle.type_kinds.specs.declared.atom.Atom.{Atom}
 use Rattle.core_ast.specs.declared.syntax.FunName.{FunName}

@@ -1,5 +1,5 @@
 -- What few tokens spell has few arguments everywhere: each is a token at least.
-use Rattle.std.proofs.Common.{◌≡◌, ℕ, suc, ◌+◌, ◌≤◌, ◌<◌, ◌^◌, ◌∙◌, List, [], ◌∷◌, Bool, length, refl, ap, arith}
+use Rattle.std.proofs.Common.{◌≡◌, ℕ, suc, ◌+◌, ◌≤◌, ◌<◌, ◌∙◌, List, [], ◌∷◌, Bool, length, refl, ap, arith}
 use Rattle.type_kinds.specs.declared.atom.Atom.{Atom}
 use Rattle.type_kinds.specs.declared.place.Place.{Place}
 use Rattle.core_ast.specs.declared.syntax.FunName.{FunName}

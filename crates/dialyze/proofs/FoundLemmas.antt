@@ -1,5 +1,5 @@
 -- The findings that are made are those of the module, all and no others, in order.
-use Rattle.std.proofs.Common.{◌≡◌, ℕ, zero, suc, ◌+◌, ◌<◌, ◌⊎◌, ◌↔◌, List, [], ◌∷◌, ◌++◌, Some, None, length, map, slice_get, get_or, refl, sym, ap, ◌∙◌, subst, inl, inr, arith}
+use Rattle.std.proofs.Common.{◌≡◌, ℕ, zero, suc, ◌+◌, ◌<◌, ◌⊎◌, List, [], ◌∷◌, ◌++◌, Some, map, slice_get, get_or, refl, sym, ap, ◌∙◌, subst, inl, inr, arith}
 use Rattle.std.specs.Prelude.{All, AllPairs, Contains}
 use Rattle.std.proofs.lemmas.List.Elements.{All-nil, All-cons, All-head, All-tail, All-weaker, Contains-append_left, Contains-append_right, Contains-append_cases, Contains-push, Contains-push_cases}
 use Rattle.std.proofs.lemmas.List.Kept.{AllPairs-cons}
@@ -63,13 +63,13 @@ defs_labelled (next_def_found {f = f} {k = k} {params = params} {body = body} {d
     subst P (sym split) (labelled-append (function_labelled h) (defs_labelled rest))
 
 -- what a list with a first item contains
-first_in : {X : Type 0} (x y : X) (xs : List X) → x ≡ y → Contains (x ∷ xs) y
+pub first_in : {X : Type 0} (x y : X) (xs : List X) → x ≡ y → Contains (x ∷ xs) y
 first_in x y xs same = let P : _ → Type 0 = λ z. Contains (x ∷ xs) z in subst P same (Contains-append_left (x ∷ []) xs x (Contains-push [] x))
 
-later_in : {X : Type 0} (x y : X) (xs : List X) → Contains xs y → Contains (x ∷ xs) y
+pub later_in : {X : Type 0} (x y : X) (xs : List X) → Contains xs y → Contains (x ∷ xs) y
 later_in x y xs h = Contains-append_right (x ∷ []) xs y h
 
-in_nothing : {X : Type 0} (y : X) → Contains [] y → ⊥
+pub in_nothing : {X : Type 0} (y : X) → Contains [] y → ⊥
 in_nothing y h = let within : h.0 < 0 = h.1 in absurd (omega arith)
 
 one_in : {X : Type 0} (x y : X) → Contains (x ∷ []) y ⊎ ⊥ → x ≡ y
@@ -80,7 +80,7 @@ one_in x y (inl h) = from (Contains-push_cases [] x y h)
     from (inr same) = same
 one_in x y (inr h) = absurd h
 
-first_or_later : {X : Type 0} (x y : X) (xs : List X) → Contains (x ∷ xs) y → (x ≡ y) ⊎ Contains xs y
+pub first_or_later : {X : Type 0} (x y : X) (xs : List X) → Contains (x ∷ xs) y → (x ≡ y) ⊎ Contains xs y
 first_or_later x y xs h = from (Contains-append_cases (x ∷ []) xs y h)
   where
     from : Contains (x ∷ []) y ⊎ Contains xs y → (x ≡ y) ⊎ Contains xs y

@@ -24,3 +24,6 @@ pub mod ReportExits
 pub mod DeadNames
 pub mod DeadCalls
 pub mod DeadFlags
+pub mod OneOutcome
+pub mod ScopeExamples
+pub mod DeadExamples

@@ -1,14 +1,14 @@
 -- The lines of a definition and of its sites.
-use Rattle.std.proofs.Common.{◌≡◌, ℕ, ◌+◌, ◌<◌, ◌≤◌, ◌↔◌, List, [], ◌∷◌, ◌++◌, Bool, true, false, IsTrue, Some, None, length, drop, get_or, slice_get, refl, sym, ap, ◌∙◌, subst, arith, append_assoc, add-one, drop-cons}
+use Rattle.std.proofs.Common.{◌≡◌, ℕ, ◌+◌, ◌<◌, ◌≤◌, ◌↔◌, List, [], ◌∷◌, ◌++◌, Bool, true, false, IsTrue, Some, length, drop, get_or, slice_get, refl, sym, ap, ◌∙◌, subst, append_assoc, add-one, drop-cons}
 use Rattle.std.proofs.lemmas.List.{append-nil, drop_all}
 use Rattle.type_kinds.specs.declared.atom.Atom.{Atom}
 use Rattle.core_ast.specs.declared.syntax.FunName.{FunName}
 use Rattle.core_ast.specs.declared.syntax.Mark.{Mark}
 use Rattle.core_ast.specs.Model as m
 use Rattle.dialyze.specs.declared.sites.Site.{Site}
-use Rattle.dialyze.specs.Dead.{Dead, NeverReturns}
+use Rattle.dialyze.specs.Dead.{Dead}
 use Rattle.dialyze.specs.Report.{Finding, no_return, never_returns, line_of, lines_of}
-use Rattle.dialyze.specs.Found.{AreJudged, IsLost, SitesFound, no_site, lost_site, kept_site, FunctionFound, dead_function_found, live_function_found, AddsSites, AddsFunction}
+use Rattle.dialyze.specs.Found.{AreJudged, IsLost, SitesFound, no_site, lost_site, kept_site, dead_function_found, live_function_found, AddsSites, AddsFunction}
 use Rattle.dialyze.proofs.LostExits.{lost_from, never_from, tested_false}
 
 pub lines-append : (home : Atom) (fs gs : List Finding) → lines_of home (fs ++ gs) ≡ lines_of home fs ++ lines_of home gs

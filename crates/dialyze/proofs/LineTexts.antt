@@ -1,5 +1,5 @@
 -- Text that is added part by part.
-use Rattle.std.proofs.Common.{◌≡◌, ℕ, List, [], ◌∷◌, ◌++◌, refl, sym, ap, ◌∙◌, append_assoc}
+use Rattle.std.proofs.Common.{◌≡◌, ℕ, List, [], ◌∷◌, ◌++◌, sym, ap, ◌∙◌, append_assoc}
 
 pub two_parts : {X : Type 0} (o p q a b : List X) → p ≡ o ++ a → q ≡ p ++ b → q ≡ o ++ (a ++ b)
 two_parts o p q a b first second = second ∙ ap (λ z. z ++ b) first ∙ append_assoc o a b

@@ -1,6 +1,6 @@
 -- Whether a call never returns, by each way to an answer.
-use Rattle.std.proofs.Common.{◌≡◌, ◌≢◌, ℕ, zero, suc, ◌+◌, ◌<◌, ◌^◌, ◌⊎◌, ◌↔◌, List, [], ◌∷◌, Bool, true, false, IsTrue, Some, None, length, slice_get, get_or, refl, sym, ap, ◌∙◌, subst, inl, inr, arith}
-use Rattle.std.specs.Prelude.{All, Contains}
+use Rattle.std.proofs.Common.{◌≡◌, ℕ, zero, suc, ◌<◌, ◌^◌, ◌⊎◌, ◌↔◌, List, [], ◌∷◌, Bool, true, false, IsTrue, Some, length, slice_get, refl, sym, ap, ◌∙◌, subst, inl, inr, arith}
+use Rattle.std.specs.Prelude.{Contains}
 use Rattle.std.proofs.lemmas.Option.{slice_get_within, get_or_from_slice_get}
 use Rattle.std.proofs.lemmas.List.Elements.{All-contains}
 use Rattle.type_kinds.specs.declared.atom.Atom.{Atom}
@@ -11,7 +11,7 @@ use Rattle.dialyze.specs.declared.sites.Callee.{Callee}
 use Rattle.dialyze.specs.declared.sites.Callee.TheVariants.{Applied, Called}
 use Rattle.dialyze.specs.Scope as scope
 use Rattle.dialyze.specs.Scope.{Distinct, erlang}
-use Rattle.dialyze.specs.Dead.{IsNumberOf, IsMistaken, GoesTo, Dead, Bad, mistaken, to_dead, NeverReturns}
+use Rattle.dialyze.specs.Dead.{IsNumberOf, Dead, Bad, mistaken, to_dead, NeverReturns}
 use Rattle.dialyze.specs.Found.{AreJudged, IsLost}
 
 -- A call is bad or goes to a dead function exactly where it is lost.

@@ -1,5 +1,5 @@
 -- A module: what it is read from, each way out, and that it is read in one way alone.
-use Rattle.std.proofs.Common.{◌≡◌, ℕ, ◌+◌, List, [], ◌∷◌, ◌++◌, refl, sym, ap, ◌∙◌, subst, Bool, true, false, length, arith}
+use Rattle.std.proofs.Common.{◌≡◌, List, [], ◌∷◌, refl, sym, ◌∙◌, subst, Bool, true, length, arith}
 use Rattle.std.specs.Prelude.{◌==◌}
 use Rattle.std.proofs.lemmas.Bool.Decides.{nat_tests}
 use Rattle.type_kinds.specs.declared.atom.Atom.{Atom}
@@ -7,9 +7,7 @@ use Rattle.type_kinds.specs.declared.place.Place.{Place}
 use Rattle.core_ast.specs.declared.syntax.FunName.{FunName}
 use Rattle.core_ast.specs.Model as m
 use Rattle.core_scan.specs.declared.token.Token.{Token}
-use Rattle.dialyze.specs.declared.sort.Sort.{Sort}
 use Rattle.dialyze.specs.declared.sort.Sort.TheVariants as s
-use Rattle.dialyze.specs.Sorts.{sort}
 use Rattle.dialyze.specs.Grammar.{no_note, Takes, AtomAt, Exports, Definitions, EmptyAttributes, empty_attributes, Spells, spelled, NoToken, NoAtom, NoExports, NoAttributes, NoDefinitions, SpellNothing}
 use Rattle.dialyze.proofs.Once.{once-Takes, once-AtomAt, takes_from, atom_from}
 use Rattle.dialyze.proofs.ExportExits.{once-Exports}

@@ -1,8 +1,7 @@
 -- What some tokens begin with, they begin with in one way alone.
-use Rattle.std.proofs.Common.{◌≡◌, ℕ, ◌+◌, List, [], ◌∷◌, Bool, true, false, refl, sym, ap, ◌∙◌, subst, Some}
+use Rattle.std.proofs.Common.{◌≡◌, ℕ, List, ◌∷◌, Bool, true, false, refl, sym, ap, subst, Some}
 use Rattle.type_kinds.specs.declared.place.Place.{Place}
 use Rattle.type_kinds.specs.declared.atom.Atom.{Atom}
-use Rattle.core_ast.specs.declared.syntax.VarName.{VarName}
 use Rattle.core_ast.specs.declared.syntax.FunName.{FunName}
 use Rattle.core_ast.specs.declared.syntax.Literal.TheVariants as l
 use Rattle.core_ast.specs.Model as m
@@ -10,7 +9,7 @@ use Rattle.core_scan.specs.declared.token.Token.{Token}
 use Rattle.dialyze.specs.declared.sort.Sort.{Sort}
 use Rattle.dialyze.specs.declared.sort.Sort.TheVariants as s
 use Rattle.dialyze.specs.Sorts.{sort}
-use Rattle.dialyze.specs.Grammar.{text, arity, at, deepest, parameter, Takes, takes, AtomAt, atom_at, NameAt, name_at, Simple, variable, integer, atom, Expression, simple, tuple, apply, call, Elements, none, some, More, closes, goes_on, closing}
+use Rattle.dialyze.specs.Grammar.{text, arity, at, Takes, takes, AtomAt, atom_at, NameAt, name_at, Simple, variable, integer, atom, Expression, simple, tuple, apply, call, Elements, none, some, More, closes, goes_on, closing}
 
 pub once-Takes : {c : Sort} {ts us vs : List Token} → Takes c ts us → Takes c ts vs → us ≡ vs
 once-Takes (takes h) (takes g) = refl

@@ -1,5 +1,5 @@
 -- The report, definition by definition.
-use Rattle.std.proofs.Common.{◌≡◌, ℕ, zero, suc, ◌+◌, ◌<◌, ◌≤◌, ◌^◌, ◌↔◌, List, [], ◌∷◌, ◌++◌, Bool, true, Some, length, drop, get_or, slice_get, refl, sym, ap, ◌∙◌, subst, arith, append_assoc}
+use Rattle.std.proofs.Common.{◌≡◌, ℕ, zero, suc, ◌+◌, ◌<◌, ◌≤◌, ◌^◌, ◌↔◌, List, [], ◌∷◌, ◌++◌, Bool, true, Some, length, drop, get_or, slice_get, refl, sym, ap, subst, arith, append_assoc}
 use Rattle.std.proofs.lemmas.List.{append-nil, drop_all}
 use Rattle.core_ast.specs.declared.syntax.FunName.{FunName}
 use Rattle.core_ast.specs.declared.syntax.FunDefOf.{FunDefOf}
@@ -14,7 +14,7 @@ use Rattle.dialyze.specs.Sites.{sites, def_sites}
 use Rattle.dialyze.specs.Numbered.{IsNumbered}
 use Rattle.dialyze.specs.Dead.{Dead}
 use Rattle.dialyze.specs.Report.{Finding, lines_of, IsReport}
-use Rattle.dialyze.specs.Found.{AreJudged, FunctionFound, DefsFound, no_def_found, next_def_found, AddsFunction}
+use Rattle.dialyze.specs.Found.{AreJudged, DefsFound, no_def_found, next_def_found, AddsFunction}
 use Rattle.dialyze.proofs.FoundLemmas.{are_findings}
 use Rattle.dialyze.proofs.LineExits.{lines_further}
 

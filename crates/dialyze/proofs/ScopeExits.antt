@@ -70,7 +70,7 @@ some_row f (suc (suc (suc (suc zero))), within, is) = row_of is halt_none
 some_row f (suc (suc (suc (suc (suc zero)))), within, is) = row_of is halt_1
 some_row f (suc (suc (suc (suc (suc (suc k))))), within, is) = absurd (omega arith)
 
-apart : (x y : Atom) → pointwise nat_eq x y ≡ false → x ≡ y → ⊥
+pub apart : (x y : Atom) → pointwise nat_eq x y ≡ false → x ≡ y → ⊥
 apart x y differ e = let same = (bytes_decides x y).1 e in absurd cc
 
 exit_row : {x : Atom} {n : ℕ} → Row x n → x ≡ codes "exit" → n ≡ 1

@@ -1,5 +1,5 @@
 -- The applications and calls of an expression, form by form, and of what is left of a list.
-use Rattle.std.proofs.Common.{◌≡◌, ℕ, zero, suc, ◌+◌, ◌<◌, ◌≤◌, ◌^◌, List, [], ◌∷◌, ◌++◌, Option, Some, None, Result, Ok, Err, OnOk, length, drop, get_or, map, refl, sym, ap, ◌∙◌, subst, arith, append_assoc}
+use Rattle.std.proofs.Common.{◌≡◌, ℕ, zero, suc, ◌+◌, ◌<◌, ◌≤◌, ◌^◌, List, [], ◌∷◌, ◌++◌, Option, Some, None, Result, Ok, Err, OnOk, length, drop, get_or, refl, sym, ap, ◌∙◌, subst, arith, append_assoc}
 use Rattle.std.proofs.lemmas.List.{append-nil, drop_all}
 use Rattle.type_kinds.specs.declared.atom.Atom.{Atom}
 use Rattle.core_ast.specs.declared.syntax.Mark.{Mark}
@@ -21,7 +21,6 @@ use Rattle.core_ast.specs.Model as m
 use Rattle.core_ast.specs.Tree.{Marked, MarkedPattern, ClauseParts, SegmentParts, PatSegmentParts, form_layer, form_tree, tree, pat_form_tree, pattern_tree, clause_parts, segment_parts, pat_segment_parts, all_trees, all_defs}
 use Rattle.core_ast.proofs.Trees.{tree-is, form_tree-out, tree-Tuple, tree-Apply, tree-Call, tree-Local, tree-Lit, all_trees-next, all_defs-next}
 use Rattle.dialyze.specs.declared.sites.Site.{Site}
-use Rattle.dialyze.specs.declared.sites.Callee.{Callee}
 use Rattle.dialyze.specs.declared.sites.Callee.TheVariants.{Applied, Called}
 use Rattle.dialyze.specs.Scope.{how_many, function_name}
 use Rattle.dialyze.specs.Sites.{site, sites, all_sites, def_sites}

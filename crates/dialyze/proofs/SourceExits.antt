@@ -1,5 +1,5 @@
 -- What a source is built from, and each way in which it is not built.
-use Rattle.std.proofs.Common.{◌≡◌, ◌≢◌, ℕ, ◌≤◌, ◌<◌, List, sym, ◌∙◌, subst, Bool, true, false, IsTrue, length, arith}
+use Rattle.std.proofs.Common.{◌≡◌, ℕ, ◌≤◌, ◌<◌, List, sym, ◌∙◌, subst, length, arith}
 use Rattle.core_ast.specs.Model as m
 use Rattle.core_scan.specs.declared.token.Token.{Token}
 use Rattle.core_scan.specs.Bytes.{start}

@@ -1,5 +1,5 @@
 -- Two words.
-use Rattle.std.proofs.Common.{◌≡◌, ℕ, ◌≤◌, ◌<◌, List, [], ◌∷◌, length, refl, ap, ◌∙◌, arith}
+use Rattle.std.proofs.Common.{◌≡◌, ℕ, ◌≤◌, ◌<◌, List, [], ◌∷◌, length, ap, arith}
 use Rattle.std.specs.Prelude.{slice_index_or, codes}
 use Rattle.std.specs.Borrow.{Bor}
 use Rattle.dialyze.specs.Words.{texts}

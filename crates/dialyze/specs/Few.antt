@@ -1,5 +1,5 @@
 -- How many arguments an application or a call has: few enough for a number of 32 bits.
-use Rattle.std.specs.Prelude.{ℕ, ◌<◌, ◌^◌}
+use Rattle.std.specs.Prelude.{◌<◌, ◌^◌}
 use Rattle.core_ast.specs.Model as m
 use Rattle.dialyze.specs.Scope.{how_many}
 

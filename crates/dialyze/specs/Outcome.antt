@@ -1,5 +1,5 @@
 -- What a run answers: its status and its output, by the words and by what is held.
-use Rattle.std.specs.Prelude.{◌≡◌, ◌≢◌, ℕ, ◌≤◌, ◌^◌, ◌⊎◌, List, [], ◌∷◌, ◌++◌, length, Option, Some, None, IfSome, codes}
+use Rattle.std.specs.Prelude.{◌≡◌, ◌≢◌, ℕ, ◌≤◌, ◌⊎◌, List, [], ◌∷◌, ◌++◌, length, Option, Some, None, codes}
 use Rattle.std.specs.FinMap.{get}
 use Rattle.core_ast.specs.Model as m
 use Rattle.core_scan.specs.declared.token.Token.{Token}
@@ -9,8 +9,6 @@ use Rattle.da_shelf.specs.Counts.{Rose}
 use Rattle.da_shelf.specs.Told.{Files, Holds, Lacks, appended, IsFrontAppended}
 use Rattle.dialyze.specs.declared.status.Status.{Status}
 use Rattle.dialyze.specs.declared.status.Status.TheVariants.{Clean, Refused, Warnings, TableFault, DeviceFault, Memory, Usage}
-use Rattle.dialyze.specs.declared.status.Refusal.{Refusal}
-use Rattle.dialyze.specs.declared.status.Device.{Device}
 use Rattle.dialyze.specs.declared.status.Device.TheVariants.{Read, Replace, Write}
 use Rattle.dialyze.specs.Words.{IsCheck, IsNoCommand}
 use Rattle.dialyze.specs.Grammar.{Spells}

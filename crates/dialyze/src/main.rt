@@ -6,6 +6,7 @@ mod check;
 mod dead;
 mod definitions;
 mod expressions;
+mod laws;
 mod leaves;
 mod lines;
 mod lost;
