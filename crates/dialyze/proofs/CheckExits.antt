@@ -21,7 +21,7 @@ refusal_number _ = 0
 
 apart : not_built ≡ missing → ⊥
 unfolding refusal_number
-apart e = let k = ap refusal_number e in let n : 27 ≡ 26 = k in omega arith
+apart e = let k = ap refusal_number e in let n : 27 ≡ (let m : ℕ = 26 in m) = k in omega arith
 
 answer_not : {status other : Status} → IsAnswer status → status ≡ other → (IsAnswer other → ⊥) → ⊥
 answer_not h e no_answer = no_answer (subst IsAnswer e h)

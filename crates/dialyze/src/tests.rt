@@ -170,6 +170,29 @@ fn refuses_what_is_not_built(rt: HostRuntime) -> Result<(), Fail> {
     Ok(())
 }
 
+// The deepest expression that is built, and one deeper.
+#[test]
+fn knows_how_deep(rt: HostRuntime) -> Result<(), Fail> {
+    let alloc = rt.alloc();
+    for (depth, status) in [(400, Status::Clean), (401, refused(27))] {
+        let mut text = String::from_str(
+            alloc,
+            "module 'm' ['f'/0] attributes [] 'f'/0 = fun () -> ",
+        )?;
+        for _ in 1..depth {
+            text.push_str("{")?;
+        }
+        text.push_str("1")?;
+        for _ in 1..depth {
+            text.push_str("}")?;
+        }
+        text.push_str(" end")?;
+        let answer = run(alloc, &["check", "m.core"], text.as_str())?;
+        assert_eq!(rt; answer.0, status, "{depth}");
+    }
+    Ok(())
+}
+
 #[test]
 fn tells_of_devices(rt: HostRuntime) -> Result<(), Fail> {
     let alloc = rt.alloc();
@@ -236,6 +259,27 @@ fn stops_at_a_failed_write(rt: HostRuntime) -> Result<(), Fail> {
             assert_eq!(rt; status, Status::Warnings, "{number}");
             assert_eq!(rt; sink.bytes(), LOST_REPORT.as_bytes(), "{number}");
         }
+    }
+    Ok(())
+}
+
+// What a run answers and writes where the first write fails.
+fn run_without_output(alloc: Global, words: &[&str]) -> Result<(Status, usize), Fail> {
+    let mut shelf = MemShelf::new(alloc, List::new(alloc), List::new(alloc));
+    shelf.put("m.core", LOST.as_bytes())?;
+    let mut writes = List::new(alloc);
+    writes.push(1).ok().ok_or("memory")?;
+    let mut sink = MemSink::new(alloc, 4096, 4096, writes)?;
+    let status = dialyze(alloc, words, &mut shelf, &mut sink, &OpenGate);
+    Ok((status, sink.bytes().len()))
+}
+
+#[test]
+fn tells_of_a_failed_output(rt: HostRuntime) -> Result<(), Fail> {
+    for words in [["check", "m.core"], ["check", "x.core"], ["check", "-"]] {
+        let answer = run_without_output(rt.alloc(), &words)?;
+        assert_eq!(rt; answer.0, Status::DeviceFault(Device::Write));
+        assert_eq!(rt; answer.1, 0);
     }
     Ok(())
 }
