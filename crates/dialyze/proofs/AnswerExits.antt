@@ -1,9 +1,11 @@
 -- What a run means to answer: one lemma for each way out.
-use Rattle.std.proofs.Common.{◌≡◌, ◌≢◌, ℕ, List, [], refl}
+use Rattle.std.proofs.Common.{◌≡◌, ◌≢◌, ℕ, List, [], Option, Result, Ok, Err, refl, sym, subst}
+use Rattle.std.specs.Prelude.{IfOk}
+use Rattle.type_kinds.specs.declared.memory.Memory.{Memory}
 use Rattle.core_ast.specs.Model as m
 use Rattle.da_shelf.specs.Counts.{Rose}
 use Rattle.da_shelf.specs.Told.{Files, Holds, Lacks}
-use Rattle.std.proofs.Common.{Option}
+use Rattle.dialyze.specs.declared.answer.Answer.{Answer}
 use Rattle.dialyze.specs.declared.status.Status.{Status}
 use Rattle.dialyze.specs.declared.status.Status.TheVariants.{Clean, Warnings, Usage, DeviceFault}
 use Rattle.dialyze.specs.declared.status.Device.TheVariants.{Read}
@@ -25,13 +27,19 @@ pub ruleset judged_exits = (refused_it, clean_it, warned_it)
 pub no_command_it : (words : List (List ℕ)) (told : Option Files) (before now : ℕ) (status : Status) (output : List ℕ) → status ≡ Usage → output ≡ usage_line → IsNoCommand words → Intended words told before now status output
 no_command_it words told before now status output a b c = no_command a b c
 
-pub not_held_it : (words : List (List ℕ)) (told : Option Files) (before now : ℕ) (status : Status) (output file : List ℕ) → status ≡ missing → output ≡ missing_line file → IsCheck words file → Lacks told file → Intended words told before now status output
-not_held_it words told before now status output file a b c d = not_held file a b c d
+pub not_held_it : (words : List (List ℕ)) (told : Option Files) (before now : ℕ) (file : List ℕ) (r : Result Answer Memory) → IsCheck words file → Lacks told file → IfOk r (λ a. a.status ≡ missing) → IfOk r (λ a. a.output ≡ missing_line file)
+    → IfOk r (λ a. Intended words told before now a.status a.output)
+not_held_it words told before now file (Ok a) c d s o = not_held file s o c d
+not_held_it words told before now file (Err e) c d s o = tt
 
-pub checked_it : (words : List (List ℕ)) (told : Option Files) (before now : ℕ) (status : Status) (output file bytes : List ℕ) → IsCheck words file → Holds told file bytes → Judged file bytes status output → Intended words told before now status output
-checked_it words told before now status output file bytes a b c = checked file bytes a b c
+pub checked_it : (words : List (List ℕ)) (told : Option Files) (before now : ℕ) (file bytes read : List ℕ) (r : Result Answer Memory) → IsCheck words file → Holds told file bytes → read ≡ bytes → IfOk r (λ a. Judged file read a.status a.output)
+    → IfOk r (λ a. Intended words told before now a.status a.output)
+checked_it words told before now file bytes read (Ok a) c h e j = checked file read c (subst (Holds told file) (sym e) h) j
+checked_it words told before now file bytes read (Err f) c h e j = tt
 
-pub unread_it : (words : List (List ℕ)) (told : Option Files) (before now : ℕ) (status : Status) (output file : List ℕ) → status ≡ DeviceFault (Read 1) → output ≡ read_fault_line file → IsCheck words file → Rose before now → Intended words told before now status output
-unread_it words told before now status output file a b c d = unread file a b c d
+pub unread_it : (words : List (List ℕ)) (told : Option Files) (before now : ℕ) (file : List ℕ) (r : Result Answer Memory) → IsCheck words file → Rose before now → IfOk r (λ a. a.status ≡ DeviceFault (Read 1)) → IfOk r (λ a. a.output ≡ read_fault_line file)
+    → IfOk r (λ a. Intended words told before now a.status a.output)
+unread_it words told before now file (Ok a) c d s o = unread file s o c d
+unread_it words told before now file (Err e) c d s o = tt
 
-pub ruleset intended_exits = (no_command_it, not_held_it, checked_it, unread_it)
+pub ruleset intended_exits = (no_command_it)

@@ -1,27 +1,26 @@
 -- What makes a function dead, by the numbers of components, and flags that say so.
-use Rattle.std.proofs.Common.{◌≡◌, ◌≢◌, ℕ, ◌+◌, ◌<◌, ◌≤◌, ◌⊎◌, ◌↔◌, inl, inr, Bool, true, false, not, List, [], ◌∷◌, ◌++◌, length, get_or, set, take, drop, replicate, sym, ◌∙◌, ap, subst, arith}
+use Rattle.std.proofs.Common.{◌≡◌, ◌≢◌, ℕ, ◌+◌, ◌<◌, ◌≤◌, ◌⊎◌, ◌↔◌, inl, inr, Bool, true, false, not, List, length, get_or, set, take, drop, sym, ◌∙◌, ap, subst, arith}
 use Rattle.std.specs.Prelude.{Contains, Some, slice_get, nat_eq}
-use Rattle.std.proofs.lemmas.List.{get_or-set_same, get_or-set_other, length-set, length-replicate, get_or-replicate, get_or_past, get_or_default, take-append-drop, take_all}
-use Rattle.std.proofs.lemmas.List.Elements.{Contains-append_left, Contains-push, Contains-push_cases}
+use Rattle.std.proofs.lemmas.List.{get_or-set_same, get_or-set_other, length-set, take-append-drop, take_all}
+use Rattle.std.proofs.lemmas.List.Elements.{Contains-append_left, Contains-push_cases}
 use Rattle.std.proofs.lemmas.Option.{slice_get-get_or}
 use Rattle.std.proofs.lemmas.Bool.{cases_lt, cases_eq}
-use Rattle.core_ast.specs.declared.syntax.FunName.{FunName}
 use Rattle.core_ast.specs.Model as m
 use Rattle.components.specs.Graph as g
-use Rattle.components.specs.Numbers.{Numbers, home_of, NumbersNodes, NumbersTogether, NumbersDownward}
+use Rattle.components.specs.Numbers.{Numbers, home_of, members_of, NumbersNodes, NumbersTogether, NumbersDownward, NumbersMembers}
 use Rattle.dialyze.specs.declared.sites.Site.{Site}
 use Rattle.dialyze.specs.declared.sites.Callee.{Callee}
 use Rattle.dialyze.specs.Scope.{names, IsAccepted}
 use Rattle.dialyze.specs.Sites.{sites_of}
 use Rattle.dialyze.specs.Dead.{Names, GoesTo, IsMistaken, Calls, Together, Dead, Bad, has_bad, mistaken, to_dead}
-use Rattle.dialyze.specs.Settled.{NumbersFunctions, AreMembers, IsRight, SettledBelow, IsBadBy, SomeBadBy}
+use Rattle.dialyze.specs.Settled.{NumbersFunctions, IsRight, SettledBelow, IsBadBy, SomeBadBy}
 use Rattle.dialyze.proofs.DeadNames.{named_once, named_within, named_cases, goes_named}
 use Rattle.dialyze.proofs.DeadCalls.{same_together, taken_further, contains_nothing}
 
 -- The components of the graph of calls are those of the module.
 pub numbers_functions : (x : m.Module) (graph : List (List ℕ)) (c : Numbers) (n : ℕ) → length graph ≡ n → n ≡ length (names x.defs) → ((f h : ℕ) → g.Leads graph f h ↔ Calls x f h)
-    → NumbersNodes graph c → NumbersTogether graph c → NumbersDownward graph c → NumbersFunctions x c
-numbers_functions x graph c n e d same nodes together downward = record {
+    → NumbersNodes graph c → NumbersTogether graph c → NumbersDownward graph c → NumbersMembers graph c → NumbersFunctions x c
+numbers_functions x graph c n e d same nodes together downward members = record {
   counted = nodes.0 ∙ e ∙ d;
   below = λ i low. nodes.1 i (omega (arith, e, d, low));
   together = λ i j i_low j_low.
@@ -31,6 +30,7 @@ numbers_functions x graph c n e d same nodes together downward = record {
         (λ h. in_graph.1 (is.1 h)),
       );
   downward = λ i j h. downward i j ((same i j).1 h);
+  members = λ k i. subst (λ l. Contains (members_of c k) i ↔ ((i < l) × (home_of c i ≡ k))) (e ∙ d) (members k i);
 }
 
 -- A dead function has a bad site, and a bad site is mistaken or goes to a dead function elsewhere.
@@ -165,54 +165,12 @@ settled_one_more x c flags k functions n members high h = record {
   ];
 }
 
--- the functions of one component, in the lists and among the module's
-pub members_here : (c : Numbers) (n k : ℕ) (members : List (List ℕ)) (found functions : List ℕ) → AreMembers n c members → k < c.count → found ≡ get_or members k found → functions ≡ found → (i : ℕ) → Contains functions i ↔ ((i < n) × (home_of c i ≡ k))
-members_here c n k members found functions h low is e i =
-    let same : functions ≡ get_or members k [] = e ∙ is ∙ get_or_default members k found [] (omega (arith, low, h.counted)) in
-    subst (λ xs. Contains xs i ↔ ((i < n) × (home_of c i ≡ k))) (sym same) (h.exact k i)
-
-pub members_named : (ds : m.Defs) (fs : List FunName) (c : Numbers) (k : ℕ) (functions : List ℕ) → fs ≡ names ds → ((i : ℕ) → Contains functions i ↔ ((i < length fs) × (home_of c i ≡ k))) → (i : ℕ) → Contains functions i ↔ ((i < length (names ds)) × (home_of c i ≡ k))
-members_named ds fs c k functions e h i = subst (λ gs. Contains functions i ↔ ((i < length gs) × (home_of c i ≡ k))) e (h i)
+-- the members of a component are its functions
+pub members_named : (x : m.Module) (c : Numbers) (k : ℕ) (functions : List ℕ) → NumbersFunctions x c → functions ≡ members_of c k → (i : ℕ) → Contains functions i ↔ ((i < length (names x.defs)) × (home_of c i ≡ k))
+members_named x c k functions numbers e i = subst (λ is. Contains is i ↔ ((i < length (names x.defs)) × (home_of c i ≡ k))) (sym e) (numbers.members k i)
 
 pub settled_none : (x : m.Module) (c : Numbers) (flags : List Bool) (n : ℕ) → length flags ≡ n → n ≡ length (names x.defs) → SettledBelow x c flags 0
 settled_none x c flags n e d = record { counted = e ∙ d; right = λ i low lower. absurd (omega (arith, lower)) }
 
 pub settled_all : (x : m.Module) (c : Numbers) (flags : List Bool) → NumbersFunctions x c → SettledBelow x c flags c.count → (i : ℕ) → i < length flags → IsRight x flags i
 settled_all x c flags numbers settled i low = let in_module : i < length (names x.defs) = omega (arith, low, settled.counted) in settled.right i in_module (numbers.below i in_module)
-
--- Members of components, gathered one by one.
-pub no_member : (c : Numbers) (lists : List (List ℕ)) (n : ℕ) → n ≡ c.count → lists ≡ replicate n [] → AreMembers 0 c lists
-no_member c lists n e is = record {
-  counted = ap length is ∙ length-replicate n [] ∙ e;
-  exact = λ k i. (
-    (λ h. absurd (contains_nothing i (subst (λ xs. Contains xs i) (ap (λ ls. get_or ls k []) is ∙ empty k) h))),
-    (λ h. absurd (omega (arith, h.0))),
-  );
-}
-  where
-    empty : (k : ℕ) → get_or {A = List ℕ} (replicate n []) k [] ≡ []
-    empty k = elim (cases_lt k n) [ inl low ↦ get_or-replicate n k [] [] low | inr high ↦ get_or_past (replicate n []) k [] (omega (arith, length-replicate {A = List ℕ} n [])) ]
-
-pub member_more : (c : Numbers) (lists after : List (List ℕ)) (i home : ℕ) → home ≡ home_of c i → home < length lists → after ≡ set lists home (get_or lists home [] ++ i ∷ []) → AreMembers i c lists → AreMembers (i + 1) c after
-member_more c lists after i home e low is before = record {
-  counted = ap length is ∙ length-set lists home (get_or lists home [] ++ i ∷ []) ∙ before.counted;
-  exact = λ k j. elim (cases_eq k home) [
-    | inl here ↦
-        let now : get_or after k [] ≡ get_or lists k [] ++ i ∷ [] =
-        ap (λ ls. get_or ls k []) is ∙ ap (λ n. get_or (set lists home (get_or lists home [] ++ i ∷ [])) n []) here ∙ get_or-set_same lists home (get_or lists home [] ++ i ∷ []) [] low ∙ ap (λ n. get_or lists n [] ++ i ∷ []) (sym here) in (
-          (λ h. elim (Contains-push_cases (get_or lists k []) i j (subst (λ xs. Contains xs j) now h)) [
-            | inl old ↦ let is_old = (before.exact k j).0 old in (omega (arith, is_old.0), is_old.1)
-            | inr new ↦ (omega (arith, new), ap (home_of c) (sym new) ∙ sym e ∙ sym here)
-          ]),
-          (λ h. subst (λ xs. Contains xs j) (sym now) (elim (cases_eq j i) [
-            | inl new ↦ subst (λ v. Contains (get_or lists k [] ++ v ∷ []) j) new (Contains-push (get_or lists k []) j)
-            | inr old ↦ Contains-append_left (get_or lists k []) (i ∷ []) j ((before.exact k j).1 (omega (arith, h.0, old), h.1))
-          ])),
-        )
-    | inr apart ↦
-        let now : get_or after k [] ≡ get_or lists k [] = ap (λ ls. get_or ls k []) is ∙ get_or-set_other lists home k (get_or lists home [] ++ i ∷ []) [] apart in (
-          (λ h. let is_old = (before.exact k j).0 (subst (λ xs. Contains xs j) now h) in (omega (arith, is_old.0), is_old.1)),
-          (λ h. subst (λ xs. Contains xs j) (sym now) ((before.exact k j).1 (let other : j ≢ i = λ new. apart (sym h.1 ∙ ap (home_of c) new ∙ sym e) in omega (arith, h.0, other), h.1))),
-        )
-  ];
-}

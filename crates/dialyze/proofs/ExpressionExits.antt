@@ -29,13 +29,6 @@ not_simple n t c e h = record { absent = λ x g. let k = simple_sort g in let f 
 
 pub ruleset simple_exits = (variable_it, integer_it, atom_literal_it, not_simple)
 
--- from tokens that are told to be the same
-pub expression_from : (q : Bool) (d n p : ℕ) (ts us vs : List Token) (x : m.Tree) → ts ≡ us → Expression q d n us x vs p → Expression q d n ts x vs p
-expression_from q d n p ts us vs x e h = let P : List Token → Type 0 = λ y. Expression q d n y x vs p in subst P (sym e) h
-
-pub no_expression_from : (q : Bool) (d n : ℕ) (ts us : List Token) → ts ≡ us → NoExpression q d n us → NoExpression q d n ts
-no_expression_from q d n ts us e h = let P : List Token → Type 0 = λ y. NoExpression q d n y in subst P (sym e) h
-
 no_tokens : {q : Bool} {d n p : ℕ} {ts vs : List Token} {x : m.Tree} → Expression q d n ts x vs p → length ts ≡ 0 → ⊥
 no_tokens (simple _ x) e = absurd (omega arith)
 no_tokens (tuple _ h xs) e = absurd (omega arith)
@@ -236,7 +229,7 @@ no_args_to_call q d n t ts us vs ws zs a f r o e home colon name open_ none =
           none.absent i.args rest p (elements_from (sym same) i.are);
     }
 
-pub ruleset expression_exits = (expression_from, no_expression_from, none_for_expression, too_deep_for_expression, other_for_expression, no_call_here, simple_it)
+pub ruleset expression_exits = (none_for_expression, too_deep_for_expression, other_for_expression, no_call_here, simple_it)
 
 pub ruleset tuple_exits = (tuple_it, no_tuple)
 

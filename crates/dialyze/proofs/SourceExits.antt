@@ -1,6 +1,10 @@
 -- What a source is built from, and each way in which it is not built.
-use Rattle.std.proofs.Common.{◌≡◌, ℕ, ◌≤◌, ◌<◌, List, sym, ◌∙◌, subst, length, arith}
+use Rattle.std.proofs.Common.{◌≡◌, ℕ, ◌≤◌, ◌<◌, List, Option, Some, None, Result, Ok, Err, sym, ◌∙◌, subst, length, arith}
+use Rattle.std.specs.Prelude.{IfOk, MatchOption}
+use Rattle.type_kinds.specs.declared.memory.Memory.{Memory}
+use Rattle.core_ast.specs.declared.syntax.Module.{Module}
 use Rattle.core_ast.specs.Model as m
+use Rattle.core_ast.specs.Tree.{module_tree}
 use Rattle.core_scan.specs.declared.token.Token.{Token}
 use Rattle.core_scan.specs.Bytes.{start}
 use Rattle.core_scan.specs.Lexed.{Lexed}
@@ -8,7 +12,7 @@ use Rattle.dialyze.specs.Grammar.{Spells, SpellNothing}
 use Rattle.dialyze.specs.Scope.{IsAccepted}
 use Rattle.dialyze.specs.Outcome.{longest_source, IsBuilt, IsNotBuilt, SpellAccepted, SpellNoneAccepted}
 
-pub built_it : (bytes : List ℕ) (tokens read : List Token) (x : m.Module) → length bytes ≤ longest_source → Lexed start bytes tokens → read ≡ tokens → SpellAccepted read x → IsBuilt bytes x
+built_it : (bytes : List ℕ) (tokens read : List Token) (x : m.Module) → length bytes ≤ longest_source → Lexed start bytes tokens → read ≡ tokens → SpellAccepted read x → IsBuilt bytes x
 built_it bytes tokens read x a b is c = record { short = a; tokens = tokens; lexed = b; module_is = (let P : List Token → Type 0 = λ ts. SpellAccepted ts x in subst P is c) }
 
 pub too_long : (bytes : List ℕ) → longest_source < length bytes → IsNotBuilt bytes
@@ -17,11 +21,17 @@ too_long bytes long = record { absent = λ x h. let short = h.short in omega ari
 pub no_tokens : (bytes : List ℕ) → ((ts : List Token) → Lexed start bytes ts → ⊥) → IsNotBuilt bytes
 no_tokens bytes none = record { absent = λ x h. none h.tokens h.lexed }
 
-pub no_module : (bytes : List ℕ) (tokens read : List Token) → ((us : List Token) → Lexed start bytes us → us ≡ tokens) → read ≡ tokens → SpellNoneAccepted read → IsNotBuilt bytes
+no_module : (bytes : List ℕ) (tokens read : List Token) → ((us : List Token) → Lexed start bytes us → us ≡ tokens) → read ≡ tokens → SpellNoneAccepted read → IsNotBuilt bytes
 no_module bytes tokens read once is none =
     record { absent = λ x h. none.absent x (let P : List Token → Type 0 = λ ts. SpellAccepted ts x in subst P (once h.tokens h.lexed ∙ sym is) h.module_is) }
 
-pub ruleset source_exits = (built_it, too_long, no_tokens, no_module)
+pub spelled_it : (bytes : List ℕ) (tokens read : List Token) (r : Result (Option Module) Memory) → length bytes ≤ longest_source → Lexed start bytes tokens → ((us : List Token) → Lexed start bytes us → us ≡ tokens) → read ≡ tokens
+    → IfOk r (λ found. MatchOption found (SpellNoneAccepted read) (λ source. SpellAccepted read (module_tree source))) → IfOk r (λ found. MatchOption found (IsNotBuilt bytes) (λ source. IsBuilt bytes (module_tree source)))
+spelled_it bytes tokens read (Ok (Some source)) short lexed once is h = built_it bytes tokens read (module_tree source) short lexed is h
+spelled_it bytes tokens read (Ok None) short lexed once is h = no_module bytes tokens read once is h
+spelled_it bytes tokens read (Err e) short lexed once is h = tt
+
+pub ruleset source_exits = (too_long, no_tokens)
 
 pub accepted_it : (tokens : List Token) (x : m.Module) → Spells tokens x → IsAccepted x → SpellAccepted tokens x
 accepted_it tokens x a b = record { spelled = a; accepted = b }

@@ -1,7 +1,7 @@
 -- What the search for dead functions keeps: numbers of components, their members, and flags.
-use Rattle.std.specs.Prelude.{◌≡◌, ◌≢◌, ℕ, ◌<◌, ◌≤◌, ◌⊎◌, ◌↔◌, Bool, true, List, [], length, slice_get, slice_index_or, Contains, Some}
+use Rattle.std.specs.Prelude.{◌≡◌, ◌≢◌, ℕ, ◌<◌, ◌≤◌, ◌⊎◌, ◌↔◌, Bool, true, List, length, slice_get, Contains, Some}
 use Rattle.core_ast.specs.Model as m
-use Rattle.components.specs.Numbers.{Numbers, home_of}
+use Rattle.components.specs.Numbers.{Numbers, home_of, members_of}
 use Rattle.dialyze.specs.declared.sites.Site.{Site}
 use Rattle.dialyze.specs.declared.sites.Callee.{Callee}
 use Rattle.dialyze.specs.Scope.{names}
@@ -11,17 +11,14 @@ use Rattle.dialyze.specs.Dead.{Names, IsMistaken, Calls, Together, Dead}
 abbrev pub SomeNames : m.Module → List Site → ℕ → Type 0
 SomeNames x sites j = (s : Site) × Contains sites s × Names x s.callee j
 
--- The numbers are those of the components of the module's functions, and calls lead to no higher one.
+-- The numbers are those of the components of the module's functions, with their members, and calls lead to
+-- no higher one.
 pub record NumbersFunctions (x : m.Module) (c : Numbers) : Type 0 where
   pub counted : length c.homes ≡ length (names x.defs)
   pub below : (i : ℕ) → i < length (names x.defs) → home_of c i < c.count
   pub together : (i j : ℕ) → i < length (names x.defs) → j < length (names x.defs) → (home_of c i ≡ home_of c j) ↔ Together x i j
   pub downward : (i j : ℕ) → Calls x i j → home_of c j ≤ home_of c i
-
--- The lists have for each component its members among the first n functions.
-pub record AreMembers (n : ℕ) (c : Numbers) (members : List (List ℕ)) : Type 0 where
-  pub counted : length members ≡ c.count
-  pub exact : (k i : ℕ) → Contains (slice_index_or members k []) i ↔ ((i < n) × (home_of c i ≡ k))
+  pub members : (k i : ℕ) → Contains (members_of c k) i ↔ ((i < length (names x.defs)) × (home_of c i ≡ k))
 
 -- The flag of i says whether i is dead.
 abbrev pub IsRight : m.Module → List Bool → ℕ → Type 0

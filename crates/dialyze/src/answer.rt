@@ -26,27 +26,13 @@ pub fn intended<F: Shelf>(alloc: Global, words: &[&str], shelf: &mut F) -> Resul
     ensures counted { F.read_faults shelf.old ≤ F.read_faults shelf.new }
 {
     let Some(file) = file_of(words) else {
-        return match usage(alloc) {
-            Ok(answer) => Ok(answer),
-            Err(Memory) => Err(Memory),
-        };
+        return usage(alloc);
     };
     match shelf.read(file) {
-        Ok(bytes) => match judge(alloc, file, bytes.as_slice()) {
-            Ok(answer) => Ok(answer),
-            Err(Memory) => Err(Memory),
-        },
-        Err(fault) => match fault {
-            ShelfFault::Missing => match missing(alloc, file) {
-                Ok(answer) => Ok(answer),
-                Err(Memory) => Err(Memory),
-            },
-            ShelfFault::Failed => match unread(alloc, file) {
-                Ok(answer) => Ok(answer),
-                Err(Memory) => Err(Memory),
-            },
-            ShelfFault::Memory => Err(Memory),
-        },
+        Ok(bytes) => judge(alloc, file, bytes.as_slice()),
+        Err(ShelfFault::Missing) => missing(alloc, file),
+        Err(ShelfFault::Failed) => unread(alloc, file),
+        Err(ShelfFault::Memory) => Err(Memory),
     }
 }
 
@@ -55,10 +41,7 @@ fn missing(alloc: Global, file: &str) -> Result<Answer, Memory>
     ensures status { IfOk result (λ a. a.status ≡ no_file) }
     ensures output { IfOk result (λ a. a.output ≡ missing_line file.now) }
 {
-    match told(alloc, refused(26), file, ": refused 26 Missing") {
-        Ok(answer) => Ok(answer),
-        Err(Memory) => Err(Memory),
-    }
+    told(alloc, refused(26), file, ": refused 26 Missing")
 }
 
 // The answer where the shelf failed.
@@ -67,10 +50,7 @@ fn unread(alloc: Global, file: &str) -> Result<Answer, Memory>
     ensures output { IfOk result (λ a. a.output ≡ read_fault_line file.now) }
 {
     let status = Status::DeviceFault(Device::Read(1));
-    match told(alloc, status, file, ": device fault read") {
-        Ok(answer) => Ok(answer),
-        Err(Memory) => Err(Memory),
-    }
+    told(alloc, status, file, ": device fault read")
 }
 
 // The answer where the source isn't built.
@@ -78,10 +58,7 @@ fn unbuilt(alloc: Global, file: &str) -> Result<Answer, Memory>
     ensures status { IfOk result (λ a. a.status ≡ not_built) }
     ensures output { IfOk result (λ a. a.output ≡ not_built_line file.now) }
 {
-    match told(alloc, refused(27), file, ": refused 27 NotBuilt") {
-        Ok(answer) => Ok(answer),
-        Err(Memory) => Err(Memory),
-    }
+    told(alloc, refused(27), file, ": refused 27 NotBuilt")
 }
 
 // What a check of a source answers.
@@ -91,12 +68,7 @@ fn judge(alloc: Global, file: &str, bytes: &[u8]) -> Result<Answer, Memory>
 {
     let source = match built(alloc, bytes) {
         Ok(Some(source)) => source,
-        Ok(None) => {
-            return match unbuilt(alloc, file) {
-                Ok(answer) => Ok(answer),
-                Err(Memory) => Err(Memory),
-            };
-        }
+        Ok(None) => return unbuilt(alloc, file),
         Err(Memory) => return Err(Memory),
     };
     let report = report_on(alloc, &source);

@@ -1,18 +1,19 @@
-ghost use Rattle.std.specs.Prelude.{◌≡◌, ◌≢◌, ℕ, ◌+◌, ◌<◌, ◌^◌, ◌⊎◌, ◌↔◌, true, List, [], ◌∷◌, ◌++◌, length, replicate, slice_get, slice_index_or, slice_set, Contains, Some, IsTrue, IfOk, OnOk, IfSome, IfNone};
+ghost use Rattle.std.specs.Prelude.{◌≡◌, ℕ, ◌+◌, ◌<◌, ◌^◌, ◌⊎◌, ◌↔◌, true, List, length, slice_get, Some, IsTrue, IfOk, OnOk};
 ghost use Rattle.core_ast.specs.Tree.{all_defs, module_tree};
 ghost use Rattle.components.specs.Graph.{Leads};
-ghost use Rattle.components.specs.Numbers.{home_of};
-ghost use Rattle.dialyze.specs.Scope.{names as defined_names, erlang, IsAccepted};
+ghost use Rattle.components.specs.Numbers.{members_of};
+ghost use Rattle.dialyze.specs.Scope.{names as defined_names, IsAccepted};
 ghost use Rattle.dialyze.specs.Sites.{def_sites};
 ghost use Rattle.dialyze.specs.Dead as d;
-ghost use Rattle.dialyze.specs.Settled.{SomeNames, NumbersFunctions, AreMembers, SettledBelow, IsBadBy, SomeBadBy};
+ghost use Rattle.dialyze.specs.Settled.{SomeNames, NumbersFunctions, SettledBelow, IsBadBy, SomeBadBy};
 
+use crate::callees::{is_mistaken, number_of};
 use crate::names::Names;
 use crate::sites::{Callee, Site};
 use components::{Comps, Graph, components};
 use core_ast::Module;
 use std::alloc::Global;
-use type_kinds::{Atom, List, Memory};
+use type_kinds::{List, Memory};
 
 /// Which functions of an accepted module never return: a flag for each, by its number.
 pub fn dead_functions(
@@ -30,9 +31,8 @@ pub fn dead_functions(
 {
     let graph = calls_graph(alloc, source, names, sites)?;
     let comps = components(alloc, &graph)?;
-    let members = members_of(alloc, &comps, graph.count())?;
     let mut flags = no_flags(alloc, graph.count())?;
-    settle(source, names, sites, &comps, members.as_slice(), &mut flags);
+    settle(source, names, sites, &comps, &mut flags);
     Ok(flags)
 }
 
@@ -42,7 +42,6 @@ fn settle(
     names: &Names,
     sites: &List<List<Site>>,
     comps: &Comps,
-    members: &[List<u32>],
     flags: &mut List<bool>,
 )
     requires accepted { IsAccepted (module_tree source.now) }
@@ -50,12 +49,11 @@ fn settle(
     requires sites { sites.now ≡ def_sites (all_defs source.now.defs) }
     requires few { length names.now < 2 ^ 32 }
     requires numbers { NumbersFunctions (module_tree source.now) comps.now }
-    requires members { AreMembers (length names.now) comps.now members.now }
     requires counted { length flags.old ≡ length names.now }
     ensures { SettledBelow (module_tree source.now) comps.now flags.new comps.now.count }
 {
     for component in 0..comps.count() {
-        let functions = &members[component as usize];
+        let functions = comps.members(component);
         settle_component(
             source,
             names,
@@ -83,7 +81,7 @@ fn settle_component(
     requires sites { sites.now ≡ def_sites (all_defs source.now.defs) }
     requires few { length names.now < 2 ^ 32 }
     requires numbers { NumbersFunctions (module_tree source.now) comps.now }
-    requires members { (i : ℕ) → Contains functions.now i ↔ ((i < length names.now) × (home_of comps.now i ≡ component)) }
+    requires members { functions.now ≡ members_of comps.now component }
     requires settled { SettledBelow (module_tree source.now) comps.now flags.old component }
     ensures { SettledBelow (module_tree source.now) comps.now flags.new (component + 1) }
 {
@@ -142,46 +140,6 @@ fn is_bad(
         Some(function) => comps.home(function) != component && *flags.at(function as usize),
         None => false,
     }
-}
-
-// Whether a callee is mistaken, where it is known which function it names.
-fn is_mistaken(source: &Module, callee: &Callee, number: Option<u32>) -> bool
-    requires accepted { IsAccepted (module_tree source.now) }
-    requires found { IfSome number (λ j. d.Names (module_tree source.now) callee.now j) }
-    requires none { IfNone number ((j : ℕ) → d.Names (module_tree source.now) callee.now j → ⊥) }
-    ensures { IsTrue result ↔ d.IsMistaken (module_tree source.now) callee.now }
-{
-    match callee {
-        Callee::Applied(name, arguments) => *arguments != name.arity,
-        Callee::Called(home, _) => number.is_none() && is_own(source, home),
-    }
-}
-
-// The function that a callee names.
-fn number_of(source: &Module, names: &Names, callee: &Callee) -> Option<u32>
-    requires accepted { IsAccepted (module_tree source.now) }
-    requires names { names.now ≡ defined_names (all_defs source.now.defs) }
-    requires few { length names.now < 2 ^ 32 }
-    ensures found { IfSome result (λ j. d.Names (module_tree source.now) callee.now j) }
-    ensures none { IfNone result ((j : ℕ) → d.Names (module_tree source.now) callee.now j → ⊥) }
-{
-    match callee {
-        Callee::Applied(name, _) => names.find(name),
-        Callee::Called(home, name) => {
-            if is_own(source, home) {
-                names.find(name)
-            } else {
-                None
-            }
-        }
-    }
-}
-
-// Whether a called module is this one, and not that of the built-in functions.
-fn is_own(source: &Module, home: &Atom) -> bool
-    ensures { IsTrue result ↔ ((home.now ≡ source.now.name) × (home.now ≢ erlang)) }
-{
-    home.is(&source.name) && home.bytes() != b"erlang".as_slice()
 }
 
 // The graph of calls: a pair from each function to each that a site of its body names.
@@ -248,46 +206,6 @@ fn add_call(
     match number_of(source, names, callee) {
         Some(to) => graph.add(from, to),
         None => Ok(()),
-    }
-}
-
-// For each component its members among so many functions.
-fn members_of(alloc: Global, comps: &Comps, functions: u32) -> Result<List<List<u32>>, Memory>
-    requires homes { length comps.now.homes ≡ functions }
-    requires below { (i : ℕ) → i < functions → home_of comps.now i < comps.now.count }
-    ensures { IfOk result (λ members. AreMembers functions comps.now members) }
-{
-    let mut members = no_members(alloc, comps.count())?;
-    for function in 0..functions {
-        let component = comps.home(function);
-        push_at(&mut members, component, function)?;
-    }
-    Ok(List::from_vec(members))
-}
-
-// So many empty lists.
-fn no_members(alloc: Global, count: u32) -> Result<Vec<List<u32>>, Memory>
-    ensures { IfOk result (λ lists. lists.items ≡ replicate count []) }
-{
-    let mut lists = Vec::new(alloc);
-    for _ in 0..count {
-        match lists.push(List::new(alloc)) {
-            Ok(()) => {}
-            Err(_) => return Err(Memory),
-        }
-    }
-    Ok(lists)
-}
-
-// Adds an item to one of the lists, last.
-fn push_at(lists: &mut Vec<List<u32>>, at: u32, item: u32) -> Result<(), Memory>
-    requires { at < length lists.old.items }
-    ensures { OnOk result (lists.new.items ≡ slice_set lists.old.items at (slice_index_or lists.old.items at [] ++ item ∷ [])) }
-{
-    let list = &mut lists[at as usize];
-    match list.push(item) {
-        Ok(()) => Ok(()),
-        Err(_) => Err(Memory),
     }
 }
 

@@ -52,18 +52,9 @@ pub fn expression<'a>(
         return Err(Fault::NotBuilt);
     }
     match sort_of(first) {
-        Sort::OpenCurly => match tuple(alloc, first, rest, calls, depth, label) {
-            Ok(found) => Ok(found),
-            Err(fault) => Err(fault),
-        },
-        Sort::Apply if calls => match application(alloc, first, rest, depth, label) {
-            Ok(found) => Ok(found),
-            Err(fault) => Err(fault),
-        },
-        Sort::Call if calls => match call(alloc, first, rest, depth, label) {
-            Ok(found) => Ok(found),
-            Err(fault) => Err(fault),
-        },
+        Sort::OpenCurly => tuple(alloc, first, rest, calls, depth, label),
+        Sort::Apply if calls => application(alloc, first, rest, depth, label),
+        Sort::Call if calls => call(alloc, first, rest, depth, label),
         Sort::Variable | Sort::Integer | Sort::Atom => match simple(alloc, first, label) {
             Ok(expr) => Ok(ReadExpr {
                 expr,

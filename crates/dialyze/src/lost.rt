@@ -1,12 +1,12 @@
-ghost use Rattle.std.specs.Prelude.{◌≡◌, ◌↔◌, IsTrue};
+ghost use Rattle.std.specs.Prelude.{◌↔◌, IsTrue};
 ghost use Rattle.core_ast.specs.Tree.{module_tree};
-ghost use Rattle.dialyze.specs.Scope.{erlang};
 ghost use Rattle.dialyze.specs.Found.{AreJudged, IsLost};
 
+use crate::callees::{is_mistaken, number_of};
 use crate::names::Names;
 use crate::sites::Callee;
 use core_ast::Module;
-use type_kinds::{Atom, List};
+use type_kinds::List;
 
 /// Whether a call never returns: it is mistaken, or goes to a dead function.
 #[tactic(auto, using(crate::proofs::LostExits::lost_exits))]
@@ -14,31 +14,12 @@ pub fn is_lost(source: &Module, names: &Names, dead: &List<bool>, callee: &Calle
     requires { AreJudged (module_tree source.now) names.now dead.now }
     ensures { IsTrue result ↔ IsLost (module_tree source.now) callee.now }
 {
-    match callee {
-        Callee::Applied(name, count) => {
-            if *count != name.arity {
-                return true;
-            }
-            match names.find(name) {
-                Some(number) => *dead.at(number as usize),
-                None => false,
-            }
-        }
-        Callee::Called(home, name) => {
-            if !home.is(&source.name) || is_erlang(home) {
-                return false;
-            }
-            match names.find(name) {
-                Some(number) => *dead.at(number as usize),
-                None => true,
-            }
-        }
+    let number = number_of(source, names, callee);
+    if is_mistaken(source, callee, number) {
+        return true;
     }
-}
-
-// Whether a module is that of the built-in functions.
-fn is_erlang(home: &Atom) -> bool
-    ensures { IsTrue result ↔ (home.now ≡ erlang) }
-{
-    home.bytes() == b"erlang".as_slice()
+    match number {
+        Some(function) => *dead.at(function as usize),
+        None => false,
+    }
 }

@@ -2,6 +2,7 @@
 #![tactic(auto)]
 
 mod answer;
+mod callees;
 mod check;
 mod dead;
 mod definitions;
@@ -33,27 +34,28 @@ fn main(rt: HostRuntime) -> ExitCode {
             Ok(status) => status,
             Err(Memory) => Status::Memory,
         },
-        Err(status) => status,
+        Err(Memory) => Status::Memory,
     };
     ExitCode::from(status.code())
 }
 
-// The words behind the program's name. Where the host doesn't give them as text they are no command.
-fn words_of(rt: &HostRuntime) -> Result<Vec<String>, Status> {
+// The words behind the program's name, and none where the host doesn't give them as text: no words
+// are no command.
+fn words_of(rt: &HostRuntime) -> Result<Vec<String>, Memory> {
     let mut args = match env::args(rt) {
         Ok(args) => args,
         Err(error) => {
             return if error.kind() == ErrorKind::OutOfMemory {
-                Err(Status::Memory)
+                Err(Memory)
             } else {
-                Err(Status::Usage)
+                Ok(Vec::new(rt.alloc()))
             };
         }
     };
     let _program = args.next();
     match args.collect(rt.alloc()) {
         Ok(words) => Ok(words),
-        Err(_) => Err(Status::Memory),
+        Err(_) => Err(Memory),
     }
 }
 

@@ -6,6 +6,7 @@ ghost use Rattle.dialyze.specs.Few.{IsFew, AreFew, AllFew};
 ghost use Rattle.dialyze.specs.Named.{local_name, literal_atom};
 
 use crate::leaves::pushed;
+use crate::names::copied_name;
 use core_ast::{Expr, Form, FunName, Literal, Mark, Module};
 use std::alloc::Global;
 use type_kinds::{Atom, List, Memory};
@@ -135,10 +136,7 @@ fn add_applied(
 ) -> Result<(), Memory>
     ensures { OnOk result (found.new ≡ found.old ++ site mark.now (Callee.Applied name.now count) ∷ []) }
 {
-    let callee = FunName {
-        name: name.name.copy(alloc)?,
-        arity: name.arity,
-    };
+    let callee = copied_name(alloc, name)?;
     add_site(mark, Callee::Applied(callee, count), found)
 }
 

@@ -27,11 +27,7 @@ pub fn built(alloc: Global, bytes: &[u8]) -> Result<Option<Module>, Memory>
         return Ok(None);
     }
     match scan(alloc, bytes) {
-        Ok(tokens) => match spelled(alloc, tokens.as_slice()) {
-            Ok(Some(source)) => Ok(Some(source)),
-            Ok(None) => Ok(None),
-            Err(Memory) => Err(Memory),
-        },
+        Ok(tokens) => spelled(alloc, tokens.as_slice()),
         Err(fault) => match fault {
             ScanFault::Memory => Err(Memory),
             _ => Ok(None),

@@ -1,5 +1,6 @@
+use crate::answer::refused;
 use crate::check::dialyze;
-use crate::status::{Device, Refusal, Status};
+use crate::status::{Device, Status};
 use da_shelf::{MemShelf, MemSink, OpenGate};
 use std::alloc::Global;
 use std::test::Fail;
@@ -21,15 +22,6 @@ const LOST_REPORT: &str = "'m':2: function 'f'/0 has no local return
 ";
 
 const USAGE: &str = "usage: dialyze check [--plt T] [--out T2] [--workers N] FILE.. | make N\n";
-
-fn refused(number: u8) -> Status {
-    Status::Refused(Refusal {
-        number,
-        word: 1,
-        line: 0,
-        other: 0,
-    })
-}
 
 // What a run answers and writes, where `m.core` is held with this text.
 fn run(alloc: Global, words: &[&str], text: &str) -> Result<(Status, Vec<u8>), Fail> {

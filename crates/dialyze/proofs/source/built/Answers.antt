@@ -1,8 +1,9 @@
-use Rattle.dialyze.proofs.SourceExits.{no_tokens, no_module}
+use Rattle.std.proofs.Common.{arith}
+use Rattle.dialyze.proofs.SourceExits.{no_tokens, spelled_it}
 use Rattle.dialyze.proofs.source.built.Goals as goal
 
-pub returns-in-Ok-None-clause-module : goal.returns-in-Ok-None-clause-module
-returns-in-Ok-None-clause-module c = no_module _ c.in-Ok.tokens c.as_slice.result.now c.in-Ok.ensures.once c.as_slice.ensures (rw c.in-Ok-None.field-0-is at c.in-Ok-None.ensures.«module»)
+pub returns-in-Ok-clause-module : goal.returns-in-Ok-clause-module
+returns-in-Ok-clause-module c = spelled_it _ c.in-Ok.tokens c.as_slice.result.now c.spelled.result (omega arith) c.in-Ok.ensures.tokens c.in-Ok.ensures.once c.as_slice.ensures c.spelled.ensures.«module»
 
-pub returns : goal.returns
-returns c = record { «module» = no_tokens _ (c.in-Err.ensures.refused c.in_default.not-Memory); numbered = tt; few = tt; few_arguments = tt }
+pub returns-in_default : goal.returns-in_default
+returns-in_default c = record { «module» = no_tokens _ (c.in-Err.ensures.refused c.in_default.not-Memory); numbered = tt; few = tt; few_arguments = tt }

@@ -1,6 +1,6 @@
 use Rattle.core_ast.specs.Tree.{module_tree}
 use Rattle.dialyze.proofs.DeadNames.{found_in_call, unfound_in_call}
-use Rattle.dialyze.proofs.dead.number_of.Goals as goal
+use Rattle.dialyze.proofs.callees.number_of.Goals as goal
 
 pub returns-then-is_own-clause-found : goal.returns-then-is_own-clause-found
 returns-then-is_own-clause-found c =

@@ -1,6 +1,6 @@
 use Rattle.core_ast.specs.Tree.{module_tree}
 use Rattle.dialyze.proofs.DeadNames.{is_mistaken_call}
-use Rattle.dialyze.proofs.dead.is_mistaken.Goals as goal
+use Rattle.dialyze.proofs.callees.is_mistaken.Goals as goal
 
 pub returns-then-is_none : goal.returns-then-is_none
 returns-then-is_none c =
