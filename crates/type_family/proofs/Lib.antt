@@ -1,0 +1,12 @@
+pub mod BodyLaws
+pub mod CellLaws
+pub mod CutLaws
+pub mod LevelLaws
+pub mod MadeLaws
+pub mod NormalOnce
+pub mod PartsLaws
+pub mod PlainLaws
+pub mod RankLaws
+pub mod RowLaws
+pub mod TableLaws
+pub mod TupleLaws

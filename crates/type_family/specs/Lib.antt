@@ -1,0 +1,11 @@
+pub mod Values
+pub mod Tables
+pub mod Shapes
+pub mod HasType
+pub mod Operations
+pub mod Normal
+pub mod Cut
+pub mod Parts
+pub mod Laws
+pub mod Forms
+pub mod Ranks

@@ -1,0 +1,8 @@
+//! The types of Core Erlang values, level by level: what they are made of, which values they have,
+//! their normal form, and their meet, join and cut, with the laws of all of them. There is no code
+//! here: `type_lattice` has it, and is proved against these definitions.
+#![tactic(auto)]
+
+mod laws;
+
+pub use laws::{cut_laws, list_laws, rank_laws, tuple_laws, type_laws};
