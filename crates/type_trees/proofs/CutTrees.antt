@@ -1,0 +1,201 @@
+-- The least type of another level, on the trees of the code.
+use Rattle.std.proofs.Common.{◌≡◌, ◌⊎◌, inl, inr, ℕ, zero, suc, ◌+◌, ◌-◌, ◌<◌, ◌≤◌, Bool, true, false, cond, List, [], ◌∷◌, ◌++◌, map, take, length, Some, refl, sym, ap, ◌∙◌, subst, true≢false, arith}
+use Rattle.std.specs.Prelude.{not, slice_index_or}
+use Rattle.std.proofs.lemmas.List.{take_more, map_push}
+use Rattle.type_family.specs.Tables.{mapped}
+use Rattle.type_family.specs.Shapes.{TypeAt, Body, product, tags}
+use Rattle.type_family.specs.Operations.{ops, elements}
+use Rattle.type_family.specs.Normal.{AreElements, NormalRow, NormalRows, NormalBody, NormalSizes, NormalParts, NormalAt}
+use Rattle.type_family.specs.Cut.{row_lower, cell_lower, body_lower, tuples_lower, parts_lower, cut}
+use Rattle.type_family.proofs.BodyLaws.{elements_normal}
+use Rattle.type_family.proofs.CutLaws.{cut_lowering}
+use Rattle.type_family.proofs.LevelLaws.{level_laws}
+use Rattle.type_trees.specs.declared.node.Node.{Node}
+use Rattle.type_trees.specs.declared.node.Node.TheVariants as v
+use Rattle.type_trees.specs.declared.node.PartsOf.{PartsOf}
+use Rattle.type_trees.specs.declared.node.TuplesOf.{TuplesOf}
+use Rattle.type_trees.specs.declared.node.TuplesOf.TheVariants.{Sizes}
+use Rattle.type_trees.specs.declared.node.SizeOf.{SizeOf}
+use Rattle.type_trees.specs.declared.node.BodyOf.{BodyOf}
+use Rattle.type_trees.specs.declared.node.BodyOf.TheVariants.{Product, Tags}
+use Rattle.type_trees.specs.declared.node.TagOf.{TagOf}
+use Rattle.type_trees.specs.View.{view, row_view, tags_view, body_view, sizes_view, tuples_view, cell_view, parts_view, Fits, EachNode, EachTag, EachSize, EachInBody, EachInTuples, EachInCell, RowFits, TagsFit, BodyFits, SizesFit, TuplesFit, PartsFit}
+use Rattle.type_trees.proofs.Views.{view_any, view_of, of_above, one_more, each_at, tag_at, size_at}
+
+-- ---- every value, cut
+
+pub cut_any : (e d : ℕ) → cut e d (ops e).any ≡ (ops d).any
+cut_any e d =
+    let high = level_laws e in
+    let low = level_laws d in
+    let s = cut_lowering e d in
+    low.lattice.same (cut e d (ops e).any) (ops d).any (s.normal (ops e).any high.any_normal) low.any_normal (λ x h. low.any_in x) (λ x h. s.above (ops e).any high.any_normal x (high.any_in x))
+
+pub any_cut : (t n : Node) → t ≡ v.Any → n ≡ v.Any → (e d : ℕ) → view d n ≡ cut e d (view e t)
+any_cut t n p q e d = view_any n q d ∙ sym (ap (cut e d) (view_any t p e) ∙ cut_any e d)
+
+-- at level 0 what has a value is every value
+at_zero : (e : ℕ) (x : TypeAt e) → (ops e).is_none x ≡ false → cut e 0 x ≡ (ops 0).any
+unfolding cut ops
+at_zero e x h = ap not h
+
+pub zero_cut : (t n : Node) (e d : ℕ) → n ≡ v.Any → d ≡ 0 → (1 ≤ d) ⊎ ((ops e).is_none (view e t) ≡ false) → view d n ≡ cut e d (view e t)
+zero_cut t n e d q z (inl h) = absurd (omega arith)
+zero_cut t n e d q z (inr h) = view_any n q d ∙ subst (λ x. (ops x).any ≡ cut e x (view e t)) (sym z) (sym (at_zero e (view e t) h))
+
+-- ---- parts, cut
+
+pub parts_cut : (t n : Node) (p q : PartsOf Node) (e d : ℕ) → t ≡ v.Of p → parts_view d q ≡ parts_lower (cut e d) (ops e) (ops d) (parts_view e p) → view (suc d) n ≡ parts_view d q → view (suc d) n ≡ cut (suc e) (suc d) (view (suc e) t)
+unfolding cut
+parts_cut t n p q e d a b c = c ∙ b ∙ sym (ap (cut (suc e) (suc d)) (view_of t p a e))
+
+pub of_cut : (t n : Node) (p q : PartsOf Node) (e d : ℕ) → t ≡ v.Of p → Fits e t → (d ≡ 0 → ⊥) → parts_view (d - 1) q ≡ parts_lower (cut (e - 1) (d - 1)) (ops (e - 1)) (ops (d - 1)) (parts_view (e - 1) p) → view (suc (d - 1)) n ≡ parts_view (d - 1) q → view d n ≡ cut e d (view e t)
+of_cut t n p q e d a f g b c =
+    let x : e ≡ suc (e - 1) = one_more e (of_above t p a e f) in
+    let y : d ≡ suc (d - 1) = omega (arith, g) in
+    subst (λ i. view i n ≡ cut e i (view e t)) (sym y) (subst (λ i. view (suc (d - 1)) n ≡ cut i (suc (d - 1)) (view i t)) (sym x) (parts_cut t n p q (e - 1) (d - 1) a b c))
+
+-- parts in normal form, cut, are in normal form
+pub parts_kept : (e d : ℕ) (x : TypeAt (suc e)) → NormalParts (NormalAt e) (ops e) x → NormalParts (NormalAt d) (ops d) (parts_lower (cut e d) (ops e) (ops d) x)
+unfolding cut NormalAt
+parts_kept e d x k = (cut_lowering (suc e) (suc d)).normal x k
+
+pub cut_parts_fit : (e d : ℕ) (p q : PartsOf Node) → PartsFit e p → q.plain ≡ p.plain → cell_view d q.cell ≡ cell_lower (cut e d) (ops e) (ops d) (cell_view e p.cell) → tuples_view d q.tuples ≡ tuples_lower (cut e d) (ops e) (ops d) (tuples_view e p.tuples) → EachInCell (Fits d) q.cell → EachInTuples (Fits d) q.tuples → PartsFit d q
+cut_parts_fit e d p q k a b c f g =
+    let m : parts_view d q ≡ parts_lower (cut e d) (ops e) (ops d) (parts_view e p) = cc in
+    record { normal = subst (NormalParts (NormalAt d) (ops d)) (sym m) (parts_kept e d (parts_view e p) k.normal); each = (f, g) }
+
+-- ---- where there can be tags
+
+pub tags_above : (d : ℕ) → (ops d).has_tags ≡ true → 0 < d
+unfolding ops
+tags_above zero h = absurd (true≢false (sym h))
+tags_above (suc d) h = omega arith
+
+pub above_tags : (d : ℕ) → 0 < d → (ops d).has_tags ≡ true
+unfolding ops
+above_tags zero h = absurd (omega arith)
+above_tags (suc d) h = refl
+
+pub no_tags : (d : ℕ) → d ≤ 0 → (ops d).has_tags ≡ false
+unfolding ops
+no_tags zero h = refl
+no_tags (suc d) h = absurd (omega arith)
+
+-- ---- the tuples of one size
+
+pub row_of : (d : ℕ) (b : BodyOf Node) (r : List Node) → b ≡ Product r → ((n : ℕ) × BodyFits d n b) → (n : ℕ) × RowFits d n r
+row_of d b r e k =
+    let l : BodyFits d k.0 (Product r) = subst (BodyFits d k.0) e k.1 in
+    (k.0, record { normal = l.normal.0; each = l.each })
+
+-- tags stand after at least one element, and above level 0
+pub tags_fit : (d n : ℕ) (ts : List (TagOf Node)) → BodyFits d n (Tags ts) → ((m : ℕ) × TagsFit d m ts) × (0 < d)
+tags_fit d zero ts k = absurd k.normal
+tags_fit d (suc n) ts k = ((n, record { normal = k.normal.0; each = k.each }), tags_above d k.normal.2)
+
+pub tags_of : (d : ℕ) (b : BodyOf Node) (ts : List (TagOf Node)) → b ≡ Tags ts → ((n : ℕ) × BodyFits d n b) → ((m : ℕ) × TagsFit d m ts) × (0 < d)
+tags_of d b ts e k = tags_fit d k.0 ts (subst (BodyFits d k.0) e k.1)
+
+pub product_fits : (d : ℕ) (b : BodyOf Node) (ts : List (TagOf Node)) (r : List Node) → b ≡ Tags ts → ((n : ℕ) × BodyFits d n b) → row_view d r ≡ elements (ops d) (tags (tags_view d ts)) → EachNode (Fits d) r → (n : ℕ) × RowFits d n r
+product_fits d b ts r e k q f =
+    let l : BodyFits d k.0 (Tags ts) = subst (BodyFits d k.0) e k.1 in
+    (k.0, record { normal = subst (λ x. NormalRow (NormalAt d) (ops d) k.0 (Some x)) (sym q) (elements_normal (level_laws d) k.0 (tags (tags_view d ts)) l.normal); each = f })
+
+-- tags stay tags where there can be some, and else become a product
+module _ (e d : ℕ) where
+  abbrev lowered_tags : Bool → List (TagOf Node) → Body (TypeAt d)
+  lowered_tags h ts = cond h (tags (mapped (map (cut e d)) (tags_view e ts))) (product (map (cut e d) (elements (ops e) (tags (tags_view e ts)))))
+
+  tags_cut : (b : BodyOf Node) (ts : List (TagOf Node)) (h : Bool) → b ≡ Tags ts → (ops d).has_tags ≡ h → lowered_tags h ts ≡ body_lower (cut e d) (ops e) (ops d) (body_view e b)
+  tags_cut b ts h x q = ap (λ k. lowered_tags k ts) (sym q) ∙ ap (λ c. body_lower (cut e d) (ops e) (ops d) (body_view e c)) (sym x)
+
+  pub tags_kept : (b : BodyOf Node) (ts us : List (TagOf Node)) → b ≡ Tags ts → 0 < d → tags_view d us ≡ mapped (row_lower (cut e d) (ops e) (ops d)) (tags_view e ts) → tags (tags_view d us) ≡ body_lower (cut e d) (ops e) (ops d) (body_view e b)
+  tags_kept b ts us x h q = ap tags q ∙ tags_cut b ts true x (above_tags d h)
+
+  pub tags_lost : (b : BodyOf Node) (ts : List (TagOf Node)) (r s : List Node) → b ≡ Tags ts → d ≤ 0 → row_view e r ≡ elements (ops e) (tags (tags_view e ts)) → row_view d s ≡ row_lower (cut e d) (ops e) (ops d) (row_view e r) → product (row_view d s) ≡ body_lower (cut e d) (ops e) (ops d) (body_view e b)
+  tags_lost b ts r s x h p q = ap product (q ∙ ap (map (cut e d)) p) ∙ tags_cut b ts false x (no_tags d h)
+
+-- ---- the items of lists
+
+elements_at : (d : ℕ) (ns : List Node) → AreElements (NormalAt d) (ops d) (row_view d ns) → (i : ℕ) (x : Node) → i < length ns → (ops d).is_none (view d (slice_index_or ns i x)) ≡ false
+elements_at d [] k i x h = absurd (omega arith)
+elements_at d (n ∷ ns) k zero x h = k.0.1
+elements_at d (n ∷ ns) k (suc i) x h = elements_at d ns k.1 i x (omega arith)
+
+rows_at : (d n : ℕ) (ts : List (TagOf Node)) → NormalRows (NormalAt d) (ops d) n (tags_view d ts) → (i : ℕ) (x : TagOf Node) → i < length ts → NormalRow (NormalAt d) (ops d) n (Some (row_view d (slice_index_or ts i x).rest))
+rows_at d n [] k i x h = absurd (omega arith)
+rows_at d n (t ∷ ts) k zero x h = k.0
+rows_at d n (t ∷ ts) k (suc i) x h = rows_at d n ts k.1 i x (omega arith)
+
+bodies_at : (d : ℕ) (ss : List (SizeOf Node)) → NormalSizes (NormalAt d) (ops d) (sizes_view d ss) → (i : ℕ) (x : SizeOf Node) → i < length ss → NormalBody (NormalAt d) (ops d) (slice_index_or ss i x).size (Some (body_view d (slice_index_or ss i x).body))
+bodies_at d [] k i x h = absurd (omega arith)
+bodies_at d (s ∷ ss) k zero x h = k.1
+bodies_at d (s ∷ ss) k (suc i) x h = bodies_at d ss k.2 i x (omega arith)
+
+-- an element of a row has a value
+pub element_fits : (d : ℕ) (ns : List Node) → ((n : ℕ) × RowFits d n ns) → (i : ℕ) (x : Node) → i < length ns → x ≡ slice_index_or ns i x → Fits d x × ((ops d).is_none (view d x) ≡ false)
+element_fits d ns k i x h e =
+    subst (λ y. Fits d y × ((ops d).is_none (view d y) ≡ false)) (sym e) (each_at (Fits d) ns k.1.each i x h, elements_at d ns k.1.normal.1 i x h)
+
+pub rest_fits : (d : ℕ) (ts : List (TagOf Node)) → ((n : ℕ) × TagsFit d n ts) → (i : ℕ) (x : TagOf Node) → i < length ts → x ≡ slice_index_or ts i x → (n : ℕ) × RowFits d n x.rest
+rest_fits d ts k i x h e =
+    subst (λ y. (n : ℕ) × RowFits d n y.rest) (sym e) (k.0, record { normal = rows_at d k.0 ts k.1.normal.2 i x h; each = tag_at (Fits d) ts k.1.each i x h })
+
+pub body_fits : (d : ℕ) (ss : List (SizeOf Node)) → SizesFit d ss → (i : ℕ) (x : SizeOf Node) → i < length ss → x ≡ slice_index_or ss i x → (n : ℕ) × BodyFits d n x.body
+body_fits d ss k i x h e =
+    subst (λ y. (n : ℕ) × BodyFits d n y.body) (sym e) ((slice_index_or ss i x).size, record { normal = bodies_at d ss k.normal i x h; each = size_at (Fits d) ss k.each i x h })
+
+pub sizes_fit : (d : ℕ) (t : TuplesOf Node) (ss : List (SizeOf Node)) → t ≡ Sizes ss → TuplesFit d t → SizesFit d ss
+sizes_fit d t ss e k =
+    let l : TuplesFit d (Sizes ss) = subst (TuplesFit d) e k in
+    record { table = l.normal.0; normal = l.normal.2; each = l.each }
+
+-- ---- one more item at the end
+
+module _ (P : Node → Type 0) where
+  pub one_node : (ns : List Node) (y : Node) → EachNode P ns → P y → EachNode P (ns ++ y ∷ [])
+  one_node [] y k p = (p, tt)
+  one_node (n ∷ ns) y k p = (k.0, one_node ns y k.1 p)
+
+  pub one_tag : (ts : List (TagOf Node)) (y : TagOf Node) → EachTag P ts → EachNode P y.rest → EachTag P (ts ++ y ∷ [])
+  one_tag [] y k p = (p, tt)
+  one_tag (t ∷ ts) y k p = (k.0, one_tag ts y k.1 p)
+
+  pub one_size : (ss : List (SizeOf Node)) (y : SizeOf Node) → EachSize P ss → EachInBody P y.body → EachSize P (ss ++ y ∷ [])
+  one_size [] y k p = (p, tt)
+  one_size (s ∷ ss) y k p = (k.0, one_size ss y k.1 p)
+
+module _ {A C : Type 0} (F : List A → List C) (f : A → C) where
+  -- goes over a list item by item
+  record ByItem : Type 0 where
+    empty : F [] ≡ []
+    more : (x : A) (xs : List A) → F (x ∷ xs) ≡ f x ∷ F xs
+
+  by_map : ByItem → (xs : List A) → F xs ≡ map f xs
+  by_map b [] = b.empty
+  by_map b (x ∷ xs) = b.more x xs ∙ ap (λ zs. f x ∷ zs) (by_map b xs)
+
+  by_push : ByItem → (xs : List A) (y : A) → F (xs ++ y ∷ []) ≡ F xs ++ f y ∷ []
+  by_push b xs y = by_map b (xs ++ y ∷ []) ∙ map_push f xs y ∙ ap (λ zs. zs ++ f y ∷ []) (sym (by_map b xs))
+
+-- two lists that agree so far agree one item further
+one_further : {A B C : Type 0} (F : List A → List C) (f : A → C) (G : List B → List C) (g : B → C) → ByItem F f → ByItem G g → (xs : List A) (ys : List B) (i : ℕ) (x : A) (y : B) → i < length xs → x ≡ slice_index_or xs i x → G ys ≡ F (take i xs) → g y ≡ f x → G (ys ++ y ∷ []) ≡ F (take (i + 1) xs)
+one_further F f G g a b xs ys i x y h e q p =
+    by_push G g b ys y
+    ∙ ap (λ zs. zs ++ g y ∷ []) q
+    ∙ ap (λ z. F (take i xs) ++ z ∷ []) (p ∙ ap f e)
+    ∙ sym (ap F (take_more xs i x h) ∙ by_push F f a (take i xs) (slice_index_or xs i x))
+
+module _ (e d : ℕ) where
+  pub row_further : (xs ys : List Node) (i : ℕ) (x y : Node) → i < length xs → x ≡ slice_index_or xs i x → row_view d ys ≡ row_lower (cut e d) (ops e) (ops d) (row_view e (take i xs)) → view d y ≡ cut e d (view e x) → row_view d (ys ++ y ∷ []) ≡ row_lower (cut e d) (ops e) (ops d) (row_view e (take (i + 1) xs))
+  row_further =
+      one_further (λ xs. row_lower (cut e d) (ops e) (ops d) (row_view e xs)) (λ x. cut e d (view e x)) (row_view d) (view d) (record { empty = refl; more = λ x xs. refl }) (record { empty = refl; more = λ x xs. refl })
+
+  pub tags_further : (xs ys : List (TagOf Node)) (i : ℕ) (x y : TagOf Node) → i < length xs → x ≡ slice_index_or xs i x → tags_view d ys ≡ mapped (row_lower (cut e d) (ops e) (ops d)) (tags_view e (take i xs)) → y.atom ≡ x.atom → row_view d y.rest ≡ row_lower (cut e d) (ops e) (ops d) (row_view e x.rest) → tags_view d (ys ++ y ∷ []) ≡ mapped (row_lower (cut e d) (ops e) (ops d)) (tags_view e (take (i + 1) xs))
+  tags_further xs ys i x y h q k a p =
+      one_further (λ ts. mapped (row_lower (cut e d) (ops e) (ops d)) (tags_view e ts)) (λ t. (t.atom, row_lower (cut e d) (ops e) (ops d) (row_view e t.rest))) (tags_view d) (λ t. (t.atom, row_view d t.rest)) (record { empty = refl; more = λ t ts. refl }) (record { empty = refl; more = λ t ts. refl }) xs ys i x y h q k (ap (λ z. (z, row_view d y.rest)) a ∙ ap (λ z. (x.atom, z)) p)
+
+  pub sizes_further : (xs ys : List (SizeOf Node)) (i : ℕ) (x : SizeOf Node) (b : BodyOf Node) → i < length xs → x ≡ slice_index_or xs i x → sizes_view d ys ≡ mapped (body_lower (cut e d) (ops e) (ops d)) (sizes_view e (take i xs)) → body_view d b ≡ body_lower (cut e d) (ops e) (ops d) (body_view e x.body) → sizes_view d (ys ++ record { size = x.size; body = b } ∷ []) ≡ mapped (body_lower (cut e d) (ops e) (ops d)) (sizes_view e (take (i + 1) xs))
+  sizes_further xs ys i x b h q k p =
+      one_further (λ ss. mapped (body_lower (cut e d) (ops e) (ops d)) (sizes_view e ss)) (λ s. (s.size, body_lower (cut e d) (ops e) (ops d) (body_view e s.body))) (sizes_view d) (λ s. (s.size, body_view d s.body)) (record { empty = refl; more = λ s ss. refl }) (record { empty = refl; more = λ s ss. refl }) xs ys i x (record { size = x.size; body = b }) h q k (ap (λ z. (x.size, z)) p)

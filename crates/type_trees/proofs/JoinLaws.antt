@@ -1,0 +1,556 @@
+-- What the joins of the code stand for, and that it fits.
+use Rattle.std.proofs.Common.{◌≡◌, ℕ, zero, suc, ◌+◌, ◌-◌, ◌<◌, ◌≤◌, true, false, cond, List, [], ◌∷◌, ◌++◌, map, length, take, Some, None, slice_index_or, slice_set, refl, sym, ap, ◌∙◌, subst, true≢false, Less, Equal, Greater, arith}
+use Rattle.std.specs.Prelude.{nat_lt}
+use Rattle.std.specs.Ordering.{is_lt, is_eq, nat_cmp}
+use Rattle.std.specs.declared.cmp.Ordering.{Ordering}
+use Rattle.std.specs.FinSet.{nat_cmp-IsAntisymmetric}
+use Rattle.std.proofs.lemmas.Cmp.{nat_cmp_total}
+use Rattle.std.specs.List.{insert}
+use Rattle.std.proofs.lemmas.List.{take_more, take_all, map-append, length-map}
+use Rattle.std.proofs.lemmas.Option.{slice_get-get_or}
+use borrow.Author.Tests.{ltb-true, lt-ltb}
+use Rattle.type_sets.proofs.Truths.{is_false}
+use Rattle.type_sets.specs.Names.{Name, Names, name_cmp, every, none, are_listed, listed, or_else, or_else-yes}
+use Rattle.type_sets.proofs.NameLaws.{or_else-no, name_total, name_same}
+use Rattle.type_sets.specs.Numbers as numbers
+use Rattle.type_sets.specs.declared.bits.Bits.TheVariants.{No}
+use Rattle.type_family.specs.Shapes.{TypeAt, Plain, no_function, Parts, Tuples, all_tuples, Body, product, tags, sizes}
+use Rattle.type_family.specs.Tables.{keys, held, is_table, put, united}
+use Rattle.type_family.specs.Operations.{Ops, ops, zip, is_empty, row_join, rows_join, all_rows_join, tags_join, body_join, elements, capped_tags, capped_sizes, no_kinds, of_atoms, parts_join}
+use Rattle.type_family.specs.Normal.{NormalAt, NormalRow, NormalRows, AreTags, NormalBody, NormalSizes, NormalParts}
+use Rattle.type_family.proofs.TableLaws.{same_some, table-put, table-united}
+use Rattle.type_family.proofs.RowLaws.{length-zip, row_lattice}
+use Rattle.type_family.proofs.BodyLaws.{body_lattice, elements_normal}
+use Rattle.type_family.specs.HasType.{HasAt}
+use Rattle.type_family.proofs.PartsLaws.{parts_lattice}
+use Rattle.type_family.proofs.LevelLaws.{level_laws}
+use Rattle.type_trees.specs.declared.node.Node.{Node, out-Node}
+use Rattle.type_trees.specs.declared.node.Node.TheOpen.{Node-F}
+use Rattle.type_trees.specs.declared.node.PartsOf.{PartsOf}
+use Rattle.type_trees.specs.declared.node.Node.TheVariants as v
+use Rattle.type_trees.specs.declared.node.TagOf.{TagOf}
+use Rattle.type_trees.specs.declared.node.SizeOf.{SizeOf}
+use Rattle.type_trees.specs.declared.node.BodyOf.{BodyOf}
+use Rattle.type_trees.specs.declared.node.BodyOf.TheVariants.{Product, Tags}
+use Rattle.type_trees.specs.declared.node.TuplesOf.TheVariants.{Sizes}
+use Rattle.type_trees.specs.View.{view, layer, IsLayer, row_view, tags_view, body_view, sizes_view, tuples_view, parts_view, Fits, EachNode, EachTag, EachInBody, EachSize, RowFits, TagsFit, BodyFits, SizesFit, EachInParts, PartsFit}
+use Rattle.type_trees.specs.Places.{StandsAt, GoesAt}
+use Rattle.type_trees.proofs.Views.{view_any, view_of, of_fits, one_more, tag_at, size_at}
+use Rattle.type_trees.proofs.PlaceLaws.{atom_of}
+
+-- ---- the views of lists
+
+pub length-tags_view : (d : ℕ) (ts : List (TagOf Node)) → length (tags_view d ts) ≡ length ts
+length-tags_view d [] = refl
+length-tags_view d (t ∷ ts) = ap suc (length-tags_view d ts)
+
+pub length-sizes_view : (d : ℕ) (ss : List (SizeOf Node)) → length (sizes_view d ss) ≡ length ss
+length-sizes_view d [] = refl
+length-sizes_view d (s ∷ ss) = ap suc (length-sizes_view d ss)
+
+length-row_view : (d : ℕ) (es : List Node) → length (row_view d es) ≡ length es
+length-row_view d es = length-map es (view d)
+
+keys-tags_view : (d : ℕ) (ts : List (TagOf Node)) → keys (tags_view d ts) ≡ map atom_of ts
+keys-tags_view d [] = refl
+keys-tags_view d (t ∷ ts) = ap (λ ks. t.atom ∷ ks) (keys-tags_view d ts)
+
+-- ---- too many tags and too many sizes
+
+not_fewer : (n k : ℕ) → k ≤ n → nat_lt n k ≡ false
+not_fewer n k h = is_false (nat_lt n k) (λ e. let less = ltb-true n k e in absurd (omega arith))
+
+pub few_sizes : (d : ℕ) (ss : List (SizeOf Node)) → length ss ≤ 8 → tuples_view d (Sizes ss) ≡ capped_sizes (ops d) (sizes_view d ss)
+few_sizes d ss h =
+    ap (λ b. cond b (sizes (sizes_view d ss)) all_tuples) (sym (lt-ltb (length (sizes_view d ss)) 9 (omega (arith, length-sizes_view d ss))))
+
+pub many_sizes : (d : ℕ) (ss : List (SizeOf Node)) → 8 < length ss → all_tuples ≡ capped_sizes (ops d) (sizes_view d ss)
+many_sizes d ss h =
+    ap (λ b. cond b (sizes (sizes_view d ss)) all_tuples) (sym (not_fewer (length (sizes_view d ss)) 9 (omega (arith, length-sizes_view d ss))))
+
+pub few_tags : (d : ℕ) (ts : List (TagOf Node)) → length ts ≤ 13 → tags (tags_view d ts) ≡ capped_tags (ops d) (tags_view d ts)
+few_tags d ts h =
+    ap (λ b. cond b (tags (tags_view d ts)) (product (elements (ops d) (tags (tags_view d ts))))) (sym (lt-ltb (length (tags_view d ts)) 14 (omega (arith, length-tags_view d ts))))
+
+pub many_tags : (d : ℕ) (ts : List (TagOf Node)) (row : List Node) → 13 < length ts → row_view d row ≡ elements (ops d) (tags (tags_view d ts)) → product (row_view d row) ≡ capped_tags (ops d) (tags_view d ts)
+many_tags d ts row h e =
+    ap product e
+    ∙ ap (λ b. cond b (tags (tags_view d ts)) (product (elements (ops d) (tags (tags_view d ts))))) (sym (not_fewer (length (tags_view d ts)) 14 (omega (arith, length-tags_view d ts))))
+
+-- ---- the atoms of tags
+
+pub listed_atoms : (ts : List (TagOf Node)) (i : ℕ) (names : List Name) (s : Names) → length ts ≤ i → names ≡ map atom_of (take i ts) → are_listed names ≡ true → s ≡ listed names → (d : ℕ) → s ≡ or_else (keys (tags_view d ts)) every
+listed_atoms ts i names s h e l r d =
+    let same : names ≡ keys (tags_view d ts) = e ∙ ap (map atom_of) (take_all i ts h) ∙ sym (keys-tags_view d ts) in
+    r ∙ or_else-yes names none l ∙ sym (or_else-yes names every l) ∙ ap (λ ks. or_else ks every) same
+
+pub all_atoms : (ts : List (TagOf Node)) (i : ℕ) (names : List Name) (s : Names) → length ts ≤ i → names ≡ map atom_of (take i ts) → are_listed names ≡ false → s ≡ every → (d : ℕ) → s ≡ or_else (keys (tags_view d ts)) every
+all_atoms ts i names s h e l r d =
+    let same : names ≡ keys (tags_view d ts) = e ∙ ap (map atom_of) (take_all i ts h) ∙ sym (keys-tags_view d ts) in
+    r ∙ sym (or_else-no names every l) ∙ ap (λ ks. or_else ks every) same
+
+-- ---- items one by one
+
+tag_entry : (d : ℕ) (ts : List (TagOf Node)) (i : ℕ) (t : TagOf Node) → i < length ts → t ≡ slice_index_or ts i t → slice_index_or (tags_view d ts) i (t.atom, row_view d t.rest) ≡ (t.atom, row_view d t.rest)
+tag_entry d [] i t h e = absurd (omega arith)
+tag_entry d (u ∷ ts) zero t h e = λ n. ((sym e n).atom, row_view d (sym e n).rest)
+tag_entry d (u ∷ ts) (suc i) t h e = tag_entry d ts i t (omega arith) e
+
+tags_more : (d : ℕ) (ts : List (TagOf Node)) (i : ℕ) (t : TagOf Node) → i < length ts → t ≡ slice_index_or ts i t → take (i + 1) (tags_view d ts) ≡ take i (tags_view d ts) ++ (t.atom, row_view d t.rest) ∷ []
+tags_more d ts i t h e =
+    take_more (tags_view d ts) i (t.atom, row_view d t.rest) (omega (arith, length-tags_view d ts)) ∙ ap (λ x. take i (tags_view d ts) ++ x ∷ []) (tag_entry d ts i t h e)
+
+size_entry : (d : ℕ) (ss : List (SizeOf Node)) (i : ℕ) (s : SizeOf Node) → i < length ss → s ≡ slice_index_or ss i s → slice_index_or (sizes_view d ss) i (s.size, body_view d s.body) ≡ (s.size, body_view d s.body)
+size_entry d [] i s h e = absurd (omega arith)
+size_entry d (u ∷ ss) zero s h e = λ n. ((sym e n).size, body_view d (sym e n).body)
+size_entry d (u ∷ ss) (suc i) s h e = size_entry d ss i s (omega arith) e
+
+sizes_more : (d : ℕ) (ss : List (SizeOf Node)) (i : ℕ) (s : SizeOf Node) → i < length ss → s ≡ slice_index_or ss i s → take (i + 1) (sizes_view d ss) ≡ take i (sizes_view d ss) ++ (s.size, body_view d s.body) ∷ []
+sizes_more d ss i s h e =
+    take_more (sizes_view d ss) i (s.size, body_view d s.body) (omega (arith, length-sizes_view d ss)) ∙ ap (λ x. take i (sizes_view d ss) ++ x ∷ []) (size_entry d ss i s h e)
+
+-- ---- products, place by place
+
+zip_at : {A : Type 0} (f : A → A → A) (xs ys : List A) (i : ℕ) (x y e : A) → length xs ≡ length ys → i < length xs → slice_index_or xs i x ≡ x → slice_index_or ys i y ≡ y → slice_index_or (zip f xs ys) i e ≡ f x y
+zip_at f [] ys i x y e l h p q = absurd (omega arith)
+zip_at f (a ∷ xs) [] i x y e l h p q = absurd (omega arith)
+zip_at f (a ∷ xs) (b ∷ ys) zero x y e l h p q = λ n. f (p n) (q n)
+zip_at f (a ∷ xs) (b ∷ ys) (suc i) x y e l h p q = zip_at f xs ys i x y e (omega arith) (omega arith) p q
+
+row_at : (d : ℕ) (es : List Node) (i : ℕ) (x : Node) → x ≡ slice_index_or es i x → slice_index_or (row_view d es) i (view d x) ≡ view d x
+row_at d [] i x e = refl
+row_at d (a ∷ es) zero x e = ap (view d) (sym e)
+row_at d (a ∷ es) (suc i) x e = row_at d es i x e
+
+pub row_step : (d : ℕ) (a b out new : List Node) (i : ℕ) (x y j : Node) → length a ≡ length b → i < length a → x ≡ slice_index_or a i x → y ≡ slice_index_or b i y → view d j ≡ (ops d).join (view d x) (view d y) → row_view d out ≡ take i (row_join (ops d) (row_view d a) (row_view d b)) → new ≡ out ++ j ∷ [] → row_view d new ≡ take (i + 1) (row_join (ops d) (row_view d a) (row_view d b))
+row_step d a b out new i x y j l h p q e v n =
+    let one : length (row_view d a) ≡ length a = length-row_view d a in
+    let two : length (row_view d b) ≡ length b = length-row_view d b in
+    let whole : length (row_join (ops d) (row_view d a) (row_view d b)) ≡ length a = length-zip (ops d).join (length a) (row_view d a) (row_view d b) one (two ∙ sym l) in
+    ap (row_view d) n
+    ∙ map-append (view d) out (j ∷ [])
+    ∙ (λ k. v k ++ e k ∷ [])
+    ∙ ap (λ z. take i (row_join (ops d) (row_view d a) (row_view d b)) ++ z ∷ []) (sym (zip_at (ops d).join (row_view d a) (row_view d b) i (view d x) (view d y) (view d x) (one ∙ l ∙ sym two) (omega arith) (row_at d a i x p) (row_at d b i y q)))
+    ∙ sym (take_more (row_join (ops d) (row_view d a) (row_view d b)) i (view d x) (omega arith))
+
+pub row_end : (d : ℕ) (a b out : List Node) (i : ℕ) → length a ≡ length b → length a ≤ i → row_view d out ≡ take i (row_join (ops d) (row_view d a) (row_view d b)) → row_view d out ≡ row_join (ops d) (row_view d a) (row_view d b)
+row_end d a b out i l h v =
+    let one : length (row_view d a) ≡ length a = length-row_view d a in
+    let two : length (row_view d b) ≡ length b = length-row_view d b in
+    let whole : length (row_join (ops d) (row_view d a) (row_view d b)) ≡ length a = length-zip (ops d).join (length a) (row_view d a) (row_view d b) one (two ∙ sym l) in
+    v ∙ take_all i (row_join (ops d) (row_view d a) (row_view d b)) (omega arith)
+
+pub each_push : (P : Node → Type 0) (ns : List Node) (n : Node) → EachNode P ns → P n → EachNode P (ns ++ n ∷ [])
+each_push P [] n k p = (p, tt)
+each_push P (m ∷ ns) n k p = (k.0, each_push P ns n k.1 p)
+
+-- products of as many types are of one length
+pub same_length : (d n : ℕ) (a b : List Node) → RowFits d n a → RowFits d n b → length a ≡ length b
+same_length d n a b j k =
+    sym (length-row_view d a) ∙ j.normal.0 ∙ sym k.normal.0 ∙ length-row_view d b
+
+-- ---- the type of the atoms of tags
+
+sizes-not_all : {E : Type 0} (t : Tuples E) (m : List (ℕ × Body E)) → t ≡ sizes m → t ≡ all_tuples → ⊥
+sizes-not_all t m e f = cc
+
+-- a type of some atoms and nothing else
+atoms_part : (s : Names) (q : Plain) (ss : List (SizeOf Node)) → q ≡ record { atoms = s; ints = numbers.none; bits = No; kinds = no_kinds; functions = no_function } → ss ≡ [] → (d : ℕ) → parts_view d (record { plain = q; cell = None; tuples = Sizes ss }) ≡ of_atoms (ops d) s
+atoms_part s q ss e f d = λ n. record { plain = e n; cell = None; tuples = sizes (sizes_view d (f n)) }
+
+pub atoms_fit : (t : Node) (s : Names) (q : Plain) (ss : List (SizeOf Node)) → t ≡ v.Of (record { plain = q; cell = None; tuples = Sizes ss }) → q ≡ record { atoms = s; ints = numbers.none; bits = No; kinds = no_kinds; functions = no_function } → ss ≡ [] → (d : ℕ) → Fits (suc d) t
+unfolding ops
+atoms_fit t s q ss i e f d =
+    let whole = atoms_part s q ss e f d in
+    of_fits t (record { plain = q; cell = None; tuples = Sizes ss }) i d (record {
+      normal = subst (NormalParts (NormalAt d) (ops d)) (sym whole) (tt, tt, (refl, refl, tt));
+      each = (tt, subst (EachSize (Fits d)) (sym f) tt);
+    }) (λ h. sizes-not_all (tuples_view d (Sizes ss)) (sizes_view d ss) refl (ap (λ (p : Parts (TypeAt d)). p.tuples) h))
+
+pub atoms_value : (t : Node) (s : Names) (q : Plain) (ss : List (SizeOf Node)) (ts : List (TagOf Node)) → t ≡ v.Of (record { plain = q; cell = None; tuples = Sizes ss }) → q ≡ record { atoms = s; ints = numbers.none; bits = No; kinds = no_kinds; functions = no_function } → ss ≡ [] → ((d : ℕ) → s ≡ or_else (keys (tags_view d ts)) every) → (d : ℕ) → view (suc d) t ≡ (ops (suc d)).of_names (keys (tags_view (suc d) ts))
+unfolding ops
+atoms_value t s q ss ts i e f g d =
+    view_of t (record { plain = q; cell = None; tuples = Sizes ss }) i d ∙ atoms_part s q ss e f d ∙ ap (of_atoms (ops d)) (g (suc d))
+
+-- ---- the least product round some tags
+
+rows_join-more : {E : Type 0} (o : Ops E) (es : List E) (rows : List (List E)) (fs : List E) → rows_join o es (rows ++ fs ∷ []) ≡ row_join o (rows_join o es rows) fs
+rows_join-more o es [] fs = refl
+rows_join-more o es (gs ∷ rows) fs = rows_join-more o (row_join o es gs) rows fs
+
+held-append : {K X : Type 0} (m w : List (K × X)) → held (m ++ w) ≡ held m ++ held w
+held-append [] w = refl
+held-append (e ∷ m) w = ap (λ xs. e.1 ∷ xs) (held-append m w)
+
+all_rows-more : {E : Type 0} (o : Ops E) (m : List (Name × List E)) (e : Name × List E) → is_empty m ≡ false → all_rows_join o (held (m ++ e ∷ [])) ≡ row_join o (all_rows_join o (held m)) e.1
+all_rows-more o [] e h = absurd (true≢false h)
+all_rows-more o (x ∷ m) e h = ap (rows_join o x.1) (held-append m (e ∷ [])) ∙ rows_join-more o x.1 (held m) e.1
+
+take-filled : {A : Type 0} (i : ℕ) (xs : List A) → 1 ≤ i → 1 ≤ length xs → is_empty (take i xs) ≡ false
+take-filled zero xs h k = absurd (omega arith)
+take-filled (suc i) [] h k = absurd (omega arith)
+take-filled (suc i) (x ∷ xs) h k = refl
+
+filled-length : {A : Type 0} (xs : List A) → is_empty xs ≡ false → 1 ≤ length xs
+filled-length [] h = absurd (true≢false h)
+filled-length (x ∷ xs) h = omega arith
+
+pub rests_step : (d : ℕ) (ts : List (TagOf Node)) (i : ℕ) (t : TagOf Node) (out new : List Node) → 1 ≤ i → i < length ts → t ≡ slice_index_or ts i t → row_view d out ≡ all_rows_join (ops d) (held (take i (tags_view d ts))) → row_view d new ≡ row_join (ops d) (row_view d out) (row_view d t.rest) → row_view d new ≡ all_rows_join (ops d) (held (take (i + 1) (tags_view d ts)))
+rests_step d ts i t out new g h e v n =
+    n
+    ∙ ap (λ es. row_join (ops d) es (row_view d t.rest)) v
+    ∙ sym (all_rows-more (ops d) (take i (tags_view d ts)) (t.atom, row_view d t.rest) (take-filled i (tags_view d ts) g (omega (arith, length-tags_view d ts))))
+    ∙ sym (ap (λ m. all_rows_join (ops d) (held m)) (tags_more d ts i t h e))
+
+pub rests_end : (d : ℕ) (ts : List (TagOf Node)) (i : ℕ) (out : List Node) → length ts ≤ i → row_view d out ≡ all_rows_join (ops d) (held (take i (tags_view d ts))) → row_view d out ≡ all_rows_join (ops d) (held (tags_view d ts))
+rests_end d ts i out h v =
+    v ∙ ap (λ m. all_rows_join (ops d) (held m)) (take_all i (tags_view d ts) (omega (arith, length-tags_view d ts)))
+
+-- ---- what is joined fits
+
+-- something was put into it
+put-filled : {K X : Type 0} (R : K → K → Ordering) (j : X → X → X) (k : K) (x : X) (m : List (K × X)) → is_empty (put R j k x m) ≡ false
+put-filled R j k x [] = refl
+put-filled R j k x (e ∷ m) =
+    elim (R k e.0) as (λ r. is_empty (cond (is_lt r) ((k, x) ∷ e ∷ m) (cond (is_eq r) ((e.0, j e.1 x) ∷ m) (e ∷ put R j k x m))) ≡ false) [
+      | Less ↦ refl
+      | Equal ↦ refl
+      | Greater ↦ refl
+    ]
+
+module _ (d : ℕ) where
+  abbrev Row : ℕ → List (TypeAt d) → Type 0
+  Row n es = NormalRow (NormalAt d) (ops d) n (Some es)
+
+  abbrev Rows : ℕ → List (Name × List (TypeAt d)) → Type 0
+  Rows n m = NormalRows (NormalAt d) (ops d) n m
+
+  abbrev Tagged : ℕ → List (Name × List (TypeAt d)) → Type 0
+  Tagged n m = AreTags (NormalAt d) (ops d) n m
+
+  row-join : (n : ℕ) (es fs : List (TypeAt d)) → Row n es → Row n fs → Row n (row_join (ops d) es fs)
+  row-join n es fs j k = (row_lattice (level_laws d) n).join_normal (Some es) (Some fs) j k
+
+  rows-take : (n : ℕ) (m : List (Name × List (TypeAt d))) (i : ℕ) → Rows n m → Rows n (take i m)
+  rows-take n m zero k = tt
+  rows-take n [] (suc i) k = tt
+  rows-take n (e ∷ m) (suc i) k = (k.0, rows-take n m i k.1)
+
+  rows-at : (n : ℕ) (m : List (Name × List (TypeAt d))) (i : ℕ) (x : Name × List (TypeAt d)) → Rows n m → i < length m → Row n (slice_index_or m i x).1
+  rows-at n [] i x k h = absurd (omega arith)
+  rows-at n (e ∷ m) zero x k h = k.0
+  rows-at n (e ∷ m) (suc i) x k h = rows-at n m i x k.1 (omega arith)
+
+  rows-joined : (n : ℕ) (es : List (TypeAt d)) (m : List (Name × List (TypeAt d))) → Row n es → Rows n m → Row n (rows_join (ops d) es (held m))
+  rows-joined n es [] j k = j
+  rows-joined n es (e ∷ m) j k = rows-joined n (row_join (ops d) es e.1) m (row-join n es e.1 j k.0) k.1
+
+  all_rows-joined : (n : ℕ) (m : List (Name × List (TypeAt d))) → is_empty m ≡ false → Rows n m → Row n (all_rows_join (ops d) (held m))
+  all_rows-joined n [] e k = absurd (true≢false e)
+  all_rows-joined n (x ∷ m) e k = rows-joined n x.1 m k.0 k.1
+
+  pub rests_fit : (n : ℕ) (ts : List (TagOf Node)) (i : ℕ) (out : List Node) → TagsFit d n ts → 1 ≤ i → row_view d out ≡ all_rows_join (ops d) (held (take i (tags_view d ts))) → EachNode (Fits d) out → RowFits d n out
+  rests_fit n ts i out k g v e =
+      let filled = filled-length (tags_view d ts) k.normal.1 in record {
+        normal = subst (Row n) (sym v) (all_rows-joined n (take i (tags_view d ts)) (take-filled i (tags_view d ts) g filled) (rows-take n (tags_view d ts) i k.normal.2));
+        each = e;
+      }
+
+  pub tag_row : (n : ℕ) (ts : List (TagOf Node)) (i : ℕ) (t : TagOf Node) → TagsFit d n ts → i < length ts → t ≡ slice_index_or ts i t → RowFits d n t.rest
+  tag_row n ts i t k h e = record {
+    normal = subst (λ x. Row n x.1) (tag_entry d ts i t h e) (rows-at n (tags_view d ts) i (t.atom, row_view d t.rest) k.normal.2 (omega (arith, length-tags_view d ts)));
+    each = subst (λ x. EachNode (Fits d) x.rest) (sym e) (tag_at (Fits d) ts k.each i t h);
+  }
+
+  -- ---- a tag among others
+
+  rows-put : (n : ℕ) (k : Name) (es : List (TypeAt d)) (m : List (Name × List (TypeAt d))) → Row n es → Rows n m → Rows n (put name_cmp (row_join (ops d)) k es m)
+  rows-put n k es [] r j = (r, tt)
+  rows-put n k es (e ∷ m) r j =
+      elim (name_cmp k e.0) as (λ s. Rows n (cond (is_lt s) ((k, es) ∷ e ∷ m) (cond (is_eq s) ((e.0, row_join (ops d) e.1 es) ∷ m) (e ∷ put name_cmp (row_join (ops d)) k es m)))) [
+        | Less ↦ (r, j)
+        | Equal ↦ (row-join n e.1 es j.0 r, j.1)
+        | Greater ↦ (j.0, rows-put n k es m r j.1)
+      ]
+
+  tagged-put : (n : ℕ) (k : Name) (es : List (TypeAt d)) (m : List (Name × List (TypeAt d))) → Row n es → Tagged n m → Tagged n (put name_cmp (row_join (ops d)) k es m)
+  tagged-put n k es m r j =
+      (table-put name_total name_same (row_join (ops d)) k es m j.0, put-filled name_cmp (row_join (ops d)) k es m, rows-put n k es m r j.2)
+
+  tagged-united : (n : ℕ) (m w : List (Name × List (TypeAt d))) → Tagged n m → Rows n w → Tagged n (united name_cmp (row_join (ops d)) m w)
+  tagged-united n m [] j k = j
+  tagged-united n m (e ∷ w) j k = tagged-united n (put name_cmp (row_join (ops d)) e.0 e.1 m) w (tagged-put n e.0 e.1 m k.0 j) k.1
+
+  -- the tags of the first and some of the second
+  pub tags_so_far : (n : ℕ) (a b out : List (TagOf Node)) (i : ℕ) → TagsFit d n a → TagsFit d n b → tags_view d out ≡ tags_join (ops d) (tags_view d a) (take i (tags_view d b)) → EachTag (Fits d) out → TagsFit d n out
+  tags_so_far n a b out i j k v e = record {
+    normal = subst (Tagged n) (sym v) (tagged-united n (tags_view d a) (take i (tags_view d b)) j.normal (rows-take n (tags_view d b) i k.normal.2));
+    each = e;
+  }
+
+  -- and all of them
+  pub tags_joined : (n : ℕ) (a b out : List (TagOf Node)) → TagsFit d n a → TagsFit d n b → tags_view d out ≡ tags_join (ops d) (tags_view d a) (tags_view d b) → EachTag (Fits d) out → TagsFit d n out
+  tags_joined n a b out j k v e = record {
+    normal = subst (Tagged n) (sym v) (tagged-united n (tags_view d a) (tags_view d b) j.normal k.normal.2);
+    each = e;
+  }
+
+  -- ---- a size among others
+
+  abbrev OfSize : ℕ → Body (TypeAt d) → Type 0
+  OfSize n b = NormalBody (NormalAt d) (ops d) n (Some b)
+
+  abbrev Sized : List (ℕ × Body (TypeAt d)) → Type 0
+  Sized m = NormalSizes (NormalAt d) (ops d) m
+
+  body-join : (n : ℕ) (b c : Body (TypeAt d)) → OfSize n b → OfSize n c → OfSize n (body_join (ops d) b c)
+  body-join n b c j k = (body_lattice (level_laws d) n).join_normal (Some b) (Some c) j k
+
+  sized-take : (m : List (ℕ × Body (TypeAt d))) (i : ℕ) → Sized m → Sized (take i m)
+  sized-take m zero k = tt
+  sized-take [] (suc i) k = tt
+  sized-take (e ∷ m) (suc i) k = (k.0, k.1, sized-take m i k.2)
+
+  sized-at : (m : List (ℕ × Body (TypeAt d))) (i : ℕ) (x : ℕ × Body (TypeAt d)) → Sized m → i < length m → OfSize (slice_index_or m i x).0 (slice_index_or m i x).1
+  sized-at [] i x k h = absurd (omega arith)
+  sized-at (e ∷ m) zero x k h = k.1
+  sized-at (e ∷ m) (suc i) x k h = sized-at m i x k.2 (omega arith)
+
+  sized-put : (q : ℕ) (b : Body (TypeAt d)) (m : List (ℕ × Body (TypeAt d))) → nat_lt q 65 ≡ true → OfSize q b → Sized m → Sized (put nat_cmp (body_join (ops d)) q b m)
+  sized-put q b [] s n k = (s, n, tt)
+  sized-put q b (e ∷ m) s n k =
+      elim (nat_cmp q e.0) as (λ r. nat_cmp q e.0 ≡ r → Sized (cond (is_lt r) ((q, b) ∷ e ∷ m) (cond (is_eq r) ((e.0, body_join (ops d) e.1 b) ∷ m) (e ∷ put nat_cmp (body_join (ops d)) q b m)))) [
+        | Less ↦ λ i. (s, n, k)
+        | Equal ↦ λ i. (k.0, body-join e.0 e.1 b k.1 (subst (λ z. OfSize z b) (nat_cmp-IsAntisymmetric q e.0 i) n), k.2)
+        | Greater ↦ λ i. (k.0, k.1, sized-put q b m s n k.2)
+      ] refl
+
+  sized-united : (m w : List (ℕ × Body (TypeAt d))) → Sized m → Sized w → Sized (united nat_cmp (body_join (ops d)) m w)
+  sized-united m [] j k = j
+  sized-united m (e ∷ w) j k = sized-united (put nat_cmp (body_join (ops d)) e.0 e.1 m) w (sized-put e.0 e.1 m k.0 k.1 j) k.2
+
+  pub sizes_so_far : (a b out : List (SizeOf Node)) (i : ℕ) → SizesFit d a → SizesFit d b → sizes_view d out ≡ united nat_cmp (body_join (ops d)) (sizes_view d a) (take i (sizes_view d b)) → EachSize (Fits d) out → SizesFit d out
+  sizes_so_far a b out i j k v e = record {
+    table = ap (is_table nat_cmp) v ∙ table-united nat_cmp_total nat_cmp-IsAntisymmetric (body_join (ops d)) (sizes_view d a) (take i (sizes_view d b)) j.table;
+    normal = subst Sized (sym v) (sized-united (sizes_view d a) (take i (sizes_view d b)) j.normal (sized-take (sizes_view d b) i k.normal));
+    each = e;
+  }
+
+  pub size_body : (ss : List (SizeOf Node)) (i : ℕ) (s : SizeOf Node) → SizesFit d ss → i < length ss → s ≡ slice_index_or ss i s → BodyFits d s.size s.body
+  size_body ss i s k h e = record {
+    normal = subst (λ x. OfSize x.0 x.1) (size_entry d ss i s h e) (sized-at (sizes_view d ss) i (s.size, body_view d s.body) k.normal (omega (arith, length-sizes_view d ss)));
+    each = subst (λ x. EachInBody (Fits d) x.body) (sym e) (size_at (Fits d) ss k.each i s h);
+  }
+
+-- ---- one more of the second list
+
+united-append : {K X : Type 0} (R : K → K → Ordering) (j : X → X → X) (m w z : List (K × X)) → united R j m (w ++ z) ≡ united R j (united R j m w) z
+united-append R j m [] z = refl
+united-append R j m (e ∷ w) z = united-append R j (put R j e.0 e.1 m) w z
+
+pub tags_step : (d : ℕ) (a b out new : List (TagOf Node)) (i : ℕ) (t : TagOf Node) → i < length b → t ≡ slice_index_or b i t → tags_view d out ≡ tags_join (ops d) (tags_view d a) (take i (tags_view d b)) → tags_view d new ≡ put name_cmp (row_join (ops d)) t.atom (row_view d t.rest) (tags_view d out) → tags_view d new ≡ tags_join (ops d) (tags_view d a) (take (i + 1) (tags_view d b))
+tags_step d a b out new i t h e v n =
+    n
+    ∙ ap (put name_cmp (row_join (ops d)) t.atom (row_view d t.rest)) v
+    ∙ sym (united-append name_cmp (row_join (ops d)) (tags_view d a) (take i (tags_view d b)) ((t.atom, row_view d t.rest) ∷ []))
+    ∙ sym (ap (united name_cmp (row_join (ops d)) (tags_view d a)) (tags_more d b i t h e))
+
+pub tags_end : (d : ℕ) (a b out : List (TagOf Node)) (i : ℕ) → length b ≤ i → tags_view d out ≡ tags_join (ops d) (tags_view d a) (take i (tags_view d b)) → tags_view d out ≡ tags_join (ops d) (tags_view d a) (tags_view d b)
+tags_end d a b out i h v =
+    v ∙ ap (united name_cmp (row_join (ops d)) (tags_view d a)) (take_all i (tags_view d b) (omega (arith, length-tags_view d b)))
+
+pub sizes_step : (d : ℕ) (a b out new : List (SizeOf Node)) (i : ℕ) (s : SizeOf Node) → i < length b → s ≡ slice_index_or b i s → sizes_view d out ≡ united nat_cmp (body_join (ops d)) (sizes_view d a) (take i (sizes_view d b)) → sizes_view d new ≡ put nat_cmp (body_join (ops d)) s.size (body_view d s.body) (sizes_view d out) → sizes_view d new ≡ united nat_cmp (body_join (ops d)) (sizes_view d a) (take (i + 1) (sizes_view d b))
+sizes_step d a b out new i s h e v n =
+    n
+    ∙ ap (put nat_cmp (body_join (ops d)) s.size (body_view d s.body)) v
+    ∙ sym (united-append nat_cmp (body_join (ops d)) (sizes_view d a) (take i (sizes_view d b)) ((s.size, body_view d s.body) ∷ []))
+    ∙ sym (ap (united nat_cmp (body_join (ops d)) (sizes_view d a)) (sizes_more d b i s h e))
+
+pub sizes_end : (d : ℕ) (a b out : List (SizeOf Node)) (i : ℕ) → length b ≤ i → sizes_view d out ≡ united nat_cmp (body_join (ops d)) (sizes_view d a) (take i (sizes_view d b)) → sizes_view d out ≡ united nat_cmp (body_join (ops d)) (sizes_view d a) (sizes_view d b)
+sizes_end d a b out i h v =
+    v ∙ ap (united nat_cmp (body_join (ops d)) (sizes_view d a)) (take_all i (sizes_view d b) (omega (arith, length-sizes_view d b)))
+
+-- ---- what is put into a list
+
+-- an item is read whole or in part
+pub same_item : {A : Type 0} (xs : List A) (i : ℕ) (x y : A) → i < length xs → x ≡ slice_index_or xs i x → y ≡ slice_index_or xs i y → x ≡ y
+same_item [] i x y h e f = absurd (omega arith)
+same_item (z ∷ xs) zero x y h e f = e ∙ sym f
+same_item (z ∷ xs) (suc i) x y h e f = same_item xs i x y (omega arith) e f
+
+tags-insert : (d : ℕ) (ts : List (TagOf Node)) (i : ℕ) (t : TagOf Node) → tags_view d (insert ts i t) ≡ insert (tags_view d ts) i (t.atom, row_view d t.rest)
+tags-insert d ts zero t = refl
+tags-insert d [] (suc i) t = refl
+tags-insert d (u ∷ ts) (suc i) t = ap (λ m. (u.atom, row_view d u.rest) ∷ m) (tags-insert d ts i t)
+
+tags-set : (d : ℕ) (ts : List (TagOf Node)) (i : ℕ) (t : TagOf Node) → tags_view d (slice_set ts i t) ≡ slice_set (tags_view d ts) i (t.atom, row_view d t.rest)
+tags-set d [] i t = refl
+tags-set d (u ∷ ts) zero t = refl
+tags-set d (u ∷ ts) (suc i) t = ap (λ m. (u.atom, row_view d u.rest) ∷ m) (tags-set d ts i t)
+
+sizes-insert : (d : ℕ) (ss : List (SizeOf Node)) (i : ℕ) (s : SizeOf Node) → sizes_view d (insert ss i s) ≡ insert (sizes_view d ss) i (s.size, body_view d s.body)
+sizes-insert d ss zero s = refl
+sizes-insert d [] (suc i) s = refl
+sizes-insert d (u ∷ ss) (suc i) s = ap (λ m. (u.size, body_view d u.body) ∷ m) (sizes-insert d ss i s)
+
+sizes-set : (d : ℕ) (ss : List (SizeOf Node)) (i : ℕ) (s : SizeOf Node) → sizes_view d (slice_set ss i s) ≡ slice_set (sizes_view d ss) i (s.size, body_view d s.body)
+sizes-set d [] i s = refl
+sizes-set d (u ∷ ss) zero s = refl
+sizes-set d (u ∷ ss) (suc i) s = ap (λ m. (u.size, body_view d u.body) ∷ m) (sizes-set d ss i s)
+
+each_tag-insert : (P : Node → Type 0) (ts : List (TagOf Node)) (i : ℕ) (t : TagOf Node) → EachTag P ts → EachNode P t.rest → EachTag P (insert ts i t)
+each_tag-insert P ts zero t k p = (p, k)
+each_tag-insert P [] (suc i) t k p = (p, tt)
+each_tag-insert P (u ∷ ts) (suc i) t k p = (k.0, each_tag-insert P ts i t k.1 p)
+
+pub each_tag-set : (P : Node → Type 0) (ts : List (TagOf Node)) (i : ℕ) (t : TagOf Node) → EachTag P ts → EachNode P t.rest → EachTag P (slice_set ts i t)
+each_tag-set P [] i t k p = tt
+each_tag-set P (u ∷ ts) zero t k p = (p, k.1)
+each_tag-set P (u ∷ ts) (suc i) t k p = (k.0, each_tag-set P ts i t k.1 p)
+
+each_size-insert : (P : Node → Type 0) (ss : List (SizeOf Node)) (i : ℕ) (s : SizeOf Node) → EachSize P ss → EachInBody P s.body → EachSize P (insert ss i s)
+each_size-insert P ss zero s k p = (p, k)
+each_size-insert P [] (suc i) s k p = (p, tt)
+each_size-insert P (u ∷ ss) (suc i) s k p = (k.0, each_size-insert P ss i s k.1 p)
+
+pub each_size-set : (P : Node → Type 0) (ss : List (SizeOf Node)) (i : ℕ) (s : SizeOf Node) → EachSize P ss → EachInBody P s.body → EachSize P (slice_set ss i s)
+each_size-set P [] i s k p = tt
+each_size-set P (u ∷ ss) zero s k p = (p, k.1)
+each_size-set P (u ∷ ss) (suc i) s k p = (k.0, each_size-set P ss i s k.1 p)
+
+-- a tag that isn't there
+pub tag_missing : (d : ℕ) (ts new : List (TagOf Node)) (i : ℕ) (t u : TagOf Node) → GoesAt name_cmp t.atom (tags_view d ts) i → u ≡ t → new ≡ insert ts i u → tags_view d new ≡ put name_cmp (row_join (ops d)) t.atom (row_view d t.rest) (tags_view d ts)
+tag_missing d ts new i t u g e n =
+    ap (tags_view d) n ∙ ap (λ w. tags_view d (insert ts i w)) e ∙ tags-insert d ts i t ∙ sym (g (row_join (ops d)) (row_view d t.rest))
+
+pub tag_missing_each : (d : ℕ) (ts new : List (TagOf Node)) (i : ℕ) (t u : TagOf Node) → EachTag (Fits d) ts → EachNode (Fits d) t.rest → u ≡ t → new ≡ insert ts i u → EachTag (Fits d) new
+tag_missing_each d ts new i t u k p e n =
+    subst (EachTag (Fits d)) (sym n) (subst (λ w. EachTag (Fits d) (insert ts i w)) (sym e) (each_tag-insert (Fits d) ts i t k p))
+
+-- and one that is
+pub tag_found : (d : ℕ) (ts : List (TagOf Node)) (i : ℕ) (t there : TagOf Node) (rest : List Node) → StandsAt name_cmp t.atom (tags_view d ts) i → i < length ts → there ≡ slice_index_or ts i there → row_view d rest ≡ row_join (ops d) (row_view d there.rest) (row_view d t.rest) → tags_view d (slice_set ts i (record { atom = there.atom; rest = rest })) ≡ put name_cmp (row_join (ops d)) t.atom (row_view d t.rest) (tags_view d ts)
+tag_found d ts i t there rest s h e v =
+    let entry : (there.atom, row_view d there.rest) ≡ (t.atom, s.0) = same_some (there.atom, row_view d there.rest) (t.atom, s.0) (ap Some (sym (tag_entry d ts i there h e)) ∙ sym (slice_get-get_or (tags_view d ts) i (there.atom, row_view d there.rest) (omega (arith, length-tags_view d ts))) ∙ s.1.0) in
+    tags-set d ts i (record { atom = there.atom; rest = rest })
+    ∙ (λ n. slice_set (tags_view d ts) i ((entry n).0, v n))
+    ∙ (λ n. slice_set (tags_view d ts) i (t.atom, row_join (ops d) (entry n).1 (row_view d t.rest)))
+    ∙ sym (s.1.1 (row_join (ops d)) (row_view d t.rest))
+
+-- the same of sizes
+pub size_missing : (d : ℕ) (ss new : List (SizeOf Node)) (i : ℕ) (s : SizeOf Node) (b : BodyOf Node) → GoesAt nat_cmp s.size (sizes_view d ss) i → b ≡ s.body → new ≡ insert ss i (record { size = s.size; body = b }) → sizes_view d new ≡ put nat_cmp (body_join (ops d)) s.size (body_view d s.body) (sizes_view d ss)
+size_missing d ss new i s b g e n =
+    ap (sizes_view d) n
+    ∙ ap (λ w. sizes_view d (insert ss i (record { size = s.size; body = w }))) e
+    ∙ sizes-insert d ss i s
+    ∙ sym (g (body_join (ops d)) (body_view d s.body))
+
+pub size_missing_each : (d : ℕ) (ss new : List (SizeOf Node)) (i : ℕ) (s : SizeOf Node) (b : BodyOf Node) → EachSize (Fits d) ss → EachInBody (Fits d) s.body → b ≡ s.body → new ≡ insert ss i (record { size = s.size; body = b }) → EachSize (Fits d) new
+size_missing_each d ss new i s b k p e n =
+    subst (EachSize (Fits d)) (sym n) (subst (λ w. EachSize (Fits d) (insert ss i (record { size = s.size; body = w }))) (sym e) (each_size-insert (Fits d) ss i s k p))
+
+-- the size that stands at the place is equal
+pub size_same : (d : ℕ) (ss : List (SizeOf Node)) (i k : ℕ) (there : SizeOf Node) → StandsAt nat_cmp k (sizes_view d ss) i → i < length ss → there ≡ slice_index_or ss i there → there.size ≡ k
+size_same d ss i k there s h e =
+    ap (λ (x : ℕ × Body (TypeAt d)). x.0) (same_some (there.size, body_view d there.body) (k, s.0) (ap Some (sym (size_entry d ss i there h e)) ∙ sym (slice_get-get_or (sizes_view d ss) i (there.size, body_view d there.body) (omega (arith, length-sizes_view d ss))) ∙ s.1.0))
+
+pub size_found : (d : ℕ) (ss : List (SizeOf Node)) (i : ℕ) (s there : SizeOf Node) (b : BodyOf Node) → StandsAt nat_cmp s.size (sizes_view d ss) i → i < length ss → there ≡ slice_index_or ss i there → body_view d b ≡ body_join (ops d) (body_view d there.body) (body_view d s.body) → sizes_view d (slice_set ss i (record { size = there.size; body = b })) ≡ put nat_cmp (body_join (ops d)) s.size (body_view d s.body) (sizes_view d ss)
+size_found d ss i s there b k h e v =
+    let entry : (there.size, body_view d there.body) ≡ (s.size, k.0) = same_some (there.size, body_view d there.body) (s.size, k.0) (ap Some (sym (size_entry d ss i there h e)) ∙ sym (slice_get-get_or (sizes_view d ss) i (there.size, body_view d there.body) (omega (arith, length-sizes_view d ss))) ∙ k.1.0) in
+    sizes-set d ss i (record { size = there.size; body = b })
+    ∙ (λ n. slice_set (sizes_view d ss) i ((entry n).0, v n))
+    ∙ (λ n. slice_set (sizes_view d ss) i (s.size, body_join (ops d) (entry n).1 (body_view d s.body)))
+    ∙ sym (k.1.1 (body_join (ops d)) (body_view d s.body))
+
+-- ---- bodies
+
+-- tags stand only above level 0
+tags_above : (d : ℕ) → (ops d).has_tags ≡ true → 0 < d
+unfolding ops
+tags_above zero h = absurd (true≢false (sym h))
+tags_above (suc d) h = omega arith
+
+body_is : (d n : ℕ) (b c : BodyOf Node) → b ≡ c → BodyFits d n b → BodyFits d n c
+body_is d n b c e k = subst (BodyFits d n) e k
+
+tags_part : (d n : ℕ) (ts : List (TagOf Node)) → BodyFits d n (Tags ts) → (m : ℕ) × ((n ≡ suc m) × (TagsFit d m ts × (0 < d)))
+tags_part d zero ts k = absurd k.normal
+tags_part d (suc n) ts k =
+    (n, (refl, (record { normal = k.normal.0; each = k.each }, tags_above d k.normal.2)))
+
+pub tags_of_body : (d n : ℕ) (b : BodyOf Node) (ts : List (TagOf Node)) → BodyFits d n b → b ≡ Tags ts → ((m : ℕ) × TagsFit d m ts) × (0 < d)
+tags_of_body d n b ts k e =
+    let t = tags_part d n ts (body_is d n b (Tags ts) e k) in
+    ((t.0, t.1.1.0), t.1.1.1)
+
+pub tags_of_bodies : (d n : ℕ) (b c : BodyOf Node) (ts us : List (TagOf Node)) → BodyFits d n b → BodyFits d n c → b ≡ Tags ts → c ≡ Tags us → (m : ℕ) × (TagsFit d m ts × TagsFit d m us)
+tags_of_bodies d n b c ts us j k e f =
+    let t = tags_part d n ts (body_is d n b (Tags ts) e j) in
+    let u = tags_part d n us (body_is d n c (Tags us) f k) in
+    let same : u.0 ≡ t.0 = omega (arith, t.1.0, u.1.0) in
+    (t.0, (t.1.1.0, subst (λ m. TagsFit d m us) same u.1.1.0))
+
+pub product_of_body : (d n : ℕ) (b : BodyOf Node) (es : List Node) → BodyFits d n b → b ≡ Product es → RowFits d n es
+product_of_body d n b es k e =
+    let p = body_is d n b (Product es) e k in record { normal = p.normal.0; each = p.each }
+
+pub elements_fit : (d n : ℕ) (b : BodyOf Node) (es : List Node) → BodyFits d n b → row_view d es ≡ elements (ops d) (body_view d b) → EachNode (Fits d) es → RowFits d n es
+elements_fit d n b es k v e = record {
+  normal = subst (λ r. NormalRow (NormalAt d) (ops d) n (Some r)) (sym v) (elements_normal (level_laws d) n (body_view d b) k.normal);
+  each = e;
+}
+
+pub row_is : (d n : ℕ) (es fs : List Node) → es ≡ fs → RowFits d n fs → RowFits d n es
+row_is d n es fs e k = subst (RowFits d n) (sym e) k
+
+-- the element types of the least product round tags
+pub tags_elements : (d : ℕ) (ts : List (TagOf Node)) (first : Node) (rest row : List Node) → 0 < d → ((e : ℕ) → view (suc e) first ≡ (ops (suc e)).of_names (keys (tags_view (suc e) ts))) → row_view d rest ≡ all_rows_join (ops d) (held (tags_view d ts)) → row ≡ first ∷ rest → row_view d row ≡ elements (ops d) (tags (tags_view d ts))
+tags_elements zero ts first rest row h f r e = absurd (omega arith)
+tags_elements (suc d) ts first rest row h f r e = ap (row_view (suc d)) e ∙ (λ n. f d n ∷ r n)
+
+-- ---- types
+
+layer_normal : (d : ℕ) (y : Node-F Node) → IsLayer (NormalAt (suc d)) (ops (suc d)).any (view d) (Fits d) y → NormalAt (suc d) (layer (ops (suc d)).any (view d) y)
+layer_normal d Node-F.Any k = (level_laws (suc d)).any_normal
+layer_normal d (Node-F.Of p) k = k.0.0
+
+pub fits_normal : (d : ℕ) (t : Node) → Fits d t → NormalAt d (view d t)
+unfolding view Fits NormalAt
+fits_normal zero t k = tt
+fits_normal (suc d) t k = layer_normal d (out-Node t) k
+
+-- every value joined with any
+pub any_joined : (d : ℕ) (x y : TypeAt d) → NormalAt d x → NormalAt d y → x ≡ (ops d).any → (ops d).any ≡ (ops d).join x y
+any_joined d x y j k e =
+    let l = level_laws d in
+    l.lattice.same (ops d).any ((ops d).join x y) l.any_normal (l.lattice.join_normal x y j k) (λ u h. l.lattice.join_left x y j k u (subst (HasAt d u) (sym e) h)) (λ u h. l.any_in u)
+
+pub joined_any : (d : ℕ) (x y : TypeAt d) → NormalAt d x → NormalAt d y → y ≡ (ops d).any → (ops d).any ≡ (ops d).join x y
+joined_any d x y j k e =
+    let l = level_laws d in
+    l.lattice.same (ops d).any ((ops d).join x y) l.any_normal (l.lattice.join_normal x y j k) (λ u h. l.lattice.join_right x y j k u (subst (HasAt d u) (sym e) h)) (λ u h. l.any_in u)
+
+pub any_left : (d : ℕ) (a b : Node) → Fits d a → Fits d b → a ≡ v.Any → view d v.Any ≡ (ops d).join (view d a) (view d b)
+any_left d a b j k e =
+    view_any v.Any refl d ∙ any_joined d (view d a) (view d b) (fits_normal d a j) (fits_normal d b k) (view_any a e d)
+
+pub any_right : (d : ℕ) (a b : Node) → Fits d a → Fits d b → b ≡ v.Any → view d v.Any ≡ (ops d).join (view d a) (view d b)
+any_right d a b j k e =
+    view_any v.Any refl d ∙ joined_any d (view d a) (view d b) (fits_normal d a j) (fits_normal d b k) (view_any b e d)
+
+pub parts_fit : (d : ℕ) (p q j : PartsOf Node) → PartsFit d p → PartsFit d q → parts_view d j ≡ parts_join (ops d) (parts_view d p) (parts_view d q) → EachInParts (Fits d) j → PartsFit d j
+parts_fit d p q j k m v e = record {
+  normal = subst (NormalParts (NormalAt d) (ops d)) (sym v) ((parts_lattice (level_laws d)).join_normal (parts_view d p) (parts_view d q) k.normal m.normal);
+  each = e;
+}
+
+made_above : (d : ℕ) (a b r : Node) (p q j : PartsOf Node) → a ≡ v.Of p → b ≡ v.Of q → parts_view d j ≡ parts_join (ops d) (parts_view d p) (parts_view d q) → view (suc d) r ≡ parts_view d j → view (suc d) r ≡ (ops (suc d)).join (view (suc d) a) (view (suc d) b)
+unfolding ops
+made_above d a b r p q j e f h m =
+    m ∙ h ∙ sym (λ n. parts_join (ops d) (view_of a p e d n) (view_of b q f d n))
+
+pub made_join : (d : ℕ) (a b r : Node) (p q j : PartsOf Node) → 1 ≤ d → a ≡ v.Of p → b ≡ v.Of q → PartsFit (d - 1) j → parts_view (d - 1) j ≡ parts_join (ops (d - 1)) (parts_view (d - 1) p) (parts_view (d - 1) q) → ((e : ℕ) → PartsFit e j → view (suc e) r ≡ parts_view e j) → view d r ≡ (ops d).join (view d a) (view d b)
+made_join d a b r p q j h e f k m g =
+    subst (λ n. view n r ≡ (ops n).join (view n a) (view n b)) (sym (one_more d h)) (made_above (d - 1) a b r p q j e f m (g (d - 1) k))
+
+pub made_fit : (d : ℕ) (r : Node) (j : PartsOf Node) → 1 ≤ d → PartsFit (d - 1) j → ((e : ℕ) → PartsFit e j → Fits (suc e) r) → Fits d r
+made_fit d r j h k g = subst (λ n. Fits n r) (sym (one_more d h)) (g (d - 1) k)

@@ -1,0 +1,225 @@
+-- A tree that stands for a type stands for the same type at each higher level.
+use Rattle.std.proofs.Common.{◌≡◌, ℕ, zero, suc, ◌≤◌, true, cond, List, [], ◌∷◌, map, Option, Some, None, refl, sym, ap, ◌∙◌, subst, arith}
+use Rattle.std.specs.Prelude.{nat_lt}
+use Rattle.std.specs.Ordering.{nat_cmp}
+use Rattle.std.specs.Cmp.{nat_cmp_total}
+use Rattle.std.specs.FinSet.{nat_cmp-IsAntisymmetric}
+use Rattle.std.proofs.lemmas.List.{length-map}
+use Rattle.type_sets.specs.Names.{Name}
+use Rattle.type_sets.proofs.NameLaws.{name_total, name_same}
+use Rattle.type_family.specs.Tables.{is_table, mapped}
+use Rattle.type_family.specs.Shapes.{Cell, Body, product, tags, Tuples, sizes, all_tuples, Parts, TypeAt}
+use Rattle.type_family.specs.HasType.{HasAt}
+use Rattle.type_family.specs.Operations.{plain_none, ops, elements}
+use Rattle.type_family.specs.Normal.{IsElement, NormalCell, AreElements, NormalRow, FirstIsOpen, NormalRows, AreTags, NormalBody, NormalSizes, NormalTuples, NormalAt}
+use Rattle.type_family.specs.Cut.{row_lower, cell_lower, body_lower, tuples_lower, parts_lower, cut}
+use Rattle.type_family.proofs.TableLaws.{table-mapped, length-mapped, empty-mapped}
+use Rattle.type_family.proofs.CutLaws.{cut_exact}
+use Rattle.type_family.proofs.LevelLaws.{level_laws}
+use Rattle.type_trees.specs.declared.node.Node.{Node, out-Node, roll-Node, roll-out-Node}
+use Rattle.type_trees.specs.declared.node.Node.TheOpen.{Node-F}
+use Rattle.type_trees.specs.declared.node.Node.TheVariants as v
+use Rattle.type_trees.specs.declared.node.PartsOf.{PartsOf}
+use Rattle.type_trees.specs.declared.node.CellOf.{CellOf}
+use Rattle.type_trees.specs.declared.node.TuplesOf.{TuplesOf}
+use Rattle.type_trees.specs.declared.node.TuplesOf.TheVariants.{All, Sizes}
+use Rattle.type_trees.specs.declared.node.SizeOf.{SizeOf}
+use Rattle.type_trees.specs.declared.node.BodyOf.{BodyOf}
+use Rattle.type_trees.specs.declared.node.BodyOf.TheVariants.{Product, Tags}
+use Rattle.type_trees.specs.declared.node.TagOf.{TagOf}
+use Rattle.type_trees.specs.View.{view, row_view, tags_view, body_view, sizes_view, tuples_view, cell_view, parts_view, Fits, EachNode, EachTag, EachSize, EachInBody, RowFits, TagsFit, BodyFits, SizesFit, TuplesFit, CellFits, PartsFit}
+use Rattle.type_trees.proofs.Views.{zero_fits, any_fits, view_of, fits_of, of_fits, parts_normal}
+use Rattle.type_trees.proofs.CutTrees.{any_cut, parts_cut, parts_kept, cut_parts_fit, tags_above, above_tags, tags_kept, tags_fit}
+
+-- ---- the parts of a type at another level are in normal form
+
+module _ (e d : ℕ) where
+  cell_kept : (c : Option (Cell (TypeAt e))) → NormalCell (NormalAt e) (ops e) c → NormalCell (NormalAt d) (ops d) (cell_lower (cut e d) (ops e) (ops d) c)
+  cell_kept c k =
+      let x : Parts (TypeAt e) = record { plain = plain_none; cell = c; tuples = all_tuples } in
+      (parts_kept e d x (tt, k, tt)).1
+
+  tuples_kept : (t : Tuples (TypeAt e)) → NormalTuples (NormalAt e) (ops e) t → NormalTuples (NormalAt d) (ops d) (tuples_lower (cut e d) (ops e) (ops d) t)
+  tuples_kept t k =
+      let x : Parts (TypeAt e) = record { plain = plain_none; cell = None; tuples = t } in
+      (parts_kept e d x (tt, tt, k)).2
+
+  elements_kept : (xs : List (TypeAt e)) → AreElements (NormalAt e) (ops e) xs → AreElements (NormalAt d) (ops d) (map (cut e d) xs)
+  elements_kept [] k = tt
+  elements_kept (x ∷ xs) k = (cell_kept (Some (record { element = x; is_proper = true })) k.0, elements_kept xs k.1)
+
+  row_kept : (n : ℕ) (xs : List (TypeAt e)) → NormalRow (NormalAt e) (ops e) n (Some xs) → NormalRow (NormalAt d) (ops d) n (Some (map (cut e d) xs))
+  row_kept n xs k = (length-map xs (cut e d) ∙ k.0, elements_kept xs k.1)
+
+  rows_kept : (n : ℕ) (m : List (Name × List (TypeAt e))) → NormalRows (NormalAt e) (ops e) n m → NormalRows (NormalAt d) (ops d) n (mapped (map (cut e d)) m)
+  rows_kept n [] k = tt
+  rows_kept n (x ∷ m) k = (row_kept n x.1 k.0, rows_kept n m k.1)
+
+  are_tags_kept : (n : ℕ) (m : List (Name × List (TypeAt e))) → AreTags (NormalAt e) (ops e) n m → AreTags (NormalAt d) (ops d) n (mapped (map (cut e d)) m)
+  are_tags_kept n m k = (table-mapped name_total name_same (map (cut e d)) m k.0, empty-mapped name_total name_same (map (cut e d)) m ∙ k.1, rows_kept n m k.2)
+
+  -- a product of one element says it of the first
+  first_kept : (xs : List (TypeAt e)) → AreElements (NormalAt e) (ops e) xs → FirstIsOpen (NormalAt e) (ops e) xs → FirstIsOpen (NormalAt d) (ops d) (map (cut e d) xs)
+  first_kept [] k f = tt
+  first_kept (x ∷ xs) k f = (tuples_kept (sizes ((1, product (x ∷ [])) ∷ [])) (refl, refl, (refl, ((refl, (k.0, tt)), f), tt))).2.1.1
+
+  body_kept : ((ops e).has_tags ≡ true → (ops d).has_tags ≡ true) → (n : ℕ) (b : Body (TypeAt e)) → NormalBody (NormalAt e) (ops e) n (Some b) → NormalBody (NormalAt d) (ops d) n (Some (body_lower (cut e d) (ops e) (ops d) b))
+  body_kept s n (product xs) k = (row_kept n xs k.0, first_kept xs k.0.1 k.1)
+  body_kept s zero (tags m) k = absurd k
+  body_kept s (suc n) (tags m) k =
+      subst (λ h. NormalBody (NormalAt d) (ops d) (suc n) (Some (cond h (tags (mapped (map (cut e d)) m)) (product (map (cut e d) (elements (ops e) (tags m))))))) (sym (s k.2)) (are_tags_kept n m k.0, ap (λ i. nat_lt i 14) (length-mapped name_total name_same (map (cut e d)) m) ∙ k.1, s k.2)
+
+  sizes_kept : ((ops e).has_tags ≡ true → (ops d).has_tags ≡ true) → (m : List (ℕ × Body (TypeAt e))) → NormalSizes (NormalAt e) (ops e) m → NormalSizes (NormalAt d) (ops d) (mapped (body_lower (cut e d) (ops e) (ops d)) m)
+  sizes_kept s [] k = tt
+  sizes_kept s (x ∷ m) k = (k.0, body_kept s x.0 x.1 k.1, sizes_kept s m k.2)
+
+-- ---- one level up, from what holds of the elements
+
+-- tags stand from level 1 of the elements on
+tags_stay : (e d : ℕ) → e ≤ d → (ops e).has_tags ≡ true → (ops d).has_tags ≡ true
+tags_stay e d le h = above_tags d (let k = tags_above e h in omega arith)
+
+module _ (e d : ℕ) (le : e ≤ d) (up : (t : Node) → Fits e t → Fits d t × (view d t ≡ cut e d (view e t))) where
+  nodes_up : (ns : List Node) → EachNode (Fits e) ns → EachNode (Fits d) ns × (row_view d ns ≡ row_lower (cut e d) (ops e) (ops d) (row_view e ns))
+  nodes_up [] k = (tt, refl)
+  nodes_up (n ∷ ns) k =
+      let a = up n k.0 in
+      let b = nodes_up ns k.1 in
+      ((a.0, b.0), cc (a.1, b.1))
+
+  each_tag_up : (ts : List (TagOf Node)) → EachTag (Fits e) ts → EachTag (Fits d) ts × (tags_view d ts ≡ mapped (row_lower (cut e d) (ops e) (ops d)) (tags_view e ts))
+  each_tag_up [] k = (tt, refl)
+  each_tag_up (t ∷ ts) k =
+      let a = nodes_up t.rest k.0 in
+      let b = each_tag_up ts k.1 in
+      ((a.0, b.0), cc (a.1, b.1))
+
+  each_body_up : (n : ℕ) (b : BodyOf Node) → BodyFits e n b → EachInBody (Fits d) b × (body_view d b ≡ body_lower (cut e d) (ops e) (ops d) (body_view e b))
+  each_body_up n (Product ns) k =
+      let a = nodes_up ns k.each in
+      (a.0, ap product a.1)
+  each_body_up n (Tags ts) k =
+      let a = each_tag_up ts k.each in
+      (a.0, tags_kept e d (Tags ts) ts ts refl (let h = (tags_fit e n ts k).1 in omega arith) a.1)
+
+  each_size_up : (ss : List (SizeOf Node)) → NormalSizes (NormalAt e) (ops e) (sizes_view e ss) → EachSize (Fits e) ss → EachSize (Fits d) ss × (sizes_view d ss ≡ mapped (body_lower (cut e d) (ops e) (ops d)) (sizes_view e ss))
+  each_size_up [] k f = (tt, refl)
+  each_size_up (s ∷ ss) k f =
+      let a = each_body_up s.size s.body (record { normal = k.1; each = f.0 }) in
+      let b = each_size_up ss k.2 f.1 in
+      ((a.0, b.0), cc (a.1, b.1))
+
+  row_up : (n : ℕ) (ns : List Node) → RowFits e n ns → RowFits d n ns × (row_view d ns ≡ row_lower (cut e d) (ops e) (ops d) (row_view e ns))
+  row_up n ns k =
+      let a = nodes_up ns k.each in
+      (record { normal = subst (λ x. NormalRow (NormalAt d) (ops d) n (Some x)) (sym a.1) (row_kept e d n (row_view e ns) k.normal); each = a.0 }, a.1)
+
+  tags_up : (n : ℕ) (ts : List (TagOf Node)) → TagsFit e n ts → TagsFit d n ts × (tags_view d ts ≡ mapped (row_lower (cut e d) (ops e) (ops d)) (tags_view e ts))
+  tags_up n ts k =
+      let a = each_tag_up ts k.each in
+      (record { normal = subst (AreTags (NormalAt d) (ops d) n) (sym a.1) (are_tags_kept e d n (tags_view e ts) k.normal); each = a.0 }, a.1)
+
+  body_up : (n : ℕ) (b : BodyOf Node) → BodyFits e n b → BodyFits d n b × (body_view d b ≡ body_lower (cut e d) (ops e) (ops d) (body_view e b))
+  body_up n b k =
+      let a = each_body_up n b k in
+      (record { normal = subst (λ x. NormalBody (NormalAt d) (ops d) n (Some x)) (sym a.1) (body_kept e d (tags_stay e d le) n (body_view e b) k.normal); each = a.0 }, a.1)
+
+  sizes_up : (ss : List (SizeOf Node)) → SizesFit e ss → SizesFit d ss × (sizes_view d ss ≡ mapped (body_lower (cut e d) (ops e) (ops d)) (sizes_view e ss))
+  sizes_up ss k =
+      let a = each_size_up ss k.normal k.each in
+      let m = sizes_view e ss in (
+        record {
+          table = ap (is_table nat_cmp) a.1 ∙ table-mapped nat_cmp_total nat_cmp-IsAntisymmetric (body_lower (cut e d) (ops e) (ops d)) m k.table;
+          normal = subst (NormalSizes (NormalAt d) (ops d)) (sym a.1) (sizes_kept e d (tags_stay e d le) m k.normal);
+          each = a.0;
+        },
+        a.1,
+      )
+
+  tuples_up : (t : TuplesOf Node) → TuplesFit e t → TuplesFit d t × (tuples_view d t ≡ tuples_lower (cut e d) (ops e) (ops d) (tuples_view e t))
+  tuples_up All k = (record { normal = tt; each = tt }, refl)
+  tuples_up (Sizes ss) k =
+      let a = each_size_up ss k.normal.2 k.each in
+      (record { normal = subst (λ m. NormalTuples (NormalAt d) (ops d) (sizes m)) (sym a.1) (tuples_kept e d (tuples_view e (Sizes ss)) k.normal); each = a.0 }, ap sizes a.1)
+
+  cell_up : (c : Option (CellOf Node)) → CellFits e c → CellFits d c × (cell_view d c ≡ cell_lower (cut e d) (ops e) (ops d) (cell_view e c))
+  cell_up None k = (record { normal = tt; each = tt }, refl)
+  cell_up (Some c) k =
+      let a = up c.element k.each in (
+        record { normal = subst (IsElement (NormalAt d) (ops d)) (sym a.1) (cell_kept e d (cell_view e (Some c)) k.normal); each = a.0 },
+        ap (λ x. Some (record { element = x; is_proper = c.is_proper })) a.1,
+      )
+
+  parts_up : (p : PartsOf Node) → PartsFit e p → PartsFit d p × (parts_view d p ≡ parts_lower (cut e d) (ops e) (ops d) (parts_view e p))
+  parts_up p k =
+      let a = cell_up p.cell (record { normal = k.normal.1; each = k.each.0 }) in
+      let b = tuples_up p.tuples (record { normal = k.normal.2; each = k.each.1 }) in
+      (cut_parts_fit e d p p k refl a.1 b.1 a.0.each b.0.each, cc (a.1, b.1))
+
+-- ---- trees
+
+of_is : (t : Node) (p : PartsOf Node) → out-Node t ≡ Node-F.Of p → t ≡ v.Of p
+of_is t p q = sym (roll-out-Node t) ∙ ap roll-Node q ∙ v.rolls-Of p
+
+any_is : (t : Node) → out-Node t ≡ Node-F.Any → t ≡ v.Any
+any_is t q = sym (roll-out-Node t) ∙ ap roll-Node q ∙ v.rolls-Any
+
+-- what is every value at a higher level was so before
+pub any_before : (e d : ℕ) → e ≤ d → (x : TypeAt e) → NormalAt e x → cut e d x ≡ (ops d).any → x ≡ (ops e).any
+any_before e d le x k q =
+    let high = level_laws e in
+    let low = level_laws d in
+    high.lattice.same x (ops e).any k high.any_normal (λ w h. high.any_in w) (λ w h. cut_exact e d le x k w (subst (HasAt d w) (sym q) (low.any_in w)))
+
+parts_before : (e d : ℕ) → e ≤ d → (x : TypeAt (suc e)) → NormalAt (suc e) x → parts_lower (cut e d) (ops e) (ops d) x ≡ (ops (suc d)).any → x ≡ (ops (suc e)).any
+unfolding cut
+parts_before e d le x k q = any_before (suc e) (suc d) (omega arith) x k q
+
+-- from the parts of a tree to the tree
+next_up : (e d : ℕ) → e ≤ d → ((t : Node) → Fits e t → Fits d t × (view d t ≡ cut e d (view e t))) → (t : Node) → Fits (suc e) t → Fits (suc d) t × (view (suc d) t ≡ cut (suc e) (suc d) (view (suc e) t))
+next_up e d le up t k = go (out-Node t) refl
+  where
+    go : (y : Node-F Node) → out-Node t ≡ y → Fits (suc d) t × (view (suc d) t ≡ cut (suc e) (suc d) (view (suc e) t))
+    go Node-F.Any q =
+        let z = any_is t q in
+        (any_fits t z (suc d), any_cut t t z z (suc e) (suc d))
+    go (Node-F.Of p) q =
+        let z = of_is t p q in
+        let f = fits_of t p z e k in
+        let a = parts_up e d le up p f.0 in (
+          of_fits t p z d a.0 (λ x. f.1 (parts_before e d le (parts_view e p) (parts_normal e (parts_view e p) f.0.normal) (sym a.1 ∙ x))),
+          parts_cut t t p p e d z a.1 (view_of t p z d),
+        )
+
+-- a tree that stands for a type of a level stands for it at each higher level
+pub lift : (e d : ℕ) → e ≤ d → (t : Node) → Fits e t → Fits d t × (view d t ≡ cut e d (view e t))
+lift zero d le t k = let z = zero_fits t k in (any_fits t z d, any_cut t t z z zero d)
+lift (suc e) zero le t k = absurd (omega arith)
+lift (suc e) (suc d) le t k = next_up e d (omega arith) (lift e d (omega arith)) t k
+
+-- ---- and its parts
+
+module _ (e d : ℕ) (le : e ≤ d) where
+  pub lift_nodes : (ns : List Node) → EachNode (Fits e) ns → EachNode (Fits d) ns × (row_view d ns ≡ row_lower (cut e d) (ops e) (ops d) (row_view e ns))
+  lift_nodes = nodes_up e d le (lift e d le)
+
+  pub lift_row : (n : ℕ) (ns : List Node) → RowFits e n ns → RowFits d n ns × (row_view d ns ≡ row_lower (cut e d) (ops e) (ops d) (row_view e ns))
+  lift_row = row_up e d le (lift e d le)
+
+  pub lift_tags : (n : ℕ) (ts : List (TagOf Node)) → TagsFit e n ts → TagsFit d n ts × (tags_view d ts ≡ mapped (row_lower (cut e d) (ops e) (ops d)) (tags_view e ts))
+  lift_tags = tags_up e d le (lift e d le)
+
+  pub lift_body : (n : ℕ) (b : BodyOf Node) → BodyFits e n b → BodyFits d n b × (body_view d b ≡ body_lower (cut e d) (ops e) (ops d) (body_view e b))
+  lift_body = body_up e d le (lift e d le)
+
+  pub lift_sizes : (ss : List (SizeOf Node)) → SizesFit e ss → SizesFit d ss × (sizes_view d ss ≡ mapped (body_lower (cut e d) (ops e) (ops d)) (sizes_view e ss))
+  lift_sizes = sizes_up e d le (lift e d le)
+
+  pub lift_tuples : (t : TuplesOf Node) → TuplesFit e t → TuplesFit d t × (tuples_view d t ≡ tuples_lower (cut e d) (ops e) (ops d) (tuples_view e t))
+  lift_tuples = tuples_up e d le (lift e d le)
+
+  pub lift_cell : (c : Option (CellOf Node)) → CellFits e c → CellFits d c × (cell_view d c ≡ cell_lower (cut e d) (ops e) (ops d) (cell_view e c))
+  lift_cell = cell_up e d le (lift e d le)
+
+  pub lift_parts : (p : PartsOf Node) → PartsFit e p → PartsFit d p × (parts_view d p ≡ parts_lower (cut e d) (ops e) (ops d) (parts_view e p))
+  lift_parts = parts_up e d le (lift e d le)

@@ -1,0 +1,167 @@
+-- What it says of a plain part that a test of the code is true.
+use Rattle.std.proofs.Common.{◌≡◌, ◌↔◌, IsTrue, ℕ, ◌==◌, Bool, true, false, ◌&&◌, not, Bor, List, Option, Some, None, is_some, inl, inr, refl, sym, ap, ◌∙◌, subst, true≢false}
+use Rattle.std.specs.Cmp.{booleans_Decides}
+use Rattle.std.specs.Option.{option_copied, option_eq}
+use Rattle.std.proofs.Math.Bool.{beq}
+use Rattle.std.proofs.lemmas.Bool.Decides.{Decides-and, Decides-at, Decides-eqb, Decides-like}
+use borrow.Author.Tests.{eqb-true, eq-eqb}
+use Rattle.type_sets.specs.Names as names
+use Rattle.type_sets.specs.Names.{Name, Names, some, every}
+use Rattle.type_sets.specs.Numbers as numbers
+use Rattle.type_sets.specs.Numbers.{Numbers}
+use Rattle.type_sets.specs.BitLengths as bit_lengths
+use Rattle.type_sets.specs.declared.ends.Low.{Low}
+use Rattle.type_sets.specs.declared.ends.Low.TheVariants.{Min, Zero, One}
+use Rattle.type_sets.specs.declared.ends.High.{High}
+use Rattle.type_sets.specs.declared.ends.High.TheVariants.{MinusOne, Byte, Unicode, Max}
+use Rattle.type_sets.specs.declared.bits.Bits.{Bits}
+use Rattle.type_sets.specs.declared.bits.Bits.TheVariants.{No, Whole, Any}
+use Rattle.type_sets.specs.contracts.ends.LowPartialEq.TheImpl as low
+use Rattle.type_sets.specs.contracts.ends.HighPartialEq.TheImpl as high
+use Rattle.type_sets.specs.contracts.bits.BitsPartialEq.TheImpl as bits
+use Rattle.type_sets.proofs.Truths.{in_first, in_second, either}
+use Rattle.type_sets.proofs.NumberLaws.{between-same}
+use Rattle.type_family.specs.Shapes.{Kind, Kinds, Functions, no_function, of_arity, all_functions, Plain}
+use Rattle.type_family.specs.HasType.{has_kind, has_arity}
+use Rattle.type_family.specs.Operations.{kinds_join, plain_all, all_kinds}
+use Rattle.type_family.specs.Forms.{an_int, an_atom, some_bits, of_kind, a_function, PlainBelow}
+use Rattle.type_family.proofs.PlainLaws.{same_test, same_kinds, has_kind-join, same_functions}
+use Rattle.type_family.proofs.TableLaws.{some-none}
+use Rattle.type_trees.specs.declared.plain.KindSet.{KindSet}
+use Rattle.type_trees.specs.declared.plain.FunSet.{FunSet}
+use Rattle.type_trees.specs.declared.plain.FunSet.TheVariants as fun
+use Rattle.type_trees.specs.contracts.plain.FunSetPartialEq.TheImpl as fun_eq
+use Rattle.type_trees.specs.Plains.{kinds_of, functions_of}
+
+-- ---- a test of two parts, the second of which is looked at where the first holds
+
+pub then_both : {P Q : Type 0} (a b v : Bool) → IsTrue a ↔ P → a ≡ true → IsTrue b ↔ Q → v ≡ b → IsTrue v ↔ (P × Q)
+then_both a b v p e q f = (λ h. (p.0 e, q.0 (sym f ∙ h)), λ h. f ∙ q.1 h.1)
+
+pub else_both : {P Q : Type 0} (a v : Bool) → IsTrue a ↔ P → a ≡ false → v ≡ a → IsTrue v ↔ (P × Q)
+else_both a v p e f = (λ h. absurd (true≢false (sym h ∙ f ∙ e)), λ h. f ∙ p.1 h.0)
+
+-- ---- inclusion
+
+abbrev pub KindsBelow : Kinds → Kinds → Type 0
+KindsBelow k l = (x : Kind) → has_kind k x ≡ true → has_kind l x ≡ true
+
+abbrev pub FunctionsBelow : Functions → Functions → Type 0
+FunctionsBelow f g = (n : ℕ) → has_arity f n ≡ true → has_arity g n ≡ true
+
+abbrev kinds_test : KindSet → KindSet → Bool
+kinds_test j l = beq j.float l.float && (beq j.pid l.pid && (beq j.port l.port && (beq j.reference l.reference && beq j.nil l.nil)))
+
+-- kinds are the same where each of the five tests finds them so
+kinds_equal : (j l : KindSet) → IsTrue (kinds_test j l) ↔ (kinds_of j ≡ kinds_of l)
+kinds_equal j l =
+    Decides-like (kinds_test j l) (λ h i. record { float = h.0 i; pid = h.1.0 i; port = h.1.1.0 i; reference = h.1.1.1.0 i; nil = h.1.1.1.1 i }) (λ e. (ap (λ k. k.float) e, (ap (λ k. k.pid) e, (ap (λ k. k.port) e, (ap (λ k. k.reference) e, ap (λ k. k.nil) e))))) (Decides-and _ _ (booleans_Decides j.float l.float) (Decides-and _ _ (booleans_Decides j.pid l.pid) (Decides-and _ _ (booleans_Decides j.port l.port) (Decides-and _ _ (booleans_Decides j.reference l.reference) (booleans_Decides j.nil l.nil)))))
+
+-- kinds are among others where the join of both is the others
+join-below : (k l : Kinds) → kinds_join k l ≡ l → KindsBelow k l
+join-below k l e x h = sym (ap (λ m. has_kind m x) e) ∙ has_kind-join k l x ∙ in_first (has_kind k x) (has_kind l x) h
+
+below-join : (k l : Kinds) → KindsBelow k l → kinds_join k l ≡ l
+below-join k l f = same_kinds (kinds_join k l) l (λ x. same_test (has_kind (kinds_join k l) x) (has_kind l x) (λ h. elim (either (has_kind k x) (has_kind l x) (sym (has_kind-join k l x) ∙ h)) [ inl y ↦ f x y | inr y ↦ y ]) (λ h. has_kind-join k l x ∙ in_second (has_kind k x) (has_kind l x) h))
+
+pub kinds_below : (j k l : KindSet) (b : Bool) → kinds_of j ≡ kinds_join (kinds_of k) (kinds_of l) → b ≡ kinds_test j l → IsTrue b ↔ KindsBelow (kinds_of k) (kinds_of l)
+kinds_below j k l b e f =
+    Decides-like b (λ h. join-below (kinds_of k) (kinds_of l) (sym e ∙ h)) (λ h. e ∙ below-join (kinds_of k) (kinds_of l) h) (Decides-at b (kinds_test j l) f (kinds_equal j l))
+
+pub arities_below : (f g : Functions) (m n : ℕ) → f ≡ of_arity m → g ≡ of_arity n → IsTrue (m == n) ↔ FunctionsBelow f g
+arities_below f g m n d e =
+    Decides-like (m == n) (λ h k i. ap (λ x. has_arity x k) (e ∙ ap of_arity (sym h) ∙ sym d) ∙ i) (λ h. sym (eqb-true n m (sym (ap (λ x. has_arity x m) e) ∙ h m (ap (λ x. has_arity x m) d ∙ eq-eqb m m refl)))) (Decides-eqb m n)
+
+pub arity-no_function : (f g : Functions) (m : ℕ) → f ≡ of_arity m → g ≡ no_function → IsTrue false ↔ FunctionsBelow f g
+arity-no_function f g m d e = (λ h. absurd (true≢false (sym h)), λ h. sym (ap (λ x. has_arity x m) e) ∙ h m (ap (λ x. has_arity x m) d ∙ eq-eqb m m refl))
+
+pub functions_all : (f : FunSet) (b : Bool) → b ≡ (fun_eq.ghosts).eq f fun.Every → IsTrue b ↔ (functions_of f ≡ all_functions)
+functions_all fun.Nothing b e = (λ h. absurd (true≢false (sym h ∙ e)), λ h. cc)
+functions_all (fun.OfArity n) b e = (λ h. absurd (true≢false (sym h ∙ e)), λ h. cc)
+functions_all fun.Every b e = (λ h. refl, λ h. e)
+
+every_below : (f g : Functions) → f ≡ all_functions → (g ≡ all_functions) ↔ FunctionsBelow f g
+every_below f g d = (λ h n i. ap (λ x. has_arity x n) h, λ h. sym (same_functions f g h (λ n i. ap (λ x. has_arity x n) d)) ∙ d)
+
+pub every-below : (f g : FunSet) (b : Bool) → f ≡ fun.Every → b ≡ (fun_eq.ghosts).eq g fun.Every → IsTrue b ↔ FunctionsBelow (functions_of f) (functions_of g)
+every-below f g b d e =
+    let t = functions_all g b e in
+    let u = every_below (functions_of f) (functions_of g) (ap functions_of d) in
+    (λ h. u.0 (t.0 h), λ h. t.1 (u.1 h))
+
+abbrev pub AtomsAndIntsBelow : Plain → Plain → Type 0
+AtomsAndIntsBelow p q = names.Below p.atoms q.atoms × numbers.Below p.ints q.ints
+
+abbrev pub AndBitsBelow : Plain → Plain → Type 0
+AndBitsBelow p q = AtomsAndIntsBelow p q × bit_lengths.Below p.bits q.bits
+
+abbrev pub AndKindsBelow : Plain → Plain → Type 0
+AndKindsBelow p q = AndBitsBelow p q × KindsBelow p.kinds q.kinds
+
+abbrev pub PartsBelow : Plain → Plain → Type 0
+PartsBelow p q = AndKindsBelow p q × FunctionsBelow p.functions q.functions
+
+parts-below : (p q : Plain) → PartsBelow p q → PlainBelow p q
+parts-below p q h (an_int n) = h.0.0.0.1 n
+parts-below p q h (an_atom a) = h.0.0.0.0 a
+parts-below p q h (some_bits n) = h.0.0.1 n
+parts-below p q h (of_kind k) = h.0.1 k
+parts-below p q h (a_function n) = h.1 n
+
+below-parts : (p q : Plain) → PlainBelow p q → PartsBelow p q
+below-parts p q k = ((((λ a. k (an_atom a), λ n. k (an_int n)), λ n. k (some_bits n)), λ x. k (of_kind x)), λ n. k (a_function n))
+
+-- what holds of the parts that are kept holds of what they stand for
+pub plain_below : (p q s t : Plain) (b : Bool) → p ≡ s → q ≡ t → IsTrue b ↔ PartsBelow p q → IsTrue b ↔ PlainBelow s t
+plain_below p q s t b d e h =
+    Decides-like b (λ k. subst (PlainBelow s) e (subst (λ x. PlainBelow x q) d (parts-below p q k))) (λ k. below-parts p q (subst (λ x. PlainBelow x q) (sym d) (subst (PlainBelow s) (sym e) k))) h
+
+-- ---- every value
+
+low_is : (l : Low) → IsTrue ((low.ghosts).eq l Min) ↔ (l ≡ Min)
+low_is Min = (λ h. refl, λ e. refl)
+low_is Zero = (λ h. absurd (true≢false (sym h)), λ e. ap (λ x. (low.ghosts).eq x Min) e)
+low_is One = (λ h. absurd (true≢false (sym h)), λ e. ap (λ x. (low.ghosts).eq x Min) e)
+
+high_is : (h : High) → IsTrue ((high.ghosts).eq h Max) ↔ (h ≡ Max)
+high_is MinusOne = (λ h. absurd (true≢false (sym h)), λ e. ap (λ x. (high.ghosts).eq x Max) e)
+high_is Byte = (λ h. absurd (true≢false (sym h)), λ e. ap (λ x. (high.ghosts).eq x Max) e)
+high_is Unicode = (λ h. absurd (true≢false (sym h)), λ e. ap (λ x. (high.ghosts).eq x Max) e)
+high_is Max = (λ h. refl, λ e. refl)
+
+abbrev ends_test : Option (Low × High) → Bool
+ends_test e = option_eq (λ x y. (low.ghosts).eq x.0 y.0 && (high.ghosts).eq x.1 y.1) e (Some (Min, Max))
+
+pub ints_all : (s : Numbers) (e : Option (Low × High)) (b : Bool) → e ≡ numbers.ends_of s → b ≡ ends_test e → IsTrue b ↔ (s ≡ numbers.all)
+ints_all (numbers.some xs k) e b f g = (λ h. absurd (true≢false (sym h ∙ g ∙ ap ends_test f)), λ h. absurd (some-none (Min, Max) (sym (ap numbers.ends_of h))))
+ints_all (numbers.between l h k) e b f g =
+    Decides-like b (λ x. between-same l Min h Max k refl x.0 x.1) (λ x. (ap numbers.low_end x, ap numbers.high_end x)) (Decides-at b ((low.ghosts).eq l Min && (high.ghosts).eq h Max) (g ∙ ap ends_test f) (Decides-and _ _ (low_is l) (high_is h)))
+
+pub atoms_all : (s : Names) (m : Option (Bor (List Name))) (b : Bool) → option_copied m ≡ names.members_of s → is_some m ≡ not b → IsTrue b ↔ (s ≡ every)
+atoms_all (some xs k) None b e f = absurd (some-none xs (sym e))
+atoms_all (some xs k) (Some m) true e f = absurd (true≢false f)
+atoms_all (some xs k) (Some m) false e f = (λ h. absurd (true≢false (sym h)), λ h. absurd (some-none xs (ap names.members_of h)))
+atoms_all every None true e f = (λ h. refl, λ h. refl)
+atoms_all every None false e f = absurd (true≢false (sym f))
+atoms_all every (Some m) b e f = absurd (some-none m.now e)
+
+pub bits_all : (s : Bits) (b : Bool) → b ≡ (bits.ghosts).eq s Any → IsTrue b ↔ (s ≡ Any)
+bits_all No b e = (λ h. absurd (true≢false (sym h ∙ e)), λ h. e ∙ ap (λ x. (bits.ghosts).eq x Any) h)
+bits_all Whole b e = (λ h. absurd (true≢false (sym h ∙ e)), λ h. e ∙ ap (λ x. (bits.ghosts).eq x Any) h)
+bits_all Any b e = (λ h. refl, λ h. e)
+
+abbrev pub AtomsAndIntsAll : Plain → Type 0
+AtomsAndIntsAll p = (p.atoms ≡ every) × (p.ints ≡ numbers.all)
+
+abbrev pub AndBitsAll : Plain → Type 0
+AndBitsAll p = AtomsAndIntsAll p × (p.bits ≡ Any)
+
+abbrev pub AndKindsAll : Plain → Type 0
+AndKindsAll p = AndBitsAll p × (p.kinds ≡ all_kinds)
+
+abbrev pub PartsAll : Plain → Type 0
+PartsAll p = AndKindsAll p × (p.functions ≡ all_functions)
+
+pub plain_is_all : (p s : Plain) (b : Bool) → p ≡ s → IsTrue b ↔ PartsAll p → IsTrue b ↔ (s ≡ plain_all)
+plain_is_all p s b d h =
+    Decides-like b (λ k. sym d ∙ (λ i. record { atoms = k.0.0.0.0 i; ints = k.0.0.0.1 i; bits = k.0.0.1 i; kinds = k.0.1 i; functions = k.1 i })) (λ e. ((((ap (λ x. x.atoms) (d ∙ e), ap (λ x. x.ints) (d ∙ e)), ap (λ x. x.bits) (d ∙ e)), ap (λ x. x.kinds) (d ∙ e)), ap (λ x. x.functions) (d ∙ e))) h

@@ -1,0 +1,238 @@
+ghost use Rattle.std.specs.Prelude.{◌≡◌, ℕ, suc, [], ◌∷◌, ◌++◌, IfOk, IfSome, IsTrue, option_map, ◌↔◌};
+ghost use Rattle.std.specs.Option.{option_copied};
+ghost use Rattle.std.specs.Ordering.{nat_cmp};
+ghost use Rattle.type_family.specs.Operations.{ops, parts_is_none, parts_any, row_at, is_only_atoms as only_atoms_there};
+ghost use Rattle.type_family.specs.Tables.{find};
+ghost use Rattle.type_family.specs.Shapes.{product};
+ghost use Rattle.type_sets.specs.Names.{name_cmp};
+ghost use Rattle.type_trees.specs.View.{view, row_view, tags_view, body_view, sizes_view, parts_view, Fits, EachNode, EachTag, EachSize, EachInBody, PartsFit};
+
+use crate::plain::Plain;
+use type_kinds::{Atom, Boxed, List, Memory};
+
+/// A type, or the type of an element: every value, or what its parts have. It is no deeper than its
+/// level, and what recursion goes by is the level.
+#[derive(Drop)]
+pub enum Node {
+    Any,
+    Of(PartsOf<Node>),
+}
+
+#[derive(Drop)]
+pub struct PartsOf<E> {
+    pub plain: Plain,
+    pub cell: Option<CellOf<E>>,
+    pub tuples: TuplesOf<E>,
+}
+
+/// Lists that aren't empty.
+#[derive(Drop)]
+pub struct CellOf<E> {
+    pub element: Boxed<E>,
+    pub is_proper: bool,
+}
+
+#[derive(Drop)]
+pub enum TuplesOf<E> {
+    All,
+    /// Sizes in ascending order.
+    Sizes(List<SizeOf<E>>),
+}
+
+#[derive(Drop)]
+pub struct SizeOf<E> {
+    pub size: u8,
+    pub body: BodyOf<E>,
+}
+
+/// The tuples of one size.
+#[derive(Drop)]
+pub enum BodyOf<E> {
+    Product(List<E>),
+    /// Tags in ascending order.
+    Tags(List<TagOf<E>>),
+}
+
+#[derive(Drop)]
+pub struct TagOf<E> {
+    pub atom: Atom,
+    pub rest: List<E>,
+}
+
+pub fn discard(_t: Node) {}
+
+/// Adds a type last.
+pub fn add(row: &mut List<Node>, t: Node) -> Result<(), Memory>
+    ensures { IfOk result (λ _. row.new ≡ row.old ++ t ∷ []) }
+{
+    match row.push(t) {
+        Ok(()) => Ok(()),
+        Err((t, Memory)) => {
+            discard(t);
+            Err(Memory)
+        }
+    }
+}
+
+/// Adds a tag last.
+pub fn add_tag(tags: &mut List<TagOf<Node>>, tag: TagOf<Node>) -> Result<(), Memory>
+    ensures { IfOk result (λ _. tags.new ≡ tags.old ++ tag ∷ []) }
+{
+    match tags.push(tag) {
+        Ok(()) => Ok(()),
+        Err(_) => Err(Memory),
+    }
+}
+
+/// Adds a size last.
+pub fn add_size(sizes: &mut List<SizeOf<Node>>, size: u8, body: BodyOf<Node>) -> Result<(), Memory>
+    ensures { IfOk result (λ _. sizes.new ≡ sizes.old ++ record { size = size; body = body } ∷ []) }
+{
+    match sizes.push(SizeOf { size, body }) {
+        Ok(()) => Ok(()),
+        Err(_) => Err(Memory),
+    }
+}
+
+/// Whether the type has no value.
+pub fn is_none(t: &Node) -> bool
+    ensures { (d : ℕ) → Fits d t.now → result ≡ (ops d).is_none (view d t.now) }
+{
+    match t {
+        Node::Any => false,
+        Node::Of(parts) => has_no_part(parts),
+    }
+}
+
+// Whether no part has a value.
+fn has_no_part(parts: &PartsOf<Node>) -> bool
+    ensures { (d : ℕ) → result ≡ parts_is_none (ops d) (parts_view d parts.now) }
+{
+    parts.plain.atoms.is_none() && is_only_atoms(parts)
+}
+
+/// Whether the type has the atom.
+pub fn has_atom(t: &Node, atom: &Atom) -> bool
+    ensures { (d : ℕ) → Fits d t.now → result ≡ (ops d).has_atom (view d t.now) atom.now }
+{
+    match t {
+        Node::Any => true,
+        Node::Of(parts) => parts.plain.atoms.contains(atom),
+    }
+}
+
+/// The atoms of a type that has at most thirteen of them and nothing else.
+pub fn only_atoms(t: &Node) -> Option<&[Atom]>
+    ensures { (d : ℕ) → Fits d t.now → option_copied result ≡ (ops d).only (view d t.now) }
+{
+    match t {
+        Node::Any => None,
+        Node::Of(parts) => {
+            if is_only_atoms(parts) {
+                parts.plain.atoms.members()
+            } else {
+                None
+            }
+        }
+    }
+}
+
+// Whether no part has a value, but atoms.
+fn is_only_atoms(parts: &PartsOf<Node>) -> bool
+    ensures { (d : ℕ) → result ≡ only_atoms_there (ops d) (parts_view d parts.now) }
+{
+    if !parts.plain.is_atoms() {
+        return false;
+    }
+    if parts.cell.is_some() {
+        return false;
+    }
+    match &parts.tuples {
+        TuplesOf::All => false,
+        TuplesOf::Sizes(sizes) => sizes.is_empty(),
+    }
+}
+
+/// The tuples of a size.
+pub fn find_size(sizes: &[SizeOf<Node>], size: u8) -> Option<&BodyOf<Node>>
+    ensures value { (d : ℕ) → option_map (body_view d) (option_copied result) ≡ find nat_cmp (sizes_view d sizes.now) size }
+    ensures each { (d : ℕ) → EachSize (Fits d) sizes.now → IfSome result (λ b. EachInBody (Fits d) b.now) }
+{
+    for other in sizes {
+        if other.size == size {
+            return Some(&other.body);
+        }
+    }
+    None
+}
+
+/// The types of what follows a first element that is this atom.
+pub fn rest_after<'a>(body: &'a BodyOf<Node>, atom: &Atom) -> Option<&'a [Node]>
+    ensures value { (d : ℕ) → EachInBody (Fits d) body.now → option_map (row_view d) (option_copied result) ≡ row_at (ops d) (body_view d body.now) atom.now }
+    ensures each { (d : ℕ) → EachInBody (Fits d) body.now → IfSome result (λ r. EachNode (Fits d) r.now) }
+{
+    match body {
+        BodyOf::Product(row) => rest_of_product(row.as_slice(), atom),
+        BodyOf::Tags(tags) => find_tag(tags.as_slice(), atom),
+    }
+}
+
+// The types after the first, where it has the atom.
+fn rest_of_product<'a>(row: &'a [Node], atom: &Atom) -> Option<&'a [Node]>
+    ensures value { (d : ℕ) → EachNode (Fits d) row.now → option_map (row_view d) (option_copied result) ≡ row_at (ops d) (product (row_view d row.now)) atom.now }
+    ensures each { (d : ℕ) → EachNode (Fits d) row.now → IfSome result (λ r. EachNode (Fits d) r.now) }
+{
+    let (first, rest) = row.split_first()?;
+    if has_atom(first, atom) {
+        Some(rest)
+    } else {
+        None
+    }
+}
+
+/// What stands after a tag.
+pub fn find_tag<'a>(tags: &'a [TagOf<Node>], atom: &Atom) -> Option<&'a [Node]>
+    ensures value { (d : ℕ) → option_map (row_view d) (option_copied result) ≡ find name_cmp (tags_view d tags.now) atom.now }
+    ensures each { (d : ℕ) → EachTag (Fits d) tags.now → IfSome result (λ r. EachNode (Fits d) r.now) }
+{
+    for tag in tags {
+        if tag.atom.is(atom) {
+            return Some(tag.rest.as_slice());
+        }
+    }
+    None
+}
+
+/// The type of these parts: every value where all of them are full.
+pub fn made(parts: PartsOf<Node>) -> Node
+    ensures fits { (d : ℕ) → PartsFit d parts → Fits (suc d) result }
+    ensures value { (d : ℕ) → PartsFit d parts → view (suc d) result ≡ parts_view d parts }
+{
+    if is_full(&parts) {
+        discard_parts(parts);
+        Node::Any
+    } else {
+        Node::Of(parts)
+    }
+}
+
+// Whether every value is there.
+fn is_full(parts: &PartsOf<Node>) -> bool
+    ensures { (d : ℕ) → PartsFit d parts.now → IsTrue result ↔ (parts_view d parts.now ≡ parts_any (ops d)) }
+{
+    if !parts.plain.is_all() {
+        return false;
+    }
+    let Some(cell) = &parts.cell else {
+        return false;
+    };
+    if cell.is_proper {
+        return false;
+    }
+    let Node::Any = cell.element.get() else {
+        return false;
+    };
+    matches!(parts.tuples, TuplesOf::All)
+}
+
+pub fn discard_parts(_parts: PartsOf<Node>) {}

@@ -1,0 +1,71 @@
+//! Where an entry goes among others in ascending order.
+ghost use Rattle.std.specs.List.{insert};
+ghost use Rattle.std.specs.Prelude.{◌≡◌, ◌≤◌, ◌<◌, ℕ, length, IfOk, IfErr};
+ghost use Rattle.std.specs.Ordering.{nat_cmp};
+ghost use Rattle.type_sets.specs.Names.{name_cmp};
+ghost use Rattle.type_trees.specs.Places.{StandsAt, GoesAt};
+ghost use Rattle.type_trees.specs.View.{tags_view, sizes_view};
+
+use crate::node::{Node, SizeOf, TagOf};
+use std::cmp::Ordering;
+use type_kinds::{Atom, Memory};
+
+/// Where the tag with this atom is, or, as an error, where one would go.
+pub fn place_of_tag(tags: &[TagOf<Node>], atom: &Atom) -> Result<usize, usize>
+    ensures found_within { IfOk result (λ at. at < length tags.now) }
+    ensures found { IfOk result (λ at. (d : ℕ) → StandsAt name_cmp atom.now (tags_view d tags.now) at) }
+    ensures missing_within { IfErr result (λ at. at ≤ length tags.now) }
+    ensures missing { IfErr result (λ at. (d : ℕ) → GoesAt name_cmp atom.now (tags_view d tags.now) at) }
+{
+    for (at, tag) in tags.iter().enumerate() {
+        match atom.bytes().cmp(tag.atom.bytes()) {
+            Ordering::Less => return Err(at),
+            Ordering::Equal => return Ok(at),
+            Ordering::Greater => {}
+        }
+    }
+    Err(tags.len())
+}
+
+/// Where the size is, or, as an error, where it would go.
+pub fn place_of_size(sizes: &[SizeOf<Node>], size: u8) -> Result<usize, usize>
+    ensures found_within { IfOk result (λ at. at < length sizes.now) }
+    ensures found { IfOk result (λ at. (d : ℕ) → StandsAt nat_cmp size (sizes_view d sizes.now) at) }
+    ensures missing_within { IfErr result (λ at. at ≤ length sizes.now) }
+    ensures missing { IfErr result (λ at. (d : ℕ) → GoesAt nat_cmp size (sizes_view d sizes.now) at) }
+{
+    for (at, other) in sizes.iter().enumerate() {
+        match size.cmp(&other.size) {
+            Ordering::Less => return Err(at),
+            Ordering::Equal => return Ok(at),
+            Ordering::Greater => {}
+        }
+    }
+    Err(sizes.len())
+}
+
+/// Puts a tag at a place.
+pub fn insert_tag(tags: &mut Vec<TagOf<Node>>, at: usize, tag: TagOf<Node>) -> Result<(), Memory>
+    requires { at ≤ length tags.old.items }
+    ensures { IfOk result (λ _. tags.new.items ≡ insert tags.old.items at tag) }
+{
+    match tags.insert(at, tag) {
+        Ok(()) => Ok(()),
+        Err(_) => Err(Memory),
+    }
+}
+
+/// Puts a size at a place.
+pub fn insert_size(
+    sizes: &mut Vec<SizeOf<Node>>,
+    at: usize,
+    size: SizeOf<Node>,
+) -> Result<(), Memory>
+    requires { at ≤ length sizes.old.items }
+    ensures { IfOk result (λ _. sizes.new.items ≡ insert sizes.old.items at size) }
+{
+    match sizes.insert(at, size) {
+        Ok(()) => Ok(()),
+        Err(_) => Err(Memory),
+    }
+}

@@ -1,0 +1,300 @@
+ghost use Rattle.std.specs.Prelude.{◌≡◌, ◌↔◌, ℕ, true, IsTrue, IfOk};
+ghost use Rattle.type_family.specs.Forms.{PlainBelow};
+ghost use Rattle.type_family.specs.HasType.{has_kind, has_arity};
+ghost use Rattle.type_family.specs.Parts.{without_nil};
+ghost use Rattle.type_family.specs.Shapes.{Kind, no_function};
+ghost use Rattle.type_sets.specs.Numbers as numbers;
+ghost use Rattle.type_sets.specs.declared.bits.Bits.TheVariants.{No};
+ghost use Rattle.type_family.specs.Operations.{plain_none, plain_all, plain_meet, plain_join, kinds_meet, kinds_join, functions_meet, functions_join, is_no_kind, no_kinds, all_kinds, is_no_function, is_no_plain, is_atoms};
+ghost use Rattle.type_trees.specs.Plains.{kinds_of, functions_of};
+
+use std::alloc::Global;
+use std::marker::Model;
+use type_kinds::Memory;
+use type_sets::{AtomSet, Bits, High, IntSet, Low};
+
+/// The kinds of values of which a type has all or none.
+#[derive(Clone, Copy, Debug, PartialEq, Eq)]
+pub struct KindSet {
+    pub float: bool,
+    pub pid: bool,
+    pub port: bool,
+    pub reference: bool,
+    pub nil: bool,
+}
+
+impl KindSet {
+    /// The kinds of both.
+    pub fn meet(&self, other: &KindSet) -> KindSet
+        ensures { kinds_of result ≡ kinds_meet (kinds_of self.now) (kinds_of other.now) }
+    {
+        KindSet {
+            float: self.float && other.float,
+            pid: self.pid && other.pid,
+            port: self.port && other.port,
+            reference: self.reference && other.reference,
+            nil: self.nil && other.nil,
+        }
+    }
+
+    /// The kinds of one or the other.
+    pub fn join(&self, other: &KindSet) -> KindSet
+        ensures { kinds_of result ≡ kinds_join (kinds_of self.now) (kinds_of other.now) }
+    {
+        KindSet {
+            float: self.float || other.float,
+            pid: self.pid || other.pid,
+            port: self.port || other.port,
+            reference: self.reference || other.reference,
+            nil: self.nil || other.nil,
+        }
+    }
+
+    /// Whether each kind of this one is in the other.
+    pub fn leq(&self, other: &KindSet) -> bool
+        ensures { IsTrue result ↔ ((k : Kind) → has_kind (kinds_of self.now) k ≡ true → has_kind (kinds_of other.now) k ≡ true) }
+    {
+        self.join(other) == *other
+    }
+
+    /// Whether every kind is there.
+    pub fn is_all(&self) -> bool
+        ensures { IsTrue result ↔ (kinds_of self.now ≡ all_kinds) }
+    {
+        self.float && self.pid && self.port && self.reference && self.nil
+    }
+
+    /// Whether there is no kind.
+    pub fn is_none(&self) -> bool
+        ensures { result ≡ is_no_kind (kinds_of self.now) }
+    {
+        !(self.float || self.pid || self.port || self.reference || self.nil)
+    }
+}
+
+/// Functions, told by how many arguments they take.
+#[derive(Clone, Copy, Debug, PartialEq, Eq)]
+pub enum FunSet {
+    /// No function.
+    Nothing,
+    /// The functions of one arity.
+    OfArity(u32),
+    /// Every function.
+    Every,
+}
+
+impl FunSet {
+    /// The functions of both.
+    pub fn meet(&self, other: &FunSet) -> FunSet
+        ensures { functions_of result ≡ functions_meet (functions_of self.now) (functions_of other.now) }
+    {
+        match (self, other) {
+            (FunSet::Nothing, _) | (_, FunSet::Nothing) => FunSet::Nothing,
+            (FunSet::Every, _) => *other,
+            (_, FunSet::Every) => *self,
+            (FunSet::OfArity(one), FunSet::OfArity(two)) => {
+                if one == two { *self } else { FunSet::Nothing }
+            }
+        }
+    }
+
+    /// The least set round both: of two arities it is every function.
+    pub fn join(&self, other: &FunSet) -> FunSet
+        ensures { functions_of result ≡ functions_join (functions_of self.now) (functions_of other.now) }
+    {
+        match (self, other) {
+            (FunSet::Nothing, _) => *other,
+            (_, FunSet::Nothing) => *self,
+            (FunSet::Every, _) | (_, FunSet::Every) => FunSet::Every,
+            (FunSet::OfArity(one), FunSet::OfArity(two)) => {
+                if one == two { *self } else { FunSet::Every }
+            }
+        }
+    }
+
+    /// Whether each function of this one is in the other.
+    pub fn leq(&self, other: &FunSet) -> bool
+        ensures { IsTrue result ↔ ((n : ℕ) → has_arity (functions_of self.now) n ≡ true → has_arity (functions_of other.now) n ≡ true) }
+    {
+        match self {
+            FunSet::Nothing => true,
+            FunSet::OfArity(one) => match other {
+                FunSet::Nothing => false,
+                FunSet::OfArity(two) => one == two,
+                FunSet::Every => true,
+            },
+            FunSet::Every => *other == FunSet::Every,
+        }
+    }
+
+    /// Whether there is no function.
+    pub fn is_none(&self) -> bool
+        ensures { result ≡ is_no_function (functions_of self.now) }
+    {
+        matches!(self, FunSet::Nothing)
+    }
+}
+
+/// The values of a type that hold no others.
+#[derive(Drop)]
+pub struct Plain {
+    pub atoms: AtomSet,
+    pub ints: IntSet,
+    pub bits: Bits,
+    pub kinds: KindSet,
+    pub functions: FunSet,
+}
+
+impl Model for Plain {
+    ghost use Rattle.type_family.specs.Shapes.{Plain};
+    ghost use Rattle.type_trees.specs.Plains.{plain_code, kinds_of, functions_of};
+
+    ghost Value = { Plain };
+
+    ghost coded = { plain_code };
+
+    ghost view = { λ p. record { atoms = p.atoms; ints = p.ints; bits = p.bits; kinds = kinds_of p.kinds; functions = functions_of p.functions } };
+}
+
+impl Plain {
+    /// No value. Takes no memory.
+    pub fn none() -> Plain
+        ensures { result ≡ plain_none }
+    {
+        Plain {
+            atoms: AtomSet::none(),
+            ints: IntSet::none(),
+            bits: Bits::No,
+            kinds: KindSet {
+                float: false,
+                pid: false,
+                port: false,
+                reference: false,
+                nil: false,
+            },
+            functions: FunSet::Nothing,
+        }
+    }
+
+    /// Every value. Takes no memory.
+    pub fn all() -> Plain
+        ensures { result ≡ plain_all }
+    {
+        Plain {
+            atoms: AtomSet::all(),
+            ints: IntSet::range(Low::Min, High::Max),
+            bits: Bits::Any,
+            kinds: KindSet {
+                float: true,
+                pid: true,
+                port: true,
+                reference: true,
+                nil: true,
+            },
+            functions: FunSet::Every,
+        }
+    }
+
+    /// Whether there is no value but nil. Takes no memory.
+    pub fn is_nil_at_most(&self) -> bool
+        ensures { result ≡ is_no_plain (without_nil self.now) }
+    {
+        let kinds = KindSet {
+            nil: false,
+            ..self.kinds
+        };
+        self.atoms.is_none()
+            && self.ints.is_none()
+            && self.bits == Bits::No
+            && kinds.is_none()
+            && self.functions.is_none()
+    }
+
+    /// These atoms and nothing else. Takes no memory.
+    pub fn of_atoms(atoms: AtomSet) -> Plain
+        ensures { result ≡ record { atoms = atoms; ints = numbers.none; bits = No; kinds = no_kinds; functions = no_function } }
+    {
+        Plain {
+            atoms,
+            ..Plain::none()
+        }
+    }
+
+    /// The values of both.
+    pub fn meet(&self, alloc: Global, other: &Plain) -> Result<Plain, Memory>
+        ensures { IfOk result (λ p. p ≡ plain_meet self.now other.now) }
+    {
+        Ok(Plain {
+            atoms: self.atoms.meet(alloc, &other.atoms)?,
+            ints: self.ints.meet(&other.ints),
+            bits: self.bits.meet(&other.bits),
+            kinds: self.kinds.meet(&other.kinds),
+            functions: self.functions.meet(&other.functions),
+        })
+    }
+
+    /// The least of them round both.
+    pub fn join(&self, alloc: Global, other: &Plain) -> Result<Plain, Memory>
+        ensures { IfOk result (λ p. p ≡ plain_join self.now other.now) }
+    {
+        Ok(Plain {
+            atoms: self.atoms.join(alloc, &other.atoms)?,
+            ints: self.ints.join(&other.ints),
+            bits: self.bits.join(&other.bits),
+            kinds: self.kinds.join(&other.kinds),
+            functions: self.functions.join(&other.functions),
+        })
+    }
+
+    /// A second one of the same values.
+    pub fn copy(&self, alloc: Global) -> Result<Plain, Memory>
+        ensures { IfOk result (λ p. p ≡ self.now) }
+    {
+        Ok(Plain {
+            atoms: self.atoms.copy(alloc)?,
+            ints: self.ints.copy(),
+            bits: self.bits,
+            kinds: self.kinds,
+            functions: self.functions,
+        })
+    }
+
+    /// Whether there is no value but atoms. Takes no memory.
+    pub fn is_atoms(&self) -> bool
+        ensures { result ≡ is_atoms self.now }
+    {
+        self.ints.is_none()
+            && self.bits == Bits::No
+            && self.kinds.is_none()
+            && self.functions.is_none()
+    }
+
+    /// Whether each value of this one is in the other. Takes no memory.
+    pub fn leq(&self, other: &Plain) -> bool
+        ensures { IsTrue result ↔ PlainBelow self.now other.now }
+    {
+        self.atoms.leq(&other.atoms)
+            && self.ints.leq(&other.ints)
+            && self.bits.leq(&other.bits)
+            && self.kinds.leq(&other.kinds)
+            && self.functions.leq(&other.functions)
+    }
+
+    /// Whether every value is there. Takes no memory.
+    pub fn is_all(&self) -> bool
+        ensures { IsTrue result ↔ (self.now ≡ plain_all) }
+    {
+        self.atoms.members().is_none()
+            && self.ints.ends() == Some((Low::Min, High::Max))
+            && self.bits == Bits::Any
+            && self.kinds.is_all()
+            && self.functions == FunSet::Every
+    }
+
+    /// Whether there is no value. Takes no memory.
+    pub fn is_none(&self) -> bool
+        ensures { result ≡ is_no_plain self.now }
+    {
+        self.atoms.is_none() && self.is_atoms()
+    }
+}
