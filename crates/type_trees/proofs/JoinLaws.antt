@@ -24,8 +24,7 @@ use Rattle.type_family.proofs.BodyLaws.{body_lattice, elements_normal}
 use Rattle.type_family.specs.HasType.{HasAt}
 use Rattle.type_family.proofs.PartsLaws.{parts_lattice}
 use Rattle.type_family.proofs.LevelLaws.{level_laws}
-use Rattle.type_trees.specs.declared.node.Node.{Node, out-Node}
-use Rattle.type_trees.specs.declared.node.Node.TheOpen.{Node-F}
+use Rattle.type_trees.specs.declared.node.Node.{Node}
 use Rattle.type_trees.specs.declared.node.PartsOf.{PartsOf}
 use Rattle.type_trees.specs.declared.node.Node.TheVariants as v
 use Rattle.type_trees.specs.declared.node.TagOf.{TagOf}
@@ -33,9 +32,9 @@ use Rattle.type_trees.specs.declared.node.SizeOf.{SizeOf}
 use Rattle.type_trees.specs.declared.node.BodyOf.{BodyOf}
 use Rattle.type_trees.specs.declared.node.BodyOf.TheVariants.{Product, Tags}
 use Rattle.type_trees.specs.declared.node.TuplesOf.TheVariants.{Sizes}
-use Rattle.type_trees.specs.View.{view, layer, IsLayer, row_view, tags_view, body_view, sizes_view, tuples_view, parts_view, Fits, EachNode, EachTag, EachInBody, EachSize, RowFits, TagsFit, BodyFits, SizesFit, EachInParts, PartsFit}
+use Rattle.type_trees.specs.View.{view, row_view, tags_view, body_view, sizes_view, tuples_view, parts_view, Fits, EachNode, EachTag, EachInBody, EachSize, RowFits, TagsFit, BodyFits, SizesFit, EachInParts, PartsFit}
 use Rattle.type_trees.specs.Places.{StandsAt, GoesAt}
-use Rattle.type_trees.proofs.Views.{view_any, view_of, of_fits, one_more, tag_at, size_at}
+use Rattle.type_trees.proofs.Views.{fits_normal, view_any, view_of, of_fits, one_more, tag_at, size_at}
 use Rattle.type_trees.proofs.PlaceLaws.{atom_of}
 
 -- ---- the views of lists
@@ -508,15 +507,6 @@ tags_elements zero ts first rest row h f r e = absurd (omega arith)
 tags_elements (suc d) ts first rest row h f r e = ap (row_view (suc d)) e ∙ (λ n. f d n ∷ r n)
 
 -- ---- types
-
-layer_normal : (d : ℕ) (y : Node-F Node) → IsLayer (NormalAt (suc d)) (ops (suc d)).any (view d) (Fits d) y → NormalAt (suc d) (layer (ops (suc d)).any (view d) y)
-layer_normal d Node-F.Any k = (level_laws (suc d)).any_normal
-layer_normal d (Node-F.Of p) k = k.0.0
-
-pub fits_normal : (d : ℕ) (t : Node) → Fits d t → NormalAt d (view d t)
-unfolding view Fits NormalAt
-fits_normal zero t k = tt
-fits_normal (suc d) t k = layer_normal d (out-Node t) k
 
 -- every value joined with any
 pub any_joined : (d : ℕ) (x y : TypeAt d) → NormalAt d x → NormalAt d y → x ≡ (ops d).any → (ops d).any ≡ (ops d).join x y

@@ -13,8 +13,7 @@ use Rattle.type_family.specs.Laws.{Laws}
 use Rattle.type_family.proofs.BodyLaws.{row_at_normal}
 use Rattle.type_family.proofs.TupleLaws.{normal_at, tuples_lattice}
 use Rattle.type_family.proofs.LevelLaws.{level_laws}
-use Rattle.type_trees.specs.declared.node.Node.{Node, out-Node}
-use Rattle.type_trees.specs.declared.node.Node.TheOpen.{Node-F}
+use Rattle.type_trees.specs.declared.node.Node.{Node}
 use Rattle.type_trees.specs.declared.node.Node.TheVariants as v
 use Rattle.type_trees.specs.declared.node.PartsOf.{PartsOf}
 use Rattle.type_trees.specs.declared.node.TuplesOf.{TuplesOf}
@@ -22,20 +21,10 @@ use Rattle.type_trees.specs.declared.node.TuplesOf.TheVariants.{Sizes}
 use Rattle.type_trees.specs.declared.node.SizeOf.{SizeOf}
 use Rattle.type_trees.specs.declared.node.BodyOf.{BodyOf}
 use Rattle.type_trees.specs.declared.node.TagOf.{TagOf}
-use Rattle.type_trees.specs.View.{view, layer, Fits, IsLayer, EachNode, EachTag, EachInBody, EachSize, row_view, tags_view, body_view, sizes_view, tuples_view, parts_view, RowFits, TagsFit, BodyFits, SizesFit, TuplesFit, CellFits, PartsFit}
-use Rattle.type_trees.proofs.Views.{of_above, of_fits, fits_of, view_of, view_any, one_more, parts_normal, size_at, tag_at}
+use Rattle.type_trees.specs.View.{view, Fits, EachNode, EachTag, EachInBody, EachSize, row_view, tags_view, body_view, sizes_view, tuples_view, parts_view, RowFits, TagsFit, BodyFits, SizesFit, TuplesFit, CellFits, PartsFit}
+use Rattle.type_trees.proofs.Views.{fits_normal, of_above, of_fits, fits_of, view_of, view_any, one_more, parts_normal, size_at, tag_at}
 
 -- ---- types
-
--- what a tree stands for is in normal form
-pub fits_normal : (d : ℕ) (t : Node) → Fits d t → NormalAt d (view d t)
-unfolding Fits view NormalAt ops
-fits_normal zero t h = tt
-fits_normal (suc d) t h = go (out-Node t) h
-  where
-    go : (y : Node-F Node) → IsLayer (NormalAt (suc d)) (ops (suc d)).any (view d) (Fits d) y → NormalAt (suc d) (layer (ops (suc d)).any (view d) y)
-    go Node-F.Any h = (level_laws (suc d)).any_normal
-    go (Node-F.Of p) h = h.0.0
 
 -- every value, and those of a type, are those of the type
 any_meet : (d : ℕ) (t : TypeAt d) → NormalAt d t → (ops d).meet (ops d).any t ≡ t

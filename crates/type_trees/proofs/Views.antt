@@ -90,6 +90,16 @@ pub below_fits : (t : Node) (p : PartsOf Node) → t ≡ v.Of p → (d : ℕ) �
 below_fits t p e zero h = absurd (let f = of_above t p e zero h in omega arith)
 below_fits t p e (suc d) h = subst (λ n. PartsFit n p) (one_less d) (fits_of t p e d h).0
 
+-- a tree that stands for a type stands for one in normal form
+pub fits_normal : (d : ℕ) (t : Node) → Fits d t → NormalAt d (view d t)
+unfolding Fits view NormalAt ops
+fits_normal zero t h = tt
+fits_normal (suc d) t h = go (out-Node t) h
+  where
+    go : (y : Node-F Node) → IsLayer (NormalAt (suc d)) (ops (suc d)).any (view d) (Fits d) y → NormalAt (suc d) (layer (ops (suc d)).any (view d) y)
+    go Node-F.Any h = (level_laws (suc d)).any_normal
+    go (Node-F.Of p) h = h.0.0
+
 -- ---- the items of lists
 
 pub size_at : (P : Node → Type 0) (ss : List (SizeOf Node)) → EachSize P ss → (i : ℕ) (x : SizeOf Node) → i < length ss → EachInBody P (slice_index_or ss i x).body

@@ -1,0 +1,120 @@
+-- Which values the types of one kind of values have.
+use Rattle.std.proofs.Common.{◌≡◌, [], ℕ, ◌<◌, ◌^◌, None, refl, sym, ap, ◌∙◌, arith}
+use Rattle.std.specs.Prelude.{◌↔◌}
+use Rattle.type_sets.specs.Names as names
+use Rattle.type_sets.specs.Names.{Names}
+use Rattle.type_sets.specs.Numbers as numbers
+use Rattle.type_sets.specs.Numbers.{Numbers}
+use Rattle.type_sets.specs.declared.bits.Bits.TheVariants.{No}
+use Rattle.type_family.specs.Values.{Value}
+use Rattle.type_family.specs.Shapes.{Plain, TypeAt, sizes, no_function}
+use Rattle.type_family.specs.HasType.{HasAt}
+use Rattle.type_family.specs.Operations.{no_kinds, plain_none}
+use Rattle.type_lattice.specs.declared.kinds.Kind.{Kind}
+use Rattle.type_lattice.specs.declared.kinds.Kind.TheVariants as kind
+use Rattle.type_lattice.specs.Types.{Type4, same_type, HasType, of_atoms, of_ints, every_tuple}
+use Rattle.type_lattice.specs.Kinds.{HasAtom, HasInt, IsKind, plain_of_kind, of_kind}
+
+-- these plain values and nothing else
+abbrev alone : Plain → TypeAt 4
+alone p = record { plain = p; cell = None; tuples = sizes [] }
+
+-- ---- their values, by cases on the value
+
+-- the values are those of which P holds
+abbrev Only : Plain → (Value → Type 0) → Type 0
+Only p P = (v : Value) → HasAt 4 v (alone p) ↔ P v
+
+atoms_only : (s : Names) → Only (record { atoms = s; ints = numbers.none; bits = No; kinds = no_kinds; functions = no_function }) (λ v. HasAtom v s)
+atoms_only s v = (λ h. grind arith, λ h. grind arith)
+
+ints_only : (s : Numbers) → Only (record { atoms = names.none; ints = s; bits = No; kinds = no_kinds; functions = no_function }) (λ v. HasInt v s)
+ints_only s v = (λ h. grind arith, λ h. grind arith)
+
+float_only : Only (plain_of_kind kind.Float) (IsKind kind.Float)
+float_only v = (λ h. grind arith, λ h. grind arith)
+
+binary_only : Only (plain_of_kind kind.Binary) (IsKind kind.Binary)
+binary_only v = (λ h. grind arith, λ h. grind arith)
+
+bitstring_only : Only (plain_of_kind kind.Bitstring) (IsKind kind.Bitstring)
+bitstring_only v = (λ h. grind arith, λ h. grind arith)
+
+pid_only : Only (plain_of_kind kind.Pid) (IsKind kind.Pid)
+pid_only v = (λ h. grind arith, λ h. grind arith)
+
+port_only : Only (plain_of_kind kind.Port) (IsKind kind.Port)
+port_only v = (λ h. grind arith, λ h. grind arith)
+
+reference_only : Only (plain_of_kind kind.Reference) (IsKind kind.Reference)
+reference_only v = (λ h. grind arith, λ h. grind arith)
+
+nil_only : Only (plain_of_kind kind.Nil) (IsKind kind.Nil)
+nil_only v = (λ h. grind arith, λ h. grind arith)
+
+functions_only : Only (plain_of_kind kind.AnyFun) (IsKind kind.AnyFun)
+functions_only v = (λ h. grind arith, λ h. grind arith)
+
+arity_only : (n : ℕ) → n < 2 ^ 32 → Only (plain_of_kind (kind.FunOf n)) (IsKind (kind.FunOf n))
+arity_only n k v = (λ h. grind arith, λ h. grind arith)
+
+tuples_only : (v : Value) → HasAt 4 v every_tuple.ty ↔ IsKind kind.AnyTuple v
+unfolding every_tuple
+tuples_only v = (λ h. grind arith, λ h. grind arith)
+
+-- ---- the types of one part
+
+pub atoms_type : (s : Names) (t : Type4) (p : Plain) → p ≡ record { atoms = s; ints = numbers.none; bits = No; kinds = no_kinds; functions = no_function } → t.ty ≡ alone p → t ≡ of_atoms s
+unfolding of_atoms
+atoms_type s t p e f = same_type t (of_atoms s) (f ∙ ap alone e)
+
+pub ints_type : (s : Numbers) (t : Type4) (p : Plain) → p ≡ plain_none → t.ty ≡ alone (record { atoms = p.atoms; ints = s; bits = p.bits; kinds = p.kinds; functions = p.functions }) → t ≡ of_ints s
+unfolding of_ints
+ints_type s t p e f = same_type t (of_ints s) (f ∙ ap (λ q. alone (record { atoms = q.atoms; ints = s; bits = q.bits; kinds = q.kinds; functions = q.functions })) e)
+
+plain_kind_type : (k : Kind) → (k ≡ kind.AnyTuple → ⊥) → alone (plain_of_kind k) ≡ (of_kind k).ty
+unfolding of_kind
+plain_kind_type kind.Float f = refl
+plain_kind_type kind.Binary f = refl
+plain_kind_type kind.Bitstring f = refl
+plain_kind_type kind.Pid f = refl
+plain_kind_type kind.Port f = refl
+plain_kind_type kind.Reference f = refl
+plain_kind_type kind.AnyFun f = refl
+plain_kind_type (kind.FunOf n) f = refl
+plain_kind_type kind.Nil f = refl
+plain_kind_type kind.AnyTuple f = absurd (f refl)
+
+pub kind_type : (k : Kind) (t : Type4) (p : Plain) → (k ≡ kind.AnyTuple → ⊥) → p ≡ plain_of_kind k → t.ty ≡ alone p → t ≡ of_kind k
+kind_type k t p n e f = same_type t (of_kind k) (f ∙ ap alone e ∙ plain_kind_type k n)
+
+pub tuples_type : (k : Kind) (t : Type4) → k ≡ kind.AnyTuple → t ≡ every_tuple → t ≡ of_kind k
+unfolding of_kind
+tuples_type k t e f = f ∙ ap of_kind (sym e)
+
+-- ---- and their values
+
+pub atoms-only : (s : Names) (v : Value) → HasType v (of_atoms s) ↔ HasAtom v s
+unfolding HasType of_atoms
+atoms-only s v = atoms_only s v
+
+pub ints-only : (s : Numbers) (v : Value) → HasType v (of_ints s) ↔ HasInt v s
+unfolding HasType of_ints
+ints-only s v = ints_only s v
+
+-- an arity is a number of 32 bits
+pub kind-only : (k : Kind) → ((n : ℕ) → k ≡ kind.FunOf n → n < 2 ^ 32) → (v : Value) → HasType v (of_kind k) ↔ IsKind k v
+unfolding HasType of_kind
+kind-only kind.Float f v = float_only v
+kind-only kind.Binary f v = binary_only v
+kind-only kind.Bitstring f v = bitstring_only v
+kind-only kind.Pid f v = pid_only v
+kind-only kind.Port f v = port_only v
+kind-only kind.Reference f v = reference_only v
+kind-only kind.AnyFun f v = functions_only v
+kind-only (kind.FunOf n) f v = arity_only n (f n refl) v
+kind-only kind.Nil f v = nil_only v
+kind-only kind.AnyTuple f v = tuples_only v
+
+pub no_arity : (k : Kind) → k ≡ kind.AnyTuple → (n : ℕ) → k ≡ kind.FunOf n → n < 2 ^ 32
+no_arity k e n f = absurd (let g = sym e ∙ f in cc)

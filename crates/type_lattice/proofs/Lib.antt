@@ -1,0 +1,4 @@
+mod KindModels
+mod MakerLaws
+mod TypeLaws
+mod TypeModels

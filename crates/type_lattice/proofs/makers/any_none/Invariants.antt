@@ -1,0 +1,6 @@
+use Rattle.std.proofs.Common.{◌≡◌, false, map, take}
+use Rattle.type_family.specs.Operations.{ops, has_none}
+use Rattle.type_lattice.proofs.makers.any_none.Given as goal
+
+abbrev pub invariant-loop-t : goal.invariant-loop-t
+invariant-loop-t l = has_none (ops 4) (map (λ t. t.ty) (take l.t-index l.types)) ≡ false

@@ -1,0 +1,55 @@
+ghost use Rattle.std.specs.Prelude.{◌≡◌, ℕ, ◌^◌, ◌<◌};
+ghost use Rattle.type_family.specs.Normal.{NormalFunctions};
+ghost use Rattle.type_lattice.specs.Kinds.{plain_of_kind};
+ghost use Rattle.type_lattice.specs.declared.kinds.Kind.TheVariants as variant;
+
+use type_sets::Bits;
+use type_trees::{FunSet, Plain};
+
+/// A kind of values, as a type.
+#[derive(Clone, Copy, Debug, PartialEq, Eq)]
+pub enum Kind {
+    Float,
+    /// Bit strings of a whole number of bytes.
+    Binary,
+    Bitstring,
+    Pid,
+    Port,
+    Reference,
+    AnyFun,
+    /// The functions of one arity.
+    FunOf(u32),
+    Nil,
+    AnyTuple,
+}
+
+/// What may stand at the end of a list.
+#[derive(Clone, Copy, Debug, PartialEq, Eq)]
+pub enum Ends {
+    /// Nil, where the tail allows no more.
+    Proper,
+    /// Any value that is no cons.
+    Free,
+}
+
+/// The plain values of a kind.
+pub fn plain_kind(kind: Kind) -> Plain
+    ensures value { result ≡ plain_of_kind kind }
+    ensures normal { NormalFunctions result.functions }
+    ensures arity { (n : ℕ) → kind ≡ variant.FunOf n → n < 2 ^ 32 }
+{
+    let mut plain = Plain::none();
+    match kind {
+        Kind::Float => plain.kinds.float = true,
+        Kind::Binary => plain.bits = Bits::Whole,
+        Kind::Bitstring => plain.bits = Bits::Any,
+        Kind::Pid => plain.kinds.pid = true,
+        Kind::Port => plain.kinds.port = true,
+        Kind::Reference => plain.kinds.reference = true,
+        Kind::AnyFun => plain.functions = FunSet::Every,
+        Kind::FunOf(arity) => plain.functions = FunSet::OfArity(arity),
+        Kind::Nil => plain.kinds.nil = true,
+        Kind::AnyTuple => {}
+    }
+    plain
+}

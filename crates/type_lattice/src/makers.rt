@@ -1,0 +1,165 @@
+//! What the calls on types are made of: products, lists, and what stands in them.
+ghost use Rattle.std.specs.Prelude.{◌≡◌, ◌<◌, ℕ, false, [], Some, None, IfOk, cond, map, length, slice_get};
+ghost use Rattle.type_sets.specs.Names as names;
+ghost use Rattle.type_sets.specs.Numbers as numbers;
+ghost use Rattle.type_sets.specs.declared.bits.Bits.TheVariants.{No};
+ghost use Rattle.type_family.specs.Operations.{ops, has_none, elements, plain_none, plain_all};
+ghost use Rattle.type_family.specs.Parts.{product_of, kinds_of_nil, is_list as lists_alone, element_with as joined_element, tail_parts as after_head};
+ghost use Rattle.type_family.specs.Shapes.{sizes, all_tuples, no_function};
+ghost use Rattle.type_trees.specs.View.{view, Fits, body_view, cell_view, parts_view, tuples_view, BodyFits, CellFits, PartsFit, EachInTuples};
+
+use crate::kinds::{Kind, plain_kind};
+use crate::types::Ty;
+use std::alloc::Global;
+use type_kinds::{Boxed, List, Memory};
+use type_trees::{
+    BodyOf, CellOf, Node, PartsOf, Plain, TuplesOf, add, add_size, copy, discard, elements_of,
+    join, product_body,
+};
+
+/// Whether one of the types has no value.
+pub fn any_none(types: &[Ty]) -> bool
+    ensures { result ≡ has_none (ops 4) (map (λ t. t.ty) types.now) }
+{
+    for t in types {
+        if t.is_none() {
+            return true;
+        }
+    }
+    false
+}
+
+/// The tuples of at most 64 elements of these types, one level up.
+pub fn product(alloc: Global, types: &[Ty]) -> Result<Node, Memory>
+    requires few { length types.now < 65 }
+    requires filled { has_none (ops 4) (map (λ t. t.ty) types.now) ≡ false }
+    ensures fits { IfOk result (λ n. Fits 5 n) }
+    ensures value { IfOk result (λ n. view 5 n ≡ product_of (ops 4) (map (λ t. t.ty) types.now)) }
+{
+    let mut row = List::new(alloc);
+    for t in types {
+        let node = copy(alloc, 4, t.node())?;
+        add(&mut row, node)?;
+    }
+    let body = product_body(alloc, 4, row)?;
+    let mut sizes = List::new(alloc);
+    add_size(&mut sizes, types.len() as u8, body)?;
+    Ok(Node::Of(PartsOf {
+        plain: Plain::none(),
+        cell: None,
+        tuples: TuplesOf::Sizes(sizes),
+    }))
+}
+
+/// Whether each value of the type is a proper list.
+pub fn is_list(t: &Node) -> bool
+    requires { Fits 4 t.now }
+    ensures { result ≡ lists_alone (ops 3) (view 4 t.now) }
+{
+    let Node::Of(parts) = t else {
+        return false;
+    };
+    let TuplesOf::Sizes(sizes) = &parts.tuples else {
+        return false;
+    };
+    if !sizes.is_empty() {
+        return false;
+    }
+    if let Some(cell) = &parts.cell {
+        if !cell.is_proper {
+            return false;
+        }
+    }
+    parts.plain.is_nil_at_most()
+}
+
+/// The element type of a list with a head of this type, of level 3, and a tail.
+pub fn element_with(alloc: Global, head: Node, tail: &Node) -> Result<Node, Memory>
+    requires head { Fits 3 head }
+    requires tail { Fits 4 tail.now }
+    ensures fits { IfOk result (λ n. Fits 3 n) }
+    ensures value { IfOk result (λ n. view 3 n ≡ joined_element (ops 3) (view 3 head) (view 4 tail.now).cell) }
+{
+    let Node::Of(parts) = tail else {
+        discard(head);
+        return Ok(Node::Any);
+    };
+    match &parts.cell {
+        None => Ok(head),
+        Some(cell) => join(alloc, 3, &head, cell.element.get()),
+    }
+}
+
+/// The lists of an element type that has a value.
+pub fn cell_alone(alloc: Global, element: Node, is_proper: bool) -> Result<Node, Memory>
+    requires fits { Fits 3 element }
+    requires filled { (ops 3).is_none (view 3 element) ≡ false }
+    ensures fits { IfOk result (λ n. Fits 4 n) }
+    ensures value { IfOk result (λ n. view 4 n ≡ record { plain = plain_none; cell = Some (record { element = view 3 element; is_proper = is_proper }); tuples = sizes [] }) }
+{
+    match Boxed::new(alloc, element) {
+        Ok(element) => Ok(Node::Of(PartsOf {
+            plain: Plain::none(),
+            cell: Some(CellOf { element, is_proper }),
+            tuples: TuplesOf::Sizes(List::new(alloc)),
+        })),
+        Err((element, Memory)) => {
+            discard(element);
+            Err(Memory)
+        }
+    }
+}
+
+/// The type of an element of a body's tuples, the first at 0.
+pub fn element(alloc: Global, level: u32, body: &BodyOf<Node>, at: usize) -> Result<Node, Memory>
+    requires { (n : ℕ) × (BodyFits level n body.now × (at < n)) }
+    ensures fits { IfOk result (λ n. Fits level n) }
+    ensures value { IfOk result (λ n. Some (view level n) ≡ slice_get (elements (ops level) (body_view level body.now)) at) }
+{
+    let row = elements_of(alloc, level, body)?;
+    copy(alloc, level, row.at(at))
+}
+
+/// What may follow the head of a list.
+pub fn tail_parts(alloc: Global, cell: &CellOf<Node>) -> Result<PartsOf<Node>, Memory>
+    requires { CellFits 3 (Some cell.now) }
+    ensures fits { IfOk result (λ p. PartsFit 3 p) }
+    ensures value { IfOk result (λ p. parts_view 3 p ≡ after_head (ops 3) (cell_view 3 (Some cell.now))) }
+{
+    let element = copy(alloc, 3, cell.element.get())?;
+    let is_proper = cell.is_proper;
+    match Boxed::new(alloc, element) {
+        Ok(element) => Ok(PartsOf {
+            plain: tail_plain(is_proper),
+            cell: Some(CellOf { element, is_proper }),
+            tuples: tail_tuples(alloc, is_proper),
+        }),
+        Err((element, Memory)) => {
+            discard(element);
+            Err(Memory)
+        }
+    }
+}
+
+// The plain values at the end of a list.
+fn tail_plain(is_proper: bool) -> Plain
+    ensures { result ≡ cond is_proper (record { atoms = names.none; ints = numbers.none; bits = No; kinds = kinds_of_nil; functions = no_function }) plain_all }
+{
+    if is_proper {
+        plain_kind(Kind::Nil)
+    } else {
+        Plain::all()
+    }
+}
+
+// The tuples at the end of a list.
+fn tail_tuples(alloc: Global, is_proper: bool) -> TuplesOf<Node>
+    ensures value { (d : ℕ) → tuples_view d result ≡ cond is_proper (sizes []) all_tuples }
+    ensures each { (d : ℕ) → EachInTuples (Fits d) result }
+{
+    if is_proper {
+        TuplesOf::Sizes(List::new(alloc))
+    } else {
+        TuplesOf::All
+    }
+}

@@ -1,0 +1,31 @@
+-- The value that a value of the code stands for.
+use Rattle.std.specs.Prelude.{ℕ, zero, suc, Bool, false, List, [], ◌∷◌}
+use Rattle.type_family.specs.Values as m
+use Rattle.type_meaning.specs.declared.value.Value.{Value}
+use Rattle.type_meaning.specs.declared.value.Value.TheOpen.{Value-F}
+use Rattle.type_meaning.specs.declared.value.Value.TheFolds.{fold-Value}
+
+abbrev pub zero_bits : ℕ → List Bool
+zero_bits zero = []
+zero_bits (suc n) = false ∷ zero_bits n
+
+abbrev pub values : List m.Value → m.Values
+values [] = m.no_value
+values (v ∷ vs) = m.and_value v (values vs)
+
+-- one layer, whose parts are values of the model already
+abbrev pub value_layer : Value-F m.Value → m.Value
+value_layer (Value-F.Int n) = m.int n
+value_layer (Value-F.Float s) = m.float s
+value_layer (Value-F.Atom a) = m.atom a
+value_layer (Value-F.Bits n) = m.bits (zero_bits n)
+value_layer Value-F.Nil = m.nil
+value_layer (Value-F.Cons h t) = m.cons h t
+value_layer (Value-F.Tuple vs) = m.tuple (values vs)
+value_layer (Value-F.Pid n) = m.pid n
+value_layer (Value-F.Port n) = m.port n
+value_layer (Value-F.Reference n) = m.reference n
+value_layer (Value-F.Function n) = m.foreign 0 n
+
+unfoldable pub value_of : Value → m.Value
+value_of = fold-Value m.Value value_layer

@@ -1,0 +1,18 @@
+use type_kinds::{Atom, Boxed, Bytes, List};
+
+/// A value, as tests write it. `Bits` has its length in bits and stands for so many zero bits, and
+/// `Function` its arity.
+#[derive(Drop)]
+pub enum Value {
+    Int(i128),
+    Float(Bytes),
+    Atom(Atom),
+    Bits(u64),
+    Nil,
+    Cons(Boxed<Value>, Boxed<Value>),
+    Tuple(List<Value>),
+    Pid(u64),
+    Port(u64),
+    Reference(u64),
+    Function(u32),
+}
