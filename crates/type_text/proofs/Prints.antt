@@ -1,0 +1,198 @@
+-- The text of a type, from that of its parts.
+use Rattle.std.proofs.Common.{◌≡◌, ℕ, zero, suc, ◌-◌, ◌≤◌, Bool, true, false, cond, ◌&&◌, List, [], ◌∷◌, ◌++◌, Option, Some, None, map, codes, refl, sym, ap, ◌∙◌, subst, true≢false, arith, append_assoc, length, ◌<◌}
+use Rattle.std.specs.Coded.{Coded-set, coded_bool}
+use Rattle.std.specs.Prelude.{slice_index_or}
+use Rattle.type_kinds.specs.Quoted.{quoted}
+use Rattle.type_sets.specs.Names as names
+use Rattle.type_sets.specs.Names.{Names}
+use Rattle.type_sets.specs.Numbers as numbers
+use Rattle.type_sets.specs.Numbers.{Numbers}
+use Rattle.type_sets.specs.declared.ends.Low.TheVariants as low
+use Rattle.type_sets.specs.declared.ends.High.TheVariants as high
+use Rattle.type_sets.specs.declared.bits.Bits.{Bits}
+use Rattle.type_sets.specs.declared.bits.Bits.TheVariants.{No, Whole, Any}
+use Rattle.type_sets.proofs.Truths.{first, second, is_false}
+use Rattle.type_family.specs.Shapes.{Functions, no_function, of_arity, all_functions, Plain, Cell, Tuples, sizes, all_tuples, TypeAt}
+use Rattle.type_family.specs.Operations.{ops, plain_all}
+use Rattle.type_family.specs.Normal.{NormalAt}
+use Rattle.type_trees.specs.declared.node.Node.{Node, out-Node}
+use Rattle.type_trees.specs.declared.node.Node.TheOpen.{Node-F}
+use Rattle.type_trees.specs.declared.node.Node.TheVariants as v
+use Rattle.type_trees.specs.declared.node.PartsOf.{PartsOf}
+use Rattle.type_trees.specs.declared.node.SizeOf.{SizeOf}
+use Rattle.type_trees.specs.declared.node.TagOf.{TagOf}
+use Rattle.type_trees.specs.View.{view, is_any as is_whole, layer, row_view, tags_view, body_view, sizes_view, parts_view, Fits, IsLayer, EachInParts, EachNode, EachInBody, EachTag, EachSize}
+use Rattle.type_text.specs.Texts.{separated, tuple_word, body_words, tag_words, size_words, parts_words, is_all_atoms, is_all_ints, is_all_bits, is_all_functions, is_all_plain, is_any_cell, is_every_tuple, is_any, text_at}
+
+-- ---- one level of a tree
+
+out_of : (t : Node) (p : PartsOf Node) → t ≡ v.Of p → out-Node t ≡ Node-F.Of p
+out_of t p e = ap out-Node e ∙ v.outs-Of p
+
+view_any : (t : Node) → t ≡ v.Any → (d : ℕ) → view d t ≡ (ops d).any
+unfolding view ops
+view_any t e zero = ap is_whole (ap out-Node e ∙ v.outs-Any)
+view_any t e (suc d) = ap (λ n. layer (ops (suc d)).any (view d) n) (ap out-Node e ∙ v.outs-Any)
+
+view_of : (t : Node) (p : PartsOf Node) → t ≡ v.Of p → (d : ℕ) → view (suc d) t ≡ parts_view d p
+unfolding view
+view_of t p e d = ap (λ n. layer (ops (suc d)).any (view d) n) (out_of t p e)
+
+-- parts never stand at level 0
+pub of_above : (t : Node) (p : PartsOf Node) → t ≡ v.Of p → (d : ℕ) → Fits d t → 1 ≤ d
+unfolding Fits
+of_above t p e zero h = absurd (true≢false (sym h ∙ ap is_whole (out_of t p e)))
+of_above t p e (suc d) h = omega arith
+
+layer_of : (t : Node) (p : PartsOf Node) → t ≡ v.Of p → (d : ℕ) → Fits (suc d) t → IsLayer (NormalAt (suc d)) (ops (suc d)).any (view d) (Fits d) (Node-F.Of p)
+unfolding Fits
+layer_of t p e d h = subst (λ n. IsLayer (NormalAt (suc d)) (ops (suc d)).any (view d) (Fits d) n) (out_of t p e) h
+
+-- the elements of parts stand for types of the level below
+pub each_below : (t : Node) (p : PartsOf Node) → t ≡ v.Of p → (d : ℕ) → Fits d t → EachInParts (Fits (d - 1)) p
+each_below t p e zero h = let k = of_above t p e zero h in absurd (omega arith)
+each_below t p e (suc d) h = let one_less : d ≡ suc d - 1 = omega arith in subst (λ n. EachInParts (Fits n) p) one_less (layer_of t p e d h).0.1
+
+-- ---- whether all parts are full
+
+atoms_all : (s : Names) → is_all_atoms s ≡ true → s ≡ names.every
+atoms_all (names.some xs e) h = absurd (true≢false (sym h))
+atoms_all names.every h = refl
+
+ints_all : (s : Numbers) → is_all_ints s ≡ true → s ≡ numbers.all
+ints_all (numbers.some xs e) h = absurd (true≢false (sym h))
+ints_all (numbers.between low.Min high.Max e) h = ap (numbers.between low.Min high.Max) (Coded-set coded_bool true true e refl)
+ints_all (numbers.between l k e) h = absurd (true≢false (sym h))
+
+bits_all : (b : Bits) → is_all_bits b ≡ true → b ≡ Any
+bits_all No h = absurd (true≢false (sym h))
+bits_all Whole h = absurd (true≢false (sym h))
+bits_all Any h = refl
+
+functions_all : (f : Functions) → is_all_functions f ≡ true → f ≡ all_functions
+functions_all no_function h = absurd (true≢false (sym h))
+functions_all (of_arity n) h = absurd (true≢false (sym h))
+functions_all all_functions h = refl
+
+plain_is_all : (p : Plain) → is_all_plain p ≡ true → p ≡ plain_all
+plain_is_all p h =
+    let references = first _ p.kinds.nil h in
+    let ports = first _ p.kinds.reference references in
+    let pids = first _ p.kinds.port ports in
+    let floats = first _ p.kinds.pid pids in
+    let functions = first _ p.kinds.float floats in
+    let bits = first _ (is_all_functions p.functions) functions in
+    let ints = first _ (is_all_bits p.bits) bits in
+    λ i. record {
+      atoms = atoms_all p.atoms (first (is_all_atoms p.atoms) (is_all_ints p.ints) ints) i;
+      ints = ints_all p.ints (second (is_all_atoms p.atoms) (is_all_ints p.ints) ints) i;
+      bits = bits_all p.bits (second _ (is_all_bits p.bits) bits) i;
+      kinds = record {
+        float = second _ p.kinds.float floats i;
+        pid = second _ p.kinds.pid pids i;
+        port = second _ p.kinds.port ports i;
+        reference = second _ p.kinds.reference references i;
+        nil = second _ p.kinds.nil h i;
+      };
+      functions = functions_all p.functions (second _ (is_all_functions p.functions) functions) i;
+    }
+
+tuples_all : {E : Type 0} (t : Tuples E) → is_every_tuple t ≡ true → t ≡ all_tuples
+tuples_all (sizes m) h = absurd (true≢false (sym h))
+tuples_all all_tuples h = refl
+
+open_cell : (b c : Bool) → cond b false c ≡ true → (b ≡ false) × (c ≡ true)
+open_cell true c h = absurd (true≢false (sym h))
+open_cell false c h = (refl, h)
+
+cell_all : {E : Type 0} (full : E → Bool) (any : E) → ((e : E) → full e ≡ true → e ≡ any) → (c : Option (Cell E)) → is_any_cell full c ≡ true → c ≡ Some (record { element = any; is_proper = false })
+cell_all full any f None h = absurd (true≢false (sym h))
+cell_all full any f (Some c) h = λ i. Some (record { element = f c.element (open_cell c.is_proper (full c.element) h).1 i; is_proper = (open_cell c.is_proper (full c.element) h).0 i })
+
+-- where they are, the type is every value
+pub any_is_all : (d : ℕ) (t : TypeAt d) → is_any d t ≡ true → t ≡ (ops d).any
+unfolding ops
+any_is_all zero t h = h
+any_is_all (suc d) t h =
+    let lists = first _ (is_every_tuple t.tuples) h in
+    λ i. record {
+      plain = plain_is_all t.plain (first (is_all_plain t.plain) _ lists) i;
+      cell = cell_all (is_any d) (ops d).any (any_is_all d) t.cell (second (is_all_plain t.plain) _ lists) i;
+      tuples = tuples_all t.tuples (second _ (is_every_tuple t.tuples) h) i;
+    }
+
+all_is_any : (d : ℕ) → is_any d (ops d).any ≡ true
+unfolding ops
+all_is_any zero = refl
+all_is_any (suc d) = ap (λ b. b && true) (all_is_any d)
+
+-- ---- the text of a tree
+
+any_text : (d : ℕ) → text_at d (ops d).any ≡ codes "any()"
+unfolding ops
+any_text zero = refl
+any_text (suc d) =
+    let t = (ops (suc d)).any in
+    ap (λ b. cond b (codes "any()") (cond ((ops (suc d)).is_none t) (codes "none()") (separated (codes " | ") (parts_words (text_at d) t)))) (all_is_any (suc d))
+
+pub text_of_any : (t : Node) → t ≡ v.Any → (d : ℕ) → text_at d (view d t) ≡ codes "any()"
+text_of_any t e d = ap (text_at d) (view_any t e d) ∙ any_text d
+
+not_all : (t : Node) (p : PartsOf Node) → t ≡ v.Of p → (d : ℕ) → Fits (suc d) t → is_any (suc d) (parts_view d p) ≡ false
+not_all t p e d h = is_false (is_any (suc d) (parts_view d p)) (λ k. (layer_of t p e d h).1 (any_is_all (suc d) (parts_view d p) k))
+
+-- what a tree of parts turns on, where some part has a value
+text_of_parts : (t : Node) (p : PartsOf Node) → t ≡ v.Of p → (d : ℕ) → Fits (suc d) t → text_at (suc d) (view (suc d) t) ≡ cond ((ops (suc d)).is_none (view (suc d) t)) (codes "none()") (separated (codes " | ") (parts_words (text_at d) (parts_view d p)))
+text_of_parts t p e d h =
+    ap (text_at (suc d)) (view_of t p e d)
+    ∙ ap (λ b. cond b (codes "any()") (cond ((ops (suc d)).is_none (parts_view d p)) (codes "none()") (separated (codes " | ") (parts_words (text_at d) (parts_view d p))))) (not_all t p e d h)
+    ∙ ap (λ x. cond ((ops (suc d)).is_none x) (codes "none()") (separated (codes " | ") (parts_words (text_at d) (parts_view d p)))) (sym (view_of t p e d))
+
+pub text_of_none : (t : Node) (p : PartsOf Node) → t ≡ v.Of p → (d : ℕ) → Fits d t → true ≡ (ops d).is_none (view d t) → text_at d (view d t) ≡ codes "none()"
+text_of_none t p e zero h k = let f = of_above t p e zero h in absurd (omega arith)
+text_of_none t p e (suc d) h k = text_of_parts t p e d h ∙ ap (λ b. cond b (codes "none()") (separated (codes " | ") (parts_words (text_at d) (parts_view d p)))) (sym k)
+
+pub text_of_some : (t : Node) (p : PartsOf Node) → t ≡ v.Of p → (d : ℕ) → Fits d t → false ≡ (ops d).is_none (view d t) → text_at d (view d t) ≡ separated (codes " | ") (parts_words (text_at (d - 1)) (parts_view (d - 1) p))
+text_of_some t p e zero h k = let f = of_above t p e zero h in absurd (omega arith)
+text_of_some t p e (suc d) h k =
+    let one_less : d ≡ suc d - 1 = omega arith in
+    text_of_parts t p e d h
+    ∙ ap (λ b. cond b (codes "none()") (separated (codes " | ") (parts_words (text_at d) (parts_view d p)))) (sym k)
+    ∙ ap (λ n. separated (codes " | ") (parts_words (text_at n) (parts_view n p))) one_less
+
+-- ---- the items of lists
+
+pub size_at : (P : Node → Type 0) (ss : List (SizeOf Node)) → EachSize P ss → (i : ℕ) (x : SizeOf Node) → i < length ss → EachInBody P (slice_index_or ss i x).body
+size_at P [] k i x h = absurd (omega arith)
+size_at P (s ∷ ss) k zero x h = k.0
+size_at P (s ∷ ss) k (suc i) x h = size_at P ss k.1 i x (omega arith)
+
+pub tag_at : (P : Node → Type 0) (ts : List (TagOf Node)) → EachTag P ts → (i : ℕ) (x : TagOf Node) → i < length ts → EachNode P (slice_index_or ts i x).rest
+tag_at P [] k i x h = absurd (omega arith)
+tag_at P (t ∷ ts) k zero x h = k.0
+tag_at P (t ∷ ts) k (suc i) x h = tag_at P ts k.1 i x (omega arith)
+
+-- ---- the words of longer lists
+
+abbrev pub row_words : (d : ℕ) → List Node → List (List ℕ)
+row_words d ns = map (text_at d) (row_view d ns)
+
+abbrev pub tags_words : (d : ℕ) → List (TagOf Node) → List (List ℕ)
+tags_words d ts = tag_words (text_at d) (tags_view d ts)
+
+abbrev pub sizes_words : (d : ℕ) → List (SizeOf Node) → List (List ℕ)
+sizes_words d ss = size_words (text_at d) (sizes_view d ss)
+
+pub row_words-append : (d : ℕ) (ns ms : List Node) → row_words d (ns ++ ms) ≡ row_words d ns ++ row_words d ms
+row_words-append d [] ms = refl
+row_words-append d (n ∷ ns) ms = ap (λ ws. text_at d (view d n) ∷ ws) (row_words-append d ns ms)
+
+pub tags_words-append : (d : ℕ) (ts us : List (TagOf Node)) → tags_words d (ts ++ us) ≡ tags_words d ts ++ tags_words d us
+tags_words-append d [] us = refl
+tags_words-append d (t ∷ ts) us = ap (λ ws. tuple_word (text_at d) (quoted t.atom ∷ row_words d t.rest) ∷ ws) (tags_words-append d ts us)
+
+pub sizes_words-append : (d : ℕ) (ss us : List (SizeOf Node)) → sizes_words d (ss ++ us) ≡ sizes_words d ss ++ sizes_words d us
+sizes_words-append d [] us = refl
+sizes_words-append d (s ∷ ss) us =
+    let here = body_words (text_at d) (body_view d s.body) in
+    ap (λ ws. here ++ ws) (sizes_words-append d ss us) ∙ sym (append_assoc here (sizes_words d ss) (sizes_words d us))

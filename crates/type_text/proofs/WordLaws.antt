@@ -1,0 +1,638 @@
+-- The words of a type stand for types, and the join of these is the type. A type is judged by the forms of its values.
+use Rattle.std.proofs.Common.{◌≡◌, ◌⊎◌, inl, inr, ℕ, zero, suc, ℤ, Bool, true, false, cond, ◌&&◌, List, [], ◌∷◌, ◌++◌, length, map, Option, Some, None, refl, sym, ap, ◌∙◌, subst, true≢false}
+use Rattle.std.specs.Prelude.{codes, nat_lt}
+use Rattle.std.specs.Fmt.{decimal, signed_decimal}
+use Rattle.std.proofs.lemmas.List.{append-nil}
+use Rattle.std.specs.Ordering.{nat_cmp, int_cmp, eq_by_cmp}
+use Rattle.std.specs.Cmp.{nat_cmp_total, int_cmp_total}
+use Rattle.std.specs.FinSet.{nat_cmp-IsAntisymmetric, int_cmp-IsAntisymmetric}
+use Rattle.std.specs.List.{list_all}
+use Rattle.type_kinds.specs.Quoted.{quoted}
+use Rattle.type_sets.specs.Ascending.{is_ascending, has_item}
+use Rattle.type_sets.specs.Names as names
+use Rattle.type_sets.specs.Names.{Name, Names, name_cmp}
+use Rattle.type_sets.specs.Numbers as numbers
+use Rattle.type_sets.specs.Numbers.{Numbers, is_narrow}
+use Rattle.type_sets.specs.declared.bits.Bits.{Bits}
+use Rattle.type_sets.specs.declared.bits.Bits.TheVariants.{No, Whole, Any}
+use Rattle.type_sets.proofs.Truths.{first, second, either, decided, in_first, in_second}
+use Rattle.type_sets.proofs.AscendingLaws as ascending
+use Rattle.type_sets.proofs.NameLaws as name_laws
+use Rattle.type_sets.proofs.NumberLaws as number_laws
+use Rattle.type_family.specs.Values.{Value, atom, Values, no_value, and_value, count}
+use Rattle.type_family.specs.Tables.{is_table, find}
+use Rattle.type_family.specs.Shapes.{floats, pids, ports, references, nils, Kinds, Functions, no_function, of_arity, all_functions, Plain, Cell, Body, product, tags, Tuples, sizes, all_tuples, Parts, TypeAt}
+use Rattle.type_family.specs.HasType.{HasEach, HasRow, HasTag, HasBody, HasTuple}
+use Rattle.type_family.specs.Operations.{Ops, no_kinds, plain_none, body_of, of_plain, of_atoms, parts_is_none, parts_join, ops}
+use Rattle.type_family.specs.Normal.{NormalFunctions, IsElement, AreElements, NormalCell, NormalRow, NormalRows, NormalBody, NormalSizes, NormalTuples, NormalParts, NormalAt}
+use Rattle.type_family.specs.Laws.{BelowBy, Lattice, Laws}
+use Rattle.type_family.specs.Forms.{an_int, an_atom, some_bits, of_kind, a_function, Form, leaf, pair, row, HasForm}
+use Rattle.type_family.proofs.PlainLaws.{no_kinds-has, plain-none_empty}
+use Rattle.type_family.proofs.CellLaws.{filled-not_none}
+use Rattle.type_family.proofs.RowLaws.{count_each}
+use Rattle.type_family.proofs.BodyLaws.{tagged, body_of_in, body_of_out, body_of_normal, count_body}
+use Rattle.type_family.proofs.TableLaws as tables
+use Rattle.type_family.proofs.PartsLaws.{form_lattice}
+use Rattle.type_family.proofs.LevelLaws.{level_laws}
+use Rattle.type_text.specs.Texts.{separated, word_if, atom_words, range_word, int_words, bits_words, function_words, plain_words, cell_words, tuple_word, tag_words, body_words, size_words, tuples_words, parts_words, is_any, text_at}
+use Rattle.type_text.specs.WordTypes.{float_kind, pid_kind, port_kind, reference_kind, nil_kind, of_ints, of_bits, of_kinds, of_functions, of_cell, of_list, of_tuples, of_row, IsWordOf, one_atom, every_atom, one_int, ints_between, every_float, whole_bits, every_bits, every_pid, every_port, every_reference, every_function, one_arity, empty_list, proper_list, any_list, every_tuple, one_tuple, IsWord, AreWordsOf, spelled, joined_with, WordsOf}
+
+-- ---- a type joined with others, one after the other
+
+-- one of the types has the value
+abbrev pub SomeHas : {V T : Type 0} → (V → T → Type 0) → V → List (List ℕ × T) → Type 0
+SomeHas Has v [] = ⊥
+SomeHas Has v (p ∷ ps) = Has v p.1 ⊎ SomeHas Has v ps
+
+abbrev pub EachNormal : {T : Type 0} → (T → Type 0) → List (List ℕ × T) → Type 0
+EachNormal Normal [] = Unit {0}
+EachNormal Normal (p ∷ ps) = Normal p.1 × EachNormal Normal ps
+
+module _ {V T : Type 0} {Has : V → T → Type 0} {Normal : T → Type 0} {none : T} {meet join : T → T → T} (l : Lattice Has Normal none meet join) where
+  pub joined_with-normal : (u : T) (ps : List (List ℕ × T)) → Normal u → EachNormal Normal ps → Normal (joined_with join u ps)
+  joined_with-normal u [] k ks = k
+  joined_with-normal u (p ∷ ps) k ks = joined_with-normal (join u p.1) ps (l.join_normal u p.1 k ks.0) ks.1
+
+  joined_with-first : (u : T) (ps : List (List ℕ × T)) → Normal u → EachNormal Normal ps → BelowBy Has u (joined_with join u ps)
+  joined_with-first u [] k ks v h = h
+  joined_with-first u (p ∷ ps) k ks v h = joined_with-first (join u p.1) ps (l.join_normal u p.1 k ks.0) ks.1 v (l.join_left u p.1 k ks.0 v h)
+
+  joined_with-later : (u : T) (ps : List (List ℕ × T)) → Normal u → EachNormal Normal ps → (v : V) → SomeHas Has v ps → Has v (joined_with join u ps)
+  joined_with-later u [] k ks v h = absurd h
+  joined_with-later u (p ∷ ps) k ks v (inl h) = joined_with-first (join u p.1) ps (l.join_normal u p.1 k ks.0) ks.1 v (l.join_right u p.1 k ks.0 v h)
+  joined_with-later u (p ∷ ps) k ks v (inr h) = joined_with-later (join u p.1) ps (l.join_normal u p.1 k ks.0) ks.1 v h
+
+  joined_with-least : (u : T) (ps : List (List ℕ × T)) (t : T) → Normal u → EachNormal Normal ps → Normal t → BelowBy Has u t → ((v : V) → SomeHas Has v ps → Has v t) → BelowBy Has (joined_with join u ps) t
+  joined_with-least u [] t k ks n f g = f
+  joined_with-least u (p ∷ ps) t k ks n f g =
+      joined_with-least (join u p.1) ps t (l.join_normal u p.1 k ks.0) ks.1 n (l.join_least u p.1 t k ks.0 n f (λ v h. g v (inl h))) (λ v h. g v (inr h))
+
+  -- types that together have just the values of a type join to it
+  pub joined_with-is : (u : T) (ps : List (List ℕ × T)) (t : T) → Normal u → EachNormal Normal ps → Normal t → ((v : V) → Has v u ⊎ SomeHas Has v ps → Has v t) → ((v : V) → Has v t → Has v u ⊎ SomeHas Has v ps) → joined_with join u ps ≡ t
+  joined_with-is u ps t k ks n f g =
+      l.same (joined_with join u ps) t (joined_with-normal u ps k ks) n (joined_with-least u ps t k ks n (λ v h. f v (inl h)) (λ v h. f v (inr h))) (λ v h. elim (g v h) [
+        | inl x ↦ joined_with-first u ps k ks v x
+        | inr x ↦ joined_with-later u ps k ks v x
+      ])
+
+-- ---- words in a row
+
+spelled-append : {T : Type 0} (ps qs : List (List ℕ × T)) → spelled (ps ++ qs) ≡ spelled ps ++ spelled qs
+spelled-append [] qs = refl
+spelled-append (p ∷ ps) qs = ap (λ ws. p.0 ∷ ws) (spelled-append ps qs)
+
+module _ {V T : Type 0} (Has : V → T → Type 0) (v : V) where
+  some-left : (ps qs : List (List ℕ × T)) → SomeHas Has v ps → SomeHas Has v (ps ++ qs)
+  some-left [] qs h = absurd h
+  some-left (p ∷ ps) qs (inl h) = inl h
+  some-left (p ∷ ps) qs (inr h) = inr (some-left ps qs h)
+
+  some-right : (ps qs : List (List ℕ × T)) → SomeHas Has v qs → SomeHas Has v (ps ++ qs)
+  some-right [] qs h = h
+  some-right (p ∷ ps) qs h = inr (some-right ps qs h)
+
+  some-either : (ps qs : List (List ℕ × T)) → SomeHas Has v (ps ++ qs) → SomeHas Has v ps ⊎ SomeHas Has v qs
+  some-either [] qs h = inr h
+  some-either (p ∷ ps) qs (inl h) = inl (inl h)
+  some-either (p ∷ ps) qs (inr h) = elim (some-either ps qs h) [ inl x ↦ inl (inr x) | inr x ↦ inr x ]
+
+-- ---- the words of each part of a type, with their types
+
+module _ {E : Type 0} {Has : Value → E → Type 0} {Normal : E → Type 0} {o : Ops E} (l : Laws Has Normal o) (text : E → List ℕ) (one_name : o.has_tags ≡ true → (a : Name) → (text (o.of_names (a ∷ [])) ≡ quoted a) × (o.only (o.of_names (a ∷ [])) ≡ Some (a ∷ []))) where
+  abbrev P : Type 0
+  P = Parts E
+
+  abbrev HasF : Form → P → Type 0
+  HasF = HasForm Has
+
+  abbrev Pairs : Type 0
+  Pairs = List (List ℕ × P)
+
+  abbrev Word : List ℕ → P → Type 0
+  Word = IsWordOf text Normal o
+
+  abbrev Words : Pairs → Type 0
+  Words = AreWordsOf text Normal o
+
+  -- ---- the type of a word is normal, and has a value
+
+  pub word_of-normal : (w : List ℕ) (u : Parts E) → IsWordOf text Normal o w u → NormalParts Normal o u
+  word_of-normal w u (one_arity n k) = (k, tt, (refl, refl, tt))
+  word_of-normal w u (proper_list e k) = (tt, k, (refl, refl, tt))
+  word_of-normal w u (any_list e k) = (tt, k, (refl, refl, tt))
+  word_of-normal w u every_tuple = (tt, tt, tt)
+  word_of-normal w u (one_tuple es k few) = (tt, tt, (refl, refl, (few, body_of_normal l (length es) es (refl, k), tt)))
+  word_of-normal w u i = (tt, tt, (refl, refl, tt))
+
+  pub word_of-not_none : (w : List ℕ) (u : Parts E) → IsWordOf text Normal o w u → parts_is_none o u ≡ false
+  word_of-not_none w u (one_atom a) = ap (λ s. parts_is_none o (of_atoms o s)) (names.or_else-yes (a ∷ []) names.none refl)
+  word_of-not_none w u (one_int n k) = ap (λ s. parts_is_none o (of_ints o s)) (numbers.or_else-yes (n ∷ []) numbers.none (number_laws.one-listed n k))
+  word_of-not_none w u (ints_between a b k) = ap (λ s. parts_is_none o (of_ints o s)) (numbers.range-yes a b k)
+  word_of-not_none w u i = refl
+
+  words_of-normal : (ps : Pairs) → Words ps → EachNormal (NormalParts Normal o) ps
+  words_of-normal [] k = tt
+  words_of-normal (p ∷ ps) k = (word_of-normal p.0 p.1 k.0, words_of-normal ps k.1)
+
+  -- ---- words whose types together have certain forms, and no others
+
+  record Spelled (ws : List (List ℕ)) (F : Form → Type 0) : Type 0 where
+    pairs : Pairs
+    words : Words pairs
+    same : spelled pairs ≡ ws
+    out : (f : Form) → SomeHas HasF f pairs → F f
+    into : (f : Form) → F f → SomeHas HasF f pairs
+
+  words-append : (ps qs : Pairs) → Words ps → Words qs → Words (ps ++ qs)
+  words-append [] qs j k = k
+  words-append (p ∷ ps) qs j k = (j.0, words-append ps qs j.1 k)
+
+  nothing : (F : Form → Type 0) → ((f : Form) → F f → ⊥) → Spelled [] F
+  nothing F empty = record { pairs = []; words = tt; same = refl; out = λ f h. absurd h; into = λ f h. absurd (empty f h) }
+
+  one : (w : List ℕ) (u : P) → Word w u → Spelled (w ∷ []) (λ f. HasF f u)
+  one w u k = record { pairs = (w, u) ∷ []; words = (k, tt); same = refl; out = λ f h. elim h [ inl x ↦ x | inr x ↦ absurd x ]; into = λ f h. inl h }
+
+  changed : {ws : List (List ℕ)} {F : Form → Type 0} (G : Form → Type 0) → Spelled ws F → ((f : Form) → F f → G f) → ((f : Form) → G f → F f) → Spelled ws G
+  changed G s out into = record { pairs = s.pairs; words = s.words; same = s.same; out = λ f h. out f (s.out f h); into = λ f h. s.into f (into f h) }
+
+  append : {vs ws : List (List ℕ)} {F G : Form → Type 0} → Spelled vs F → Spelled ws G → Spelled (vs ++ ws) (λ f. F f ⊎ G f)
+  append s t = record {
+    pairs = s.pairs ++ t.pairs;
+    words = words-append s.pairs t.pairs s.words t.words;
+    same = spelled-append s.pairs t.pairs ∙ (λ i. s.same i ++ t.same i);
+    out = λ f h. elim (some-either HasF f s.pairs t.pairs h) [ inl x ↦ inl (s.out f x) | inr x ↦ inr (t.out f x) ];
+    into = λ f h. elim h [ inl x ↦ some-left HasF f s.pairs t.pairs (s.into f x) | inr x ↦ some-right HasF f s.pairs t.pairs (t.into f x) ];
+  }
+
+  no_form : (f : Form) → HasF f (of_plain o plain_none) → ⊥
+  no_form f h = (form_lattice l).none_empty f h
+
+  -- ---- atoms
+
+  abbrev IsAtom : (Name → Bool) → Form → Type 0
+  IsAtom s f = (q : Name) × ((f ≡ leaf (an_atom q)) × (s q ≡ true))
+
+  atom-out : (s : Names) (f : Form) → HasF f (of_atoms o s) → IsAtom (names.has s) f
+  atom-out s (leaf (an_atom a)) h = (a, (refl, h))
+  atom-out s (leaf (of_kind k)) h = absurd (true≢false (sym h ∙ no_kinds-has k))
+  atom-out s (leaf x) h = absurd (true≢false (sym h))
+  atom-out s (pair x y) h = absurd h
+  atom-out s (row vs) h = absurd h
+
+  atom-in : (s : Names) (f : Form) → IsAtom (names.has s) f → HasF f (of_atoms o s)
+  atom-in s f h = subst (λ g. HasF g (of_atoms o s)) (sym h.1.0) h.1.1
+
+  abbrev OneAtom : Name → Form → Type 0
+  OneAtom x f = HasF f (of_atoms o (names.listed (x ∷ [])))
+
+  -- each listed atom is a word
+  listed_atoms : (xs : List Name) → Spelled (map quoted xs) (IsAtom (has_item name_cmp xs))
+  listed_atoms [] = nothing (IsAtom (has_item name_cmp [])) (λ f h. true≢false (sym h.1.1))
+  listed_atoms (x ∷ xs) =
+      changed (IsAtom (has_item name_cmp (x ∷ xs))) (append (one (quoted x) (of_atoms o (names.listed (x ∷ []))) (one_atom x)) (listed_atoms xs)) out into
+    where
+      out : (f : Form) → OneAtom x f ⊎ IsAtom (has_item name_cmp xs) f → IsAtom (has_item name_cmp (x ∷ xs)) f
+      out f (inl h) =
+          let t = atom-out (names.listed (x ∷ [])) f h in
+          let it = (name_laws.has-one x t.0).0 t.1.1 in
+          (t.0, (t.1.0, in_first (eq_by_cmp name_cmp t.0 x) (has_item name_cmp xs t.0) (ap (λ q. eq_by_cmp name_cmp q x) it ∙ ascending.itself name_laws.name_total name_laws.name_same x)))
+      out f (inr h) = (h.0, (h.1.0, in_second (eq_by_cmp name_cmp h.0 x) (has_item name_cmp xs h.0) h.1.1))
+
+      into : (f : Form) → IsAtom (has_item name_cmp (x ∷ xs)) f → OneAtom x f ⊎ IsAtom (has_item name_cmp xs) f
+      into f h = elim (either (eq_by_cmp name_cmp h.0 x) (has_item name_cmp xs h.0) h.1.1) [
+        | inl e ↦ inl (atom-in (names.listed (x ∷ [])) f (h.0, (h.1.0, (name_laws.has-one x h.0).1 (ascending.is_it name_laws.name_total name_laws.name_same h.0 x e))))
+        | inr e ↦ inr (h.0, (h.1.0, e))
+      ]
+
+  atoms_spelled : (s : Names) → Spelled (atom_words s) (λ f. HasF f (of_atoms o s))
+  atoms_spelled (names.some xs e) =
+      changed (λ f. HasF f (of_atoms o (names.some xs e))) (listed_atoms xs) (λ f h. atom-in (names.some xs e) f h) (λ f h. atom-out (names.some xs e) f h)
+  atoms_spelled names.every = one (codes "atom()") (of_atoms o names.every) every_atom
+
+  -- ---- integers
+
+  abbrev IsInt : (ℤ → Bool) → Form → Type 0
+  IsInt s f = (n : ℤ) × ((f ≡ leaf (an_int n)) × (s n ≡ true))
+
+  int-out : (s : Numbers) (f : Form) → HasF f (of_ints o s) → IsInt (numbers.has s) f
+  int-out s (leaf (an_int n)) h = (n, (refl, h))
+  int-out s (leaf (of_kind k)) h = absurd (true≢false (sym h ∙ no_kinds-has k))
+  int-out s (leaf x) h = absurd (true≢false (sym h))
+  int-out s (pair x y) h = absurd h
+  int-out s (row vs) h = absurd h
+
+  int-in : (s : Numbers) (f : Form) → IsInt (numbers.has s) f → HasF f (of_ints o s)
+  int-in s f h = subst (λ g. HasF g (of_ints o s)) (sym h.1.0) h.1.1
+
+  abbrev OneInt : ℤ → Form → Type 0
+  OneInt x f = HasF f (of_ints o (numbers.listed (x ∷ [])))
+
+  -- each listed integer is a word
+  listed_ints : (xs : List ℤ) → list_all is_narrow xs ≡ true → Spelled (map signed_decimal xs) (IsInt (has_item int_cmp xs))
+  listed_ints [] k = nothing (IsInt (has_item int_cmp [])) (λ f h. true≢false (sym h.1.1))
+  listed_ints (x ∷ xs) k =
+      changed (IsInt (has_item int_cmp (x ∷ xs))) (append (one (signed_decimal x) (of_ints o (numbers.listed (x ∷ []))) (one_int x narrow)) (listed_ints xs (second (is_narrow x) (list_all is_narrow xs) k))) out into
+    where
+      narrow : is_narrow x ≡ true
+      narrow = first (is_narrow x) (list_all is_narrow xs) k
+
+      out : (f : Form) → OneInt x f ⊎ IsInt (has_item int_cmp xs) f → IsInt (has_item int_cmp (x ∷ xs)) f
+      out f (inl h) =
+          let t = int-out (numbers.listed (x ∷ [])) f h in
+          let it = (number_laws.has-one x t.0 narrow).0 t.1.1 in
+          (t.0, (t.1.0, in_first (eq_by_cmp int_cmp t.0 x) (has_item int_cmp xs t.0) (ap (λ q. eq_by_cmp int_cmp q x) it ∙ ascending.itself int_cmp_total int_cmp-IsAntisymmetric x)))
+      out f (inr h) = (h.0, (h.1.0, in_second (eq_by_cmp int_cmp h.0 x) (has_item int_cmp xs h.0) h.1.1))
+
+      into : (f : Form) → IsInt (has_item int_cmp (x ∷ xs)) f → OneInt x f ⊎ IsInt (has_item int_cmp xs) f
+      into f h = elim (either (eq_by_cmp int_cmp h.0 x) (has_item int_cmp xs h.0) h.1.1) [
+        | inl e ↦ inl (int-in (numbers.listed (x ∷ [])) f (h.0, (h.1.0, (number_laws.has-one x h.0 narrow).1 (ascending.is_it int_cmp_total int_cmp-IsAntisymmetric h.0 x e))))
+        | inr e ↦ inr (h.0, (h.1.0, e))
+      ]
+
+  ints_spelled : (s : Numbers) → Spelled (int_words s) (λ f. HasF f (of_ints o s))
+  ints_spelled (numbers.some xs e) =
+      changed (λ f. HasF f (of_ints o (numbers.some xs e))) (listed_ints xs (second (is_ascending int_cmp xs && nat_lt (length xs) 14) (list_all is_narrow xs) e)) (λ f h. int-in (numbers.some xs e) f h) (λ f h. int-out (numbers.some xs e) f h)
+  ints_spelled (numbers.between a b e) =
+      let same = numbers.range-yes a b e in
+      changed (λ f. HasF f (of_ints o (numbers.between a b e))) (one (range_word a b) (of_ints o (numbers.range a b)) (ints_between a b e)) (λ f. subst (λ s. HasF f (of_ints o s)) same) (λ f. subst (λ s. HasF f (of_ints o s)) (sym same))
+
+  -- ---- the other values that hold none
+
+  abbrev kinds_if : Bool → Bool → Bool → Bool → Bool → Kinds
+  kinds_if a b c d e = record { float = a; pid = b; port = c; reference = d; nil = e }
+
+  floats_spelled : (b : Bool) → Spelled (word_if b (codes "float()")) (λ f. HasF f (of_kinds o (kinds_if b false false false false)))
+  floats_spelled true = one (codes "float()") (of_kinds o float_kind) every_float
+  floats_spelled false = nothing (λ f. HasF f (of_kinds o no_kinds)) no_form
+
+  pids_spelled : (b : Bool) → Spelled (word_if b (codes "pid()")) (λ f. HasF f (of_kinds o (kinds_if false b false false false)))
+  pids_spelled true = one (codes "pid()") (of_kinds o pid_kind) every_pid
+  pids_spelled false = nothing (λ f. HasF f (of_kinds o no_kinds)) no_form
+
+  ports_spelled : (b : Bool) → Spelled (word_if b (codes "port()")) (λ f. HasF f (of_kinds o (kinds_if false false b false false)))
+  ports_spelled true = one (codes "port()") (of_kinds o port_kind) every_port
+  ports_spelled false = nothing (λ f. HasF f (of_kinds o no_kinds)) no_form
+
+  references_spelled : (b : Bool) → Spelled (word_if b (codes "reference()")) (λ f. HasF f (of_kinds o (kinds_if false false false b false)))
+  references_spelled true = one (codes "reference()") (of_kinds o reference_kind) every_reference
+  references_spelled false = nothing (λ f. HasF f (of_kinds o no_kinds)) no_form
+
+  nils_spelled : (b : Bool) → Spelled (word_if b (codes "[]")) (λ f. HasF f (of_kinds o (kinds_if false false false false b)))
+  nils_spelled true = one (codes "[]") (of_kinds o nil_kind) empty_list
+  nils_spelled false = nothing (λ f. HasF f (of_kinds o no_kinds)) no_form
+
+  bits_spelled : (s : Bits) → Spelled (bits_words s) (λ f. HasF f (of_bits o s))
+  bits_spelled No = nothing (λ f. HasF f (of_bits o No)) no_form
+  bits_spelled Whole = one (codes "binary()") (of_bits o Whole) whole_bits
+  bits_spelled Any = one (codes "bitstring()") (of_bits o Any) every_bits
+
+  functions_spelled : (s : Functions) → NormalFunctions s → Spelled (function_words s) (λ f. HasF f (of_functions o s))
+  functions_spelled no_function k = nothing (λ f. HasF f (of_functions o no_function)) no_form
+  functions_spelled (of_arity n) k = one (codes "fun(" ++ decimal n ++ codes ")") (of_functions o (of_arity n)) (one_arity n k)
+  functions_spelled all_functions k = one (codes "fun()") (of_functions o all_functions) every_function
+
+  -- ---- all that hold none
+
+  module _ (p : Plain) where
+    abbrev Atoms : Form → Type 0
+    Atoms f = HasF f (of_atoms o p.atoms)
+
+    abbrev Ints : Form → Type 0
+    Ints f = HasF f (of_ints o p.ints)
+
+    abbrev Floats : Form → Type 0
+    Floats f = HasF f (of_kinds o (kinds_if p.kinds.float false false false false))
+
+    abbrev SomeBits : Form → Type 0
+    SomeBits f = HasF f (of_bits o p.bits)
+
+    abbrev Pids : Form → Type 0
+    Pids f = HasF f (of_kinds o (kinds_if false p.kinds.pid false false false))
+
+    abbrev Ports : Form → Type 0
+    Ports f = HasF f (of_kinds o (kinds_if false false p.kinds.port false false))
+
+    abbrev References : Form → Type 0
+    References f = HasF f (of_kinds o (kinds_if false false false p.kinds.reference false))
+
+    abbrev SomeFunctions : Form → Type 0
+    SomeFunctions f = HasF f (of_functions o p.functions)
+
+    abbrev Nils : Form → Type 0
+    Nils f = HasF f (of_kinds o (kinds_if false false false false p.kinds.nil))
+
+    abbrev EachPart : Form → Type 0
+    EachPart f = (((((((Atoms f ⊎ Ints f) ⊎ Floats f) ⊎ SomeBits f) ⊎ Pids f) ⊎ Ports f) ⊎ References f) ⊎ SomeFunctions f) ⊎ Nils f
+
+    plain-into : (f : Form) → HasF f (of_plain o p) → EachPart f
+    plain-into (leaf (an_atom a)) h = inl (inl (inl (inl (inl (inl (inl (inl h)))))))
+    plain-into (leaf (an_int n)) h = inl (inl (inl (inl (inl (inl (inl (inr h)))))))
+    plain-into (leaf (of_kind floats)) h = inl (inl (inl (inl (inl (inl (inr h))))))
+    plain-into (leaf (some_bits n)) h = inl (inl (inl (inl (inl (inr h)))))
+    plain-into (leaf (of_kind pids)) h = inl (inl (inl (inl (inr h))))
+    plain-into (leaf (of_kind ports)) h = inl (inl (inl (inr h)))
+    plain-into (leaf (of_kind references)) h = inl (inl (inr h))
+    plain-into (leaf (a_function n)) h = inl (inr h)
+    plain-into (leaf (of_kind nils)) h = inr h
+    plain-into (pair x y) h = absurd h
+    plain-into (row vs) h = absurd h
+
+    -- what one part has, all have
+    atoms-out : (f : Form) → Atoms f → HasF f (of_plain o p)
+    atoms-out (leaf (an_atom a)) h = h
+    atoms-out (leaf (of_kind k)) h = absurd (true≢false (sym h ∙ no_kinds-has k))
+    atoms-out (leaf x) h = absurd (true≢false (sym h))
+    atoms-out (pair x y) h = absurd h
+    atoms-out (row vs) h = absurd h
+
+    ints-out : (f : Form) → Ints f → HasF f (of_plain o p)
+    ints-out (leaf (an_int n)) h = h
+    ints-out (leaf (of_kind k)) h = absurd (true≢false (sym h ∙ no_kinds-has k))
+    ints-out (leaf x) h = absurd (true≢false (sym h))
+    ints-out (pair x y) h = absurd h
+    ints-out (row vs) h = absurd h
+
+    floats-out : (f : Form) → Floats f → HasF f (of_plain o p)
+    floats-out (leaf (of_kind floats)) h = h
+    floats-out (leaf x) h = absurd (true≢false (sym h))
+    floats-out (pair x y) h = absurd h
+    floats-out (row vs) h = absurd h
+
+    bits-out : (f : Form) → SomeBits f → HasF f (of_plain o p)
+    bits-out (leaf (some_bits n)) h = h
+    bits-out (leaf (of_kind k)) h = absurd (true≢false (sym h ∙ no_kinds-has k))
+    bits-out (leaf x) h = absurd (true≢false (sym h))
+    bits-out (pair x y) h = absurd h
+    bits-out (row vs) h = absurd h
+
+    pids-out : (f : Form) → Pids f → HasF f (of_plain o p)
+    pids-out (leaf (of_kind pids)) h = h
+    pids-out (leaf x) h = absurd (true≢false (sym h))
+    pids-out (pair x y) h = absurd h
+    pids-out (row vs) h = absurd h
+
+    ports-out : (f : Form) → Ports f → HasF f (of_plain o p)
+    ports-out (leaf (of_kind ports)) h = h
+    ports-out (leaf x) h = absurd (true≢false (sym h))
+    ports-out (pair x y) h = absurd h
+    ports-out (row vs) h = absurd h
+
+    references-out : (f : Form) → References f → HasF f (of_plain o p)
+    references-out (leaf (of_kind references)) h = h
+    references-out (leaf x) h = absurd (true≢false (sym h))
+    references-out (pair x y) h = absurd h
+    references-out (row vs) h = absurd h
+
+    functions-out : (f : Form) → SomeFunctions f → HasF f (of_plain o p)
+    functions-out (leaf (a_function n)) h = h
+    functions-out (leaf (of_kind k)) h = absurd (true≢false (sym h ∙ no_kinds-has k))
+    functions-out (leaf x) h = absurd (true≢false (sym h))
+    functions-out (pair x y) h = absurd h
+    functions-out (row vs) h = absurd h
+
+    nils-out : (f : Form) → Nils f → HasF f (of_plain o p)
+    nils-out (leaf (of_kind nils)) h = h
+    nils-out (leaf x) h = absurd (true≢false (sym h))
+    nils-out (pair x y) h = absurd h
+    nils-out (row vs) h = absurd h
+
+    plain-out : (f : Form) → EachPart f → HasF f (of_plain o p)
+    plain-out f (inl (inl (inl (inl (inl (inl (inl (inl h)))))))) = atoms-out f h
+    plain-out f (inl (inl (inl (inl (inl (inl (inl (inr h)))))))) = ints-out f h
+    plain-out f (inl (inl (inl (inl (inl (inl (inr h))))))) = floats-out f h
+    plain-out f (inl (inl (inl (inl (inl (inr h)))))) = bits-out f h
+    plain-out f (inl (inl (inl (inl (inr h))))) = pids-out f h
+    plain-out f (inl (inl (inl (inr h)))) = ports-out f h
+    plain-out f (inl (inl (inr h))) = references-out f h
+    plain-out f (inl (inr h)) = functions-out f h
+    plain-out f (inr h) = nils-out f h
+
+    plain_spelled : NormalFunctions p.functions → Spelled (plain_words p) (λ f. HasF f (of_plain o p))
+    plain_spelled k =
+        changed (λ f. HasF f (of_plain o p)) (append (append (append (append (append (append (append (append (atoms_spelled p.atoms) (ints_spelled p.ints)) (floats_spelled p.kinds.float)) (bits_spelled p.bits)) (pids_spelled p.kinds.pid)) (ports_spelled p.kinds.port)) (references_spelled p.kinds.reference)) (functions_spelled p.functions k)) (nils_spelled p.kinds.nil)) plain-out plain-into
+
+  -- ---- lists
+
+  cell_spelled : (c : Option (Cell E)) → NormalCell Normal o c → Spelled (cell_words text c) (λ f. HasF f (of_cell o c))
+  cell_spelled None k = nothing (λ f. HasF f (of_cell o None)) no_form
+  cell_spelled (Some c) k =
+      elim c.is_proper as (λ b. Spelled ((cond b (codes "cons(") (codes "cons_any(") ++ text c.element ++ codes ")") ∷ []) (λ f. HasF f (of_list o c.element b))) [
+        | true ↦ one (codes "cons(" ++ text c.element ++ codes ")") (of_list o c.element true) (proper_list c.element k)
+        | false ↦ one (codes "cons_any(" ++ text c.element ++ codes ")") (of_list o c.element false) (any_list c.element k)
+      ]
+
+  -- ---- tuples
+
+  abbrev IsRow : (Values → Type 0) → Form → Type 0
+  IsRow F f = (vs : Values) × ((f ≡ row vs) × F vs)
+
+  row-out : (t : Tuples E) (f : Form) → HasF f (of_tuples o t) → IsRow (λ vs. HasTuple Has vs t) f
+  row-out t (leaf x) h = absurd (plain-none_empty x h)
+  row-out t (pair x y) h = absurd h
+  row-out t (row vs) h = (vs, (refl, h))
+
+  row-in : (t : Tuples E) (f : Form) → IsRow (λ vs. HasTuple Has vs t) f → HasF f (of_tuples o t)
+  row-in t f h = subst (λ g. HasF g (of_tuples o t)) (sym h.1.0) h.1.1
+
+  same_size : (m n : ℕ) → m ≡ n → eq_by_cmp nat_cmp m n ≡ true
+  same_size m n e = ap (eq_by_cmp nat_cmp m) (sym e) ∙ ascending.itself nat_cmp_total nat_cmp-IsAntisymmetric m
+
+  -- the tuples of a row have as many elements
+  of_row-in : (es : List E) (vs : Values) → HasEach Has vs es → HasTuple Has vs (sizes ((length es, body_of o es) ∷ []))
+  of_row-in es vs h =
+      subst (λ b. HasBody Has vs (cond b (Some (body_of o es)) None)) (sym (same_size (count vs) (length es) (count_each l vs es h))) (body_of_in l es vs h)
+
+  of_row-out : (es : List E) (vs : Values) → HasTuple Has vs (sizes ((length es, body_of o es) ∷ [])) → HasEach Has vs es
+  of_row-out es vs h =
+      elim (eq_by_cmp nat_cmp (count vs) (length es)) as (λ b. HasBody Has vs (cond b (Some (body_of o es)) None) → HasEach Has vs es) [
+        | true ↦ λ x. body_of_out l es vs x
+        | false ↦ λ x. absurd x
+      ] h
+
+  row_spelled : (es : List E) → AreElements Normal o es → nat_lt (length es) 65 ≡ true → Spelled (tuple_word text (map text es) ∷ []) (IsRow (λ vs. HasEach Has vs es))
+  row_spelled es k few =
+      changed (IsRow (λ vs. HasEach Has vs es)) (one (tuple_word text (map text es)) (of_row o es) (one_tuple es k few)) (λ f h. let t = row-out (sizes ((length es, body_of o es) ∷ [])) f h in (t.0, (t.1.0, of_row-out es t.0 t.1.1))) (λ f h. row-in (sizes ((length es, body_of o es) ∷ [])) f (h.0, (h.1.0, of_row-in es h.0 h.1.1)))
+
+  -- the type of one atom has that atom alone
+  named-in : (a b : Name) → eq_by_cmp name_cmp b a ≡ true → Has (atom b) (o.of_names (a ∷ []))
+  named-in a b e = l.naming.names_in (a ∷ []) b (in_first (eq_by_cmp name_cmp b a) false e)
+
+  named-out : o.has_tags ≡ true → (a : Name) (v : Value) → Has v (o.of_names (a ∷ [])) → v ≡ atom a
+  named-out t a v h =
+      let w = l.naming.only_out (o.of_names (a ∷ [])) (a ∷ []) (one_name t a).1 v h in
+      w.1.0 ∙ ap atom (elim (either (eq_by_cmp name_cmp w.0 a) false w.1.1) [
+        | inl e ↦ ascending.is_it name_laws.name_total name_laws.name_same w.0 a e
+        | inr e ↦ absurd (true≢false (sym e))
+      ])
+
+  named-element : (a : Name) → IsElement Normal o (o.of_names (a ∷ []))
+  named-element a =
+      (l.naming.names_normal (a ∷ []), filled-not_none l (o.of_names (a ∷ [])) (atom a) (named-in a a (ascending.itself name_laws.name_total name_laws.name_same a)))
+
+  -- a tag is the row of its atom and the types after it
+  tag_spelled : (n : ℕ) (a : Name) (es : List E) → o.has_tags ≡ true → NormalRow Normal o n (Some es) → nat_lt (suc n) 65 ≡ true → Spelled (tuple_word text (quoted a ∷ map text es) ∷ []) (IsRow (λ vs. HasEach Has vs (o.of_names (a ∷ []) ∷ es)))
+  tag_spelled n a es t k few =
+      let fs = o.of_names (a ∷ []) ∷ es in
+      subst (λ w. Spelled (tuple_word text (w ∷ map text es) ∷ []) (IsRow (λ vs. HasEach Has vs fs))) (one_name t a).0 (row_spelled fs (named-element a, k.1) (subst (λ i. nat_lt (suc i) 65 ≡ true) (sym k.0) few))
+
+  module _ (e : Name × List E) (m : List (Name × List E)) where
+    tag_first-out : o.has_tags ≡ true → (vs : Values) → HasEach Has vs (o.of_names (e.0 ∷ []) ∷ e.1) → HasTag Has vs (e ∷ m)
+    tag_first-out t no_value h = absurd h
+    tag_first-out t (and_value v vs) h =
+        subst (λ u. HasTag Has (and_value u vs) (e ∷ m)) (sym (named-out t e.0 v h.0)) (subst (HasRow Has vs) (sym (tables.find-first name_laws.name_total name_laws.name_same e m)) h.1)
+
+    tag_later-out : is_table name_cmp (e ∷ m) ≡ true → (vs : Values) → HasTag Has vs m → HasTag Has vs (e ∷ m)
+    tag_later-out table vs h =
+        let w = tagged l vs m h in
+        subst (λ u. HasTag Has u (e ∷ m)) (sym w.1.1.0) (elim (decided (eq_by_cmp name_cmp w.0 e.0)) [
+          | inl s ↦ absurd (subst (HasRow Has w.1.0) (tables.find-again name_laws.name_total name_laws.name_same e m w.0 table s) w.1.1.1)
+          | inr s ↦ subst (HasRow Has w.1.0) (sym (tables.find-later name_laws.name_total name_laws.name_same e m w.0 s)) w.1.1.1
+        ])
+
+    tag-out : o.has_tags ≡ true → is_table name_cmp (e ∷ m) ≡ true → (f : Form) → IsRow (λ vs. HasEach Has vs (o.of_names (e.0 ∷ []) ∷ e.1)) f ⊎ IsRow (λ vs. HasTag Has vs m) f → IsRow (λ vs. HasTag Has vs (e ∷ m)) f
+    tag-out t table f (inl h) = (h.0, (h.1.0, tag_first-out t h.0 h.1.1))
+    tag-out t table f (inr h) = (h.0, (h.1.0, tag_later-out table h.0 h.1.1))
+
+    tag-into : (f : Form) → IsRow (λ vs. HasTag Has vs (e ∷ m)) f → IsRow (λ vs. HasEach Has vs (o.of_names (e.0 ∷ []) ∷ e.1)) f ⊎ IsRow (λ vs. HasTag Has vs m) f
+    tag-into f h =
+        let w = tagged l h.0 (e ∷ m) h.1.1 in
+        let vs = and_value (atom w.0) w.1.0 in
+        let is : f ≡ row vs = h.1.0 ∙ ap row w.1.1.0 in
+        elim (decided (eq_by_cmp name_cmp w.0 e.0)) [
+          | inl s ↦ inl (vs, (is, (named-in e.0 w.0 s, subst (λ b. HasRow Has w.1.0 (cond b (Some e.1) (find name_cmp m w.0))) s w.1.1.1)))
+          | inr s ↦ inr (vs, (is, subst (HasRow Has w.1.0) (tables.find-later name_laws.name_total name_laws.name_same e m w.0 s) w.1.1.1))
+        ]
+
+  tags_spelled : (n : ℕ) (m : List (Name × List E)) → o.has_tags ≡ true → is_table name_cmp m ≡ true → NormalRows Normal o n m → nat_lt (suc n) 65 ≡ true → Spelled (tag_words text m) (IsRow (λ vs. HasTag Has vs m))
+  tags_spelled n [] t table k few = nothing (IsRow (λ vs. HasTag Has vs [])) (λ f h. let w = tagged l h.0 [] h.1.1 in w.1.1.1)
+  tags_spelled n (e ∷ m) t table k few =
+      changed (IsRow (λ vs. HasTag Has vs (e ∷ m))) (append (tag_spelled n e.0 e.1 t k.0 few) (tags_spelled n m t (tables.table-rest name_laws.name_total name_laws.name_same e m table) k.1 few)) (tag-out e m t table) (tag-into e m)
+
+  body_spelled : (n : ℕ) (b : Body E) → nat_lt n 65 ≡ true → NormalBody Normal o n (Some b) → Spelled (body_words text b) (IsRow (λ vs. HasBody Has vs (Some b)))
+  body_spelled n (product es) few k = row_spelled es k.0.1 (subst (λ i. nat_lt i 65 ≡ true) (sym k.0.0) few)
+  body_spelled zero (tags m) few k = absurd k
+  body_spelled (suc n) (tags m) few k = tags_spelled n m k.2 k.0.0 k.0.2 few
+
+  module _ (e : ℕ × Body E) (m : List (ℕ × Body E)) where
+    size_first-out : NormalBody Normal o e.0 (Some e.1) → (vs : Values) → HasBody Has vs (Some e.1) → HasTuple Has vs (sizes (e ∷ m))
+    size_first-out k vs h =
+        subst (HasBody Has vs) (sym (ap (find nat_cmp (e ∷ m)) (count_body l e.0 vs (Some e.1) k h) ∙ tables.find-first nat_cmp_total nat_cmp-IsAntisymmetric e m)) h
+
+    size_later-out : is_table nat_cmp (e ∷ m) ≡ true → (vs : Values) → HasTuple Has vs (sizes m) → HasTuple Has vs (sizes (e ∷ m))
+    size_later-out table vs h = elim (decided (eq_by_cmp nat_cmp (count vs) e.0)) [
+      | inl s ↦ absurd (subst (HasBody Has vs) (tables.find-again nat_cmp_total nat_cmp-IsAntisymmetric e m (count vs) table s) h)
+      | inr s ↦ subst (HasBody Has vs) (sym (tables.find-later nat_cmp_total nat_cmp-IsAntisymmetric e m (count vs) s)) h
+    ]
+
+    size-out : NormalBody Normal o e.0 (Some e.1) → is_table nat_cmp (e ∷ m) ≡ true → (f : Form) → IsRow (λ vs. HasBody Has vs (Some e.1)) f ⊎ IsRow (λ vs. HasTuple Has vs (sizes m)) f → IsRow (λ vs. HasTuple Has vs (sizes (e ∷ m))) f
+    size-out k table f (inl h) = (h.0, (h.1.0, size_first-out k h.0 h.1.1))
+    size-out k table f (inr h) = (h.0, (h.1.0, size_later-out table h.0 h.1.1))
+
+    size-into : (f : Form) → IsRow (λ vs. HasTuple Has vs (sizes (e ∷ m))) f → IsRow (λ vs. HasBody Has vs (Some e.1)) f ⊎ IsRow (λ vs. HasTuple Has vs (sizes m)) f
+    size-into f h =
+        let n = count h.0 in
+        elim (decided (eq_by_cmp nat_cmp n e.0)) [
+          | inl s ↦ inl (h.0, (h.1.0, subst (λ b. HasBody Has h.0 (cond b (Some e.1) (find nat_cmp m n))) s h.1.1))
+          | inr s ↦ inr (h.0, (h.1.0, subst (HasBody Has h.0) (tables.find-later nat_cmp_total nat_cmp-IsAntisymmetric e m n s) h.1.1))
+        ]
+
+  sizes_spelled : (m : List (ℕ × Body E)) → is_table nat_cmp m ≡ true → NormalSizes Normal o m → Spelled (size_words text m) (IsRow (λ vs. HasTuple Has vs (sizes m)))
+  sizes_spelled [] table k = nothing (IsRow (λ vs. HasTuple Has vs (sizes []))) (λ f h. h.1.1)
+  sizes_spelled (e ∷ m) table k =
+      changed (IsRow (λ vs. HasTuple Has vs (sizes (e ∷ m)))) (append (body_spelled e.0 e.1 k.0 k.1) (sizes_spelled m (tables.table-rest nat_cmp_total nat_cmp-IsAntisymmetric e m table) k.2)) (size-out e m k.1 table) (size-into e m)
+
+  tuples_spelled : (t : Tuples E) → NormalTuples Normal o t → Spelled (tuples_words text t) (λ f. HasF f (of_tuples o t))
+  tuples_spelled (sizes m) k = changed (λ f. HasF f (of_tuples o (sizes m))) (sizes_spelled m k.0 k.2) (λ f h. row-in (sizes m) f h) (λ f h. row-out (sizes m) f h)
+  tuples_spelled all_tuples k = one (codes "tuple()") (of_tuples o all_tuples) every_tuple
+
+  -- ---- a whole type
+
+  abbrev EachOf : Parts E → Form → Type 0
+  EachOf t f = (HasF f (of_plain o t.plain) ⊎ HasF f (of_cell o t.cell)) ⊎ HasF f (of_tuples o t.tuples)
+
+  parts-into : (t : Parts E) (f : Form) → HasF f t → EachOf t f
+  parts-into t (leaf x) h = inl (inl h)
+  parts-into t (pair x y) h = inl (inr h)
+  parts-into t (row vs) h = inr h
+
+  parts-out : (t : Parts E) (f : Form) → EachOf t f → HasF f t
+  parts-out t (leaf x) (inl (inl h)) = h
+  parts-out t (leaf x) (inl (inr h)) = absurd (plain-none_empty x h)
+  parts-out t (leaf x) (inr h) = absurd (plain-none_empty x h)
+  parts-out t (pair x y) (inl (inl h)) = absurd h
+  parts-out t (pair x y) (inl (inr h)) = h
+  parts-out t (pair x y) (inr h) = absurd h
+  parts-out t (row vs) (inl (inl h)) = absurd h
+  parts-out t (row vs) (inl (inr h)) = absurd h
+  parts-out t (row vs) (inr h) = h
+
+  parts_spelled : (t : Parts E) → NormalParts Normal o t → Spelled (parts_words text t) (λ f. HasF f t)
+  parts_spelled t k = changed (λ f. HasF f t) (append (append (plain_spelled t.plain k.0) (cell_spelled t.cell k.1)) (tuples_spelled t.tuples k.2)) (parts-out t) (parts-into t)
+
+  -- what is not none is written in words whose types join to it
+  pub record Written (t : Parts E) : Type 0 where
+    pub word : List ℕ
+    pub first : Parts E
+    pub later : List (List ℕ × Parts E)
+    pub is_word : IsWordOf text Normal o word first
+    pub are_words : AreWordsOf text Normal o later
+    pub written : parts_words text t ≡ word ∷ spelled later
+    pub together : joined_with (parts_join o) first later ≡ t
+
+  written_from : (t : Parts E) → NormalParts Normal o t → parts_is_none o t ≡ false → (ps : Pairs) → Words ps → spelled ps ≡ parts_words text t → ((f : Form) → SomeHas HasF f ps → HasF f t) → ((f : Form) → HasF f t → SomeHas HasF f ps) → Written t
+  written_from t k some [] words same out into = elim ((form_lattice l).filled t k) [
+    | inl e ↦ absurd (true≢false (sym (ap (parts_is_none o) e) ∙ some))
+    | inr w ↦ absurd (into w.0 w.1)
+  ]
+  written_from t k some (p ∷ ps) words same out into = record {
+    word = p.0;
+    first = p.1;
+    later = ps;
+    is_word = words.0;
+    are_words = words.1;
+    written = sym same;
+    together = joined_with-is (form_lattice l) p.1 ps t (word_of-normal p.0 p.1 words.0) (words_of-normal ps words.1) k out into;
+  }
+
+  pub written : (t : Parts E) → NormalParts Normal o t → parts_is_none o t ≡ false → Written t
+  written t k some = let s = parts_spelled t k in written_from t k some s.pairs s.words s.same s.out s.into
+
+-- ---- at each level
+
+-- where there can be tags, the type of one atom is written as the atom
+pub one_name : (d : ℕ) → (ops d).has_tags ≡ true → (a : Name) → (text_at d ((ops d).of_names (a ∷ [])) ≡ quoted a) × ((ops d).only ((ops d).of_names (a ∷ [])) ≡ Some (a ∷ []))
+unfolding ops
+one_name zero t a = absurd (true≢false (sym t))
+one_name (suc d) t a =
+    let one : names.or_else (a ∷ []) names.every ≡ names.some (a ∷ []) refl = names.or_else-yes (a ∷ []) names.every refl in
+    (ap (λ s. text_at (suc d) (of_atoms (ops d) s)) one ∙ append-nil (quoted a), ap (λ s. (ops (suc d)).only (of_atoms (ops d) s)) one)
+
+pub word-normal : (d : ℕ) (w : List ℕ) (u : TypeAt (suc d)) → IsWord d w u → NormalAt (suc d) u
+unfolding NormalAt
+word-normal d w u i = word_of-normal (level_laws d) (text_at d) (one_name d) w u i
+
+pub word-not_none : (d : ℕ) (w : List ℕ) (u : TypeAt (suc d)) → IsWord d w u → (ops (suc d)).is_none u ≡ false
+unfolding ops
+word-not_none d w u i = word_of-not_none (level_laws d) (text_at d) (one_name d) w u i
+
+-- what is neither any nor none is written as its words
+pub text-words : (d : ℕ) (t : TypeAt (suc d)) → is_any (suc d) t ≡ false → (ops (suc d)).is_none t ≡ false → text_at (suc d) t ≡ separated (codes " | ") (parts_words (text_at d) t)
+text-words d t part some =
+    let words = separated (codes " | ") (parts_words (text_at d) t) in
+    ap (λ b. cond b (codes "any()") (cond ((ops (suc d)).is_none t) (codes "none()") words)) part ∙ ap (λ b. cond b (codes "none()") words) some
+
+-- and the types of the words join to it
+pub words_of : (d : ℕ) (t : TypeAt (suc d)) → NormalAt (suc d) t → is_any (suc d) t ≡ false → (ops (suc d)).is_none t ≡ false → WordsOf d t
+unfolding ops NormalAt
+words_of d t k part some =
+    let s = written (level_laws d) (text_at d) (one_name d) t k some in
+    record {
+      word = s.word;
+      first = s.first;
+      later = s.later;
+      is_word = s.is_word;
+      are_words = s.are_words;
+      written = text-words d t part some ∙ ap (separated (codes " | ")) s.written;
+      together = s.together;
+    }

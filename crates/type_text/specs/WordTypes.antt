@@ -1,0 +1,119 @@
+-- The words of a type. Each word stands for a type of its own, and the type that is written is the join of these.
+use Rattle.std.specs.Prelude.{◌≡◌, ℕ, suc, ◌^◌, ℤ, Bool, true, false, nat_lt, List, [], ◌∷◌, ◌++◌, length, map, Option, Some, None, codes}
+use Rattle.std.specs.Fmt.{decimal, signed_decimal}
+use Rattle.type_kinds.specs.Quoted.{quoted}
+use Rattle.type_sets.specs.Names as names
+use Rattle.type_sets.specs.Names.{Name}
+use Rattle.type_sets.specs.Numbers as numbers
+use Rattle.type_sets.specs.Numbers.{Numbers, is_narrow}
+use Rattle.type_sets.specs.Ends.{is_range}
+use Rattle.type_sets.specs.declared.ends.Low.{Low}
+use Rattle.type_sets.specs.declared.ends.High.{High}
+use Rattle.type_sets.specs.declared.bits.Bits.{Bits}
+use Rattle.type_sets.specs.declared.bits.Bits.TheVariants.{No, Whole, Any}
+use Rattle.type_family.specs.Shapes.{Kinds, Functions, no_function, of_arity, all_functions, Cell, Tuples, sizes, all_tuples, Parts, TypeAt}
+use Rattle.type_family.specs.Operations.{Ops, no_kinds, plain_none, body_of, of_plain, of_atoms, ops}
+use Rattle.type_family.specs.Normal.{IsElement, AreElements, NormalAt}
+use Rattle.type_text.specs.Texts.{after, range_word, tuple_word, text_at}
+
+-- ---- types of one part
+
+abbrev pub float_kind : Kinds
+float_kind = record { float = true; pid = false; port = false; reference = false; nil = false }
+
+abbrev pub pid_kind : Kinds
+pid_kind = record { float = false; pid = true; port = false; reference = false; nil = false }
+
+abbrev pub port_kind : Kinds
+port_kind = record { float = false; pid = false; port = true; reference = false; nil = false }
+
+abbrev pub reference_kind : Kinds
+reference_kind = record { float = false; pid = false; port = false; reference = true; nil = false }
+
+abbrev pub nil_kind : Kinds
+nil_kind = record { float = false; pid = false; port = false; reference = false; nil = true }
+
+module _ {E : Type 0} (o : Ops E) where
+  abbrev pub of_ints : Numbers → Parts E
+  of_ints s = of_plain o (record { atoms = names.none; ints = s; bits = No; kinds = no_kinds; functions = no_function })
+
+  abbrev pub of_bits : Bits → Parts E
+  of_bits s = of_plain o (record { atoms = names.none; ints = numbers.none; bits = s; kinds = no_kinds; functions = no_function })
+
+  abbrev pub of_kinds : Kinds → Parts E
+  of_kinds k = of_plain o (record { atoms = names.none; ints = numbers.none; bits = No; kinds = k; functions = no_function })
+
+  abbrev pub of_functions : Functions → Parts E
+  of_functions f = of_plain o (record { atoms = names.none; ints = numbers.none; bits = No; kinds = no_kinds; functions = f })
+
+  abbrev pub of_cell : Option (Cell E) → Parts E
+  of_cell c = record { plain = plain_none; cell = c; tuples = sizes [] }
+
+  abbrev pub of_list : E → Bool → Parts E
+  of_list e proper = of_cell (Some (record { element = e; is_proper = proper }))
+
+  abbrev pub of_tuples : Tuples E → Parts E
+  of_tuples t = record { plain = plain_none; cell = None; tuples = t }
+
+  -- the tuples of these element types
+  abbrev pub of_row : List E → Parts E
+  of_row es = of_tuples (sizes ((length es, body_of o es) ∷ []))
+
+-- ---- words
+
+-- a word, and the type that it stands for. The types of elements are normal and not none, and a tuple has at most 64 of them
+pub data IsWordOf {E : Type 0} (text : E → List ℕ) (Normal : E → Type 0) (o : Ops E) : List ℕ → Parts E → Type 0 where
+  one_atom : (a : Name) → IsWordOf text Normal o (quoted a) (of_atoms o (names.listed (a ∷ [])))
+  every_atom : IsWordOf text Normal o (codes "atom()") (of_atoms o names.every)
+  one_int : (n : ℤ) → is_narrow n ≡ true → IsWordOf text Normal o (signed_decimal n) (of_ints o (numbers.listed (n ∷ [])))
+  ints_between : (l : Low) (h : High) → is_range l h ≡ true → IsWordOf text Normal o (range_word l h) (of_ints o (numbers.range l h))
+  every_float : IsWordOf text Normal o (codes "float()") (of_kinds o float_kind)
+  whole_bits : IsWordOf text Normal o (codes "binary()") (of_bits o Whole)
+  every_bits : IsWordOf text Normal o (codes "bitstring()") (of_bits o Any)
+  every_pid : IsWordOf text Normal o (codes "pid()") (of_kinds o pid_kind)
+  every_port : IsWordOf text Normal o (codes "port()") (of_kinds o port_kind)
+  every_reference : IsWordOf text Normal o (codes "reference()") (of_kinds o reference_kind)
+  every_function : IsWordOf text Normal o (codes "fun()") (of_functions o all_functions)
+  -- the functions of one arity
+  one_arity : (n : ℕ) → nat_lt n (2 ^ 32) ≡ true → IsWordOf text Normal o (codes "fun(" ++ decimal n ++ codes ")") (of_functions o (of_arity n))
+  empty_list : IsWordOf text Normal o (codes "[]") (of_kinds o nil_kind)
+  -- the lists with proper ends, and those with any
+  proper_list : (e : E) → IsElement Normal o e → IsWordOf text Normal o (codes "cons(" ++ text e ++ codes ")") (of_list o e true)
+  any_list : (e : E) → IsElement Normal o e → IsWordOf text Normal o (codes "cons_any(" ++ text e ++ codes ")") (of_list o e false)
+  every_tuple : IsWordOf text Normal o (codes "tuple()") (of_tuples o all_tuples)
+  -- the tuples of some element types. Where the first is one atom, this is the word of a tag
+  one_tuple : (es : List E) → AreElements Normal o es → nat_lt (length es) 65 ≡ true → IsWordOf text Normal o (tuple_word text (map text es)) (of_row o es)
+
+-- the same at a level, whose elements are of level d
+abbrev pub IsWord : (d : ℕ) → List ℕ → TypeAt (suc d) → Type 0
+IsWord d w u = IsWordOf (text_at d) (NormalAt d) (ops d) w u
+
+-- ---- words with their types
+
+-- each word stands for its type
+abbrev pub AreWordsOf : {E : Type 0} → (E → List ℕ) → (E → Type 0) → Ops E → List (List ℕ × Parts E) → Type 0
+AreWordsOf text Normal o [] = Unit {0}
+AreWordsOf text Normal o (p ∷ ps) = IsWordOf text Normal o p.0 p.1 × AreWordsOf text Normal o ps
+
+abbrev pub AreWords : (d : ℕ) → List (List ℕ × TypeAt (suc d)) → Type 0
+AreWords d ps = AreWordsOf (text_at d) (NormalAt d) (ops d) ps
+
+-- the words alone
+abbrev pub spelled : {T : Type 0} → List (List ℕ × T) → List (List ℕ)
+spelled [] = []
+spelled (p ∷ ps) = p.0 ∷ spelled ps
+
+-- a type joined with those of some words, one after the other
+abbrev pub joined_with : {T : Type 0} → (T → T → T) → T → List (List ℕ × T) → T
+joined_with join u [] = u
+joined_with join u (p ∷ ps) = joined_with join (join u p.1) ps
+
+-- the words that a type is written in: the first, and those after it
+pub record WordsOf (d : ℕ) (t : TypeAt (suc d)) : Type 0 where
+  pub word : List ℕ
+  pub first : TypeAt (suc d)
+  pub later : List (List ℕ × TypeAt (suc d))
+  pub is_word : IsWord d word first
+  pub are_words : AreWords d later
+  pub written : text_at (suc d) t ≡ word ++ after (codes " | ") (spelled later)
+  pub together : joined_with (ops (suc d)).join first later ≡ t

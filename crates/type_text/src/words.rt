@@ -1,0 +1,499 @@
+//! What a text begins with, as a type: a whole type, or one of its words.
+ghost use Rattle.std.specs.Prelude.{◌≡◌, ◌≤◌, ◌<◌, ◌^◌, ◌++◌, ◌∷◌, [], ℕ, ℤ, List, suc, true, false, length, map, codes, IsTrue, IfOk, IfSome, MatchOption};
+ghost use Rattle.std.specs.Fmt.{signed_decimal};
+ghost use Rattle.type_kinds.specs.Quoted.{quoted};
+ghost use Rattle.type_sets.specs.Names as names;
+ghost use Rattle.type_sets.specs.Numbers as numbers;
+ghost use Rattle.type_sets.specs.Numbers.{is_narrow};
+ghost use Rattle.type_family.specs.Shapes.{TypeAt, sizes, all_tuples};
+ghost use Rattle.type_family.specs.Operations.{ops, of_plain, of_atoms};
+ghost use Rattle.type_family.specs.Normal.{NormalAt, NormalFunctions, IsElement, AreElements};
+ghost use Rattle.type_trees.specs.Plains.{kinds_of, functions_of};
+ghost use Rattle.type_trees.specs.View.{view, body_view, row_view, Fits, EachNode, BodyFits};
+ghost use Rattle.type_text.specs.Texts.{text_at, after, separated};
+ghost use Rattle.type_text.specs.Words.{TypeStop, WordStop};
+ghost use Rattle.type_text.specs.WordTypes.{IsWord, AreWords, spelled, joined_with, of_tuples, of_list, of_row, of_kinds, of_bits, of_functions, of_ints};
+ghost use Rattle.type_text.specs.Starts.{begins_number, NoKind, NoBits, NoFunction, NoInterval, NoName};
+
+use crate::leaves::{after_word, read_arity, read_integer, read_quoted, read_range};
+use std::alloc::Global;
+use type_kinds::{Boxed, List, Memory};
+use type_sets::{AtomSet, Bits, High, IntSet, Low};
+use type_trees::{
+    BodyOf, CellOf, FunSet, KindSet, Node, PartsOf, Plain, SizeOf, TuplesOf, add, add_size,
+    discard, is_none, join, product_body,
+};
+
+/// The type of a level, which has a value, that the text begins with, and what is left.
+#[cycle(words)]
+pub fn read_type<'a>(
+    alloc: Global,
+    level: u32,
+    text: &'a [u8],
+) -> Result<Option<(Node, &'a [u8])>, Memory>
+    ensures fits { IfOk result (λ r. IfSome r (λ p. Fits level p.0)) }
+    ensures shorter { IfOk result (λ r. IfSome r (λ p. length p.1.now ≤ length text.now)) }
+    ensures complete { IfOk result (λ r. (t : TypeAt level) (rest : List ℕ) → NormalAt level t → (ops level).is_none t ≡ false → TypeStop rest → text.now ≡ text_at level t ++ rest → MatchOption r ⊥ (λ p. (view level p.0 ≡ t) × (p.1.now ≡ rest))) }
+{
+    if let Some(rest) = after_word(text, b"any()") {
+        return Ok(Some((Node::Any, rest)));
+    }
+    if level == 0 {
+        return Ok(None);
+    }
+    match read_word(alloc, level - 1, text)? {
+        None => Ok(None),
+        Some((first, rest)) => read_more(alloc, level - 1, first, rest),
+    }
+}
+
+// The join of a type and of all words to come, each of which has a separator before it. Here and
+// below the level is that of the elements.
+#[cycle(words)]
+fn read_more<'a>(
+    alloc: Global,
+    level: u32,
+    first: Node,
+    text: &'a [u8],
+) -> Result<Option<(Node, &'a [u8])>, Memory>
+    requires fits { Fits (suc level) first }
+    requires below { suc level < 2 ^ 32 }
+    ensures fits { IfOk result (λ r. IfSome r (λ p. Fits (suc level) p.0)) }
+    ensures shorter { IfOk result (λ r. IfSome r (λ p. length p.1.now ≤ length text.now)) }
+    ensures complete { IfOk result (λ r. (later : List (List ℕ × TypeAt (suc level))) (rest : List ℕ) → AreWords level later → TypeStop rest → text.now ≡ after (codes " | ") (spelled later) ++ rest → MatchOption r ⊥ (λ p. (view (suc level) p.0 ≡ joined_with (ops (suc level)).join (view (suc level) first) later) × (p.1.now ≡ rest))) }
+{
+    let mut t = first;
+    let mut rest = text;
+    while let Some(next) = after_word(rest, b" | ") {
+        let Some((other, after)) = read_word(alloc, level, next)? else {
+            discard(t);
+            return Ok(None);
+        };
+        t = joined(alloc, level, t, other)?;
+        rest = after;
+    }
+    Ok(Some((t, rest)))
+}
+
+// The join of two types, of which neither is left.
+fn joined(alloc: Global, level: u32, a: Node, b: Node) -> Result<Node, Memory>
+    requires a { Fits (suc level) a }
+    requires b { Fits (suc level) b }
+    requires below { suc level < 2 ^ 32 }
+    ensures fits { IfOk result (λ j. Fits (suc level) j) }
+    ensures value { IfOk result (λ j. view (suc level) j ≡ (ops (suc level)).join (view (suc level) a) (view (suc level) b)) }
+{
+    join(alloc, level + 1, &a, &b)
+}
+
+// The type of one word, whose elements are of the level.
+#[cycle(words)]
+fn read_word<'a>(
+    alloc: Global,
+    level: u32,
+    text: &'a [u8],
+) -> Result<Option<(Node, &'a [u8])>, Memory>
+    ensures fits { IfOk result (λ r. IfSome r (λ p. Fits (suc level) p.0)) }
+    ensures shorter { IfOk result (λ r. IfSome r (λ p. length p.1.now ≤ length text.now)) }
+    ensures complete { IfOk result (λ r. (w rest : List ℕ) (u : TypeAt (suc level)) → IsWord level w u → WordStop rest → text.now ≡ w ++ rest → MatchOption r ⊥ (λ p. (view (suc level) p.0 ≡ u) × (p.1.now ≡ rest))) }
+{
+    if after_word(text, b"'").is_some() {
+        return read_atom(alloc, text);
+    }
+    if is_number(text) {
+        return Ok(read_number(alloc, text));
+    }
+    if let Some(rest) = after_word(text, b"{") {
+        return read_tuple(alloc, level, rest);
+    }
+    if let Some(rest) = after_word(text, b"cons(") {
+        return read_list(alloc, level, true, rest);
+    }
+    if let Some(rest) = after_word(text, b"cons_any(") {
+        return read_list(alloc, level, false, rest);
+    }
+    Ok(read_name(alloc, text))
+}
+
+// Whether the text begins as a number does.
+fn is_number(text: &[u8]) -> bool
+    ensures { result ≡ begins_number text.now }
+{
+    match text.split_first() {
+        Some((first, _)) => *first == b'-' || first.is_ascii_digit(),
+        None => false,
+    }
+}
+
+// The type of a level that the text begins with, where it has a value.
+#[cycle(words)]
+fn read_element<'a>(
+    alloc: Global,
+    level: u32,
+    text: &'a [u8],
+) -> Result<Option<(Node, &'a [u8])>, Memory>
+    ensures fits { IfOk result (λ r. IfSome r (λ p. Fits level p.0 × ((ops level).is_none (view level p.0) ≡ false))) }
+    ensures shorter { IfOk result (λ r. IfSome r (λ p. length p.1.now ≤ length text.now)) }
+    ensures complete { IfOk result (λ r. (t : TypeAt level) (rest : List ℕ) → IsElement (NormalAt level) (ops level) t → TypeStop rest → text.now ≡ text_at level t ++ rest → MatchOption r ⊥ (λ p. (view level p.0 ≡ t) × (p.1.now ≡ rest))) }
+{
+    let Some((element, rest)) = read_type(alloc, level, text)? else {
+        return Ok(None);
+    };
+    if is_none(&element) {
+        discard(element);
+        return Ok(None);
+    }
+    Ok(Some((element, rest)))
+}
+
+// The lists of an element type, whose text ends in a bracket.
+#[cycle(words)]
+fn read_list<'a>(
+    alloc: Global,
+    level: u32,
+    is_proper: bool,
+    text: &'a [u8],
+) -> Result<Option<(Node, &'a [u8])>, Memory>
+    ensures fits { IfOk result (λ r. IfSome r (λ p. Fits (suc level) p.0)) }
+    ensures shorter { IfOk result (λ r. IfSome r (λ p. length p.1.now ≤ length text.now)) }
+    ensures complete { IfOk result (λ r. (e : TypeAt level) (rest : List ℕ) → IsElement (NormalAt level) (ops level) e → text.now ≡ text_at level e ++ (codes ")" ++ rest) → MatchOption r ⊥ (λ p. (view (suc level) p.0 ≡ of_list (ops level) e is_proper) × (p.1.now ≡ rest))) }
+{
+    let Some((element, rest)) = read_element(alloc, level, text)? else {
+        return Ok(None);
+    };
+    match after_word(rest, b")") {
+        Some(rest) => Ok(Some((list_of(alloc, element, is_proper)?, rest))),
+        None => {
+            discard(element);
+            Ok(None)
+        }
+    }
+}
+
+// The lists of an element type.
+fn list_of(alloc: Global, element: Node, is_proper: bool) -> Result<Node, Memory>
+    ensures fits { IfOk result (λ t. (d : ℕ) → Fits d element → (ops d).is_none (view d element) ≡ false → Fits (suc d) t) }
+    ensures value { IfOk result (λ t. (d : ℕ) → view (suc d) t ≡ of_list (ops d) (view d element) is_proper) }
+{
+    match Boxed::new(alloc, element) {
+        Ok(element) => Ok(Node::Of(PartsOf {
+            plain: Plain::none(),
+            cell: Some(CellOf { element, is_proper }),
+            tuples: TuplesOf::Sizes(List::new(alloc)),
+        })),
+        Err((element, Memory)) => {
+            discard(element);
+            Err(Memory)
+        }
+    }
+}
+
+// A tuple, whose opening bracket is gone.
+#[cycle(words)]
+fn read_tuple<'a>(
+    alloc: Global,
+    level: u32,
+    text: &'a [u8],
+) -> Result<Option<(Node, &'a [u8])>, Memory>
+    ensures fits { IfOk result (λ r. IfSome r (λ p. Fits (suc level) p.0)) }
+    ensures shorter { IfOk result (λ r. IfSome r (λ p. length p.1.now ≤ length text.now)) }
+    ensures complete { IfOk result (λ r. (es : List (TypeAt level)) (rest : List ℕ) → AreElements (NormalAt level) (ops level) es → length es < 65 → text.now ≡ separated (codes ",") (map (text_at level) es) ++ (codes "}" ++ rest) → MatchOption r ⊥ (λ p. (view (suc level) p.0 ≡ of_row (ops level) es) × (p.1.now ≡ rest))) }
+{
+    let Some((row, rest)) = read_row(alloc, level, text)? else {
+        return Ok(None);
+    };
+    if row.len() > 64 {
+        discard_row(row);
+        return Ok(None);
+    }
+    Ok(Some((tuples_of(alloc, level, row)?, rest)))
+}
+
+fn discard_row(_row: List<Node>) {}
+
+// The tuples of these element types.
+fn tuples_of(alloc: Global, level: u32, row: List<Node>) -> Result<Node, Memory>
+    requires few { length row < 65 }
+    requires each { EachNode (Fits level) row }
+    requires some { AreElements (NormalAt level) (ops level) (row_view level row) }
+    ensures fits { IfOk result (λ t. Fits (suc level) t) }
+    ensures value { IfOk result (λ t. view (suc level) t ≡ of_row (ops level) (row_view level row)) }
+{
+    let size = row.len() as u8;
+    let body = product_body(alloc, level, row)?;
+    one_size(alloc, size, body)
+}
+
+// Element types up to the closing bracket, which is gone then too.
+#[cycle(words)]
+fn read_row<'a>(
+    alloc: Global,
+    level: u32,
+    text: &'a [u8],
+) -> Result<Option<(List<Node>, &'a [u8])>, Memory>
+    ensures each { IfOk result (λ r. IfSome r (λ p. EachNode (Fits level) p.0)) }
+    ensures some { IfOk result (λ r. IfSome r (λ p. AreElements (NormalAt level) (ops level) (row_view level p.0))) }
+    ensures shorter { IfOk result (λ r. IfSome r (λ p. length p.1.now ≤ length text.now)) }
+    ensures complete { IfOk result (λ r. (es : List (TypeAt level)) (rest : List ℕ) → AreElements (NormalAt level) (ops level) es → text.now ≡ separated (codes ",") (map (text_at level) es) ++ (codes "}" ++ rest) → MatchOption r ⊥ (λ p. (row_view level p.0 ≡ es) × (p.1.now ≡ rest))) }
+{
+    if let Some(rest) = after_word(text, b"}") {
+        return Ok(Some((List::new(alloc), rest)));
+    }
+    let Some((element, rest)) = read_element(alloc, level, text)? else {
+        return Ok(None);
+    };
+    let mut row = List::new(alloc);
+    add(&mut row, element)?;
+    read_later(alloc, level, row, rest)
+}
+
+// More element types, each of which has a comma before it, and the closing bracket.
+#[cycle(words)]
+fn read_later<'a>(
+    alloc: Global,
+    level: u32,
+    first: List<Node>,
+    text: &'a [u8],
+) -> Result<Option<(List<Node>, &'a [u8])>, Memory>
+    requires each { EachNode (Fits level) first }
+    requires some { AreElements (NormalAt level) (ops level) (row_view level first) }
+    ensures each { IfOk result (λ r. IfSome r (λ p. EachNode (Fits level) p.0)) }
+    ensures some { IfOk result (λ r. IfSome r (λ p. AreElements (NormalAt level) (ops level) (row_view level p.0))) }
+    ensures shorter { IfOk result (λ r. IfSome r (λ p. length p.1.now ≤ length text.now)) }
+    ensures complete { IfOk result (λ r. (es : List (TypeAt level)) (rest : List ℕ) → AreElements (NormalAt level) (ops level) es → text.now ≡ after (codes ",") (map (text_at level) es) ++ (codes "}" ++ rest) → MatchOption r ⊥ (λ p. (row_view level p.0 ≡ row_view level first ++ es) × (p.1.now ≡ rest))) }
+{
+    let mut row = first;
+    let mut rest = text;
+    while let Some(next) = after_word(rest, b",") {
+        let Some((element, after)) = read_element(alloc, level, next)? else {
+            discard_row(row);
+            return Ok(None);
+        };
+        add(&mut row, element)?;
+        rest = after;
+    }
+    match after_word(rest, b"}") {
+        Some(after) => Ok(Some((row, after))),
+        None => {
+            discard_row(row);
+            Ok(None)
+        }
+    }
+}
+
+// The tuples of one size.
+fn one_size(alloc: Global, size: u8, body: BodyOf<Node>) -> Result<Node, Memory>
+    ensures fits { IfOk result (λ t. (d : ℕ) → size < 65 → BodyFits d size body → Fits (suc d) t) }
+    ensures value { IfOk result (λ t. (d : ℕ) → view (suc d) t ≡ of_tuples (ops d) (sizes ((size, body_view d body) ∷ []))) }
+{
+    let mut sizes = List::new(alloc);
+    add_size(&mut sizes, size, body)?;
+    Ok(Node::Of(PartsOf {
+        plain: Plain::none(),
+        cell: None,
+        tuples: TuplesOf::Sizes(sizes),
+    }))
+}
+
+// One atom.
+fn read_atom<'a>(alloc: Global, text: &'a [u8]) -> Result<Option<(Node, &'a [u8])>, Memory>
+    ensures fits { IfOk result (λ r. IfSome r (λ p. (d : ℕ) → Fits (suc d) p.0)) }
+    ensures shorter { IfOk result (λ r. IfSome r (λ p. length p.1.now ≤ length text.now)) }
+    ensures complete { IfOk result (λ r. (atom rest : List ℕ) → text.now ≡ quoted atom ++ rest → MatchOption r ⊥ (λ p. ((d : ℕ) → view (suc d) p.0 ≡ of_atoms (ops d) (names.listed (atom ∷ []))) × (p.1.now ≡ rest))) }
+{
+    let Some((atom, rest)) = read_quoted(alloc, text)? else {
+        return Ok(None);
+    };
+    let set = AtomSet::one(alloc, &atom)?;
+    Ok(Some((plain_alone(alloc, Plain::of_atoms(set)), rest)))
+}
+
+// One integer.
+fn read_number<'a>(alloc: Global, text: &'a [u8]) -> Option<(Node, &'a [u8])>
+    ensures fits { IfSome result (λ p. (d : ℕ) → Fits (suc d) p.0) }
+    ensures shorter { IfSome result (λ p. length p.1.now ≤ length text.now) }
+    ensures complete { (n : ℤ) (rest : List ℕ) → IsTrue (is_narrow n) → WordStop rest → text.now ≡ signed_decimal n ++ rest → MatchOption result ⊥ (λ p. ((d : ℕ) → view (suc d) p.0 ≡ of_ints (ops d) (numbers.listed (n ∷ []))) × (p.1.now ≡ rest)) }
+{
+    let (n, rest) = read_integer(text)?;
+    Some((ints_alone(alloc, IntSet::one(n)), rest))
+}
+
+// A word that begins with a name, or the empty list.
+fn read_name(alloc: Global, text: &[u8]) -> Option<(Node, &[u8])>
+    ensures fits { IfSome result (λ p. (d : ℕ) → Fits (suc d) p.0) }
+    ensures shorter { IfSome result (λ p. length p.1.now ≤ length text.now) }
+    ensures complete { (d : ℕ) (w rest : List ℕ) (u : TypeAt (suc d)) → IsWord d w u → text.now ≡ w ++ rest → MatchOption result (NoName text.now) (λ p. (view (suc d) p.0 ≡ u) × (p.1.now ≡ rest)) }
+{
+    if let Some(rest) = after_word(text, b"tuple()") {
+        return Some((every_tuple(), rest));
+    }
+    if let Some(rest) = after_word(text, b"atom()") {
+        return Some((plain_alone(alloc, Plain::of_atoms(AtomSet::all())), rest));
+    }
+    if let Some((kinds, rest)) = read_kinds(text) {
+        return Some((kinds_alone(alloc, kinds), rest));
+    }
+    if let Some((bits, rest)) = read_bits(text) {
+        return Some((bits_alone(alloc, bits), rest));
+    }
+    if let Some((functions, rest)) = read_functions(text) {
+        return Some((functions_alone(alloc, functions), rest));
+    }
+    let (ints, rest) = read_interval(text)?;
+    Some((ints_alone(alloc, ints), rest))
+}
+
+// One of the kinds of which a type has all values or none.
+fn read_kinds(text: &[u8]) -> Option<(KindSet, &[u8])>
+    ensures shorter { IfSome result (λ p. length p.1.now ≤ length text.now) }
+    ensures complete { (d : ℕ) (w rest : List ℕ) (u : TypeAt (suc d)) → IsWord d w u → text.now ≡ w ++ rest → MatchOption result (NoKind text.now) (λ p. (of_kinds (ops d) (kinds_of p.0) ≡ u) × (p.1.now ≡ rest)) }
+{
+    let mut kinds = KindSet {
+        float: false,
+        pid: false,
+        port: false,
+        reference: false,
+        nil: false,
+    };
+    if let Some(rest) = after_word(text, b"float()") {
+        kinds.float = true;
+        return Some((kinds, rest));
+    }
+    if let Some(rest) = after_word(text, b"pid()") {
+        kinds.pid = true;
+        return Some((kinds, rest));
+    }
+    if let Some(rest) = after_word(text, b"port()") {
+        kinds.port = true;
+        return Some((kinds, rest));
+    }
+    if let Some(rest) = after_word(text, b"reference()") {
+        kinds.reference = true;
+        return Some((kinds, rest));
+    }
+    let rest = after_word(text, b"[]")?;
+    kinds.nil = true;
+    Some((kinds, rest))
+}
+
+// Some bits.
+fn read_bits(text: &[u8]) -> Option<(Bits, &[u8])>
+    ensures shorter { IfSome result (λ p. length p.1.now ≤ length text.now) }
+    ensures complete { (d : ℕ) (w rest : List ℕ) (u : TypeAt (suc d)) → IsWord d w u → text.now ≡ w ++ rest → MatchOption result (NoBits text.now) (λ p. (of_bits (ops d) p.0 ≡ u) × (p.1.now ≡ rest)) }
+{
+    if let Some(rest) = after_word(text, b"binary()") {
+        return Some((Bits::Whole, rest));
+    }
+    let rest = after_word(text, b"bitstring()")?;
+    Some((Bits::Any, rest))
+}
+
+// Every function, or those of one arity.
+fn read_functions(text: &[u8]) -> Option<(FunSet, &[u8])>
+    ensures normal { IfSome result (λ p. NormalFunctions (functions_of p.0)) }
+    ensures shorter { IfSome result (λ p. length p.1.now ≤ length text.now) }
+    ensures complete { (d : ℕ) (w rest : List ℕ) (u : TypeAt (suc d)) → IsWord d w u → text.now ≡ w ++ rest → MatchOption result (NoFunction text.now) (λ p. (of_functions (ops d) (functions_of p.0) ≡ u) × (p.1.now ≡ rest)) }
+{
+    if let Some(rest) = after_word(text, b"fun()") {
+        return Some((FunSet::Every, rest));
+    }
+    let inside = after_word(text, b"fun(")?;
+    let (arity, after) = read_arity(inside)?;
+    let rest = after_word(after, b")")?;
+    Some((FunSet::OfArity(arity), rest))
+}
+
+// The integers of an interval.
+fn read_interval(text: &[u8]) -> Option<(IntSet, &[u8])>
+    ensures shorter { IfSome result (λ p. length p.1.now ≤ length text.now) }
+    ensures complete { (d : ℕ) (w rest : List ℕ) (u : TypeAt (suc d)) → IsWord d w u → text.now ≡ w ++ rest → MatchOption result (NoInterval text.now) (λ p. (of_ints (ops d) p.0 ≡ u) × (p.1.now ≡ rest)) }
+{
+    if let Some(rest) = after_word(text, b"integer()") {
+        return Some((IntSet::range(Low::Min, High::Max), rest));
+    }
+    let inside = after_word(text, b"integer(")?;
+    let (low, high, rest) = read_range(inside)?;
+    if IntSet::is_range(low, high) {
+        Some((IntSet::range(low, high), rest))
+    } else {
+        None
+    }
+}
+
+// Every tuple.
+fn every_tuple() -> Node
+    ensures fits { (d : ℕ) → Fits (suc d) result }
+    ensures value { (d : ℕ) → view (suc d) result ≡ of_tuples (ops d) all_tuples }
+{
+    Node::Of(PartsOf {
+        plain: Plain::none(),
+        cell: None,
+        tuples: TuplesOf::All,
+    })
+}
+
+fn kinds_alone(alloc: Global, kinds: KindSet) -> Node
+    ensures fits { (d : ℕ) → Fits (suc d) result }
+    ensures value { (d : ℕ) → view (suc d) result ≡ of_kinds (ops d) (kinds_of kinds) }
+{
+    plain_alone(
+        alloc,
+        Plain {
+            kinds,
+            ..Plain::none()
+        },
+    )
+}
+
+fn bits_alone(alloc: Global, bits: Bits) -> Node
+    ensures fits { (d : ℕ) → Fits (suc d) result }
+    ensures value { (d : ℕ) → view (suc d) result ≡ of_bits (ops d) bits }
+{
+    plain_alone(
+        alloc,
+        Plain {
+            bits,
+            ..Plain::none()
+        },
+    )
+}
+
+fn functions_alone(alloc: Global, functions: FunSet) -> Node
+    requires { NormalFunctions (functions_of functions) }
+    ensures fits { (d : ℕ) → Fits (suc d) result }
+    ensures value { (d : ℕ) → view (suc d) result ≡ of_functions (ops d) (functions_of functions) }
+{
+    plain_alone(
+        alloc,
+        Plain {
+            functions,
+            ..Plain::none()
+        },
+    )
+}
+
+fn ints_alone(alloc: Global, ints: IntSet) -> Node
+    ensures fits { (d : ℕ) → Fits (suc d) result }
+    ensures value { (d : ℕ) → view (suc d) result ≡ of_ints (ops d) ints }
+{
+    plain_alone(
+        alloc,
+        Plain {
+            ints,
+            ..Plain::none()
+        },
+    )
+}
+
+// These plain values and nothing else.
+fn plain_alone(alloc: Global, plain: Plain) -> Node
+    requires { NormalFunctions plain.functions }
+    ensures fits { (d : ℕ) → Fits (suc d) result }
+    ensures value { (d : ℕ) → view (suc d) result ≡ of_plain (ops d) plain }
+{
+    Node::Of(PartsOf {
+        plain,
+        cell: None,
+        tuples: TuplesOf::Sizes(List::new(alloc)),
+    })
+}
