@@ -1,0 +1,126 @@
+//! Forty types and sixty values: what the calls on types answer, against membership.
+use crate::values::values;
+use std::alloc::Global;
+use type_kinds::{List, Memory};
+use type_lattice::Ty;
+use type_meaning::{Value, value_in};
+use type_text::{TextFault, read};
+
+const TYPES: [&[u8]; 40] = [
+    b"none()",
+    b"any()",
+    b"atom()",
+    b"'a'",
+    b"'a' | 'ok'",
+    b"'ok' | 1",
+    b"integer()",
+    b"1 | 2 | 3",
+    b"integer(0..255)",
+    b"integer(1..max)",
+    b"integer(min..-1)",
+    b"integer(0..1114111)",
+    b"float()",
+    b"binary()",
+    b"bitstring()",
+    b"pid() | port() | reference()",
+    b"fun()",
+    b"fun(1)",
+    b"fun(2) | []",
+    b"[]",
+    b"[] | cons(integer())",
+    b"cons('a')",
+    b"cons_any(integer(0..255))",
+    b"[] | cons_any(any())",
+    b"cons(cons('a'))",
+    b"tuple()",
+    b"{}",
+    b"{any()}",
+    b"{'ok'}",
+    b"{'error',integer()} | {'ok',any()}",
+    b"{any(),any()}",
+    b"{integer(),'a'}",
+    b"{1 | 2,3}",
+    b"{'a',{'b'}}",
+    b"{{{'b'}}}",
+    b"{} | {any()} | {any(),any(),any()}",
+    b"'a' | 1 | float() | [] | {'ok'}",
+    b"'n01' | 'n02' | 'n03' | 'n04' | 'n05' | 'n06' | 'n07' | 'n08' | 'n09' | 'n10' | 'n11' | 'n12' | 'n13'",
+    b"1 | 2 | 3 | 4 | 5 | 6 | 7 | 8 | 9 | 10 | 11 | 12 | 13",
+    b"{'n01'} | {'n02'} | {'n03'} | {'n04'} | {'n05'} | {'n06'} | {'n07'} | {'n08'} | {'n09'} | {'n10'} | {'n11'} | {'n12'} | {'n13'}",
+];
+
+// What a pair of types answers agrees with which values they have.
+fn agree(alloc: Global, s: &Ty, t: &Ty, values: &[Value]) -> Result<bool, Memory> {
+    let met = s.meet(alloc, t)?;
+    let joined = s.join(alloc, t)?;
+    let below = s.leq(t);
+    let mut apart = false;
+    for v in values {
+        let in_s = value_in(v, s);
+        let in_t = value_in(v, t);
+        if value_in(v, &met) != (in_s && in_t) {
+            return Ok(false);
+        }
+        if (in_s || in_t) && !value_in(v, &joined) {
+            return Ok(false);
+        }
+        if in_s && !in_t {
+            apart = true;
+        }
+    }
+    Ok(!(below && apart) && met.leq(s) && met.leq(t) && s.leq(&joined) && t.leq(&joined))
+}
+
+// The types of the table.
+fn types(alloc: Global) -> Result<List<Ty>, TextFault> {
+    let mut types = List::new(alloc);
+    for text in TYPES {
+        let t = read(alloc, text)?;
+        match types.push(t) {
+            Ok(()) => {}
+            Err(_) => return Err(TextFault::Memory),
+        }
+    }
+    Ok(types)
+}
+
+// Whether a type agrees with each type of the table.
+fn agrees(alloc: Global, s: &Ty, types: &[Ty], values: &[Value]) -> Result<bool, Memory> {
+    for t in types {
+        if !agree(alloc, s, t, values)? {
+            return Ok(false);
+        }
+    }
+    Ok(true)
+}
+
+#[test]
+fn calls_agree_with_membership(rt: HostRuntime) -> Result<(), TextFault> {
+    let alloc = rt.alloc();
+    let values = values(alloc)?;
+    assert_eq!(rt; values.len(), 60);
+    let types = types(alloc)?;
+    for s in types.as_slice() {
+        assert!(rt; agrees(alloc, s, types.as_slice(), values.as_slice())?);
+    }
+    Ok(())
+}
+
+// Whether the meet of two types is below their join.
+fn meets_below_join(alloc: Global, s: &Ty, t: &Ty) -> Result<bool, Memory> {
+    let met = s.meet(alloc, t)?;
+    let joined = s.join(alloc, t)?;
+    Ok(met.leq(&joined))
+}
+
+#[test]
+fn meets_are_below_joins(rt: HostRuntime) -> Result<(), TextFault> {
+    let alloc = rt.alloc();
+    let types = types(alloc)?;
+    for s in types.as_slice() {
+        for t in types.as_slice() {
+            assert!(rt; meets_below_join(alloc, s, t)?);
+        }
+    }
+    Ok(())
+}
