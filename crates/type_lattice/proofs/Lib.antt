@@ -1,4 +1,5 @@
 mod KindModels
 mod MakerLaws
+mod MonotoneLaws
 mod TypeLaws
 mod TypeModels

@@ -40,6 +40,13 @@ HasType v t = HasAt 4 v t.ty
 abbrev pub Below : Type4 → Type4 → Type 0
 Below s t = (v : Value) → HasType v s → HasType v t
 
+-- place by place, each value of the one type is one of the other
+abbrev pub AreBelow : List Type4 → List Type4 → Type 0
+AreBelow [] [] = Unit {0}
+AreBelow [] (t ∷ ts) = ⊥
+AreBelow (s ∷ ss) [] = ⊥
+AreBelow (s ∷ ss) (t ∷ ts) = Below s t × AreBelow ss ts
+
 abbrev pub HasTypes : Values → List Type4 → Type 0
 HasTypes vs ts = HasEach HasType vs ts
 

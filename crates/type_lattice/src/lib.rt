@@ -7,7 +7,7 @@ mod makers;
 mod types;
 
 pub use kinds::{Ends, Kind, plain_kind};
-pub use laws::type_laws;
+pub use laws::{monotone_laws, type_laws};
 pub use type_trees::{
     BodyOf, CellOf, FunSet, KindSet, Node, PartsOf, Plain, SizeOf, TagOf, TuplesOf, add, discard,
     find_size, find_tag, is_none, join, made, product_body,
