@@ -189,7 +189,7 @@ row_words-append d (n ∷ ns) ms = ap (λ ws. text_at d (view d n) ∷ ws) (row_
 
 pub tags_words-append : (d : ℕ) (ts us : List (TagOf Node)) → tags_words d (ts ++ us) ≡ tags_words d ts ++ tags_words d us
 tags_words-append d [] us = refl
-tags_words-append d (t ∷ ts) us = ap (λ ws. tuple_word (text_at d) (quoted t.atom ∷ row_words d t.rest) ∷ ws) (tags_words-append d ts us)
+tags_words-append d (t ∷ ts) us = ap (λ ws. tuple_word (quoted t.atom ∷ row_words d t.rest) ∷ ws) (tags_words-append d ts us)
 
 pub sizes_words-append : (d : ℕ) (ss us : List (SizeOf Node)) → sizes_words d (ss ++ us) ≡ sizes_words d ss ++ sizes_words d us
 sizes_words-append d [] us = refl

@@ -450,9 +450,9 @@ module _ {E : Type 0} {Has : Value → E → Type 0} {Normal : E → Type 0} {o 
         | false ↦ λ x. absurd x
       ] h
 
-  row_spelled : (es : List E) → AreElements Normal o es → nat_lt (length es) 65 ≡ true → Spelled (tuple_word text (map text es) ∷ []) (IsRow (λ vs. HasEach Has vs es))
+  row_spelled : (es : List E) → AreElements Normal o es → nat_lt (length es) 65 ≡ true → Spelled (tuple_word (map text es) ∷ []) (IsRow (λ vs. HasEach Has vs es))
   row_spelled es k few =
-      changed (IsRow (λ vs. HasEach Has vs es)) (one (tuple_word text (map text es)) (of_row o es) (one_tuple es k few)) (λ f h. let t = row-out (sizes ((length es, body_of o es) ∷ [])) f h in (t.0, (t.1.0, of_row-out es t.0 t.1.1))) (λ f h. row-in (sizes ((length es, body_of o es) ∷ [])) f (h.0, (h.1.0, of_row-in es h.0 h.1.1)))
+      changed (IsRow (λ vs. HasEach Has vs es)) (one (tuple_word (map text es)) (of_row o es) (one_tuple es k few)) (λ f h. let t = row-out (sizes ((length es, body_of o es) ∷ [])) f h in (t.0, (t.1.0, of_row-out es t.0 t.1.1))) (λ f h. row-in (sizes ((length es, body_of o es) ∷ [])) f (h.0, (h.1.0, of_row-in es h.0 h.1.1)))
 
   -- the type of one atom has that atom alone
   named-in : (a b : Name) → eq_by_cmp name_cmp b a ≡ true → Has (atom b) (o.of_names (a ∷ []))
@@ -471,10 +471,10 @@ module _ {E : Type 0} {Has : Value → E → Type 0} {Normal : E → Type 0} {o 
       (l.naming.names_normal (a ∷ []), filled-not_none l (o.of_names (a ∷ [])) (atom a) (named-in a a (ascending.itself name_laws.name_total name_laws.name_same a)))
 
   -- a tag is the row of its atom and the types after it
-  tag_spelled : (n : ℕ) (a : Name) (es : List E) → o.has_tags ≡ true → NormalRow Normal o n (Some es) → nat_lt (suc n) 65 ≡ true → Spelled (tuple_word text (quoted a ∷ map text es) ∷ []) (IsRow (λ vs. HasEach Has vs (o.of_names (a ∷ []) ∷ es)))
+  tag_spelled : (n : ℕ) (a : Name) (es : List E) → o.has_tags ≡ true → NormalRow Normal o n (Some es) → nat_lt (suc n) 65 ≡ true → Spelled (tuple_word (quoted a ∷ map text es) ∷ []) (IsRow (λ vs. HasEach Has vs (o.of_names (a ∷ []) ∷ es)))
   tag_spelled n a es t k few =
       let fs = o.of_names (a ∷ []) ∷ es in
-      subst (λ w. Spelled (tuple_word text (w ∷ map text es) ∷ []) (IsRow (λ vs. HasEach Has vs fs))) (one_name t a).0 (row_spelled fs (named-element a, k.1) (subst (λ i. nat_lt (suc i) 65 ≡ true) (sym k.0) few))
+      subst (λ w. Spelled (tuple_word (w ∷ map text es) ∷ []) (IsRow (λ vs. HasEach Has vs fs))) (one_name t a).0 (row_spelled fs (named-element a, k.1) (subst (λ i. nat_lt (suc i) 65 ≡ true) (sym k.0) few))
 
   module _ (e : Name × List E) (m : List (Name × List E)) where
     tag_first-out : o.has_tags ≡ true → (vs : Values) → HasEach Has vs (o.of_names (e.0 ∷ []) ∷ e.1) → HasTag Has vs (e ∷ m)

@@ -28,10 +28,7 @@ abbrev pub separated : List ℕ → List (List ℕ) → List ℕ
 separated s [] = []
 separated s (w ∷ ws) = w ++ after s ws
 
--- words after others, or the first ones
-abbrev pub words_text : Bool → List (List ℕ) → List ℕ
-words_text b ws = cond b (after (codes " | ") ws) (separated (codes " | ") ws)
-
+-- whether there is a word
 abbrev pub has_words : List (List ℕ) → Bool
 has_words [] = false
 has_words (w ∷ ws) = true
@@ -81,15 +78,16 @@ plain_words p =
     ++ word_if p.kinds.pid (codes "pid()") ++ word_if p.kinds.port (codes "port()") ++ word_if p.kinds.reference (codes "reference()")
     ++ function_words p.functions ++ word_if p.kinds.nil (codes "[]")
 
--- ---- lists and tuples, whose elements are written already
+-- ---- lists and tuples
+
+-- a tuple of elements that are written already
+abbrev pub tuple_word : List (List ℕ) → List ℕ
+tuple_word ws = codes "{" ++ separated (codes ",") ws ++ codes "}"
 
 module _ {E : Type 0} (text : E → List ℕ) where
   abbrev pub cell_words : Option (Cell E) → List (List ℕ)
   cell_words None = []
   cell_words (Some c) = (cond c.is_proper (codes "cons(") (codes "cons_any(") ++ text c.element ++ codes ")") ∷ []
-
-  abbrev pub tuple_word : List (List ℕ) → List ℕ
-  tuple_word ws = codes "{" ++ separated (codes ",") ws ++ codes "}"
 
   abbrev pub tag_words : List (Name × List E) → List (List ℕ)
   tag_words [] = []

@@ -82,7 +82,7 @@ pub data IsWordOf {E : Type 0} (text : E → List ℕ) (Normal : E → Type 0) (
   any_list : (e : E) → IsElement Normal o e → IsWordOf text Normal o (codes "cons_any(" ++ text e ++ codes ")") (of_list o e false)
   every_tuple : IsWordOf text Normal o (codes "tuple()") (of_tuples o all_tuples)
   -- the tuples of some element types. Where the first is one atom, this is the word of a tag
-  one_tuple : (es : List E) → AreElements Normal o es → nat_lt (length es) 65 ≡ true → IsWordOf text Normal o (tuple_word text (map text es)) (of_row o es)
+  one_tuple : (es : List E) → AreElements Normal o es → nat_lt (length es) 65 ≡ true → IsWordOf text Normal o (tuple_word (map text es)) (of_row o es)
 
 -- the same at a level, whose elements are of level d
 abbrev pub IsWord : (d : ℕ) → List ℕ → TypeAt (suc d) → Type 0

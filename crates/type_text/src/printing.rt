@@ -133,7 +133,7 @@ fn append_body(
 #[cycle(print)]
 fn append_product(level: u32, row: &[Node], some: &mut bool, out: &mut Bytes) -> Result<(), Memory>
     requires { EachNode (Fits level) row.now }
-    ensures ok { OnOk result (Adds (codes " | ") (tuple_word (text_at level) (map (text_at level) (row_view level row.now)) ∷ []) some.old some.new out.old out.new) }
+    ensures ok { OnOk result (Adds (codes " | ") (tuple_word (map (text_at level) (row_view level row.now)) ∷ []) some.old some.new out.old out.new) }
     ensures front { take (length out.old) out.new ≡ out.old }
 {
     separate(b" | ", some, out)?;
@@ -164,7 +164,7 @@ fn append_tags(
 #[cycle(print)]
 fn append_tag(level: u32, tag: &TagOf<Node>, some: &mut bool, out: &mut Bytes) -> Result<(), Memory>
     requires { EachNode (Fits level) tag.now.rest }
-    ensures ok { OnOk result (Adds (codes " | ") (tuple_word (text_at level) (quoted tag.now.atom ∷ map (text_at level) (row_view level tag.now.rest)) ∷ []) some.old some.new out.old out.new) }
+    ensures ok { OnOk result (Adds (codes " | ") (tuple_word (quoted tag.now.atom ∷ map (text_at level) (row_view level tag.now.rest)) ∷ []) some.old some.new out.old out.new) }
     ensures front { take (length out.old) out.new ≡ out.old }
 {
     separate(b" | ", some, out)?;

@@ -8,7 +8,8 @@ use crate::printing::print;
 use crate::words::read_type;
 use std::alloc::Global;
 use type_kinds::{Bytes, Memory};
-use type_lattice::{Ty, discard};
+use type_lattice::Ty;
+use type_trees::discard;
 
 /// Why a text isn't read.
 #[derive(Clone, Copy, Debug, PartialEq, Eq)]
