@@ -1,23 +1,26 @@
-//! Facts that are proved, and not only run, from what the calls on types promise.
+//! Facts that are proved for all types from what the calls on types promise. Each `prove!` is the fact.
 use std::alloc::Global;
 use type_kinds::Memory;
 use type_lattice::Ty;
 
-fn meet_is_below(alloc: Global, a: &Ty, b: &Ty) -> Result<(), Memory> {
+/// A meet is included in both types. `Memory` comes where there was none for the meet.
+pub fn meet_is_below(alloc: Global, a: &Ty, b: &Ty) -> Result<(), Memory> {
     let met = a.meet(alloc, b)?;
     let below = met.leq(a) && met.leq(b);
     prove!(below);
     Ok(())
 }
 
-fn join_is_above(alloc: Global, a: &Ty, b: &Ty) -> Result<(), Memory> {
+/// Both types are included in their join. `Memory` comes where there was none for the join.
+pub fn join_is_above(alloc: Global, a: &Ty, b: &Ty) -> Result<(), Memory> {
     let joined = a.join(alloc, b)?;
     let above = a.leq(&joined) && b.leq(&joined);
     prove!(above);
     Ok(())
 }
 
-fn inclusion_is_transitive(a: &Ty, b: &Ty, c: &Ty) {
+/// A type is included in whatever includes a type that includes it.
+pub fn inclusion_is_transitive(a: &Ty, b: &Ty, c: &Ty) {
     if a.leq(b) && b.leq(c) {
         let below = a.leq(c);
         prove!(below);
