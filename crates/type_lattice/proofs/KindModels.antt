@@ -6,10 +6,10 @@ use Rattle.type_sets.specs.Names.{Names}
 use Rattle.type_sets.specs.Numbers as numbers
 use Rattle.type_sets.specs.Numbers.{Numbers}
 use Rattle.type_sets.specs.declared.bits.Bits.TheVariants.{No}
-use Rattle.type_family.specs.Values.{Value}
-use Rattle.type_family.specs.Shapes.{Plain, TypeAt, sizes, no_function}
-use Rattle.type_family.specs.HasType.{HasAt}
-use Rattle.type_family.specs.Operations.{no_kinds, plain_none}
+use Rattle.type_model.specs.Values.{Value}
+use Rattle.type_model.specs.Shapes.{Plain, TypeAt, sizes, no_function}
+use Rattle.type_model.specs.HasType.{HasAt}
+use Rattle.type_model.specs.Operations.{no_kinds, plain_none}
 use Rattle.type_lattice.specs.declared.kinds.Kind.{Kind}
 use Rattle.type_lattice.specs.declared.kinds.Kind.TheVariants as kind
 use Rattle.type_lattice.specs.Types.{Type4, same_type, HasType, of_atoms, of_ints, every_tuple}

@@ -6,13 +6,13 @@ use Rattle.std.proofs.lemmas.List.{take_more, take_all, map-append, length-map}
 use Rattle.type_sets.specs.Names as names
 use Rattle.type_sets.specs.Numbers as numbers
 use Rattle.type_sets.specs.declared.bits.Bits.TheVariants.{No}
-use Rattle.type_family.specs.Shapes.{no_function, Plain, TypeAt, sizes, all_tuples}
-use Rattle.type_family.specs.Operations.{Ops, ops, has_none, body_of, elements, of_plain, plain_none, plain_all, is_no_plain, is_empty, no_tuples}
-use Rattle.type_family.specs.Normal.{NormalFunctions, IsElement, NormalTuples, NormalParts, NormalAt}
-use Rattle.type_family.specs.Parts.{AreNormal, product_of, without_nil, proper_cell, is_list, element_with, kinds_of_nil, tail_parts}
-use Rattle.type_family.proofs.LevelLaws.{level_laws}
-use Rattle.type_family.proofs.BodyLaws.{elements_normal}
-use Rattle.type_family.proofs.MadeLaws.{product_normal, tail_normal}
+use Rattle.type_model.specs.Shapes.{no_function, Plain, TypeAt, sizes, all_tuples}
+use Rattle.type_model.specs.Operations.{Ops, ops, has_none, body_of, elements, of_plain, plain_none, plain_all, is_no_plain, is_empty, no_tuples}
+use Rattle.type_model.specs.Normal.{NormalFunctions, IsElement, NormalTuples, NormalParts, NormalAt}
+use Rattle.type_model.specs.Parts.{AreNormal, product_of, without_nil, proper_cell, is_list, element_with, kinds_of_nil, tail_parts}
+use Rattle.type_model.proofs.LevelLaws.{level_laws}
+use Rattle.type_model.proofs.BodyLaws.{elements_normal}
+use Rattle.type_model.proofs.MadeLaws.{product_normal, tail_normal}
 use Rattle.type_trees.specs.declared.node.Node.{Node}
 use Rattle.type_trees.specs.declared.node.Node.TheVariants as v
 use Rattle.type_trees.specs.declared.node.PartsOf.{PartsOf}

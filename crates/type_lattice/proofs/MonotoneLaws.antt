@@ -2,26 +2,26 @@
 use Rattle.std.proofs.Common.{◌≡◌, ℕ, zero, suc, ◌-◌, Bool, true, false, cond, ◌&&◌, inl, inr, List, [], ◌∷◌, Option, Some, None, refl, sym, ap, ◌∙◌, subst, true≢false}
 use Rattle.std.specs.Prelude.{nat_lt, slice_get}
 use Rattle.std.specs.Ordering.{nat_cmp}
-use Rattle.type_family.specs.Values.{nil, cons as cons_value, tuple as tuple_value, Value, Values, no_value, and_value, heads}
-use Rattle.type_family.specs.Tables.{find}
-use Rattle.type_family.specs.Shapes.{Cell, Body, Tuples, sizes, all_tuples, Parts, TypeAt}
-use Rattle.type_family.specs.HasType.{HasCell, HasBody, HasTuple, HasParts, HasAt}
-use Rattle.type_family.specs.Operations.{Ops, plain_none, is_empty, elements, ops}
-use Rattle.type_family.specs.Normal.{NormalCell, AreElements, NormalBody, NormalTuples, NormalAt}
-use Rattle.type_family.specs.Cut as levels
-use Rattle.type_family.specs.Parts.{is_list, element_with, element_at, tail_parts, cons_at, lifted, project_at, element_of, elem_at, tail_at}
-use Rattle.type_family.specs.Laws.{BelowBy, Laws}
-use Rattle.type_family.specs.Forms.{PlainBelow, Form, leaf, pair, row, form, HasForm, has-form}
-use Rattle.type_family.proofs.TableLaws.{some-none}
-use Rattle.type_family.proofs.PlainLaws.{plain-all}
-use Rattle.type_family.proofs.CellLaws.{value_of, filled-not_none, all-more, cell-below}
-use Rattle.type_family.proofs.RowLaws.{BelowEach}
-use Rattle.type_family.proofs.BodyLaws.{elements_normal, elements_above, elements_least, body_lattice}
-use Rattle.type_family.proofs.TupleLaws.{normal_at, to_size, not_all, tuples_lattice}
-use Rattle.type_family.proofs.PartsLaws.{next_laws}
-use Rattle.type_family.proofs.LevelLaws.{level_laws}
-use Rattle.type_family.proofs.CutLaws.{cut_lowering}
-use Rattle.type_family.proofs.MadeLaws.{cons-normal, cons-above, cons-least}
+use Rattle.type_model.specs.Values.{nil, cons as cons_value, tuple as tuple_value, Value, Values, no_value, and_value, heads}
+use Rattle.type_model.specs.Tables.{find}
+use Rattle.type_model.specs.Shapes.{Cell, Body, Tuples, sizes, all_tuples, Parts, TypeAt}
+use Rattle.type_model.specs.HasType.{HasCell, HasBody, HasTuple, HasParts, HasAt}
+use Rattle.type_model.specs.Operations.{Ops, plain_none, is_empty, elements, ops}
+use Rattle.type_model.specs.Normal.{NormalCell, AreElements, NormalBody, NormalTuples, NormalAt}
+use Rattle.type_model.specs.Cut as levels
+use Rattle.type_model.specs.Parts.{is_list, element_with, element_at, tail_parts, cons_at, lifted, project_at, element_of, elem_at, tail_at}
+use Rattle.type_model.specs.Laws.{BelowBy, Laws}
+use Rattle.type_model.specs.Forms.{PlainBelow, Form, leaf, pair, row, form, HasForm, has-form}
+use Rattle.type_model.proofs.TableLaws.{some-none}
+use Rattle.type_model.proofs.PlainLaws.{plain-all}
+use Rattle.type_model.proofs.CellLaws.{value_of, filled-not_none, all-more, cell-below}
+use Rattle.type_model.proofs.RowLaws.{BelowEach}
+use Rattle.type_model.proofs.BodyLaws.{elements_normal, elements_above, elements_least, body_lattice}
+use Rattle.type_model.proofs.TupleLaws.{normal_at, to_size, not_all, tuples_lattice}
+use Rattle.type_model.proofs.PartsLaws.{next_laws}
+use Rattle.type_model.proofs.LevelLaws.{level_laws}
+use Rattle.type_model.proofs.CutLaws.{cut_lowering}
+use Rattle.type_model.proofs.MadeLaws.{cons-normal, cons-above, cons-least}
 use Rattle.type_lattice.specs.Types.{Type4, HasType, HasTypes, Below, AreBelow, meet, join, cut, tuple, cons, project, elem, tail}
 use Rattle.type_lattice.proofs.TypeLaws.{below_through, meet-both, join-left, join-right, join-least, tuple-has, tuple-is_least}
 

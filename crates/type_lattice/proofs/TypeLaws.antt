@@ -1,17 +1,17 @@
 -- The laws of the types of level 4, with what is said of their operations.
 use Rattle.std.proofs.Common.{◌≡◌, ℕ, ◌-◌, ◌≤◌, ◌<◌, Bool, true, List, [], ◌∷◌, map, Some, refl, sym, ap, ◌∙◌, subst, inl, inr}
 use Rattle.std.specs.Prelude.{◌↔◌, IsTrue}
-use Rattle.type_family.specs.Values.{Value, Values, no_value, and_value, count, cons as cons_value, tuple as tuple_value}
-use Rattle.type_family.specs.Shapes.{TypeAt}
-use Rattle.type_family.specs.HasType.{HasAt, HasEach}
-use Rattle.type_family.specs.Operations.{ops}
-use Rattle.type_family.specs.Normal.{NormalAt}
-use Rattle.type_family.specs.Cut as levels
-use Rattle.type_family.specs.Parts.{value_at}
-use Rattle.type_family.proofs.LevelLaws.{level_laws}
-use Rattle.type_family.proofs.CutLaws.{cut_lowering, cut_exact}
-use Rattle.type_family.proofs.MadeLaws.{tuple-above, tuple-least, cons-above, cons-least, project-in, elem-in, tail-in}
-use Rattle.type_family.proofs.RankLaws.{rank-lower}
+use Rattle.type_model.specs.Values.{Value, Values, no_value, and_value, count, cons as cons_value, tuple as tuple_value}
+use Rattle.type_model.specs.Shapes.{TypeAt}
+use Rattle.type_model.specs.HasType.{HasAt, HasEach}
+use Rattle.type_model.specs.Operations.{ops}
+use Rattle.type_model.specs.Normal.{NormalAt}
+use Rattle.type_model.specs.Cut as levels
+use Rattle.type_model.specs.Parts.{value_at}
+use Rattle.type_model.proofs.LevelLaws.{level_laws}
+use Rattle.type_model.proofs.CutLaws.{cut_lowering, cut_exact}
+use Rattle.type_model.proofs.MadeLaws.{tuple-above, tuple-least, cons-above, cons-least, project-in, elem-in, tail-in}
+use Rattle.type_model.proofs.RankLaws.{rank-lower}
 use Rattle.type_lattice.specs.Types.{Type4, same_type, HasType, HasTypes, Below, IsOfLevel, none, any, is_none, meet, join, cut, tuple, cons, project, elem, tail, are_normal, rank}
 
 -- ---- inclusion

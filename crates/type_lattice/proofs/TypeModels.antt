@@ -3,15 +3,15 @@ use Rattle.std.proofs.Common.{◌≡◌, ℕ, zero, suc, ◌-◌, ◌≤◌, ◌
 use Rattle.std.specs.Prelude.{◌↔◌, ◌⊎◌, IsTrue, not, nat_lt, slice_get}
 use Rattle.std.proofs.lemmas.Bool.{lt-ltb, le-ltb}
 use Rattle.std.proofs.lemmas.List.{length-map}
-use Rattle.type_family.specs.Tables.{find}
-use Rattle.type_family.specs.Shapes.{Plain, Parts, Body, Tuples, sizes, all_tuples, TypeAt}
-use Rattle.type_family.specs.HasType.{HasAt}
-use Rattle.type_family.specs.Operations.{ops, plain_none, is_empty, has_none, body_of, elements}
-use Rattle.type_family.specs.Cut as levels
-use Rattle.type_family.specs.Parts.{elem_at, tail_at, lifted, element_of, tail_parts, element_at, element_with, is_list, product_of}
-use Rattle.type_family.specs.Normal.{NormalAt, NormalFunctions, NormalBody, NormalTuples}
-use Rattle.type_family.specs.Laws.{BelowBy}
-use Rattle.type_family.proofs.CutLaws.{size_found}
+use Rattle.type_model.specs.Tables.{find}
+use Rattle.type_model.specs.Shapes.{Plain, Parts, Body, Tuples, sizes, all_tuples, TypeAt}
+use Rattle.type_model.specs.HasType.{HasAt}
+use Rattle.type_model.specs.Operations.{ops, plain_none, is_empty, has_none, body_of, elements}
+use Rattle.type_model.specs.Cut as levels
+use Rattle.type_model.specs.Parts.{elem_at, tail_at, lifted, element_of, tail_parts, element_at, element_with, is_list, product_of}
+use Rattle.type_model.specs.Normal.{NormalAt, NormalFunctions, NormalBody, NormalTuples}
+use Rattle.type_model.specs.Laws.{BelowBy}
+use Rattle.type_model.proofs.CutLaws.{size_found}
 use Rattle.type_trees.specs.declared.node.Node.{Node}
 use Rattle.type_trees.specs.declared.node.Node.TheVariants as v
 use Rattle.type_trees.specs.declared.node.PartsOf.{PartsOf}

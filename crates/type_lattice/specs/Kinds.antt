@@ -6,10 +6,10 @@ use Rattle.type_sets.specs.Numbers as numbers
 use Rattle.type_sets.specs.Numbers.{Numbers}
 use Rattle.type_sets.specs.declared.bits.Bits.{Bits}
 use Rattle.type_sets.specs.declared.bits.Bits.TheVariants.{No, Whole, Any}
-use Rattle.type_family.specs.Values.{Value, int, atom, bits, float, pid, port, reference, nil, tuple, closure, external, foreign}
-use Rattle.type_family.specs.Shapes.{Kinds, Functions, no_function, of_arity, all_functions, Plain}
-use Rattle.type_family.specs.Operations.{no_kinds}
-use Rattle.type_family.specs.Normal.{NormalFunctions}
+use Rattle.type_model.specs.Values.{Value, int, atom, bits, float, pid, port, reference, nil, tuple, closure, external, foreign}
+use Rattle.type_model.specs.Shapes.{Kinds, Functions, no_function, of_arity, all_functions, Plain}
+use Rattle.type_model.specs.Operations.{no_kinds}
+use Rattle.type_model.specs.Normal.{NormalFunctions}
 use Rattle.type_lattice.specs.declared.kinds.Kind.{Kind}
 use Rattle.type_lattice.specs.declared.kinds.Kind.TheVariants as kind
 use Rattle.type_lattice.specs.declared.kinds.Ends.{Ends}

@@ -10,18 +10,18 @@ use Rattle.type_sets.specs.Numbers as numbers
 use Rattle.type_sets.specs.Numbers.{Numbers}
 use Rattle.type_sets.specs.declared.bits.Bits.{Bits}
 use Rattle.type_sets.specs.declared.bits.Bits.TheVariants.{No}
-use Rattle.type_family.specs.Values.{Value, Values}
-use Rattle.type_family.specs.Shapes.{Kinds, Functions, no_function, Plain, Cell, Body, product, tags, Tuples, sizes, all_tuples, Parts, TypeAt}
-use Rattle.type_family.specs.HasType.{HasAt, HasEach}
-use Rattle.type_family.specs.Operations.{ops, no_kinds, plain_none}
-use Rattle.type_family.specs.Normal.{NormalFunctions, NormalAt}
-use Rattle.type_family.specs.Cut as levels
-use Rattle.type_family.specs.Parts.{AreNormal, tuple_at, cons_at, project_at, elem_at, tail_at}
-use Rattle.type_family.specs.Ranks as ranks
-use Rattle.type_family.proofs.LevelLaws.{level_laws}
-use Rattle.type_family.proofs.CutLaws.{cut_lowering}
-use Rattle.type_family.proofs.MadeLaws.{tuple-normal, cons-normal, project-normal, elem-normal, tail-normal}
-use Rattle.type_family.proofs.NormalOnce.{normal_once}
+use Rattle.type_model.specs.Values.{Value, Values}
+use Rattle.type_model.specs.Shapes.{Kinds, Functions, no_function, Plain, Cell, Body, product, tags, Tuples, sizes, all_tuples, Parts, TypeAt}
+use Rattle.type_model.specs.HasType.{HasAt, HasEach}
+use Rattle.type_model.specs.Operations.{ops, no_kinds, plain_none}
+use Rattle.type_model.specs.Normal.{NormalFunctions, NormalAt}
+use Rattle.type_model.specs.Cut as levels
+use Rattle.type_model.specs.Parts.{AreNormal, tuple_at, cons_at, project_at, elem_at, tail_at}
+use Rattle.type_model.specs.Ranks as ranks
+use Rattle.type_model.proofs.LevelLaws.{level_laws}
+use Rattle.type_model.proofs.CutLaws.{cut_lowering}
+use Rattle.type_model.proofs.MadeLaws.{tuple-normal, cons-normal, project-normal, elem-normal, tail-normal}
+use Rattle.type_model.proofs.NormalOnce.{normal_once}
 use Rattle.type_trees.specs.Plains.{plain_code}
 
 -- a type of the analysis

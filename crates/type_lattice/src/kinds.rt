@@ -1,5 +1,5 @@
 ghost use Rattle.std.specs.Prelude.{◌≡◌, ℕ, ◌^◌, ◌<◌};
-ghost use Rattle.type_family.specs.Normal.{NormalFunctions};
+ghost use Rattle.type_model.specs.Normal.{NormalFunctions};
 ghost use Rattle.type_lattice.specs.Kinds.{plain_of_kind};
 ghost use Rattle.type_lattice.specs.declared.kinds.Kind.TheVariants as variant;
 

@@ -1,6 +1,6 @@
 //! The laws of types, as functions that do nothing: who calls one has its clauses.
 ghost use Rattle.std.specs.Prelude.{◌≡◌, ◌<◌, ◌↔◌, ℕ, Bool, List};
-ghost use Rattle.type_family.specs.Values.{Value};
+ghost use Rattle.type_model.specs.Values.{Value};
 ghost use Rattle.type_lattice.specs.Types.{Type4, HasType, Below, AreBelow, none, any, meet, join, cut, tuple, cons, project, elem, tail, rank};
 
 /// Types are sets of values, each in one form, and inclusion is an order. A type is none or has a

@@ -3,9 +3,9 @@ ghost use Rattle.std.specs.Prelude.{◌≡◌, ◌<◌, ℕ, false, [], Some, No
 ghost use Rattle.type_sets.specs.Names as names;
 ghost use Rattle.type_sets.specs.Numbers as numbers;
 ghost use Rattle.type_sets.specs.declared.bits.Bits.TheVariants.{No};
-ghost use Rattle.type_family.specs.Operations.{ops, has_none, elements, plain_none, plain_all};
-ghost use Rattle.type_family.specs.Parts.{product_of, kinds_of_nil, is_list as lists_alone, element_with as joined_element, tail_parts as after_head};
-ghost use Rattle.type_family.specs.Shapes.{sizes, all_tuples, no_function};
+ghost use Rattle.type_model.specs.Operations.{ops, has_none, elements, plain_none, plain_all};
+ghost use Rattle.type_model.specs.Parts.{product_of, kinds_of_nil, is_list as lists_alone, element_with as joined_element, tail_parts as after_head};
+ghost use Rattle.type_model.specs.Shapes.{sizes, all_tuples, no_function};
 ghost use Rattle.type_trees.specs.View.{view, Fits, body_view, cell_view, parts_view, tuples_view, BodyFits, CellFits, PartsFit, EachInTuples};
 
 use crate::kinds::{Kind, plain_kind};

@@ -1,9 +1,9 @@
 ghost use Rattle.std.specs.Prelude.{◌≡◌, ◌↔◌, ◌≤◌, ◌-◌, [], Some, None, IsTrue, IfOk};
-ghost use Rattle.type_family.specs.Normal.{NormalAt, NormalFunctions};
-ghost use Rattle.type_family.specs.Parts.{value_at};
-ghost use Rattle.type_family.specs.Shapes.{sizes};
-ghost use Rattle.type_family.specs.Values.{Value, Values, count, tuple as tuple_value, cons as cons_value};
-ghost use Rattle.type_family.proofs.NormalOnce.{normal_once};
+ghost use Rattle.type_model.specs.Normal.{NormalAt, NormalFunctions};
+ghost use Rattle.type_model.specs.Parts.{value_at};
+ghost use Rattle.type_model.specs.Shapes.{sizes};
+ghost use Rattle.type_model.specs.Values.{Value, Values, count, tuple as tuple_value, cons as cons_value};
+ghost use Rattle.type_model.proofs.NormalOnce.{normal_once};
 ghost use Rattle.type_lattice.specs.declared.kinds.Ends.TheVariants.{Proper};
 ghost use Rattle.type_lattice.specs.Types.{Type4, HasType, HasTypes, Below, IsOfLevel, none, any, is_none, meet, join, cut, tuple, cons, project, elem, tail, of_atoms, of_ints, every_tuple};
 ghost use Rattle.type_lattice.specs.Kinds.{HasAtom, HasInt, IsKind, of_kind, asks_proper};

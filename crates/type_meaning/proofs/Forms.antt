@@ -1,9 +1,9 @@
 -- What each form of the code's values stands for, and which form a value has.
 use Rattle.std.proofs.Common.{◌≡◌, ℕ, zero, suc, ℤ, List, length, map, refl, sym, ap, ◌∙◌}
 use Rattle.type_kinds.specs.declared.atom.Atom.{Atom}
-use Rattle.type_family.specs.Shapes.{floats, pids, ports, references, nils}
-use Rattle.type_family.specs.Values as m
-use Rattle.type_family.specs.Forms.{Leaf, an_int, an_atom, some_bits, of_kind, a_function, leaf, pair, row, form}
+use Rattle.type_model.specs.Shapes.{floats, pids, ports, references, nils}
+use Rattle.type_model.specs.Values as m
+use Rattle.type_model.specs.Forms.{Leaf, an_int, an_atom, some_bits, of_kind, a_function, leaf, pair, row, form}
 use Rattle.type_meaning.specs.declared.value.Value.{Value, out-Value, roll-Value, roll-out-Value}
 use Rattle.type_meaning.specs.declared.value.Value.TheVariants as v
 use Rattle.type_meaning.specs.declared.value.Value.TheOpen.{Value-F}

@@ -5,13 +5,13 @@ use Rattle.std.specs.Ordering.{nat_cmp}
 use borrow.Author.Tests.{ltb-true, eqb-true, eq-eqb}
 use Rattle.type_kinds.specs.declared.atom.Atom.{Atom}
 use Rattle.type_sets.specs.Names.{name_cmp}
-use Rattle.type_family.specs.Values as m
-use Rattle.type_family.specs.Shapes.{Plain}
-use Rattle.type_family.specs.Tables.{find}
-use Rattle.type_family.specs.HasType.{HasAt, HasParts, HasCell, HasAll, HasEach, HasRow, HasTag, HasBody, HasTuple}
-use Rattle.type_family.specs.Forms.{Form, Leaf, leaf, form, has_leaf, has-form, HasForm}
-use Rattle.type_family.proofs.LevelLaws.{level_laws}
-use Rattle.type_family.proofs.TupleLaws.{small_at, some_at}
+use Rattle.type_model.specs.Values as m
+use Rattle.type_model.specs.Shapes.{Plain}
+use Rattle.type_model.specs.Tables.{find}
+use Rattle.type_model.specs.HasType.{HasAt, HasParts, HasCell, HasAll, HasEach, HasRow, HasTag, HasBody, HasTuple}
+use Rattle.type_model.specs.Forms.{Form, Leaf, leaf, form, has_leaf, has-form, HasForm}
+use Rattle.type_model.proofs.LevelLaws.{level_laws}
+use Rattle.type_model.proofs.TupleLaws.{small_at, some_at}
 use Rattle.type_trees.specs.declared.node.Node.{Node}
 use Rattle.type_trees.specs.declared.node.Node.TheVariants as n
 use Rattle.type_trees.specs.declared.node.PartsOf.{PartsOf}

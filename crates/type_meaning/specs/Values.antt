@@ -1,6 +1,6 @@
 -- The value that a value of the code stands for.
 use Rattle.std.specs.Prelude.{ℕ, zero, suc, Bool, false, List, [], ◌∷◌}
-use Rattle.type_family.specs.Values as m
+use Rattle.type_model.specs.Values as m
 use Rattle.type_meaning.specs.declared.value.Value.{Value}
 use Rattle.type_meaning.specs.declared.value.Value.TheOpen.{Value-F}
 use Rattle.type_meaning.specs.declared.value.Value.TheFolds.{fold-Value}

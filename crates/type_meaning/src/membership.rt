@@ -1,7 +1,7 @@
 ghost use Rattle.std.specs.Prelude.{◌≡◌, ◌↔◌, true, Some, IsTrue, length, map};
-ghost use Rattle.type_family.specs.Forms.{Leaf, has_leaf, form, leaf};
-ghost use Rattle.type_family.specs.HasType.{HasAt, HasAll, HasEach, HasBody, HasTuple};
-ghost use Rattle.type_family.specs.Values as m;
+ghost use Rattle.type_model.specs.Forms.{Leaf, has_leaf, form, leaf};
+ghost use Rattle.type_model.specs.HasType.{HasAt, HasAll, HasEach, HasBody, HasTuple};
+ghost use Rattle.type_model.specs.Values as m;
 ghost use Rattle.type_lattice.specs.Types.{HasType};
 ghost use Rattle.type_trees.specs.View.{view, Fits, row_view, body_view, tuples_view, EachNode, BodyFits, TuplesFit};
 ghost use Rattle.type_meaning.specs.Values.{value_of, values};

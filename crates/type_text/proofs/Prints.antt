@@ -12,9 +12,9 @@ use Rattle.type_sets.specs.declared.ends.High.TheVariants as high
 use Rattle.type_sets.specs.declared.bits.Bits.{Bits}
 use Rattle.type_sets.specs.declared.bits.Bits.TheVariants.{No, Whole, Any}
 use Rattle.type_sets.proofs.Truths.{first, second, is_false}
-use Rattle.type_family.specs.Shapes.{Functions, no_function, of_arity, all_functions, Plain, Cell, Tuples, sizes, all_tuples, TypeAt}
-use Rattle.type_family.specs.Operations.{ops, plain_all}
-use Rattle.type_family.specs.Normal.{NormalAt}
+use Rattle.type_model.specs.Shapes.{Functions, no_function, of_arity, all_functions, Plain, Cell, Tuples, sizes, all_tuples, TypeAt}
+use Rattle.type_model.specs.Operations.{ops, plain_all}
+use Rattle.type_model.specs.Normal.{NormalAt}
 use Rattle.type_trees.specs.declared.node.Node.{Node, out-Node}
 use Rattle.type_trees.specs.declared.node.Node.TheOpen.{Node-F}
 use Rattle.type_trees.specs.declared.node.Node.TheVariants as v

@@ -2,9 +2,9 @@
 use Rattle.std.proofs.Common.{◌≡◌, inl, inr, ℕ, zero, suc, true, false, cond, List, ◌++◌, drop, refl, sym, ap, ◌∙◌, append_assoc, true≢false}
 use Rattle.std.specs.Prelude.{codes}
 use Rattle.type_sets.proofs.Truths.{decided}
-use Rattle.type_family.specs.Shapes.{TypeAt}
-use Rattle.type_family.specs.Operations.{ops}
-use Rattle.type_family.specs.Normal.{NormalAt}
+use Rattle.type_model.specs.Shapes.{TypeAt}
+use Rattle.type_model.specs.Operations.{ops}
+use Rattle.type_model.specs.Normal.{NormalAt}
 use Rattle.type_text.specs.Starts.{Lacks}
 use Rattle.type_text.specs.Texts.{after, separated, parts_words, is_any, text_at}
 use Rattle.type_text.specs.WordTypes.{spelled, WordsOf}

@@ -2,9 +2,9 @@
 use Rattle.std.proofs.Common.{◌≡◌, ℕ, true, false, List, [], ◌++◌, Option, Some, None, refl, sym, ap, ◌∙◌, subst}
 use Rattle.std.specs.Prelude.{codes, MatchOption}
 use Rattle.std.proofs.lemmas.List.{append-nil}
-use Rattle.type_family.specs.Shapes.{TypeAt}
-use Rattle.type_family.specs.Operations.{ops}
-use Rattle.type_family.proofs.LevelLaws.{level_laws}
+use Rattle.type_model.specs.Shapes.{TypeAt}
+use Rattle.type_model.specs.Operations.{ops}
+use Rattle.type_model.proofs.LevelLaws.{level_laws}
 use Rattle.type_lattice.specs.Types.{Type4, none, is_none, same_type}
 use Rattle.type_text.specs.Texts.{is_any, text_at, text_of}
 use Rattle.type_text.proofs.TypeStarts.{at_none, text_none}

@@ -19,21 +19,21 @@ use Rattle.type_sets.proofs.Truths.{first, second, either, decided, in_first, in
 use Rattle.type_sets.proofs.AscendingLaws as ascending
 use Rattle.type_sets.proofs.NameLaws as name_laws
 use Rattle.type_sets.proofs.NumberLaws as number_laws
-use Rattle.type_family.specs.Values.{Value, atom, Values, no_value, and_value, count}
-use Rattle.type_family.specs.Tables.{is_table, find}
-use Rattle.type_family.specs.Shapes.{floats, pids, ports, references, nils, Kinds, Functions, no_function, of_arity, all_functions, Plain, Cell, Body, product, tags, Tuples, sizes, all_tuples, Parts, TypeAt}
-use Rattle.type_family.specs.HasType.{HasEach, HasRow, HasTag, HasBody, HasTuple}
-use Rattle.type_family.specs.Operations.{Ops, no_kinds, plain_none, body_of, of_plain, of_atoms, parts_is_none, parts_join, ops}
-use Rattle.type_family.specs.Normal.{NormalFunctions, IsElement, AreElements, NormalCell, NormalRow, NormalRows, NormalBody, NormalSizes, NormalTuples, NormalParts, NormalAt}
-use Rattle.type_family.specs.Laws.{BelowBy, Lattice, Laws}
-use Rattle.type_family.specs.Forms.{an_int, an_atom, some_bits, of_kind, a_function, Form, leaf, pair, row, HasForm}
-use Rattle.type_family.proofs.PlainLaws.{no_kinds-has, plain-none_empty}
-use Rattle.type_family.proofs.CellLaws.{filled-not_none}
-use Rattle.type_family.proofs.RowLaws.{count_each}
-use Rattle.type_family.proofs.BodyLaws.{tagged, body_of_in, body_of_out, body_of_normal, count_body}
-use Rattle.type_family.proofs.TableLaws as tables
-use Rattle.type_family.proofs.PartsLaws.{form_lattice}
-use Rattle.type_family.proofs.LevelLaws.{level_laws}
+use Rattle.type_model.specs.Values.{Value, atom, Values, no_value, and_value, count}
+use Rattle.type_model.specs.Tables.{is_table, find}
+use Rattle.type_model.specs.Shapes.{floats, pids, ports, references, nils, Kinds, Functions, no_function, of_arity, all_functions, Plain, Cell, Body, product, tags, Tuples, sizes, all_tuples, Parts, TypeAt}
+use Rattle.type_model.specs.HasType.{HasEach, HasRow, HasTag, HasBody, HasTuple}
+use Rattle.type_model.specs.Operations.{Ops, no_kinds, plain_none, body_of, of_plain, of_atoms, parts_is_none, parts_join, ops}
+use Rattle.type_model.specs.Normal.{NormalFunctions, IsElement, AreElements, NormalCell, NormalRow, NormalRows, NormalBody, NormalSizes, NormalTuples, NormalParts, NormalAt}
+use Rattle.type_model.specs.Laws.{BelowBy, Lattice, Laws}
+use Rattle.type_model.specs.Forms.{an_int, an_atom, some_bits, of_kind, a_function, Form, leaf, pair, row, HasForm}
+use Rattle.type_model.proofs.PlainLaws.{no_kinds-has, plain-none_empty}
+use Rattle.type_model.proofs.CellLaws.{filled-not_none}
+use Rattle.type_model.proofs.RowLaws.{count_each}
+use Rattle.type_model.proofs.BodyLaws.{tagged, body_of_in, body_of_out, body_of_normal, count_body}
+use Rattle.type_model.proofs.TableLaws as tables
+use Rattle.type_model.proofs.PartsLaws.{form_lattice}
+use Rattle.type_model.proofs.LevelLaws.{level_laws}
 use Rattle.type_text.specs.Texts.{separated, word_if, atom_words, range_word, int_words, bits_words, function_words, plain_words, cell_words, tuple_word, tag_words, body_words, size_words, tuples_words, parts_words, is_any, text_at}
 use Rattle.type_text.specs.WordTypes.{float_kind, pid_kind, port_kind, reference_kind, nil_kind, of_ints, of_bits, of_kinds, of_functions, of_cell, of_list, of_tuples, of_row, IsWordOf, one_atom, every_atom, one_int, ints_between, every_float, whole_bits, every_bits, every_pid, every_port, every_reference, every_function, one_arity, empty_list, proper_list, any_list, every_tuple, one_tuple, IsWord, AreWordsOf, spelled, joined_with, WordsOf}
 

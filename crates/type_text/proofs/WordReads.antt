@@ -6,11 +6,11 @@ use Rattle.std.specs.Fmt.{decimal}
 use borrow.Author.Tests.{ltb-true, lt-ltb, leb-true, eqb-true}
 use Rattle.type_sets.proofs.Truths.{first, second, either}
 use Rattle.std.proofs.lemmas.List.{append-nil, length-map, map-append}
-use Rattle.type_family.specs.Shapes.{of_arity, Plain, Cell, Body, Tuples, sizes, all_tuples, Parts, TypeAt}
-use Rattle.type_family.specs.Operations.{ops, plain_none, of_plain, body_of}
-use Rattle.type_family.specs.Normal.{NormalFunctions, IsElement, AreElements, NormalParts, NormalAt, NormalBody}
-use Rattle.type_family.proofs.BodyLaws.{body_of_normal}
-use Rattle.type_family.proofs.LevelLaws.{level_laws}
+use Rattle.type_model.specs.Shapes.{of_arity, Plain, Cell, Body, Tuples, sizes, all_tuples, Parts, TypeAt}
+use Rattle.type_model.specs.Operations.{ops, plain_none, of_plain, body_of}
+use Rattle.type_model.specs.Normal.{NormalFunctions, IsElement, AreElements, NormalParts, NormalAt, NormalBody}
+use Rattle.type_model.proofs.BodyLaws.{body_of_normal}
+use Rattle.type_model.proofs.LevelLaws.{level_laws}
 use Rattle.type_trees.specs.declared.node.Node.{Node}
 use Rattle.type_trees.specs.declared.node.Node.TheVariants as v
 use Rattle.type_trees.specs.declared.node.PartsOf.{PartsOf}

@@ -20,9 +20,9 @@ use Rattle.type_sets.specs.declared.ends.Low.TheVariants.{Min}
 use Rattle.type_sets.specs.declared.ends.High.{High}
 use Rattle.type_sets.specs.declared.ends.High.TheVariants.{Max}
 use Rattle.type_sets.specs.declared.bits.Bits.TheVariants.{Whole, Any}
-use Rattle.type_family.specs.Shapes.{of_arity, all_functions, all_tuples, Parts}
-use Rattle.type_family.specs.Operations.{Ops, of_atoms}
-use Rattle.type_family.specs.Normal.{IsElement, AreElements}
+use Rattle.type_model.specs.Shapes.{of_arity, all_functions, all_tuples, Parts}
+use Rattle.type_model.specs.Operations.{Ops, of_atoms}
+use Rattle.type_model.specs.Normal.{IsElement, AreElements}
 use Rattle.type_text.specs.Starts.{is_number, begins_number, Lacks}
 use Rattle.type_text.specs.Texts.{separated, low_text, high_text, range_word}
 use Rattle.type_text.specs.WordTypes.{float_kind, pid_kind, port_kind, reference_kind, nil_kind, of_ints, of_bits, of_kinds, of_functions, of_list, of_tuples, of_row, IsWordOf, one_atom, every_atom, one_int, ints_between, every_float, whole_bits, every_bits, every_pid, every_port, every_reference, every_function, one_arity, empty_list, proper_list, any_list, every_tuple, one_tuple}

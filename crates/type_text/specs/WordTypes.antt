@@ -11,9 +11,9 @@ use Rattle.type_sets.specs.declared.ends.Low.{Low}
 use Rattle.type_sets.specs.declared.ends.High.{High}
 use Rattle.type_sets.specs.declared.bits.Bits.{Bits}
 use Rattle.type_sets.specs.declared.bits.Bits.TheVariants.{No, Whole, Any}
-use Rattle.type_family.specs.Shapes.{Kinds, Functions, no_function, of_arity, all_functions, Cell, Tuples, sizes, all_tuples, Parts, TypeAt}
-use Rattle.type_family.specs.Operations.{Ops, no_kinds, plain_none, body_of, of_plain, of_atoms, ops}
-use Rattle.type_family.specs.Normal.{IsElement, AreElements, NormalAt}
+use Rattle.type_model.specs.Shapes.{Kinds, Functions, no_function, of_arity, all_functions, Cell, Tuples, sizes, all_tuples, Parts, TypeAt}
+use Rattle.type_model.specs.Operations.{Ops, no_kinds, plain_none, body_of, of_plain, of_atoms, ops}
+use Rattle.type_model.specs.Normal.{IsElement, AreElements, NormalAt}
 use Rattle.type_text.specs.Texts.{after, range_word, tuple_word, text_at}
 
 -- ---- types of one part

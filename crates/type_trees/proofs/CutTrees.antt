@@ -2,14 +2,14 @@
 use Rattle.std.proofs.Common.{◌≡◌, ◌⊎◌, inl, inr, ℕ, zero, suc, ◌+◌, ◌-◌, ◌<◌, ◌≤◌, Bool, true, false, cond, List, [], ◌∷◌, ◌++◌, map, take, length, Some, refl, sym, ap, ◌∙◌, subst, true≢false, arith}
 use Rattle.std.specs.Prelude.{not, slice_index_or}
 use Rattle.std.proofs.lemmas.List.{take_more, map_push}
-use Rattle.type_family.specs.Tables.{mapped}
-use Rattle.type_family.specs.Shapes.{TypeAt, Body, product, tags}
-use Rattle.type_family.specs.Operations.{ops, elements}
-use Rattle.type_family.specs.Normal.{AreElements, NormalRow, NormalRows, NormalBody, NormalSizes, NormalParts, NormalAt}
-use Rattle.type_family.specs.Cut.{row_lower, cell_lower, body_lower, tuples_lower, parts_lower, cut}
-use Rattle.type_family.proofs.BodyLaws.{elements_normal}
-use Rattle.type_family.proofs.CutLaws.{cut_lowering}
-use Rattle.type_family.proofs.LevelLaws.{level_laws}
+use Rattle.type_model.specs.Tables.{mapped}
+use Rattle.type_model.specs.Shapes.{TypeAt, Body, product, tags}
+use Rattle.type_model.specs.Operations.{ops, elements}
+use Rattle.type_model.specs.Normal.{AreElements, NormalRow, NormalRows, NormalBody, NormalSizes, NormalParts, NormalAt}
+use Rattle.type_model.specs.Cut.{row_lower, cell_lower, body_lower, tuples_lower, parts_lower, cut}
+use Rattle.type_model.proofs.BodyLaws.{elements_normal}
+use Rattle.type_model.proofs.CutLaws.{cut_lowering}
+use Rattle.type_model.proofs.LevelLaws.{level_laws}
 use Rattle.type_trees.specs.declared.node.Node.{Node}
 use Rattle.type_trees.specs.declared.node.Node.TheVariants as v
 use Rattle.type_trees.specs.declared.node.PartsOf.{PartsOf}

@@ -8,20 +8,20 @@ use Rattle.std.specs.Cmp.{nat_cmp_total}
 use Rattle.std.specs.FinSet.{nat_cmp-IsAntisymmetric}
 use Rattle.type_sets.specs.Names.{Name, name_cmp}
 use Rattle.type_sets.proofs.NameLaws.{name_total, name_same}
-use Rattle.type_family.specs.Values.{Value, nil, and_value, count, heads}
-use Rattle.type_family.specs.Shapes.{TypeAt, Body, Parts, tags, sizes}
-use Rattle.type_family.specs.Tables.{find}
-use Rattle.type_family.specs.HasType.{HasAt, HasParts, HasCell, HasRow, HasBody, HasTuple}
-use Rattle.type_family.specs.Operations.{ops, row_at}
-use Rattle.type_family.specs.Normal.{NormalAt, NormalRow, NormalRows, NormalBody, NormalSizes}
-use Rattle.type_family.specs.Laws.{BelowBy}
-use Rattle.type_family.specs.Forms.{Form, leaf, pair, row, form, value_of_form, form-value_of_form, HasForm, has-form, PlainBelow}
-use Rattle.type_family.proofs.TableLaws.{EachEntry, each_at, each_from, some-none}
-use Rattle.type_family.proofs.CellLaws.{value_of, cell-below, all-more}
-use Rattle.type_family.proofs.RowLaws.{BelowEach, values_of, each-more, each-below}
-use Rattle.type_family.proofs.BodyLaws.{row_at_normal, each_tag, tag_of, not_tags, body_lattice}
-use Rattle.type_family.proofs.TupleLaws.{normal_at, to_size, not_all}
-use Rattle.type_family.proofs.LevelLaws.{level_laws}
+use Rattle.type_model.specs.Values.{Value, nil, and_value, count, heads}
+use Rattle.type_model.specs.Shapes.{TypeAt, Body, Parts, tags, sizes}
+use Rattle.type_model.specs.Tables.{find}
+use Rattle.type_model.specs.HasType.{HasAt, HasParts, HasCell, HasRow, HasBody, HasTuple}
+use Rattle.type_model.specs.Operations.{ops, row_at}
+use Rattle.type_model.specs.Normal.{NormalAt, NormalRow, NormalRows, NormalBody, NormalSizes}
+use Rattle.type_model.specs.Laws.{BelowBy}
+use Rattle.type_model.specs.Forms.{Form, leaf, pair, row, form, value_of_form, form-value_of_form, HasForm, has-form, PlainBelow}
+use Rattle.type_model.proofs.TableLaws.{EachEntry, each_at, each_from, some-none}
+use Rattle.type_model.proofs.CellLaws.{value_of, cell-below, all-more}
+use Rattle.type_model.proofs.RowLaws.{BelowEach, values_of, each-more, each-below}
+use Rattle.type_model.proofs.BodyLaws.{row_at_normal, each_tag, tag_of, not_tags, body_lattice}
+use Rattle.type_model.proofs.TupleLaws.{normal_at, to_size, not_all}
+use Rattle.type_model.proofs.LevelLaws.{level_laws}
 use Rattle.type_trees.specs.declared.node.Node.{Node}
 use Rattle.type_trees.specs.declared.node.Node.TheVariants as v
 use Rattle.type_trees.specs.declared.node.PartsOf.{PartsOf}

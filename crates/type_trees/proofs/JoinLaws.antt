@@ -14,16 +14,16 @@ use Rattle.type_sets.specs.Names.{Name, Names, name_cmp, every, none, are_listed
 use Rattle.type_sets.proofs.NameLaws.{or_else-no, name_total, name_same}
 use Rattle.type_sets.specs.Numbers as numbers
 use Rattle.type_sets.specs.declared.bits.Bits.TheVariants.{No}
-use Rattle.type_family.specs.Shapes.{TypeAt, Plain, no_function, Parts, Tuples, all_tuples, Body, product, tags, sizes}
-use Rattle.type_family.specs.Tables.{keys, held, is_table, put, united}
-use Rattle.type_family.specs.Operations.{Ops, ops, zip, is_empty, row_join, rows_join, all_rows_join, tags_join, body_join, elements, capped_tags, capped_sizes, no_kinds, of_atoms, parts_join}
-use Rattle.type_family.specs.Normal.{NormalAt, NormalRow, NormalRows, AreTags, NormalBody, NormalSizes, NormalParts}
-use Rattle.type_family.proofs.TableLaws.{same_some, table-put, table-united}
-use Rattle.type_family.proofs.RowLaws.{length-zip, row_lattice}
-use Rattle.type_family.proofs.BodyLaws.{body_lattice, elements_normal}
-use Rattle.type_family.specs.HasType.{HasAt}
-use Rattle.type_family.proofs.PartsLaws.{parts_lattice}
-use Rattle.type_family.proofs.LevelLaws.{level_laws}
+use Rattle.type_model.specs.Shapes.{TypeAt, Plain, no_function, Parts, Tuples, all_tuples, Body, product, tags, sizes}
+use Rattle.type_model.specs.Tables.{keys, held, is_table, put, united}
+use Rattle.type_model.specs.Operations.{Ops, ops, zip, is_empty, row_join, rows_join, all_rows_join, tags_join, body_join, elements, capped_tags, capped_sizes, no_kinds, of_atoms, parts_join}
+use Rattle.type_model.specs.Normal.{NormalAt, NormalRow, NormalRows, AreTags, NormalBody, NormalSizes, NormalParts}
+use Rattle.type_model.proofs.TableLaws.{same_some, table-put, table-united}
+use Rattle.type_model.proofs.RowLaws.{length-zip, row_lattice}
+use Rattle.type_model.proofs.BodyLaws.{body_lattice, elements_normal}
+use Rattle.type_model.specs.HasType.{HasAt}
+use Rattle.type_model.proofs.PartsLaws.{parts_lattice}
+use Rattle.type_model.proofs.LevelLaws.{level_laws}
 use Rattle.type_trees.specs.declared.node.Node.{Node}
 use Rattle.type_trees.specs.declared.node.PartsOf.{PartsOf}
 use Rattle.type_trees.specs.declared.node.Node.TheVariants as v

@@ -7,15 +7,15 @@ use Rattle.std.specs.FinSet.{nat_cmp-IsAntisymmetric}
 use Rattle.std.proofs.lemmas.List.{length-map}
 use Rattle.type_sets.specs.Names.{Name}
 use Rattle.type_sets.proofs.NameLaws.{name_total, name_same}
-use Rattle.type_family.specs.Tables.{is_table, mapped}
-use Rattle.type_family.specs.Shapes.{Cell, Body, product, tags, Tuples, sizes, all_tuples, Parts, TypeAt}
-use Rattle.type_family.specs.HasType.{HasAt}
-use Rattle.type_family.specs.Operations.{plain_none, ops, elements}
-use Rattle.type_family.specs.Normal.{IsElement, NormalCell, AreElements, NormalRow, FirstIsOpen, NormalRows, AreTags, NormalBody, NormalSizes, NormalTuples, NormalAt}
-use Rattle.type_family.specs.Cut.{row_lower, cell_lower, body_lower, tuples_lower, parts_lower, cut}
-use Rattle.type_family.proofs.TableLaws.{table-mapped, length-mapped, empty-mapped}
-use Rattle.type_family.proofs.CutLaws.{cut_exact}
-use Rattle.type_family.proofs.LevelLaws.{level_laws}
+use Rattle.type_model.specs.Tables.{is_table, mapped}
+use Rattle.type_model.specs.Shapes.{Cell, Body, product, tags, Tuples, sizes, all_tuples, Parts, TypeAt}
+use Rattle.type_model.specs.HasType.{HasAt}
+use Rattle.type_model.specs.Operations.{plain_none, ops, elements}
+use Rattle.type_model.specs.Normal.{IsElement, NormalCell, AreElements, NormalRow, FirstIsOpen, NormalRows, AreTags, NormalBody, NormalSizes, NormalTuples, NormalAt}
+use Rattle.type_model.specs.Cut.{row_lower, cell_lower, body_lower, tuples_lower, parts_lower, cut}
+use Rattle.type_model.proofs.TableLaws.{table-mapped, length-mapped, empty-mapped}
+use Rattle.type_model.proofs.CutLaws.{cut_exact}
+use Rattle.type_model.proofs.LevelLaws.{level_laws}
 use Rattle.type_trees.specs.declared.node.Node.{Node, out-Node, roll-Node, roll-out-Node}
 use Rattle.type_trees.specs.declared.node.Node.TheOpen.{Node-F}
 use Rattle.type_trees.specs.declared.node.Node.TheVariants as v

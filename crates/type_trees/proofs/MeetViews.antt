@@ -4,15 +4,15 @@ use Rattle.std.specs.Prelude.{slice_index_or}
 use Rattle.std.specs.Ordering.{nat_cmp}
 use Rattle.std.proofs.lemmas.List.{append_assoc, append-nil, length-map, map-append, drop_all, at_drop_more}
 use Rattle.type_sets.specs.Names.{Name}
-use Rattle.type_family.specs.Shapes.{TypeAt, Body, tags, sizes}
-use Rattle.type_family.specs.HasType.{HasAt}
-use Rattle.type_family.specs.Operations.{Ops, ops, zip, or_none, met_with, has_none, row_meet, row_at, some_tags, tags_meet, body_meet, sizes_meet, parts_meet, tuples_meet}
-use Rattle.type_family.specs.Tables.{all_hold, and_entry, chosen, find}
-use Rattle.type_family.specs.Normal.{NormalAt, NormalRow, NormalRows, NormalBody, NormalSizes, NormalTuples}
-use Rattle.type_family.specs.Laws.{Laws}
-use Rattle.type_family.proofs.BodyLaws.{row_at_normal}
-use Rattle.type_family.proofs.TupleLaws.{normal_at, tuples_lattice}
-use Rattle.type_family.proofs.LevelLaws.{level_laws}
+use Rattle.type_model.specs.Shapes.{TypeAt, Body, tags, sizes}
+use Rattle.type_model.specs.HasType.{HasAt}
+use Rattle.type_model.specs.Operations.{Ops, ops, zip, or_none, met_with, has_none, row_meet, row_at, some_tags, tags_meet, body_meet, sizes_meet, parts_meet, tuples_meet}
+use Rattle.type_model.specs.Tables.{all_hold, and_entry, chosen, find}
+use Rattle.type_model.specs.Normal.{NormalAt, NormalRow, NormalRows, NormalBody, NormalSizes, NormalTuples}
+use Rattle.type_model.specs.Laws.{Laws}
+use Rattle.type_model.proofs.BodyLaws.{row_at_normal}
+use Rattle.type_model.proofs.TupleLaws.{normal_at, tuples_lattice}
+use Rattle.type_model.proofs.LevelLaws.{level_laws}
 use Rattle.type_trees.specs.declared.node.Node.{Node}
 use Rattle.type_trees.specs.declared.node.Node.TheVariants as v
 use Rattle.type_trees.specs.declared.node.PartsOf.{PartsOf}

@@ -8,11 +8,11 @@ use Rattle.type_sets.specs.Names as names
 use Rattle.type_sets.proofs.Truths.{is_false}
 use Rattle.type_sets.proofs.AscendingLaws.{is_it, itself}
 use Rattle.type_sets.proofs.NameLaws.{name_total, name_same}
-use Rattle.type_family.specs.Values.{atom}
-use Rattle.type_family.specs.Tables.{find}
-use Rattle.type_family.specs.Operations.{ops, plain_all, parts_any, is_atoms, is_empty, no_cell, is_only_atoms}
-use Rattle.type_family.proofs.LevelLaws.{level_laws}
-use Rattle.type_family.proofs.TableLaws.{same_some}
+use Rattle.type_model.specs.Values.{atom}
+use Rattle.type_model.specs.Tables.{find}
+use Rattle.type_model.specs.Operations.{ops, plain_all, parts_any, is_atoms, is_empty, no_cell, is_only_atoms}
+use Rattle.type_model.proofs.LevelLaws.{level_laws}
+use Rattle.type_model.proofs.TableLaws.{same_some}
 use Rattle.type_trees.specs.declared.node.Node.{Node}
 use Rattle.type_trees.specs.declared.node.Node.TheVariants as v
 use Rattle.type_trees.specs.declared.node.PartsOf.{PartsOf}

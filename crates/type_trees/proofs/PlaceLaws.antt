@@ -6,7 +6,7 @@ use Rattle.std.specs.Ordering.{is_lt, is_eq, nat_cmp}
 use Rattle.std.specs.FinSet.{nat_cmp-IsAntisymmetric}
 use Rattle.type_sets.specs.Names.{Name, name_cmp}
 use Rattle.type_sets.proofs.NameLaws.{name_same}
-use Rattle.type_family.specs.Tables.{put}
+use Rattle.type_model.specs.Tables.{put}
 use Rattle.type_trees.specs.declared.node.Node.{Node}
 use Rattle.type_trees.specs.declared.node.TagOf.{TagOf}
 use Rattle.type_trees.specs.declared.node.SizeOf.{SizeOf}

@@ -21,12 +21,12 @@ use Rattle.type_sets.specs.contracts.ends.HighPartialEq.TheImpl as high
 use Rattle.type_sets.specs.contracts.bits.BitsPartialEq.TheImpl as bits
 use Rattle.type_sets.proofs.Truths.{in_first, in_second, either}
 use Rattle.type_sets.proofs.NumberLaws.{between-same}
-use Rattle.type_family.specs.Shapes.{Kind, Kinds, Functions, no_function, of_arity, all_functions, Plain}
-use Rattle.type_family.specs.HasType.{has_kind, has_arity}
-use Rattle.type_family.specs.Operations.{kinds_join, plain_all, all_kinds}
-use Rattle.type_family.specs.Forms.{an_int, an_atom, some_bits, of_kind, a_function, PlainBelow}
-use Rattle.type_family.proofs.PlainLaws.{same_test, same_kinds, has_kind-join, same_functions}
-use Rattle.type_family.proofs.TableLaws.{some-none}
+use Rattle.type_model.specs.Shapes.{Kind, Kinds, Functions, no_function, of_arity, all_functions, Plain}
+use Rattle.type_model.specs.HasType.{has_kind, has_arity}
+use Rattle.type_model.specs.Operations.{kinds_join, plain_all, all_kinds}
+use Rattle.type_model.specs.Forms.{an_int, an_atom, some_bits, of_kind, a_function, PlainBelow}
+use Rattle.type_model.proofs.PlainLaws.{same_test, same_kinds, has_kind-join, same_functions}
+use Rattle.type_model.proofs.TableLaws.{some-none}
 use Rattle.type_trees.specs.declared.plain.KindSet.{KindSet}
 use Rattle.type_trees.specs.declared.plain.FunSet.{FunSet}
 use Rattle.type_trees.specs.declared.plain.FunSet.TheVariants as fun

@@ -1,12 +1,12 @@
 -- What the trees of the code stand for, one level at a time.
 use Rattle.std.proofs.Common.{◌≡◌, ℕ, zero, suc, ◌-◌, ◌<◌, ◌≤◌, Bool, true, false, List, [], ◌∷◌, Option, Some, None, is_some, refl, sym, ap, ◌∙◌, subst, true≢false, arith}
 use Rattle.std.specs.Prelude.{◌↔◌, IsTrue, slice_index_or, length}
-use Rattle.type_family.specs.Shapes.{TypeAt}
-use Rattle.type_family.specs.Operations.{ops, is_empty, parts_is_none, no_cell}
-use Rattle.type_family.specs.Normal.{NormalAt, NormalParts}
-use Rattle.type_family.specs.Values.{nil}
-use Rattle.type_family.proofs.CellLaws.{filled-not_none}
-use Rattle.type_family.proofs.LevelLaws.{level_laws}
+use Rattle.type_model.specs.Shapes.{TypeAt}
+use Rattle.type_model.specs.Operations.{ops, is_empty, parts_is_none, no_cell}
+use Rattle.type_model.specs.Normal.{NormalAt, NormalParts}
+use Rattle.type_model.specs.Values.{nil}
+use Rattle.type_model.proofs.CellLaws.{filled-not_none}
+use Rattle.type_model.proofs.LevelLaws.{level_laws}
 use Rattle.type_trees.specs.declared.node.Node.{Node, out-Node, roll-Node, roll-out-Node}
 use Rattle.type_trees.specs.declared.node.Node.TheOpen.{Node-F}
 use Rattle.type_trees.specs.declared.node.Node.TheVariants as v

@@ -2,7 +2,7 @@
 use Rattle.std.specs.Prelude.{◌≡◌, ℕ, List, Some, slice_get, slice_set}
 use Rattle.std.specs.List.{insert}
 use Rattle.std.specs.declared.cmp.Ordering.{Ordering}
-use Rattle.type_family.specs.Tables.{put}
+use Rattle.type_model.specs.Tables.{put}
 
 module _ {K X : Type 0} (R : K → K → Ordering) (k : K) (m : List (K × X)) (at : ℕ) where
   -- the key is at this place, so that what is put there is joined with what it holds

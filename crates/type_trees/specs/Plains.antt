@@ -6,7 +6,7 @@ use Rattle.type_sets.specs.Names.{Names, names_code}
 use Rattle.type_sets.specs.Numbers.{Numbers, numbers_code}
 use Rattle.type_sets.specs.declared.bits.Bits.{Bits}
 use Rattle.type_sets.specs.contracts.bits.Bits as bits
-use Rattle.type_family.specs.Shapes.{Kinds, Functions, no_function, of_arity, all_functions, Plain}
+use Rattle.type_model.specs.Shapes.{Kinds, Functions, no_function, of_arity, all_functions, Plain}
 use Rattle.type_trees.specs.declared.plain.KindSet.{KindSet}
 use Rattle.type_trees.specs.declared.plain.FunSet.{FunSet}
 use Rattle.type_trees.specs.declared.plain.FunSet.TheVariants as fun

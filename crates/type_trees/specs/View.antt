@@ -2,10 +2,10 @@
 use Rattle.std.specs.Prelude.{◌≡◌, ℕ, zero, suc, Bool, true, false, List, [], ◌∷◌, map, Option, Some, None}
 use Rattle.std.specs.Ordering.{nat_cmp}
 use Rattle.type_sets.specs.Names.{Name}
-use Rattle.type_family.specs.Shapes.{Cell, Body, product, tags, Tuples, sizes, all_tuples, Parts, TypeAt}
-use Rattle.type_family.specs.Operations.{ops}
-use Rattle.type_family.specs.Normal.{NormalCell, NormalRow, AreTags, NormalBody, NormalSizes, NormalTuples, NormalParts, NormalAt}
-use Rattle.type_family.specs.Tables.{is_table}
+use Rattle.type_model.specs.Shapes.{Cell, Body, product, tags, Tuples, sizes, all_tuples, Parts, TypeAt}
+use Rattle.type_model.specs.Operations.{ops}
+use Rattle.type_model.specs.Normal.{NormalCell, NormalRow, AreTags, NormalBody, NormalSizes, NormalTuples, NormalParts, NormalAt}
+use Rattle.type_model.specs.Tables.{is_table}
 use Rattle.type_trees.specs.declared.node.Node.{Node, out-Node}
 use Rattle.type_trees.specs.declared.node.Node.TheOpen.{Node-F}
 use Rattle.type_trees.specs.declared.node.PartsOf.{PartsOf}

@@ -1,9 +1,9 @@
 //! The least type of a level round a type.
 ghost use Rattle.std.specs.Prelude.{◌≡◌, ◌⊎◌, ℕ, false, ◌≤◌, IfOk};
-ghost use Rattle.type_family.specs.Cut.{row_lower, cell_lower, body_lower, tuples_lower, parts_lower};
-ghost use Rattle.type_family.specs.Cut as levels;
-ghost use Rattle.type_family.specs.Operations.{ops};
-ghost use Rattle.type_family.specs.Tables.{mapped};
+ghost use Rattle.type_model.specs.Cut.{row_lower, cell_lower, body_lower, tuples_lower, parts_lower};
+ghost use Rattle.type_model.specs.Cut as levels;
+ghost use Rattle.type_model.specs.Operations.{ops};
+ghost use Rattle.type_model.specs.Tables.{mapped};
 ghost use Rattle.type_trees.specs.View.{view, Fits, row_view, tags_view, body_view, sizes_view, tuples_view, cell_view, parts_view, EachNode, EachTag, EachInBody, EachSize, EachInTuples, EachInCell, RowFits, TagsFit, BodyFits, SizesFit, TuplesFit, CellFits, PartsFit};
 
 use crate::joins::elements_of_tags;

@@ -1,8 +1,8 @@
 //! Whether each value of one type is one of another. Nothing here takes memory.
 ghost use Rattle.std.specs.Prelude.{◌↔◌, ℕ, suc, Some, IsTrue};
-ghost use Rattle.type_family.specs.HasType.{HasAt, HasParts, HasCell, HasRow, HasBody, HasTuple};
-ghost use Rattle.type_family.specs.Laws.{BelowBy};
-ghost use Rattle.type_family.specs.Shapes.{tags, sizes};
+ghost use Rattle.type_model.specs.HasType.{HasAt, HasParts, HasCell, HasRow, HasBody, HasTuple};
+ghost use Rattle.type_model.specs.Laws.{BelowBy};
+ghost use Rattle.type_model.specs.Shapes.{tags, sizes};
 ghost use Rattle.type_trees.specs.View.{view, Fits, row_view, tags_view, body_view, sizes_view, tuples_view, cell_view, parts_view, RowFits, TagsFit, BodyFits, SizesFit, TuplesFit, CellFits, PartsFit};
 
 use crate::node::{BodyOf, CellOf, Node, PartsOf, SizeOf, TagOf, TuplesOf, find_size, rest_after};

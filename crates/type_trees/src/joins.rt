@@ -2,9 +2,9 @@
 ghost use Rattle.std.specs.Prelude.{◌≡◌, ℕ, suc, ◌<◌, IfOk};
 ghost use Rattle.std.specs.Ordering.{nat_cmp};
 ghost use Rattle.type_sets.specs.Names.{name_cmp, every, or_else};
-ghost use Rattle.type_family.specs.Operations.{ops, cell_join, row_join, elements, all_rows_join, tags_join, capped_tags, body_join, capped_sizes, tuples_join, parts_join};
-ghost use Rattle.type_family.specs.Tables.{keys, held, put, united};
-ghost use Rattle.type_family.specs.Shapes.{tags as tagged};
+ghost use Rattle.type_model.specs.Operations.{ops, cell_join, row_join, elements, all_rows_join, tags_join, capped_tags, body_join, capped_sizes, tuples_join, parts_join};
+ghost use Rattle.type_model.specs.Tables.{keys, held, put, united};
+ghost use Rattle.type_model.specs.Shapes.{tags as tagged};
 ghost use Rattle.type_trees.specs.View.{view, Fits, row_view, tags_view, body_view, sizes_view, tuples_view, cell_view, parts_view, EachNode, EachTag, EachInBody, EachSize, EachInTuples, EachInCell, RowFits, TagsFit, BodyFits, SizesFit, TuplesFit, CellFits, PartsFit};
 
 use crate::copies::{copy_body, copy_cell, copy_row, copy_sizes, copy_tag, copy_tags};

@@ -1,7 +1,7 @@
 //! The type whose values are those of both.
 ghost use Rattle.std.specs.Prelude.{◌≡◌, ℕ, suc, IfOk, IfSome, option_map};
-ghost use Rattle.type_family.specs.Operations.{ops, or_none, some_tags, cell_meet, row_meet, body_of, tags_meet, body_meet, sizes_meet, tuples_meet, parts_meet};
-ghost use Rattle.type_family.specs.Tables.{all_hold};
+ghost use Rattle.type_model.specs.Operations.{ops, or_none, some_tags, cell_meet, row_meet, body_of, tags_meet, body_meet, sizes_meet, tuples_meet, parts_meet};
+ghost use Rattle.type_model.specs.Tables.{all_hold};
 ghost use Rattle.type_trees.specs.View.{view, Fits, row_view, tags_view, body_view, sizes_view, tuples_view, cell_view, parts_view, EachNode, EachTag, EachInBody, EachSize, RowFits, TagsFit, BodyFits, SizesFit, TuplesFit, CellFits, PartsFit};
 
 use crate::copies::{copy, copy_row, copy_tuples};

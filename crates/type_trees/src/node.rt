@@ -1,9 +1,9 @@
 ghost use Rattle.std.specs.Prelude.{◌≡◌, ℕ, suc, [], ◌∷◌, ◌++◌, IfOk, IfSome, IsTrue, option_map, ◌↔◌};
 ghost use Rattle.std.specs.Option.{option_copied};
 ghost use Rattle.std.specs.Ordering.{nat_cmp};
-ghost use Rattle.type_family.specs.Operations.{ops, parts_is_none, parts_any, row_at, is_only_atoms as only_atoms_there};
-ghost use Rattle.type_family.specs.Tables.{find};
-ghost use Rattle.type_family.specs.Shapes.{product};
+ghost use Rattle.type_model.specs.Operations.{ops, parts_is_none, parts_any, row_at, is_only_atoms as only_atoms_there};
+ghost use Rattle.type_model.specs.Tables.{find};
+ghost use Rattle.type_model.specs.Shapes.{product};
 ghost use Rattle.type_sets.specs.Names.{name_cmp};
 ghost use Rattle.type_trees.specs.View.{view, row_view, tags_view, body_view, sizes_view, parts_view, Fits, EachNode, EachTag, EachSize, EachInBody, PartsFit};
 

@@ -1,11 +1,11 @@
 ghost use Rattle.std.specs.Prelude.{◌≡◌, ◌↔◌, ℕ, true, IsTrue, IfOk};
-ghost use Rattle.type_family.specs.Forms.{PlainBelow};
-ghost use Rattle.type_family.specs.HasType.{has_kind, has_arity};
-ghost use Rattle.type_family.specs.Parts.{without_nil};
-ghost use Rattle.type_family.specs.Shapes.{Kind, no_function};
+ghost use Rattle.type_model.specs.Forms.{PlainBelow};
+ghost use Rattle.type_model.specs.HasType.{has_kind, has_arity};
+ghost use Rattle.type_model.specs.Parts.{without_nil};
+ghost use Rattle.type_model.specs.Shapes.{Kind, no_function};
 ghost use Rattle.type_sets.specs.Numbers as numbers;
 ghost use Rattle.type_sets.specs.declared.bits.Bits.TheVariants.{No};
-ghost use Rattle.type_family.specs.Operations.{plain_none, plain_all, plain_meet, plain_join, kinds_meet, kinds_join, functions_meet, functions_join, is_no_kind, no_kinds, all_kinds, is_no_function, is_no_plain, is_atoms};
+ghost use Rattle.type_model.specs.Operations.{plain_none, plain_all, plain_meet, plain_join, kinds_meet, kinds_join, functions_meet, functions_join, is_no_kind, no_kinds, all_kinds, is_no_function, is_no_plain, is_atoms};
 ghost use Rattle.type_trees.specs.Plains.{kinds_of, functions_of};
 
 use std::alloc::Global;
@@ -146,7 +146,7 @@ pub struct Plain {
 }
 
 impl Model for Plain {
-    ghost use Rattle.type_family.specs.Shapes.{Plain};
+    ghost use Rattle.type_model.specs.Shapes.{Plain};
     ghost use Rattle.type_trees.specs.Plains.{plain_code, kinds_of, functions_of};
 
     ghost Value = { Plain };

@@ -1,5 +1,5 @@
 use Rattle.std.proofs.Common.{sym, ◌∙◌}
-use Rattle.type_family.specs.Operations.{ops}
+use Rattle.type_model.specs.Operations.{ops}
 use Rattle.type_lattice.specs.Types.{is_none}
 use Rattle.type_lattice.proofs.MakerLaws.{none_so_far, none_found, none_at_all}
 use Rattle.type_lattice.proofs.makers.any_none.Goals as goal

@@ -1,5 +1,5 @@
 use Rattle.std.proofs.Common.{◌≡◌, false, map, take}
-use Rattle.type_family.specs.Operations.{ops, has_none}
+use Rattle.type_model.specs.Operations.{ops, has_none}
 use Rattle.type_lattice.proofs.makers.any_none.Given as goal
 
 abbrev pub invariant-loop-t : goal.invariant-loop-t

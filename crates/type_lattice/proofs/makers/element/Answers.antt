@@ -1,7 +1,7 @@
 use Rattle.std.proofs.Common.{◌≡◌, Some, sym, subst}
 use Rattle.std.specs.Prelude.{slice_get}
 use Rattle.std.proofs.lemmas.Result.{IfOk-weaker}
-use Rattle.type_family.specs.Operations.{ops, elements}
+use Rattle.type_model.specs.Operations.{ops, elements}
 use Rattle.type_trees.specs.View.{Fits, view, body_view}
 use Rattle.type_lattice.proofs.MakerLaws.{place_there, place_fits, place_view}
 use Rattle.type_lattice.proofs.makers.element.Goals as goal

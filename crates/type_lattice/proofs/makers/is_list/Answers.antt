@@ -1,6 +1,6 @@
 use Rattle.std.proofs.Common.{◌≡◌, true, ◌∙◌}
 use Rattle.type_trees.specs.View.{cell_view}
-use Rattle.type_family.specs.Parts.{proper_cell}
+use Rattle.type_model.specs.Parts.{proper_cell}
 use Rattle.type_lattice.proofs.MakerLaws.{any_lists, of_lists-tuples, of_lists-cell, of_lists-plain, all_there, tuples_there, proper_there, none_there}
 use Rattle.type_lattice.proofs.makers.is_list.Goals as goal
 use Rattle.type_lattice.proofs.makers.is_list.Goals.{in-Some+else-not-cell, in_default-cell}

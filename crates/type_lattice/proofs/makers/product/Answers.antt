@@ -1,5 +1,5 @@
 use Rattle.std.proofs.Common.{ap, sym, subst, ◌∙◌}
-use Rattle.type_family.specs.Operations.{ops, body_of}
+use Rattle.type_model.specs.Operations.{ops, body_of}
 use Rattle.type_lattice.specs.Types.{are_normal}
 use Rattle.type_trees.specs.View.{Fits, view, row_view, EachNode}
 use Rattle.type_lattice.proofs.MakerLaws.{row_fits-more, row_view-more, row_view-all, product_fits, product_view}

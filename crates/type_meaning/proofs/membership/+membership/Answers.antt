@@ -1,5 +1,5 @@
 use Rattle.std.proofs.Common.{◌-◌, ◌↔◌, IsTrue, false, Some, None, arith, sym, ap, ◌∙◌, subst, subst₂}
-use Rattle.type_family.specs.HasType.{HasAt}
+use Rattle.type_model.specs.HasType.{HasAt}
 use Rattle.type_trees.specs.declared.node.TuplesOf.TheVariants as of_tuples
 use Rattle.type_trees.specs.View.{view, Fits}
 use Rattle.type_trees.proofs.Views.{of_above, below_fits, each_at}

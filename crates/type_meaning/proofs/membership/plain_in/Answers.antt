@@ -3,9 +3,9 @@ use Rattle.std.proofs.lemmas.Int.{to_z-of_z}
 use mir.Syntax.{w128}
 use Rattle.type_sets.specs.Numbers as numbers
 use Rattle.type_sets.specs.BitLengths as bit_lengths
-use Rattle.type_family.specs.Shapes.{floats, pids, ports, references, nils}
-use Rattle.type_family.specs.HasType.{has_arity}
-use Rattle.type_family.specs.Forms.{has_leaf, an_int, an_atom, some_bits, of_kind, a_function}
+use Rattle.type_model.specs.Shapes.{floats, pids, ports, references, nils}
+use Rattle.type_model.specs.HasType.{has_arity}
+use Rattle.type_model.specs.Forms.{has_leaf, an_int, an_atom, some_bits, of_kind, a_function}
 use Rattle.type_trees.specs.Plains.{functions_of}
 use Rattle.type_meaning.proofs.Forms.{form-Int, form-Float, form-Atom, form-Bits, form-Nil, form-Cons, form-Tuple, form-Pid, form-Port, form-Reference, form-Function}
 use Rattle.type_meaning.proofs.Memberships.{leaf_told, no_leaf_told, same_number}

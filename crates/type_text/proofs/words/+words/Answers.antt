@@ -1,7 +1,7 @@
 use Rattle.std.proofs.Common.{arith, sym, ap, ◌∙◌, refl, subst, ◌≡◌, ◌≤◌, ◌-◌, ◌++◌, ◌∷◌, [], None, MatchOption, suc, length}
 use Rattle.std.proofs.lemmas.Result.{IfOk-weaker}
 use borrow.Author.Tests.{ltb-true}
-use Rattle.type_family.specs.Operations.{ops, of_atoms}
+use Rattle.type_model.specs.Operations.{ops, of_atoms}
 use Rattle.type_sets.specs.Names as names
 use Rattle.type_sets.specs.Numbers as numbers
 use Rattle.type_trees.specs.declared.node.Node.TheVariants as v

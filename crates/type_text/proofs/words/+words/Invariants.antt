@@ -1,7 +1,7 @@
 use Rattle.std.proofs.Common.{◌≡◌, ◌≤◌, ◌+◌, ◌*◌, ◌++◌, ℕ, List, suc, length, map, codes}
-use Rattle.type_family.specs.Shapes.{TypeAt}
-use Rattle.type_family.specs.Operations.{ops}
-use Rattle.type_family.specs.Normal.{NormalAt, AreElements}
+use Rattle.type_model.specs.Shapes.{TypeAt}
+use Rattle.type_model.specs.Operations.{ops}
+use Rattle.type_model.specs.Normal.{NormalAt, AreElements}
 use Rattle.type_trees.specs.View.{view, row_view, Fits, EachNode}
 use Rattle.type_text.specs.Texts.{text_at, after}
 use Rattle.type_text.specs.Words.{TypeStop}

@@ -1,5 +1,5 @@
 use Rattle.std.proofs.Common.{◌≡◌, subst, add-one, IfOk}
-use Rattle.type_family.specs.Operations.{ops}
+use Rattle.type_model.specs.Operations.{ops}
 use Rattle.type_trees.specs.View.{view}
 use Rattle.type_text.proofs.words.joined.Goals as goal
 

@@ -1,6 +1,6 @@
 use Rattle.std.proofs.Common.{◌∷◌, sym, ap, refl, ◌∙◌}
-use Rattle.type_family.specs.Shapes.{of_arity}
-use Rattle.type_family.specs.Operations.{ops}
+use Rattle.type_model.specs.Shapes.{of_arity}
+use Rattle.type_model.specs.Operations.{ops}
 use Rattle.type_text.specs.WordTypes.{of_functions}
 use Rattle.type_text.proofs.WordStarts.{at_every_function}
 use Rattle.type_text.proofs.WordReads.{arity_read}

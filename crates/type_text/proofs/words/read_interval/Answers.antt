@@ -3,7 +3,7 @@ use Rattle.type_sets.specs.Numbers as numbers
 use Rattle.type_sets.specs.Ends.{is_range}
 use Rattle.type_sets.specs.declared.ends.Low.TheVariants.{Min}
 use Rattle.type_sets.specs.declared.ends.High.TheVariants.{Max}
-use Rattle.type_family.specs.Operations.{ops}
+use Rattle.type_model.specs.Operations.{ops}
 use Rattle.type_text.specs.WordTypes.{of_ints}
 use Rattle.type_text.proofs.WordStarts.{at_every_int, at_range}
 use Rattle.type_text.proofs.words.read_interval.Goals as goal

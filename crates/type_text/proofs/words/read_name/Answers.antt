@@ -1,5 +1,5 @@
 use Rattle.std.proofs.Common.{sym, ap, ◌∙◌}
-use Rattle.type_family.specs.Operations.{ops, of_plain, of_atoms}
+use Rattle.type_model.specs.Operations.{ops, of_plain, of_atoms}
 use Rattle.type_text.proofs.WordStarts.{at_every_tuple, at_every_atom}
 use Rattle.type_text.proofs.words.read_name.Goals as goal
 

@@ -1,11 +1,11 @@
 use Rattle.std.proofs.Common.{ℕ, ◌-◌, arith, inr, refl, sym, ap, ◌∙◌, subst}
-use Rattle.type_family.specs.Cut.{row_lower}
-use Rattle.type_family.specs.Cut as levels
-use Rattle.type_family.specs.Operations.{ops, elements}
-use Rattle.type_family.specs.Shapes.{tags}
+use Rattle.type_model.specs.Cut.{row_lower}
+use Rattle.type_model.specs.Cut as levels
+use Rattle.type_model.specs.Operations.{ops, elements}
+use Rattle.type_model.specs.Shapes.{tags}
 use Rattle.type_trees.specs.declared.node.Node.{Node}
 use Rattle.type_trees.specs.declared.node.TagOf.{TagOf}
-use Rattle.type_family.specs.Tables.{mapped}
+use Rattle.type_model.specs.Tables.{mapped}
 use Rattle.type_trees.specs.View.{Fits, row_view, tags_view, sizes_view, EachNode, EachTag, EachSize, RowFits, TagsFit, SizesFit}
 use Rattle.type_trees.proofs.Views.{any_fits, of_above, below_fits}
 use Rattle.type_trees.proofs.CutTrees.{any_cut, zero_cut, of_cut, cut_parts_fit, row_of, tags_of, product_fits, tags_kept, tags_lost, element_fits, rest_fits, body_fits, sizes_fit, one_node, one_tag, one_size, row_further, tags_further, sizes_further}

@@ -1,8 +1,8 @@
 use Rattle.std.proofs.Common.{◌≡◌, ◌+◌, ◌*◌, take}
-use Rattle.type_family.specs.Cut.{row_lower, body_lower}
-use Rattle.type_family.specs.Cut as levels
-use Rattle.type_family.specs.Operations.{ops}
-use Rattle.type_family.specs.Tables.{mapped}
+use Rattle.type_model.specs.Cut.{row_lower, body_lower}
+use Rattle.type_model.specs.Cut as levels
+use Rattle.type_model.specs.Operations.{ops}
+use Rattle.type_model.specs.Tables.{mapped}
 use Rattle.type_trees.specs.View.{Fits, row_view, tags_view, sizes_view, EachNode, EachTag, EachSize}
 use Rattle.type_trees.proofs.cuts.+cuts.Given as goal
 

@@ -1,6 +1,6 @@
 use Rattle.std.proofs.Common.{◌≡◌, ◌↔◌, true, IsTrue, arith, sym, ◌∙◌, subst, subst₂, true≢false}
-use Rattle.type_family.specs.HasType.{HasAt}
-use Rattle.type_family.specs.Laws.{BelowBy}
+use Rattle.type_model.specs.HasType.{HasAt}
+use Rattle.type_model.specs.Laws.{BelowBy}
 use Rattle.type_trees.specs.View.{view, parts_view, RowFits}
 use Rattle.type_trees.proofs.Views.{of_above, below_fits}
 use Rattle.type_trees.proofs.Inclusions.{granted, refuted, failed, one_item_more, each_item, below_any, any_not_below, parts_tell, plain_below, cell_below, tuples_tell, some_cell_not_below, free_not_below, elements_tell, row_length, row_below, place_below, more_places, products_tell, product_fits, product_not_below, tags_fit, tags_tell, TagBelow, each_tag_below, tag_below, rest_fits, after_fits, tag_absent, tag_tells, SizeBelow, each_size_below, size_below, size_fits, found_fits, size_absent, size_tells, below_all, sizes_fit, all_not_below, sizes_tell}

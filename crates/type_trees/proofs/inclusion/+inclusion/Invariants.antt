@@ -1,6 +1,6 @@
 use Rattle.std.proofs.Common.{ℕ, ◌+◌, ◌*◌, ◌<◌, take, slice_index_or, All}
-use Rattle.type_family.specs.HasType.{HasAt}
-use Rattle.type_family.specs.Laws.{BelowBy}
+use Rattle.type_model.specs.HasType.{HasAt}
+use Rattle.type_model.specs.Laws.{BelowBy}
 use Rattle.type_trees.specs.declared.node.Node.{Node}
 use Rattle.type_trees.specs.View.{view}
 use Rattle.type_trees.proofs.Inclusions.{TagBelow, SizeBelow}

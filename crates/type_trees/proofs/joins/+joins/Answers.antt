@@ -2,8 +2,8 @@ use Rattle.std.proofs.Common.{ℕ, ◌<◌, ◌∷◌, length, sym, ap, ◌∙�
 use Rattle.std.specs.Ordering.{nat_cmp}
 use Rattle.std.proofs.lemmas.Result.{IfOk-weaker}
 use Rattle.type_sets.specs.Names.{name_cmp}
-use Rattle.type_family.specs.Shapes.{tags as tagged}
-use Rattle.type_family.specs.Operations.{ops, elements, row_join, tags_join, body_join}
+use Rattle.type_model.specs.Shapes.{tags as tagged}
+use Rattle.type_model.specs.Operations.{ops, elements, row_join, tags_join, body_join}
 use Rattle.type_trees.specs.declared.node.Node.{Node}
 use Rattle.type_trees.specs.declared.node.TagOf.{TagOf}
 use Rattle.type_trees.specs.View.{row_view, tags_view, body_view, sizes_view, Fits, EachNode, TagsFit, BodyFits}

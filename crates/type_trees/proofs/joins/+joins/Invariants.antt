@@ -1,7 +1,7 @@
 use Rattle.std.proofs.Common.{◌≡◌, ◌+◌, ◌*◌, take}
 use Rattle.std.specs.Ordering.{nat_cmp}
-use Rattle.type_family.specs.Operations.{ops, row_join, all_rows_join, tags_join, body_join}
-use Rattle.type_family.specs.Tables.{held, united}
+use Rattle.type_model.specs.Operations.{ops, row_join, all_rows_join, tags_join, body_join}
+use Rattle.type_model.specs.Tables.{held, united}
 use Rattle.type_trees.specs.View.{Fits, row_view, tags_view, sizes_view, EachNode, EachTag, EachSize}
 use Rattle.type_trees.proofs.joins.+joins.Given as goal
 

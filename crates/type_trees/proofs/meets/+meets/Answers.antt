@@ -1,7 +1,7 @@
 use Rattle.std.proofs.Common.{◌∙◌, sym, subst, ap, arith, refl, true≢false, length, drop, ◌+◌, ◌<◌}
 use Rattle.std.specs.Prelude.{IfSome, option_map}
 use Rattle.std.proofs.lemmas.Result.{IfOk-weaker}
-use Rattle.type_family.specs.Operations.{ops, met_with, row_meet, body_meet}
+use Rattle.type_model.specs.Operations.{ops, met_with, row_meet, body_meet}
 use Rattle.type_trees.specs.View.{Fits, row_view, body_view, sizes_view, RowFits, EachNode, EachTag, EachInBody, EachSize}
 use Rattle.type_trees.specs.declared.node.TuplesOf.TheVariants.{Sizes}
 use Rattle.type_trees.proofs.Views.{of_above, below_fits}

@@ -1,5 +1,5 @@
 use Rattle.std.proofs.Common.{◌≡◌, ◌+◌, ◌*◌, ◌++◌, drop, false}
-use Rattle.type_family.specs.Operations.{ops, zip, has_none, tags_meet, sizes_meet}
+use Rattle.type_model.specs.Operations.{ops, zip, has_none, tags_meet, sizes_meet}
 use Rattle.type_trees.specs.View.{Fits, row_view, tags_view, body_view, sizes_view, EachNode, EachTag, EachSize}
 use Rattle.type_trees.proofs.meets.+meets.Given as goal
 

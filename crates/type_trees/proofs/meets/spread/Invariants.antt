@@ -1,5 +1,5 @@
 use Rattle.std.proofs.Common.{◌≡◌, ◌++◌, drop}
-use Rattle.type_family.specs.Tables.{all_hold}
+use Rattle.type_model.specs.Tables.{all_hold}
 use Rattle.type_trees.specs.View.{Fits, row_view, tags_view, EachTag}
 use Rattle.type_trees.proofs.meets.spread.Given as goal
 

@@ -1,6 +1,6 @@
 use Rattle.std.proofs.Common.{◌≡◌, ℕ, drop}
 use Rattle.std.specs.Ordering.{nat_cmp}
-use Rattle.type_family.specs.Tables.{find}
+use Rattle.type_model.specs.Tables.{find}
 use Rattle.type_trees.specs.View.{sizes_view}
 use Rattle.type_trees.proofs.node.find_size.Given as goal
 

@@ -1,6 +1,6 @@
 use Rattle.std.proofs.Common.{◌≡◌, ℕ, drop}
 use Rattle.type_sets.specs.Names.{name_cmp}
-use Rattle.type_family.specs.Tables.{find}
+use Rattle.type_model.specs.Tables.{find}
 use Rattle.type_trees.specs.View.{tags_view}
 use Rattle.type_trees.proofs.node.find_tag.Given as goal
 

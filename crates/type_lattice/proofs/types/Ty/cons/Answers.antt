@@ -1,7 +1,7 @@
 use Rattle.std.proofs.Common.{◌≡◌, ◌&&◌, sym, ap, subst, ◌∙◌}
-use Rattle.type_family.specs.Values.{cons as cons_value}
-use Rattle.type_family.specs.Operations.{ops}
-use Rattle.type_family.specs.Parts.{is_list}
+use Rattle.type_model.specs.Values.{cons as cons_value}
+use Rattle.type_model.specs.Operations.{ops}
+use Rattle.type_model.specs.Parts.{is_list}
 use Rattle.type_trees.specs.View.{view}
 use Rattle.type_lattice.specs.Types.{HasType, Below, cons}
 use Rattle.type_lattice.specs.Kinds.{asks_proper}

@@ -1,6 +1,6 @@
 use Rattle.std.proofs.Common.{sym, ap, subst}
 use Rattle.std.specs.Prelude.{◌↔◌}
-use Rattle.type_family.specs.Values.{Value}
+use Rattle.type_model.specs.Values.{Value}
 use Rattle.type_lattice.specs.Types.{HasType}
 use Rattle.type_lattice.proofs.TypeLaws.{meet-both}
 use Rattle.type_lattice.proofs.TypeModels.{meet_type}

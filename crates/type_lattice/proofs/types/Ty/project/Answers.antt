@@ -1,6 +1,6 @@
 use Rattle.std.proofs.Common.{sym, ap, subst, ◌∙◌, ◌≡◌, Some, None, true≢false, arith}
 use Rattle.std.specs.Ordering.{nat_cmp}
-use Rattle.type_family.specs.Tables.{find}
+use Rattle.type_model.specs.Tables.{find}
 use Rattle.type_lattice.specs.Types.{HasType}
 use Rattle.type_trees.specs.View.{sizes_view, body_view, Fits, EachSize, EachInBody}
 use Rattle.type_trees.specs.declared.node.TuplesOf.TheVariants.{All, Sizes}

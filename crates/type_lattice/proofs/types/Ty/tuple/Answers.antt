@@ -1,5 +1,5 @@
 use Rattle.std.proofs.Common.{sym, subst}
-use Rattle.type_family.specs.Values.{tuple as tuple_value}
+use Rattle.type_model.specs.Values.{tuple as tuple_value}
 use Rattle.type_lattice.specs.Types.{HasType, Below}
 use Rattle.type_lattice.proofs.TypeLaws.{tuple-has, tuple-is_least}
 use Rattle.type_lattice.proofs.TypeModels.{tuple_none, tuple_wide, tuple_type}

@@ -3,8 +3,8 @@ use Rattle.type_sets.specs.Numbers as numbers
 use Rattle.type_sets.specs.declared.bits.Bits.TheVariants.{Any}
 use Rattle.type_sets.specs.declared.ends.Low.TheVariants.{Min}
 use Rattle.type_sets.specs.declared.ends.High.TheVariants.{Max}
-use Rattle.type_family.specs.Operations.{all_kinds}
-use Rattle.type_family.specs.Shapes.{all_functions}
+use Rattle.type_model.specs.Operations.{all_kinds}
+use Rattle.type_model.specs.Shapes.{all_functions}
 use Rattle.type_trees.proofs.plain.Plain.all.Goals as goal
 
 pub returns : goal.returns

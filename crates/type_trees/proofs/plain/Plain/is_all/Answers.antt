@@ -1,5 +1,5 @@
 use Rattle.std.proofs.Common.{◌↔◌, IsTrue, refl}
-use Rattle.type_family.specs.Shapes.{Plain}
+use Rattle.type_model.specs.Shapes.{Plain}
 use Rattle.type_trees.specs.Plains.{kinds_of, functions_of}
 use Rattle.type_trees.proofs.Plains.{then_both, else_both, atoms_all, ints_all, bits_all, functions_all, AtomsAndIntsAll, AndBitsAll, AndKindsAll, plain_is_all}
 use Rattle.type_trees.proofs.plain.Plain.is_all.Goals as goal

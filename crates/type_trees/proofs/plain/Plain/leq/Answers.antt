@@ -1,5 +1,5 @@
 use Rattle.std.proofs.Common.{◌↔◌, IsTrue, refl}
-use Rattle.type_family.specs.Shapes.{Plain}
+use Rattle.type_model.specs.Shapes.{Plain}
 use Rattle.type_trees.specs.Plains.{kinds_of, functions_of}
 use Rattle.type_trees.proofs.Plains.{then_both, else_both, AtomsAndIntsBelow, AndBitsBelow, AndKindsBelow, plain_below}
 use Rattle.type_trees.proofs.plain.Plain.leq.Goals as goal

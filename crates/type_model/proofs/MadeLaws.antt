@@ -1,0 +1,493 @@
+-- Types made of types: the least type of the tuples of some types, of the lists of a head and a tail, and what is known of
+-- the elements of a tuple, of the elements of a list and of its tail.
+use Rattle.std.proofs.Common.{◌≡◌, ℕ, zero, suc, ◌-◌, Bool, true, false, cond, ◌&&◌, ◌||◌, inl, inr, List, [], ◌∷◌, length, Option, Some, None, refl, sym, ap, ◌∙◌, subst, true≢false}
+use Rattle.std.specs.Prelude.{nat_lt, slice_get}
+use Rattle.std.specs.Ordering.{nat_cmp, eq_by_cmp}
+use Rattle.std.specs.Cmp.{nat_cmp_total}
+use Rattle.std.specs.FinSet.{nat_cmp-IsAntisymmetric}
+use Rattle.type_sets.specs.Names as names
+use Rattle.type_sets.specs.Numbers as numbers
+use Rattle.type_sets.specs.declared.bits.Bits.TheVariants.{No}
+use Rattle.type_sets.proofs.NameLaws as name_laws
+use Rattle.type_sets.proofs.AscendingLaws.{is_it, itself}
+use Rattle.type_sets.proofs.Truths.{both, first, second, is_false}
+use Rattle.type_model.specs.Values.{Value, int, atom, bits, float, pid, port, reference, nil, cons, tuple, closure, external, foreign, Values, no_value, and_value, count, heads, end_of}
+use Rattle.type_model.specs.Tables.{find}
+use Rattle.type_model.specs.Shapes.{floats, pids, ports, references, nils, no_function, Plain, Cell, Body, Tuples, sizes, all_tuples, Parts, TypeAt}
+use Rattle.type_model.specs.HasType.{HasAll, HasEach, HasCell, HasBody, HasTuple, HasParts, HasAt}
+use Rattle.type_model.specs.Operations.{Ops, plain_none, plain_all, is_no_plain, is_atoms, is_empty, has_none, body_of, elements, no_tuples, of_plain, ops}
+use Rattle.type_model.specs.Normal.{IsElement, NormalCell, AreElements, NormalBody, NormalSizes, NormalTuples, NormalParts, NormalAt}
+use Rattle.type_model.specs.Cut.{cut}
+use Rattle.type_model.specs.Parts.{value_at, AreNormal, product_of, proper_cell, without_nil, is_list, element_with, element_at, kinds_of_nil, tail_parts, tuple_at, cons_at, lifted, project_at, element_of, elem_at, tail_at}
+use Rattle.type_model.specs.Laws.{BelowBy, Laws}
+use Rattle.type_model.specs.Forms.{Leaf, an_int, an_atom, some_bits, of_kind, a_function, has_leaf, leaf, form, value_of_form, form-value_of_form, HasForm, has-form}
+use Rattle.type_model.proofs.PlainLaws.{plain-none_is, plain-none_empty, plain-all, is_atoms-other}
+use Rattle.type_model.proofs.CellLaws.{value_of, all-more, element-join}
+use Rattle.type_model.proofs.RowLaws.{values_of, count_each, row_filled-not_none}
+use Rattle.type_model.proofs.BodyLaws.{body_of_in, body_of_out, body_of_normal, elements_normal, elements_above}
+use Rattle.type_model.proofs.TupleLaws.{tuples_lattice}
+use Rattle.type_model.proofs.PartsLaws.{next_laws}
+use Rattle.type_model.proofs.LevelLaws.{level_laws}
+use Rattle.type_model.proofs.CutLaws.{is_true, atom_end, size_found, cut_lowering}
+
+neither : (a b : Bool) → (a || b) ≡ false → (a ≡ false) × (b ≡ false)
+neither true b h = absurd (true≢false h)
+neither false b h = (refl, h)
+
+-- ---- tuples
+
+module _ {E : Type 0} {Has : Value → E → Type 0} {Normal : E → Type 0} {o : Ops E} (l : Laws Has Normal o) where
+  -- what has a value isn't none
+  not_none : (e : E) (v : Value) → Has v e → o.is_none e ≡ false
+  not_none e v h = is_false (o.is_none e) (λ q. l.lattice.none_empty v (subst (λ x. Has v x) (l.none-is_none e q) h))
+
+  are_elements : (es : List E) → AreNormal Normal es → has_none o es ≡ false → AreElements Normal o es
+  are_elements [] k q = tt
+  are_elements (e ∷ es) k q = let p = neither (o.is_none e) (has_none o es) q in ((k.0, p.0), are_elements es k.1 p.1)
+
+  -- the tuples of a product type
+  abbrev row_tuples : Bool → List E → Tuples E
+  row_tuples b es = cond b (sizes ((length es, body_of o es) ∷ [])) all_tuples
+
+  abbrev row_parts : Bool → List E → Parts E
+  row_parts b es = record { plain = plain_none; cell = None; tuples = row_tuples b es }
+
+  row_tuples_normal : (b : Bool) (es : List E) → nat_lt (length es) 65 ≡ b → AreElements Normal o es → NormalTuples Normal o (row_tuples b es)
+  row_tuples_normal true es q k = (refl, refl, (q, body_of_normal l (length es) es (refl, k), tt))
+  row_tuples_normal false es q k = tt
+
+  pub product_normal : (es : List E) → AreNormal Normal es → NormalParts Normal o (product_of o es)
+  product_normal es k = elim (has_none o es) as (λ b. has_none o es ≡ b → NormalParts Normal o (cond b (of_plain o plain_none) (row_parts (nat_lt (length es) 65) es))) [
+    | true ↦ λ q. (next_laws l).lattice.none_normal
+    | false ↦ λ q. (tt, tt, row_tuples_normal (nat_lt (length es) 65) es refl (are_elements es k q))
+  ] refl
+
+  row_tuples_in : (b : Bool) (es : List E) (vs : Values) → HasEach Has vs es → HasTuple Has vs (row_tuples b es)
+  row_tuples_in true es vs h =
+      let q : eq_by_cmp nat_cmp (count vs) (length es) ≡ true = ap (λ n. eq_by_cmp nat_cmp n (length es)) (count_each l vs es h) ∙ itself nat_cmp_total nat_cmp-IsAntisymmetric (length es) in
+      subst (λ b. HasBody Has vs (cond b (Some (body_of o es)) None)) (sym q) (body_of_in l es vs h)
+  row_tuples_in false es vs h = tt
+
+  pub product_in : (es : List E) (vs : Values) → HasEach Has vs es → HasParts Has (tuple vs) (product_of o es)
+  product_in es vs h =
+      subst (λ b. HasParts Has (tuple vs) (cond b (of_plain o plain_none) (row_parts (nat_lt (length es) 65) es))) (sym (row_filled-not_none l vs es h)) (row_tuples_in (nat_lt (length es) 65) es vs h)
+
+  -- a type of tuples has nothing but tuples
+  of_tuples : (t : Tuples E) (v : Value) → HasParts Has v (record { plain = plain_none; cell = None; tuples = t }) → (vs : Values) × ((v ≡ tuple vs) × HasTuple Has vs t)
+  of_tuples t (int n) h = absurd (plain-none_empty (an_int n) h)
+  of_tuples t (atom a) h = absurd (plain-none_empty (an_atom a) h)
+  of_tuples t (bits bs) h = absurd (plain-none_empty (some_bits (length bs)) h)
+  of_tuples t (float x) h = absurd (true≢false (sym h))
+  of_tuples t (pid n) h = absurd (true≢false (sym h))
+  of_tuples t (port n) h = absurd (true≢false (sym h))
+  of_tuples t (reference n) h = absurd (true≢false (sym h))
+  of_tuples t nil h = absurd (true≢false (sym h))
+  of_tuples t (cons x y) h = absurd h
+  of_tuples t (tuple vs) h = (vs, (refl, h))
+  of_tuples t (closure m l n env) h = absurd (true≢false (sym h))
+  of_tuples t (external m f n) h = absurd (true≢false (sym h))
+  of_tuples t (foreign x n) h = absurd (true≢false (sym h))
+
+  row_tuples_out : (b : Bool) (es : List E) (vs : Values) → b ≡ true → HasTuple Has vs (row_tuples b es) → HasEach Has vs es
+  row_tuples_out true es vs q h = elim (eq_by_cmp nat_cmp (count vs) (length es)) as (λ b. HasBody Has vs (cond b (Some (body_of o es)) None) → HasEach Has vs es) [ true ↦ λ x. body_of_out l es vs x | false ↦ λ x. absurd x ] h
+  row_tuples_out false es vs q h = absurd (true≢false (sym q))
+
+  -- a value of the product is a tuple of these types, if tuples aren't too long
+  pub product_out : (es : List E) (v : Value) → HasParts Has v (product_of o es) → (has_none o es ≡ false) × ((vs : Values) × ((v ≡ tuple vs) × (nat_lt (length es) 65 ≡ true → HasEach Has vs es)))
+  product_out es v h = elim (has_none o es) as (λ b. HasParts Has v (cond b (of_plain o plain_none) (row_parts (nat_lt (length es) 65) es)) → (b ≡ false) × ((vs : Values) × ((v ≡ tuple vs) × (nat_lt (length es) 65 ≡ true → HasEach Has vs es)))) [
+    | true ↦ λ x. absurd ((next_laws l).lattice.none_empty v x)
+    | false ↦ λ x.
+        let t = of_tuples (row_tuples (nat_lt (length es) 65) es) v x in
+        (refl, (t.0, (t.1.0, λ q. row_tuples_out (nat_lt (length es) 65) es t.0 q t.1.1)))
+  ] h
+
+  -- the sizes of a normal type are at most 64
+  size_few : (m : List (ℕ × Body E)) → NormalSizes Normal o m → (n : ℕ) (vs : Values) → HasBody Has vs (find nat_cmp m n) → nat_lt n 65 ≡ true
+  size_few [] k n vs h = absurd h
+  size_few (x ∷ m) k n vs h = elim (eq_by_cmp nat_cmp n x.0) as (λ b. eq_by_cmp nat_cmp n x.0 ≡ b → HasBody Has vs (cond b (Some x.1) (find nat_cmp m n)) → nat_lt n 65 ≡ true) [
+    | true ↦ λ q _. ap (λ i. nat_lt i 65) (is_it nat_cmp_total nat_cmp-IsAntisymmetric n x.0 q) ∙ k.0
+    | false ↦ λ q y. size_few m k.2 n vs y
+  ] refl h
+
+  -- a normal type that has a longer tuple has all tuples
+  long_tuples : (t : Tuples E) → NormalTuples Normal o t → (ws : Values) → HasTuple Has ws t → nat_lt (count ws) 65 ≡ false → (vs : Values) → HasTuple Has vs t
+  long_tuples all_tuples k ws h q vs = tt
+  long_tuples (sizes m) k ws h q vs = absurd (true≢false (sym (size_few m k.2 (count ws) ws h) ∙ q))
+
+-- the tuples of some types: their type is the least of its level; where one of them is none, it is none
+pub tuple-normal : (d : ℕ) (es : List (TypeAt d)) → AreNormal (NormalAt d) es → NormalAt d (tuple_at d es)
+unfolding NormalAt
+tuple-normal d es k = (cut_lowering (suc d) d).normal (product_of (ops d) es) (product_normal (level_laws d) es k)
+
+pub tuple-above : (d : ℕ) (es : List (TypeAt d)) → AreNormal (NormalAt d) es → (vs : Values) → HasEach (HasAt d) vs es → HasAt d (tuple vs) (tuple_at d es)
+unfolding NormalAt
+tuple-above d es k vs h = (cut_lowering (suc d) d).above (product_of (ops d) es) (product_normal (level_laws d) es k) (tuple vs) (product_in (level_laws d) es vs h)
+
+-- a type that has a tuple of more than 64 elements has all tuples
+long_tuple : (d : ℕ) (u : TypeAt d) → NormalAt d u → (ws : Values) → HasAt d (tuple ws) u → nat_lt (count ws) 65 ≡ false → (vs : Values) → HasAt d (tuple vs) u
+unfolding NormalAt
+long_tuple zero u k ws h q vs = h
+long_tuple (suc d) u k ws h q vs = long_tuples (level_laws d) u.tuples k.2 ws h q vs
+
+pub tuple-least : (d : ℕ) (es : List (TypeAt d)) → AreNormal (NormalAt d) es → (u : TypeAt d) → NormalAt d u → ((vs : Values) → HasEach (HasAt d) vs es → HasAt d (tuple vs) u) → BelowBy (HasAt d) (tuple_at d es) u
+unfolding NormalAt
+tuple-least d es k u j p v h = (cut_lowering (suc d) d).least (product_of (ops d) es) u (product_normal (level_laws d) es k) j inside v h
+  where
+    inside : (w : Value) → HasParts (HasAt d) w (product_of (ops d) es) → HasAt d w u
+    inside w x =
+        let t = product_out (level_laws d) es w x in
+        subst (λ y. HasAt d y u) (sym t.1.1.0) (elim (nat_lt (length es) 65) as (λ b. nat_lt (length es) 65 ≡ b → HasAt d (tuple t.1.0) u) [
+          | true ↦ λ q. p t.1.0 (t.1.1.1 q)
+          | false ↦ λ q.
+              let ws = values_of (level_laws d) es (are_elements (level_laws d) es k t.0) in
+              long_tuple d u j ws.0 (p ws.0 ws.1) (ap (λ n. nat_lt n 65) (count_each (level_laws d) ws.0 es ws.1) ∙ q) t.1.0
+        ] refl)
+
+-- ---- lists: which types have nothing but proper lists
+
+no_leaf : (p : Plain) → is_no_plain p ≡ true → (x : Leaf) → has_leaf p x ≡ true → ⊥
+no_leaf p e x h = plain-none_empty x (subst (λ q. has_leaf q x ≡ true) (plain-none_is p e) h)
+
+some_leaf : (p : Plain) → is_no_plain p ≡ false → (x : Leaf) × (has_leaf p x ≡ true)
+some_leaf p e = elim (names.is_none p.atoms) as (λ b. names.is_none p.atoms ≡ b → (b && is_atoms p) ≡ false → (x : Leaf) × (has_leaf p x ≡ true)) [
+  | true ↦ λ q r. let x = is_atoms-other p r in (x.0, x.1.0)
+  | false ↦ λ q r. let a = name_laws.has_some p.atoms q in (an_atom a.0, a.1)
+] refl e
+
+-- a value that holds no others and ends in nil is nil
+leaf_end : (v : Value) (x : Leaf) → form v ≡ leaf x → end_of v ≡ nil → x ≡ of_kind nils
+leaf_end (int n) x f q = absurd cc
+leaf_end (atom a) x f q = absurd cc
+leaf_end (bits bs) x f q = absurd cc
+leaf_end (float s) x f q = absurd cc
+leaf_end (pid n) x f q = absurd cc
+leaf_end (port n) x f q = absurd cc
+leaf_end (reference n) x f q = absurd cc
+leaf_end nil x f q = cc
+leaf_end (cons h t) x f q = absurd cc
+leaf_end (tuple vs) x f q = absurd cc
+leaf_end (closure m l n env) x f q = absurd cc
+leaf_end (external m g n) x f q = absurd cc
+leaf_end (foreign y n) x f q = absurd cc
+
+module _ {E : Type 0} {Has : Value → E → Type 0} {Normal : E → Type 0} {o : Ops E} (l : Laws Has Normal o) where
+  -- each leaf but nil
+  kept_leaf : (p : Plain) (x : Leaf) → has_leaf (without_nil p) x ≡ true → (has_leaf p x ≡ true) × (x ≡ of_kind nils → ⊥)
+  kept_leaf p (an_int n) h = (h, λ q. absurd cc)
+  kept_leaf p (an_atom a) h = (h, λ q. absurd cc)
+  kept_leaf p (some_bits n) h = (h, λ q. absurd cc)
+  kept_leaf p (of_kind floats) h = (h, λ q. absurd cc)
+  kept_leaf p (of_kind pids) h = (h, λ q. absurd cc)
+  kept_leaf p (of_kind ports) h = (h, λ q. absurd cc)
+  kept_leaf p (of_kind references) h = (h, λ q. absurd cc)
+  kept_leaf p (of_kind nils) h = absurd (true≢false (sym h))
+  kept_leaf p (a_function n) h = (h, λ q. absurd cc)
+
+  has_value : (x : Leaf) (p : Parts E) → has_leaf p.plain x ≡ true → HasParts Has (value_of_form (leaf x)) p
+  has_value x p h = subst (λ T. T) (sym (has-form Has (value_of_form (leaf x)) p)) (subst (λ g. HasForm Has g p) (sym (form-value_of_form (leaf x))) h)
+
+  proper_end : (c : Option (Cell E)) → proper_cell c ≡ true → (h t : Value) → HasCell Has (h, t) c → end_of t ≡ nil
+  proper_end None e h t k = absurd k
+  proper_end (Some c) e h t k = k.1 e
+
+  without_tuples : (t : Tuples E) → no_tuples o t ≡ true → (vs : Values) → HasTuple Has vs t → ⊥
+  without_tuples all_tuples e vs h = true≢false (sym e)
+  without_tuples (sizes []) e vs h = h
+  without_tuples (sizes (x ∷ m)) e vs h = true≢false (sym e)
+
+  pub list_values : (p : Parts E) → is_list o p ≡ true → (v : Value) → HasParts Has v p → end_of v ≡ nil
+  list_values p e v h =
+      let a = is_no_plain (without_nil p.plain) in
+      let b = proper_cell p.cell in
+      let c = no_tuples o p.tuples in
+      each p (first a b (first (a && b) c e)) (second a b (first (a && b) c e)) (second (a && b) c e) v h
+    where
+      each : (p : Parts E) → is_no_plain (without_nil p.plain) ≡ true → proper_cell p.cell ≡ true → no_tuples o p.tuples ≡ true → (v : Value) → HasParts Has v p → end_of v ≡ nil
+      each p x y z (int n) h = absurd (no_leaf (without_nil p.plain) x (an_int n) h)
+      each p x y z (atom a) h = absurd (no_leaf (without_nil p.plain) x (an_atom a) h)
+      each p x y z (bits bs) h = absurd (no_leaf (without_nil p.plain) x (some_bits (length bs)) h)
+      each p x y z (float s) h = absurd (no_leaf (without_nil p.plain) x (of_kind floats) h)
+      each p x y z (pid n) h = absurd (no_leaf (without_nil p.plain) x (of_kind pids) h)
+      each p x y z (port n) h = absurd (no_leaf (without_nil p.plain) x (of_kind ports) h)
+      each p x y z (reference n) h = absurd (no_leaf (without_nil p.plain) x (of_kind references) h)
+      each p x y z nil h = refl
+      each p x y z (cons a b) h = proper_end p.cell y a b h
+      each p x y z (tuple vs) h = absurd (without_tuples p.tuples z vs h)
+      each p x y z (closure m k n env) h = absurd (no_leaf (without_nil p.plain) x (a_function n) h)
+      each p x y z (external m g n) h = absurd (no_leaf (without_nil p.plain) x (a_function n) h)
+      each p x y z (foreign s n) h = absurd (no_leaf (without_nil p.plain) x (a_function n) h)
+
+  ends_proper : (c : Option (Cell E)) → NormalCell Normal o c → ((h t : Value) → HasCell Has (h, t) c → end_of t ≡ nil) → proper_cell c ≡ true
+  ends_proper None k f = refl
+  ends_proper (Some c) k f = is_true c.is_proper (λ q. let w = value_of l c.element k in atom_end (f w.0 (atom []) ((w.1, tt), λ r. absurd (true≢false (sym r ∙ q)))))
+
+  pub values_list : (p : Parts E) → NormalParts Normal o p → ((v : Value) → HasParts Has v p → end_of v ≡ nil) → is_list o p ≡ true
+  values_list p k f =
+      let a = is_no_plain (without_nil p.plain) in
+      let b = proper_cell p.cell in
+      let c = no_tuples o p.tuples in
+      let x : a ≡ true = is_true a (λ q.
+      let w = some_leaf (without_nil p.plain) q in
+      let y = kept_leaf p.plain w.0 w.1 in
+      y.1 (leaf_end (value_of_form (leaf w.0)) w.0 (form-value_of_form (leaf w.0)) (f (value_of_form (leaf w.0)) (has_value w.0 p y.0)))) in
+      let y : b ≡ true = ends_proper p.cell k.1 (λ h t z. f (cons h t) z) in
+      let z : c ≡ true = elim ((tuples_lattice l).filled p.tuples k.2) [ inl q ↦ ap (no_tuples o) q | inr w ↦ absurd (not_nil w.0 (f (tuple w.0) w.1)) ] in
+      both (a && b) c (both a b x y) z
+    where
+      not_nil : (vs : Values) → tuple vs ≡ nil → ⊥
+      not_nil vs q = cc
+
+-- the test says just whether each value of a normal type ends in nil
+pub is_list-lists : (d : ℕ) (t : TypeAt (suc d)) → is_list (ops d) t ≡ true → (v : Value) → HasAt (suc d) v t → end_of v ≡ nil
+is_list-lists d t e v h = list_values (level_laws d) t e v h
+
+pub lists-is_list : (d : ℕ) (t : TypeAt (suc d)) → NormalAt (suc d) t → ((v : Value) → HasAt (suc d) v t → end_of v ≡ nil) → is_list (ops d) t ≡ true
+unfolding NormalAt
+lists-is_list d t k f = values_list (level_laws d) t k f
+
+-- ---- lists of a head and a tail
+
+module _ {E : Type 0} {Has : Value → E → Type 0} {Normal : E → Type 0} {o : Ops E} (l : Laws Has Normal o) where
+  element_with-element : (e : E) (c : Option (Cell E)) → IsElement Normal o e → NormalCell Normal o c → IsElement Normal o (element_with o e c)
+  element_with-element e None j k = j
+  element_with-element e (Some c) j k = element-join l e c.element j k
+
+  element_with-head : (e : E) (c : Option (Cell E)) → Normal e → NormalCell Normal o c → BelowBy Has e (element_with o e c)
+  element_with-head e None j k v h = h
+  element_with-head e (Some c) j k v h = l.lattice.join_left e c.element j k.0 v h
+
+  element_with-rest : (e : E) (p : Parts E) → Normal e → NormalCell Normal o p.cell → (v : Value) → HasParts Has v p → HasAll Has (heads v) (element_with o e p.cell)
+  element_with-rest e p j k (int n) h = tt
+  element_with-rest e p j k (atom a) h = tt
+  element_with-rest e p j k (bits bs) h = tt
+  element_with-rest e p j k (float s) h = tt
+  element_with-rest e p j k (pid n) h = tt
+  element_with-rest e p j k (port n) h = tt
+  element_with-rest e p j k (reference n) h = tt
+  element_with-rest e p j k nil h = tt
+  element_with-rest e p j k (cons a b) h = walk p.cell k h
+    where
+      walk : (c : Option (Cell E)) → NormalCell Normal o c → HasCell Has (a, b) c → HasAll Has (and_value a (heads b)) (element_with o e c)
+      walk None k h = absurd h
+      walk (Some c) k h = all-more l c.element (o.join e c.element) (l.lattice.join_right e c.element j k.0) (and_value a (heads b)) h.0
+  element_with-rest e p j k (tuple vs) h = tt
+  element_with-rest e p j k (closure m i n env) h = tt
+  element_with-rest e p j k (external m g n) h = tt
+  element_with-rest e p j k (foreign s n) h = tt
+
+  element_with-least : (e : E) (c : Option (Cell E)) (g : E) → Normal e → NormalCell Normal o c → Normal g → BelowBy Has e g → ((v : Value) → HasCell Has (v, nil) c → Has v g) → BelowBy Has (element_with o e c) g
+  element_with-least e None g i j k f p v h = f v h
+  element_with-least e (Some c) g i j k f p v h = l.lattice.join_least e c.element g i j.0 k f (λ u q. p u ((q, tt), λ r. refl)) v h
+
+-- the type of the lists of a head and a tail of which neither is none
+abbrev cell_at : (d : ℕ) → TypeAt (suc d) → TypeAt (suc d) → Bool → Cell (TypeAt d)
+cell_at d h t proper = record { element = element_with (ops d) (cut (suc d) d h) t.cell; is_proper = proper && is_list (ops d) t }
+
+abbrev cell_parts : (d : ℕ) → TypeAt (suc d) → TypeAt (suc d) → Bool → TypeAt (suc d)
+cell_parts d h t proper = record { plain = plain_none; cell = Some (cell_at d h t proper); tuples = sizes [] }
+
+-- what a type has a value of, is an element type one level down
+cut_element : (d : ℕ) (h : TypeAt (suc d)) → NormalAt (suc d) h → (ops (suc d)).is_none h ≡ false → IsElement (NormalAt d) (ops d) (cut (suc d) d h)
+cut_element d h k q =
+    let w = value_of (level_laws (suc d)) h (k, q) in
+    ((cut_lowering (suc d) d).normal h k, not_none (level_laws d) (cut (suc d) d h) w.0 ((cut_lowering (suc d) d).above h k w.0 w.1))
+
+-- the lists of a head and a tail: a normal type above them, and the least where the ends may be proper
+pub cons-normal : (d : ℕ) (h t : TypeAt (suc d)) (proper : Bool) → NormalAt (suc d) h → NormalAt (suc d) t → NormalAt (suc d) (cons_at d h t proper)
+unfolding NormalAt
+cons-normal d h t proper j k =
+    let none = (level_laws (suc d)).lattice.none_normal in
+    elim ((ops (suc d)).is_none h) as (λ b. (ops (suc d)).is_none h ≡ b → NormalAt (suc d) (cond b (ops (suc d)).none (cond ((ops (suc d)).is_none t) (ops (suc d)).none (cell_parts d h t proper)))) [
+      | true ↦ λ q. none
+      | false ↦ λ q. elim ((ops (suc d)).is_none t) as (λ b. NormalAt (suc d) (cond b (ops (suc d)).none (cell_parts d h t proper))) [
+        | true ↦ none
+        | false ↦ (tt, element_with-element (level_laws d) (cut (suc d) d h) t.cell (cut_element d h j q) k.1, (tuples_lattice (level_laws d)).none_normal)
+      ]
+    ] refl
+
+pub cons-above : (d : ℕ) (h t : TypeAt (suc d)) (proper : Bool) → NormalAt (suc d) h → NormalAt (suc d) t → (x y : Value) → HasAt (suc d) x h → HasAt (suc d) y t → HasAt (suc d) (cons x y) (cons_at d h t proper)
+unfolding NormalAt
+cons-above d h t proper j k x y p q =
+    let e = not_none (level_laws (suc d)) h x p in
+    let f = not_none (level_laws (suc d)) t y q in
+    let c = cut_lowering (suc d) d in
+    let inside : HasAt (suc d) (cons x y) (cell_parts d h t proper) = (
+      (
+        element_with-head (level_laws d) (cut (suc d) d h) t.cell (c.normal h j) k.1 x (c.above h j x p),
+        element_with-rest (level_laws d) (cut (suc d) d h) t (c.normal h j) k.1 y q,
+      ),
+      λ z. is_list-lists d t (second proper (is_list (ops d) t) z) y q,
+    ) in
+    subst (λ b. HasAt (suc d) (cons x y) (cond b (ops (suc d)).none (cond ((ops (suc d)).is_none t) (ops (suc d)).none (cell_parts d h t proper)))) (sym e) (subst (λ b. HasAt (suc d) (cons x y) (cond b (ops (suc d)).none (cell_parts d h t proper))) (sym f) inside)
+
+-- the lists are below each list type that has each list of such a head and tail
+cell_least : (d : ℕ) (h t : TypeAt (suc d)) → NormalAt (suc d) h → NormalAt (suc d) t → (ops (suc d)).is_none h ≡ false → (ops (suc d)).is_none t ≡ false → (c : Option (Cell (TypeAt d))) → NormalCell (NormalAt d) (ops d) c → ((x y : Value) → HasAt (suc d) x h → HasAt (suc d) y t → HasCell (HasAt d) (x, y) c) → BelowBy (HasCell (HasAt d)) (Some (cell_at d h t true)) c
+unfolding NormalAt
+cell_least d h t j k e f None i p z m =
+    let x = value_of (level_laws (suc d)) h (j, e) in
+    let y = value_of (level_laws (suc d)) t (k, f) in
+    absurd (p x.0 y.0 x.1 y.1)
+cell_least d h t j k e f (Some c) i p z m =
+    let x = value_of (level_laws (suc d)) h (j, e) in
+    let y = value_of (level_laws (suc d)) t (k, f) in
+    let s = cut_lowering (suc d) d in
+    let head : BelowBy (HasAt d) (cut (suc d) d h) c.element = s.least h c.element j i.0 (λ v q. (p v y.0 q y.1).0.0) in
+    let below : BelowBy (HasAt d) (element_with (ops d) (cut (suc d) d h) t.cell) c.element = element_with-least (level_laws d) (cut (suc d) d h) t.cell c.element (s.normal h j) k.1 i.0 head (λ v q. (p x.0 (cons v nil) x.1 q).0.1.0) in (
+      all-more (level_laws d) (element_with (ops d) (cut (suc d) d h) t.cell) c.element below (and_value z.0 (heads z.1)) m.0,
+      λ r. m.1 (lists-is_list d t k (λ v q. (p x.0 v x.1 q).1 r)),
+    )
+
+-- a type of lists has nothing but lists
+of_cell : (d : ℕ) (c : Cell (TypeAt d)) (u : TypeAt (suc d)) → ((x y : Value) → HasCell (HasAt d) (x, y) (Some c) → HasAt (suc d) (cons x y) u) → BelowBy (HasAt (suc d)) (record { plain = plain_none; cell = Some c; tuples = sizes [] }) u
+of_cell d c u p (int n) h = absurd (plain-none_empty (an_int n) h)
+of_cell d c u p (atom a) h = absurd (plain-none_empty (an_atom a) h)
+of_cell d c u p (bits bs) h = absurd (plain-none_empty (some_bits (length bs)) h)
+of_cell d c u p (float x) h = absurd (true≢false (sym h))
+of_cell d c u p (pid n) h = absurd (true≢false (sym h))
+of_cell d c u p (port n) h = absurd (true≢false (sym h))
+of_cell d c u p (reference n) h = absurd (true≢false (sym h))
+of_cell d c u p nil h = absurd (true≢false (sym h))
+of_cell d c u p (cons x y) h = p x y h
+of_cell d c u p (tuple vs) h = absurd h
+of_cell d c u p (closure m l n env) h = absurd (true≢false (sym h))
+of_cell d c u p (external m f n) h = absurd (true≢false (sym h))
+of_cell d c u p (foreign x n) h = absurd (true≢false (sym h))
+
+pub cons-least : (d : ℕ) (h t : TypeAt (suc d)) → NormalAt (suc d) h → NormalAt (suc d) t → (u : TypeAt (suc d)) → NormalAt (suc d) u → ((x y : Value) → HasAt (suc d) x h → HasAt (suc d) y t → HasAt (suc d) (cons x y) u) → BelowBy (HasAt (suc d)) (cons_at d h t true) u
+unfolding NormalAt
+cons-least d h t j k u i p =
+    let empty = (level_laws (suc d)).lattice.none_empty in
+    elim ((ops (suc d)).is_none h) as (λ b. (ops (suc d)).is_none h ≡ b → BelowBy (HasAt (suc d)) (cond b (ops (suc d)).none (cond ((ops (suc d)).is_none t) (ops (suc d)).none (cell_parts d h t true))) u) [
+      | true ↦ λ e v m. absurd (empty v m)
+      | false ↦ λ e. elim ((ops (suc d)).is_none t) as (λ b. (ops (suc d)).is_none t ≡ b → BelowBy (HasAt (suc d)) (cond b (ops (suc d)).none (cell_parts d h t true)) u) [
+        | true ↦ λ f v m. absurd (empty v m)
+        | false ↦ λ f. of_cell d (cell_at d h t true) u (λ x y m. cell_least d h t j k e f u.cell i.1 p (x, y) m)
+      ] refl
+    ] refl
+
+-- ---- what a tuple or a list holds
+
+module _ {E : Type 0} {Has : Value → E → Type 0} {Normal : E → Type 0} {o : Ops E} (l : Laws Has Normal o) where
+  -- the type at a place
+  place_in : (vs : Values) (es : List E) → HasEach Has vs es → AreElements Normal o es → (i : ℕ) (v : Value) → value_at vs i ≡ Some v → (e : E) × ((slice_get es i ≡ Some e) × (Normal e × Has v e))
+  place_in no_value es h k i v q = absurd cc
+  place_in (and_value u us) [] h k i v q = absurd h
+  place_in (and_value u us) (e ∷ es) h k zero v q = (e, (refl, (k.0.0, subst (λ x. Has x e) (same u v q) h.0)))
+    where
+      same : (x y : Value) → Some x ≡ Some y → x ≡ y
+      same x y q = cc
+  place_in (and_value u us) (e ∷ es) h k (suc i) v q = place_in us es h.1 k.1 i v q
+
+  abbrev at_place : Option (Body E) → ℕ → Option E
+  at_place b i = elim b [ None ↦ None | Some c ↦ slice_get (elements o c) i ]
+
+  body_place : (n : ℕ) (b : Option (Body E)) → NormalBody Normal o n b → (vs : Values) → HasBody Has vs b → (i : ℕ) (v : Value) → value_at vs i ≡ Some v → (e : E) × ((at_place b i ≡ Some e) × (Normal e × Has v e))
+  body_place n None k vs h i v q = absurd h
+  body_place n (Some c) k vs h i v q = place_in vs (elements o c) (elements_above l n c k vs h) (elements_normal l n c k).1 i v q
+
+  tuple_place : (t : Tuples E) → NormalTuples Normal o t → (vs : Values) → HasTuple Has vs t → (i : ℕ) (v : Value) → value_at vs i ≡ Some v → (e : E) × ((element_at o t (count vs) i ≡ Some e) × (Normal e × Has v e))
+  tuple_place all_tuples k vs h i v q = (o.any, (refl, (l.any_normal, l.any_in v)))
+  tuple_place (sizes m) k vs h i v q =
+      let n = count vs in
+      let few : nat_lt n 65 ≡ true = size_few l m k.2 n vs h in
+      let w = body_place n (find nat_cmp m n) (size_found Normal o m k.2 n) vs h i v q in
+      (w.0, (ap (λ b. cond b (at_place (find nat_cmp m n) i) (cond (is_empty m) None (Some o.any))) few ∙ w.1.0, w.1.1))
+
+  abbrev IfSome : Option E → Type 0
+  IfSome None = Unit {0}
+  IfSome (Some e) = Normal e
+
+  place_normal : (es : List E) → AreElements Normal o es → (i : ℕ) → IfSome (slice_get es i)
+  place_normal [] k i = tt
+  place_normal (e ∷ es) k zero = k.0.0
+  place_normal (e ∷ es) k (suc i) = place_normal es k.1 i
+
+  body_place_normal : (n : ℕ) (b : Option (Body E)) → NormalBody Normal o n b → (i : ℕ) → IfSome (at_place b i)
+  body_place_normal n None k i = tt
+  body_place_normal n (Some c) k i = place_normal (elements o c) (elements_normal l n c k).1 i
+
+  tuple_place_normal : (t : Tuples E) → NormalTuples Normal o t → (n i : ℕ) → IfSome (element_at o t n i)
+  tuple_place_normal all_tuples k n i = l.any_normal
+  tuple_place_normal (sizes m) k n i = elim (nat_lt n 65) as (λ b. IfSome (cond b (at_place (find nat_cmp m n) i) (cond (is_empty m) None (Some o.any)))) [
+    | true ↦ body_place_normal n (find nat_cmp m n) (size_found Normal o m k.2 n) i
+    | false ↦ elim (is_empty m) as (λ b. IfSome (cond b None (Some o.any))) [ true ↦ tt | false ↦ l.any_normal ]
+  ]
+
+  -- what follows the head of a list
+  tail_from : (c : Cell E) (b : Bool) (t : Value) → HasAll Has (heads t) c.element → (b ≡ true → end_of t ≡ nil) → (c.is_proper ≡ true → end_of t ≡ nil) → HasParts Has t (record { plain = cond b (record { atoms = names.none; ints = numbers.none; bits = No; kinds = kinds_of_nil; functions = no_function }) plain_all; cell = Some c; tuples = cond b (sizes []) all_tuples })
+  tail_from c true (int n) h f g = absurd (let q = f refl in cc)
+  tail_from c true (atom a) h f g = absurd (let q = f refl in cc)
+  tail_from c true (bits bs) h f g = absurd (let q = f refl in cc)
+  tail_from c true (float s) h f g = absurd (let q = f refl in cc)
+  tail_from c true (pid n) h f g = absurd (let q = f refl in cc)
+  tail_from c true (port n) h f g = absurd (let q = f refl in cc)
+  tail_from c true (reference n) h f g = absurd (let q = f refl in cc)
+  tail_from c true nil h f g = refl
+  tail_from c true (cons x y) h f g = (h, g)
+  tail_from c true (tuple vs) h f g = absurd (let q = f refl in cc)
+  tail_from c true (closure m k n env) h f g = absurd (let q = f refl in cc)
+  tail_from c true (external m k n) h f g = absurd (let q = f refl in cc)
+  tail_from c true (foreign s n) h f g = absurd (let q = f refl in cc)
+  tail_from c false (int n) h f g = plain-all (an_int n)
+  tail_from c false (atom a) h f g = plain-all (an_atom a)
+  tail_from c false (bits bs) h f g = plain-all (some_bits (length bs))
+  tail_from c false (float s) h f g = refl
+  tail_from c false (pid n) h f g = refl
+  tail_from c false (port n) h f g = refl
+  tail_from c false (reference n) h f g = refl
+  tail_from c false nil h f g = refl
+  tail_from c false (cons x y) h f g = (h, g)
+  tail_from c false (tuple vs) h f g = tt
+  tail_from c false (closure m k n env) h f g = refl
+  tail_from c false (external m k n) h f g = refl
+  tail_from c false (foreign s n) h f g = refl
+
+  pub tail_in : (c : Option (Cell E)) (h t : Value) → HasCell Has (h, t) c → HasParts Has t (tail_parts o c)
+  tail_in None h t k = absurd k
+  tail_in (Some c) h t k = tail_from c c.is_proper t k.0.1 k.1 k.1
+
+  pub tail_normal : (c : Option (Cell E)) → NormalCell Normal o c → NormalParts Normal o (tail_parts o c)
+  tail_normal None k = (next_laws l).lattice.none_normal
+  tail_normal (Some c) k = elim c.is_proper as (λ b. NormalParts Normal o (record { plain = cond b (record { atoms = names.none; ints = numbers.none; bits = No; kinds = kinds_of_nil; functions = no_function }) plain_all; cell = Some c; tuples = cond b (sizes []) all_tuples })) [
+    | true ↦ (tt, k, (tuples_lattice l).none_normal)
+    | false ↦ (tt, k, tt)
+  ]
+
+lifted-normal : (d : ℕ) (x : Option (TypeAt d)) → IfSome (level_laws d) x → NormalAt (suc d) (lifted d x)
+lifted-normal d None k = (level_laws (suc d)).lattice.none_normal
+lifted-normal d (Some e) k = (cut_lowering d (suc d)).normal e k
+
+-- the i-th element of a tuple of n, the head and the tail of a list have the types that are told of them
+pub project-in : (d : ℕ) (t : TypeAt (suc d)) → NormalAt (suc d) t → (n : ℕ) (vs : Values) → HasAt (suc d) (tuple vs) t → count vs ≡ n → (i : ℕ) (v : Value) → value_at vs (i - 1) ≡ Some v → HasAt (suc d) v (project_at d t n i)
+unfolding NormalAt
+project-in d t k n vs h e i v q =
+    let w = tuple_place (level_laws d) t.tuples k.2 vs h (i - 1) v q in
+    let found : element_at (ops d) t.tuples n (i - 1) ≡ Some w.0 = ap (λ m. element_at (ops d) t.tuples m (i - 1)) (sym e) ∙ w.1.0 in
+    subst (λ x. HasAt (suc d) v (lifted d x)) (sym found) ((cut_lowering d (suc d)).above w.0 w.1.1.0 v w.1.1.1)
+
+pub project-normal : (d : ℕ) (t : TypeAt (suc d)) → NormalAt (suc d) t → (n i : ℕ) → NormalAt (suc d) (project_at d t n i)
+unfolding NormalAt
+project-normal d t k n i = lifted-normal d (element_at (ops d) t.tuples n (i - 1)) (tuple_place_normal (level_laws d) t.tuples k.2 n (i - 1))
+
+head_in : (d : ℕ) (c : Option (Cell (TypeAt d))) → NormalCell (NormalAt d) (ops d) c → (h t : Value) → HasCell (HasAt d) (h, t) c → HasAt (suc d) h (lifted d (element_of c))
+head_in d None k h t m = absurd m
+head_in d (Some c) k h t m = (cut_lowering d (suc d)).above c.element k.0 h m.0.0
+
+pub elem-in : (d : ℕ) (s : TypeAt (suc d)) → NormalAt (suc d) s → (h t : Value) → HasAt (suc d) (cons h t) s → HasAt (suc d) h (elem_at d s)
+unfolding NormalAt
+elem-in d s k h t m = head_in d s.cell k.1 h t m
+
+head_normal : (d : ℕ) (c : Option (Cell (TypeAt d))) → NormalCell (NormalAt d) (ops d) c → NormalAt (suc d) (lifted d (element_of c))
+head_normal d None k = (level_laws (suc d)).lattice.none_normal
+head_normal d (Some c) k = (cut_lowering d (suc d)).normal c.element k.0
+
+pub elem-normal : (d : ℕ) (s : TypeAt (suc d)) → NormalAt (suc d) s → NormalAt (suc d) (elem_at d s)
+unfolding NormalAt
+elem-normal d s k = head_normal d s.cell k.1
+
+pub tail-in : (d : ℕ) (s : TypeAt (suc d)) (h t : Value) → HasAt (suc d) (cons h t) s → HasAt (suc d) t (tail_at d s)
+tail-in d s h t m = tail_in (level_laws d) s.cell h t m
+
+pub tail-normal : (d : ℕ) (s : TypeAt (suc d)) → NormalAt (suc d) s → NormalAt (suc d) (tail_at d s)
+unfolding NormalAt
+tail-normal d s k = tail_normal (level_laws d) s.cell k.1

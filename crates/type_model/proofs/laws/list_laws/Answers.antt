@@ -1,0 +1,23 @@
+use Rattle.type_model.proofs.MadeLaws.{cons-normal, cons-above, cons-least, is_list-lists, lists-is_list, elem-in, tail-in}
+use Rattle.type_model.proofs.laws.list_laws.Goals as goal
+
+pub returns-clause-normal : goal.returns-clause-normal
+returns-clause-normal c = cons-normal
+
+pub returns-clause-above : goal.returns-clause-above
+returns-clause-above c = cons-above
+
+pub returns-clause-least : goal.returns-clause-least
+returns-clause-least c = cons-least
+
+pub returns-clause-lists : goal.returns-clause-lists
+returns-clause-lists c = is_list-lists
+
+pub returns-clause-are_lists : goal.returns-clause-are_lists
+returns-clause-are_lists c = lists-is_list
+
+pub returns-clause-elem : goal.returns-clause-elem
+returns-clause-elem c = elem-in
+
+pub returns-clause-tail : goal.returns-clause-tail
+returns-clause-tail c = tail-in

@@ -1,0 +1,76 @@
+-- A number for each type, which a smaller type has a lower one of: so no descent goes on for ever.
+use Rattle.std.specs.Prelude.{◌≡◌, ℕ, zero, suc, ◌+◌, ◌*◌, Bool, cond, List, [], ◌∷◌, Option, Some, None}
+use Rattle.type_sets.specs.Names as names
+use Rattle.type_sets.specs.Names.{Name}
+use Rattle.type_sets.specs.Numbers as numbers
+use Rattle.type_sets.specs.BitLengths as bit_lengths
+use Rattle.type_model.specs.Shapes.{Kinds, Functions, no_function, of_arity, all_functions, Plain, Cell, Body, product, tags, Tuples, sizes, all_tuples, Parts, TypeAt}
+use Rattle.type_model.specs.HasType.{HasAt}
+use Rattle.type_model.specs.Normal.{NormalAt}
+use Rattle.type_model.specs.Laws.{BelowBy}
+
+abbrev one_if : Bool → ℕ
+one_if b = cond b 1 0
+
+abbrev pub kinds_rank : Kinds → ℕ
+kinds_rank k = one_if k.float + one_if k.pid + one_if k.port + one_if k.reference + one_if k.nil
+
+abbrev pub functions_rank : Functions → ℕ
+functions_rank no_function = 0
+functions_rank (of_arity n) = 1
+functions_rank all_functions = 2
+
+abbrev pub plain_rank : Plain → ℕ
+plain_rank p = names.height p.atoms + numbers.height p.ints + bit_lengths.height p.bits + kinds_rank p.kinds + functions_rank p.functions
+
+-- of a level whose elements have these ranks, of which none is above `most`
+module _ {E : Type 0} (rank_of : E → ℕ) (most : ℕ) where
+  abbrev pub cell_rank : Option (Cell E) → ℕ
+  cell_rank None = 0
+  cell_rank (Some c) = 1 + rank_of c.element + cond c.is_proper 0 1
+
+  abbrev pub row_rank : List E → ℕ
+  row_rank [] = 0
+  row_rank (e ∷ es) = rank_of e + row_rank es
+
+  abbrev pub tags_rank : List (Name × List E) → ℕ
+  tags_rank [] = 0
+  tags_rank (e ∷ m) = 1 + row_rank e.1 + tags_rank m
+
+  -- a product is above thirteen tags whose types are those of its rest
+  abbrev pub body_rank : Body E → ℕ
+  body_rank (product []) = 0
+  body_rank (product (e ∷ es)) = rank_of e + 14 * (1 + row_rank es)
+  body_rank (tags m) = tags_rank m
+
+  abbrev pub sizes_rank : List (ℕ × Body E) → ℕ
+  sizes_rank [] = 0
+  sizes_rank (e ∷ m) = 1 + body_rank e.1 + sizes_rank m
+
+  -- no body of 64 elements has a higher rank
+  abbrev pub most_body : ℕ
+  most_body = most + 14 * (1 + 64 * most)
+
+  abbrev pub tuples_rank : Tuples E → ℕ
+  tuples_rank (sizes m) = sizes_rank m
+  tuples_rank all_tuples = 1 + 8 * (1 + most_body)
+
+  abbrev pub parts_rank : Parts E → ℕ
+  parts_rank p = plain_rank p.plain + cell_rank p.cell + tuples_rank p.tuples
+
+  abbrev pub most_parts : ℕ
+  most_parts = 41 + (2 + most) + (1 + 8 * (1 + most_body))
+
+-- the highest rank of a level, and the rank of a type
+unfoldable pub most_at : ℕ → ℕ
+most_at zero = 1
+most_at (suc d) = most_parts {E = TypeAt d} (λ _. 0) (most_at d)
+
+unfoldable pub rank : (d : ℕ) → TypeAt d → ℕ
+rank zero t = one_if t
+rank (suc d) t = parts_rank (rank d) (most_at d) t
+
+-- from the type of a level one can go down so many times, each time to a smaller type in normal form
+unfoldable pub FallsAt : (d : ℕ) → ℕ → TypeAt d → Type 0
+FallsAt d zero t = Unit {0}
+FallsAt d (suc n) t = (s : TypeAt d) × (NormalAt d s × BelowBy (HasAt d) s t × (s ≡ t → ⊥) × FallsAt d n s)
