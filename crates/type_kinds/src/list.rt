@@ -1,7 +1,8 @@
-ghost use Rattle.std.specs.Prelude.{◌≡◌, [], ◌∷◌, ◌++◌, ◌<◌, length, take, slice_get, slice_set, ◌↔◌, IsTrue, IfOk, IfErr, MatchOption, OnOk, OnErr, OnSome};
+ghost use Rattle.std.specs.Prelude.{◌≡◌, [], ◌∷◌, ◌++◌, ◌<◌, length, take, replicate, slice_get, slice_set, slice_index_or, ◌↔◌, IsTrue, IfOk, IfErr, MatchOption, OnOk, OnErr, OnSome};
 ghost use Rattle.std.specs.Option.{option_copied};
 
 use crate::memory::Memory;
+use itoa::{Buffer, Integer};
 use std::alloc::Global;
 use std::marker::Model;
 
@@ -88,7 +89,8 @@ impl<T> List<T> {
         &self.items[at]
     }
 
-    /// Adds an item last. Where memory is wanting the list stays as it was, and the item comes back.
+    /// Adds an item last. If allocation fails the list is as before, and the item comes
+    /// back.
     pub fn push(&mut self, item: T) -> Result<(), (T, Memory)>
         ensures ok { OnOk result (self.new ≡ self.old ++ item ∷ []) }
         ensures err { IfErr result (λ back. (back.0 ≡ item) × (self.new ≡ self.old)) }
@@ -116,8 +118,84 @@ impl<T> List<T> {
     }
 }
 
+impl<T: Drop> List<T> {
+    /// Adds an item last. If allocation fails the list is as before, and the item is dropped.
+    pub fn add(&mut self, item: T) -> Result<(), Memory>
+        ensures ok { OnOk result (self.new ≡ self.old ++ item ∷ []) }
+        ensures err { OnErr result (self.new ≡ self.old) }
+    {
+        match self.push(item) {
+            Ok(()) => Ok(()),
+            Err(_) => Err(Memory),
+        }
+    }
+
+    /// Keeps the first `len` items and drops the others. A list that has no more stays as it is.
+    /// Takes no memory.
+    pub fn truncate(&mut self, len: usize)
+        ensures { self.new ≡ take len self.old }
+    {
+        self.items.truncate(len)
+    }
+
+    /// Passes an answer on, and truncates the list to `len` items if the answer is an error: what a
+    /// call added before it failed goes again.
+    pub fn or_truncate(&mut self, len: usize, answer: Result<(), Memory>) -> Result<(), Memory>
+        ensures answer { result ≡ answer }
+        ensures ok { OnOk result (self.new ≡ self.old) }
+        ensures err { OnErr result (self.new ≡ take len self.old) }
+    {
+        if answer.is_err() {
+            self.truncate(len);
+        }
+        answer
+    }
+}
+
+impl<T: Copy> List<T> {
+    /// A list of the items of a slice.
+    pub fn from_slice(alloc: Global, items: &[T]) -> Result<List<T>, Memory>
+        ensures { IfOk result (λ list. list ≡ items.now) }
+    {
+        match Vec::from_slice(alloc, items) {
+            Ok(items) => Ok(List { items }),
+            Err(_) => Err(Memory),
+        }
+    }
+
+    /// A second list of the same items.
+    pub fn copy(&self, alloc: Global) -> Result<List<T>, Memory>
+        ensures { IfOk result (λ list. list ≡ self.now) }
+    {
+        List::from_slice(alloc, self.items.as_slice())
+    }
+}
+
+impl<T: Drop> List<List<T>> {
+    /// So many empty lists.
+    pub fn empty_lists(alloc: Global, count: usize) -> Result<List<List<T>>, Memory>
+        ensures { IfOk result (λ lists. lists ≡ replicate count []) }
+    {
+        let mut lists = List::new(alloc);
+        for _ in 0..count {
+            lists.add(List::new(alloc))?;
+        }
+        Ok(lists)
+    }
+
+    /// Adds an item last to the list at a place that there is. If allocation fails all lists are as
+    /// before, and the item is dropped.
+    pub fn add_at(&mut self, at: usize, item: T) -> Result<(), Memory>
+        requires { at < length self.old }
+        ensures ok { OnOk result (self.new ≡ slice_set self.old at (slice_index_or self.old at [] ++ item ∷ [])) }
+        ensures err { OnErr result (self.new ≡ self.old) }
+    {
+        self.items[at].add(item)
+    }
+}
+
 impl List<u8> {
-    /// Adds bytes last, in their order. Where memory is wanting the list stays as it was.
+    /// Adds bytes last, in their order. If allocation fails the list is as before.
     pub fn append(&mut self, bytes: &[u8]) -> Result<(), Memory>
         ensures ok { OnOk result (self.new ≡ self.old ++ bytes.now) }
         ensures err { OnErr result (self.new ≡ self.old) }
@@ -128,10 +206,13 @@ impl List<u8> {
         }
     }
 
-    /// Keeps the first bytes alone, as many as are told. Takes no memory.
-    pub fn truncate(&mut self, len: usize)
-        ensures { self.new ≡ take len self.old }
+    /// Adds an integer in decimal digits, behind a minus if it is below 0. If allocation fails the
+    /// list is as before.
+    pub fn append_decimal<I: Integer>(&mut self, n: I) -> Result<(), Memory>
+        ensures ok { OnOk result (self.new ≡ self.old ++ I.text n) }
+        ensures err { OnErr result (self.new ≡ self.old) }
     {
-        self.items.truncate(len)
+        let mut buffer = Buffer::new();
+        self.append(buffer.format(n).as_bytes())
     }
 }
