@@ -1,10 +1,8 @@
 -- Bytes have tokens or a first fault.
 use Rattle.std.proofs.Common.{◌≡◌, ◌≢◌, ℕ, zero, suc, ◌+◌, ◌-◌, ◌<◌, ◌≤◌, ◌^◌, List, [], ◌∷◌, ◌++◌, length, take, drop, get_or, refl, sym, ap, ◌∙◌, subst, ◌⊎◌, inl, inr, Bool, true, false, cond, arith, ◌||◌, ◌==◌, pos, neg_ℤ, Option, Some, None, length-drop}
-use Rattle.std.specs.List.{prefix_len, list_any}
-use Rattle.std.specs.Str.{bytes_eq}
+use Rattle.std.specs.List.{prefix_len}
 use Rattle.std.proofs.lemmas.List.{take-append-drop, drop-drop}
 use Rattle.std.proofs.lemmas.List.Sums.{prefix_len-le-length}
-use Rattle.std.proofs.lemmas.Slice.Eq.{bytes_eq-Decides}
 use Rattle.std.proofs.lemmas.Bool.{false≢true, cases_lt}
 use Rattle.std.proofs.lemmas.Bool.Decides.{nat_tests}
 use Rattle.type_kinds.specs.declared.place.Place.{Place}
@@ -20,7 +18,8 @@ use Rattle.core_scan.specs.Vocabulary.{words, IsOneOf}
 use Rattle.core_scan.specs.Lexed.{here, Lexed, IsQuote, FaultAt, FirstFault}
 use Rattle.core_scan.specs.Fronts.{sign_len, exponent_len, fraction_len, is_single, is_pair, symbol_len, escape_of, IsStuck, is_cut_off}
 use Rattle.core_scan.specs.Found.{Begins, IsOther, GoesOn}
-use Rattle.core_scan.proofs.RunLemmas.{take-add, or_cases, eq_from_test}
+use Rattle.core_scan.proofs.RunLemmas.{take-add, eq_from_test}
+use Rattle.core_scan.proofs.Tables.{one_or_none}
 use Rattle.core_scan.proofs.EscapeLemmas.{escape_found, IsEscapeAt}
 use Rattle.core_scan.proofs.InsideLemmas.{Inside-append, plain_step, escape_step, stuck_backslash}
 use Rattle.core_scan.proofs.ShapeLemmas.{word_found, word_unknown, variable_found, float_found, integer_found, integer_wide, no_byte, no_escaped, escaped_found, plain_found, no_plain, left_open, stuck_fault, atom_found, text_found, symbol_found, symbol_none}
@@ -52,25 +51,15 @@ no_test a b h e = let k : (a == b) ≡ true = grind (arith, nat_tests) in false�
 
 -- ---- words
 
-any_of_one : (xs : List (List ℕ)) (x : List ℕ) → IsOneOf xs x → list_any (λ y. bytes_eq y x) xs ≡ true
-any_of_one [] x h = absurd h
-any_of_one (y ∷ ys) x (inl e) = let k : bytes_eq y x ≡ true = (bytes_eq-Decides y x).1 (sym e) in rw k refl
-any_of_one (y ∷ ys) x (inr h) = let k : list_any (λ z. bytes_eq z x) ys ≡ true = any_of_one ys x h in rw k (pick (bytes_eq y x))
-  where
-    pick : (b : Bool) → (b || true) ≡ true
-    pick true = refl
-    pick false = refl
-
-one_of_any : (xs : List (List ℕ)) (x : List ℕ) → list_any (λ y. bytes_eq y x) xs ≡ true → IsOneOf xs x
-one_of_any [] x h = absurd (false≢true h)
-one_of_any (y ∷ ys) x h = or_cases (IsOneOf (y ∷ ys) x) (bytes_eq y x) (list_any (λ z. bytes_eq z x) ys) (λ e. inl (sym ((bytes_eq-Decides y x).0 e))) (λ e. inr (one_of_any ys x e)) h
-
 word_front : (place : Place) (bytes : List ℕ) → is_lower (get_or bytes 0 0) ≡ true → Front place bytes
-word_front place bytes h =
-    let len : ℕ = prefix_len is_name_byte bytes in
-    by_test (list_any (λ y. bytes_eq y (take (prefix_len is_name_byte bytes) bytes)) words)
-    (λ e. token_front place bytes (Word (take (prefix_len is_name_byte bytes) bytes)) (prefix_len is_name_byte bytes) (word_found bytes (prefix_len is_name_byte bytes) refl (take (prefix_len is_name_byte bytes) bytes) h refl (one_of_any words (take (prefix_len is_name_byte bytes) bytes) e)))
-    (λ e. fault_front place bytes (BadByte place) (word_unknown bytes (prefix_len is_name_byte bytes) refl place h (λ among. false≢true (sym e ∙ any_of_one words (take (prefix_len is_name_byte bytes) bytes) among))))
+word_front place bytes h = go (one_or_none words (take (prefix_len is_name_byte bytes) bytes))
+  where
+    word : List ℕ
+    word = take (prefix_len is_name_byte bytes) bytes
+
+    go : IsOneOf words word ⊎ (IsOneOf words word → ⊥) → Front place bytes
+    go (inl among) = token_front place bytes (Word word) (prefix_len is_name_byte bytes) (word_found bytes (prefix_len is_name_byte bytes) refl word h refl among)
+    go (inr none) = fault_front place bytes (BadByte place) (word_unknown bytes (prefix_len is_name_byte bytes) refl place h none)
 
 -- ---- characters
 

@@ -1,4 +1,6 @@
 pub mod RunLemmas
+mod Tables
+pub mod SortLaws
 pub mod EscapeLemmas
 pub mod NumberLemmas
 pub mod InsideLemmas

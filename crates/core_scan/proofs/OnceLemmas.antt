@@ -10,7 +10,8 @@ use Rattle.core_scan.specs.Bytes.{is_digit}
 use Rattle.core_scan.specs.Escapes.{number, AllOf, Quoted}
 use Rattle.core_scan.specs.Spells.{IsDigits, Sign, unsigned, plus, minus, sign_text, signed, is_bare, IsFloat, IsChar, Spells, Longest}
 use Rattle.core_scan.specs.Vocabulary.{symbols, IsOneOf}
-use Rattle.core_scan.proofs.RunLemmas.{one_of_all, same_front}
+use Rattle.core_scan.proofs.RunLemmas.{same_front}
+use Rattle.core_scan.proofs.Tables.{one_of_all}
 use Rattle.core_scan.proofs.EscapeLemmas.{escape_once}
 use Rattle.core_scan.proofs.InsideLemmas.{inside_once}
 use Rattle.core_scan.proofs.Reach.{Class, at_lower, at_upper, at_digit, at_sign, at_dollar, at_quote, at_double, at_mark, first_class, Bounded, bounded, reach}
@@ -88,7 +89,7 @@ class_tag _ piece = numeric_tag piece
 no_digit : List ℕ → Bool
 no_digit piece = not (has_digit piece)
 
-symbols_no_digit : list_all no_digit symbols ≡ true
+symbols_no_digit : list_all (λ entry. no_digit entry.0) symbols ≡ true
 unfolding no_digit has_digit
 symbols_no_digit = refl
 

@@ -10,8 +10,9 @@ use Rattle.core_scan.specs.Bytes.{is_lower, is_digit, is_name_byte, is_blank}
 use Rattle.core_scan.specs.Escapes.{AllOf, NoneAhead}
 use Rattle.core_scan.specs.Spells.{IsName, is_variable_start, IsDigits, Sign, unsigned, plus, minus, sign_text, IsExponent, IsFloat, IsChar, Spells}
 use Rattle.core_scan.specs.Vocabulary.{symbols}
-use Rattle.core_scan.specs.Fronts.{sign_len, exponent_len, fraction_len, is_single, is_pair, second_len, symbol_len, escape_of}
-use Rattle.core_scan.proofs.RunLemmas.{prefix_len-append, prefix_len-run, one_of_all}
+use Rattle.core_scan.specs.Fronts.{sign_len, exponent_len, fraction_len, is_symbol, is_single, is_pair, second_len, symbol_len, escape_of}
+use Rattle.core_scan.proofs.RunLemmas.{prefix_len-append, prefix_len-run}
+use Rattle.core_scan.proofs.Tables.{one_of_all}
 use Rattle.core_scan.proofs.EscapeLemmas.{escape_given}
 
 -- ---- the first byte
@@ -208,8 +209,8 @@ symbol_test (a ∷ []) = is_single a && is_symbol_class (class a)
 symbol_test (a ∷ b ∷ []) = is_pair a b && is_symbol_class (class a)
 symbol_test (a ∷ b ∷ c ∷ bs) = false
 
-symbols_pass : list_all symbol_test symbols ≡ true
-unfolding symbol_test is_symbol_class class
+symbols_pass : list_all (λ entry. symbol_test entry.0) symbols ≡ true
+unfolding symbol_test is_symbol is_symbol_class class
 symbols_pass = refl
 
 and_left : (x y : Bool) → (x && y) ≡ true → x ≡ true

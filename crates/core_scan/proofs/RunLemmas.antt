@@ -1,10 +1,9 @@
--- Runs of bytes of a kind, and tables of byte strings.
-use Rattle.std.proofs.Common.{◌≡◌, ℕ, zero, suc, ◌+◌, ◌<◌, ◌≤◌, List, [], ◌∷◌, ◌++◌, length, take, drop, get_or, map, refl, sym, ap, ◌∙◌, subst, ◌⊎◌, inl, inr, Bool, true, false, cond, arith, ◌||◌, ◌&&◌, ◌==◌}
-use Rattle.std.specs.List.{prefix_len, list_all}
+-- Runs of bytes of a kind.
+use Rattle.std.proofs.Common.{◌≡◌, ℕ, zero, suc, ◌+◌, ◌≤◌, List, [], ◌∷◌, ◌++◌, length, take, drop, refl, sym, ap, ◌∙◌, subst, Bool, true, false, cond, arith, ◌||◌, ◌==◌}
+use Rattle.std.specs.List.{prefix_len}
 use Rattle.std.proofs.lemmas.Bool.Decides.{Decides-eqb}
 use Rattle.std.proofs.lemmas.List.{take_at}
 use Rattle.core_scan.specs.Escapes.{AllOf, NoneAhead}
-use Rattle.core_scan.specs.Vocabulary.{IsOneOf}
 
 -- ---- runs
 
@@ -42,30 +41,6 @@ run_ends p (x ∷ xs) = go (p x) refl (run_ends p xs)
 pub AllOf-append : (p : ℕ → Bool) (xs ys : List ℕ) → AllOf p xs → AllOf p ys → AllOf p (xs ++ ys)
 AllOf-append p [] ys h k = k
 AllOf-append p (x ∷ xs) ys h k = (h.0, AllOf-append p xs ys h.1 k)
-
--- ---- tables
-
-pub one_of_all : (test : List ℕ → Bool) (xs : List (List ℕ)) (x : List ℕ) → list_all test xs ≡ true → IsOneOf xs x → test x ≡ true
-one_of_all test [] x h o = absurd o
-one_of_all test (y ∷ ys) x h o = go (test y) refl h o (one_of_all test ys x)
-  where
-    go : (b : Bool) → test y ≡ b → (test y && list_all test ys) ≡ true → (x ≡ y) ⊎ IsOneOf ys x → (list_all test ys ≡ true → IsOneOf ys x → test x ≡ true) → test x ≡ true
-    go true e k (inl q) more = rw q e
-    go true e k (inr q) more = more (rw e at k) q
-    go false e k o more = let w : false ≡ true = rw e at k in cc
-
-module _ {X : Type 0} (f : X → List ℕ) where
-  pub one_of_at : (xs : List X) (i : ℕ) (d : X) (w : List ℕ) → i < length xs → f (get_or xs i d) ≡ w → IsOneOf (map f xs) w
-  one_of_at [] i d w h e = absurd (omega arith)
-  one_of_at (x ∷ xs) zero d w h e = inl (sym e)
-  one_of_at (x ∷ xs) (suc i) d w h e = inr (one_of_at xs i d w (omega arith) e)
-
-  pub none_of_more : (xs : List X) (i : ℕ) (d : X) (w : List ℕ) → (IsOneOf (map f (take i xs)) w → ⊥) → i < length xs → (f (get_or xs i d) ≡ w → ⊥) → IsOneOf (map f (take (suc i) xs)) w → ⊥
-  none_of_more [] i d w h l n o = omega arith
-  none_of_more (x ∷ xs) zero d w h l n (inl e) = n (sym e)
-  none_of_more (x ∷ xs) zero d w h l n (inr o) = o
-  none_of_more (x ∷ xs) (suc i) d w h l n (inl e) = h (inl e)
-  none_of_more (x ∷ xs) (suc i) d w h l n (inr o) = none_of_more xs i d w (λ z. h (inr z)) (omega arith) n o
 
 -- ---- one test after another
 

@@ -1,9 +1,7 @@
 -- What the scanner finds at the front of the bytes, kind by kind.
 use Rattle.std.proofs.Common.{◌≡◌, ◌≢◌, ℕ, zero, suc, ◌+◌, ◌-◌, ◌<◌, ◌≤◌, ◌^◌, List, [], ◌∷◌, ◌++◌, length, take, drop, get_or, refl, sym, ap, ◌∙◌, subst, ◌⊎◌, inl, inr, Bool, true, false, cond, arith, ◌||◌, ◌==◌, nat_lt, ℤ, pos, neg_ℤ, unsigned_abs, Some, None, append_assoc, length-drop}
-use Rattle.std.specs.List.{prefix_len, list_any}
+use Rattle.std.specs.List.{prefix_len}
 use Rattle.std.proofs.lemmas.List.{take-append-drop, length-take-le, drop-drop}
-use Rattle.std.proofs.lemmas.Slice.Eq.{bytes_eq-Decides}
-use Rattle.std.specs.Str.{bytes_eq}
 use Rattle.std.proofs.lemmas.List.Sums.{prefix_len-le-length}
 use Rattle.std.proofs.lemmas.Bool.Decides.{nat_tests}
 use Rattle.std.proofs.lemmas.Bool.{false≢true}
@@ -17,9 +15,10 @@ use Rattle.core_scan.specs.Escapes.{number, AllOf, NoEscape, Inside, Quoted}
 use Rattle.core_scan.specs.Spells.{IsName, is_variable_start, IsDigits, Sign, unsigned, plus, minus, sign_text, signed, is_bare, IsExponent, Spells, Longest, IsToken}
 use Rattle.core_scan.specs.Vocabulary.{symbols, words, IsOneOf}
 use Rattle.core_scan.specs.Lexed.{IsQuote, IsCutOff, NoToken, FaultAt, unknown_word, wide, open_quote, bad_escape, no_token}
-use Rattle.core_scan.specs.Fronts.{sign_len, exponent_len, fraction_len, is_single, is_pair, second_len, symbol_len, escape_of, IsStuck, is_cut_off}
+use Rattle.core_scan.specs.Fronts.{sign_len, exponent_len, fraction_len, is_symbol, is_single, is_pair, second_len, symbol_len, escape_of, IsStuck, is_cut_off}
 use Rattle.core_scan.specs.Found.{Begins, IsOther}
-use Rattle.core_scan.proofs.RunLemmas.{take-run, take-add, or_last, or_cases, cond_cases, eq_from_test}
+use Rattle.core_scan.proofs.RunLemmas.{take-run, take-add, or_cases, eq_from_test}
+use Rattle.core_scan.proofs.Tables.{one_of_known}
 use Rattle.core_scan.proofs.EscapeLemmas.{escape_found, IsEscapeAt}
 use Rattle.core_scan.proofs.Reach.{at_lower, at_upper, at_digit, at_sign, at_quote, at_double, at_mark, class, class_lower, class_upper, class_digit, class_plus, class_minus, class_dollar, class_quote, class_double, Starts, first_class, bounded, reach, number_len, number_some, number_none, symbol_len-two, char_len, behind_dollar, escape_size}
 use Rattle.core_scan.proofs.OnceLemmas.{longest_by, none_by, quoted_once}
@@ -403,51 +402,22 @@ module _ (bytes rest text : List ℕ) (q n : ℕ) (whole : bytes ≡ q ∷ rest)
 
 -- ---- symbols
 
-one_of_any : (xs : List (List ℕ)) (x : List ℕ) → list_any (λ y. bytes_eq y x) xs ≡ true → IsOneOf xs x
-one_of_any [] x h = cc
-one_of_any (y ∷ ys) x h = or_cases (IsOneOf (y ∷ ys) x) (bytes_eq y x) (list_any (λ z. bytes_eq z x) ys) (λ e. inl (sym ((bytes_eq-Decides y x).0 e))) (λ e. inr (one_of_any ys x e)) h
+symbol_one : (x : List ℕ) → is_symbol x ≡ true → IsOneOf symbols x
+unfolding is_symbol
+symbol_one x h = one_of_known symbols x h
 
-abbrev IsSymbol : List ℕ → Type 0
-IsSymbol x = IsOneOf symbols x
-
-single_symbol : (a : ℕ) → is_single a ≡ true → IsSymbol (a ∷ [])
-single_symbol a =
-    let P : ℕ → Type 0 = λ k. IsSymbol (k ∷ []) in
-    or_last P a 61 _ (or_last P a 47 _ (or_last P a 58 _ (or_last P a 44 _ (or_last P a 124 _ (or_last P a 62 _ (or_last P a 60 _ (or_last P a 93 _ (or_last P a 91 _ (or_last P a 125 _ (or_last P a 123 _ (or_last P a 41 _
-    (λ e. subst P (sym (eq_from_test a 40 e)) (one_of_any symbols (40 ∷ []) refl))
-    (one_of_any symbols (41 ∷ []) refl)) (one_of_any symbols (123 ∷ []) refl)) (one_of_any symbols (125 ∷ []) refl)) (one_of_any symbols (91 ∷ []) refl)) (one_of_any symbols (93 ∷ []) refl)) (one_of_any symbols (60 ∷ []) refl)) (one_of_any symbols (62 ∷ []) refl)) (one_of_any symbols (124 ∷ []) refl)) (one_of_any symbols (44 ∷ []) refl)) (one_of_any symbols (58 ∷ []) refl)) (one_of_any symbols (47 ∷ []) refl)) (one_of_any symbols (61 ∷ []) refl)
-
-two_symbols : (a k b l m : ℕ) (next : Bool) → IsSymbol (k ∷ l ∷ []) → IsSymbol (k ∷ m ∷ []) → (next ≡ true → IsSymbol (a ∷ b ∷ [])) → cond (a == k) (b == l || b == m) next ≡ true → IsSymbol (a ∷ b ∷ [])
-two_symbols a k b l m next one two more = cond_cases (IsSymbol (a ∷ b ∷ [])) (a == k) (b == l || b == m) next true
-    (λ e h. subst (λ x. IsSymbol (x ∷ b ∷ [])) (sym (eq_from_test a k e)) (or_cases (IsSymbol (k ∷ b ∷ [])) (b == l) (b == m) (λ f. subst (λ x. IsSymbol (k ∷ x ∷ [])) (sym (eq_from_test b l f)) one) (λ f. subst (λ x. IsSymbol (k ∷ x ∷ [])) (sym (eq_from_test b m f)) two) h))
-    (λ _ h. more h)
-
-one_symbol : (a k b l : ℕ) (next : Bool) → IsSymbol (k ∷ l ∷ []) → (next ≡ true → IsSymbol (a ∷ b ∷ [])) → cond (a == k) (b == l) next ≡ true → IsSymbol (a ∷ b ∷ [])
-one_symbol a k b l next one more = cond_cases (IsSymbol (a ∷ b ∷ [])) (a == k) (b == l) next true
-    (λ e h. subst (λ x. IsSymbol (x ∷ b ∷ [])) (sym (eq_from_test a k e)) (subst (λ x. IsSymbol (k ∷ x ∷ [])) (sym (eq_from_test b l h)) one))
-    (λ _ h. more h)
-
-pair_symbol : (a b : ℕ) → is_pair a b ≡ true → IsSymbol (a ∷ b ∷ [])
-pair_symbol a b =
-    two_symbols a 45 b 62 124 _ (one_of_any symbols (45 ∷ 62 ∷ []) refl) (one_of_any symbols (45 ∷ 124 ∷ []) refl)
-    (two_symbols a 35 b 123 60 _ (one_of_any symbols (35 ∷ 123 ∷ []) refl) (one_of_any symbols (35 ∷ 60 ∷ []) refl)
-    (two_symbols a 125 b 35 126 _ (one_of_any symbols (125 ∷ 35 ∷ []) refl) (one_of_any symbols (125 ∷ 126 ∷ []) refl)
-    (one_symbol a 126 b 123 _ (one_of_any symbols (126 ∷ 123 ∷ []) refl)
-    (one_symbol a 61 b 62 _ (one_of_any symbols (61 ∷ 62 ∷ []) refl)
-    (one_symbol a 58 b 61 false (one_of_any symbols (58 ∷ 61 ∷ []) refl) (λ e. absurd (false≢true e)))))))
-
-symbol_spelled : (bytes : List ℕ) → 0 < symbol_len bytes → IsSymbol (take (symbol_len bytes) bytes)
+symbol_spelled : (bytes : List ℕ) → 0 < symbol_len bytes → IsOneOf symbols (take (symbol_len bytes) bytes)
 symbol_spelled [] some = absurd (omega arith)
 symbol_spelled (a ∷ bs) some = go bs (is_single a) refl some
   where
-    go : (more : List ℕ) (p : Bool) → is_single a ≡ p → 0 < second_len a more → IsSymbol (take (second_len a more) (a ∷ more))
-    go [] true e h = rw e (single_symbol a e)
+    go : (more : List ℕ) (p : Bool) → is_single a ≡ p → 0 < second_len a more → IsOneOf symbols (take (second_len a more) (a ∷ more))
+    go [] true e h = rw e (symbol_one (a ∷ []) e)
     go [] false e h = absurd (let k : 0 < 0 = rw e at h in omega arith)
     go (b ∷ more) p e h = pick (is_pair a b) refl p e h
       where
-        pick : (x : Bool) → is_pair a b ≡ x → (y : Bool) → is_single a ≡ y → 0 < second_len a (b ∷ more) → IsSymbol (take (second_len a (b ∷ more)) (a ∷ b ∷ more))
-        pick true f y g k = rw f (pair_symbol a b f)
-        pick false f true g k = rw (f, g) (single_symbol a g)
+        pick : (x : Bool) → is_pair a b ≡ x → (y : Bool) → is_single a ≡ y → 0 < second_len a (b ∷ more) → IsOneOf symbols (take (second_len a (b ∷ more)) (a ∷ b ∷ more))
+        pick true f y g k = rw f (symbol_one (a ∷ b ∷ []) f)
+        pick false f true g k = rw (f, g) (symbol_one (a ∷ []) g)
         pick false f false g k = absurd (let l : 0 < 0 = rw (f, g) at k in omega arith)
 
 class_other : (b : ℕ) → IsOther b → (class b ≡ at_digit) ⊎ (class b ≡ at_sign) ⊎ (class b ≡ at_mark)

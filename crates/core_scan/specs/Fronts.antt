@@ -4,6 +4,8 @@ use Rattle.std.specs.List.{prefix_len}
 use Rattle.core_scan.specs.declared.escapes.Escaped.{Escaped}
 use Rattle.core_scan.specs.Bytes.{is_digit, is_octal}
 use Rattle.core_scan.specs.Escapes.{number, lettered, NoEscape}
+use Rattle.core_scan.specs.Vocabulary.{symbols, sort_in}
+use Rattle.core_scan.specs.Sorts.{is_known}
 
 -- ---- escapes
 
@@ -46,15 +48,17 @@ fraction_len (b ∷ bs) =
 
 -- ---- symbols
 
+-- these bytes are a symbol
+unfoldable pub is_symbol : List ℕ → Bool
+is_symbol bytes = is_known (sort_in symbols bytes)
+
 -- a symbol of one byte
 abbrev pub is_single : ℕ → Bool
-is_single b = b == 40 || b == 41 || b == 123 || b == 125 || b == 91 || b == 93 || b == 60 || b == 62 || b == 124 || b == 44 || b == 58 || b == 47 || b == 61
+is_single b = is_symbol (b ∷ [])
 
 -- a symbol of two bytes
 abbrev pub is_pair : ℕ → ℕ → Bool
-is_pair a b =
-    cond (a == 45) (b == 62 || b == 124) (cond (a == 35) (b == 123 || b == 60) (cond (a == 125) (b == 35 || b == 126)
-    (cond (a == 126) (b == 123) (cond (a == 61) (b == 62) (cond (a == 58) (b == 61) false)))))
+is_pair a b = is_symbol (a ∷ b ∷ [])
 
 -- how many bytes are a symbol, of this byte and those behind it
 abbrev pub second_len : ℕ → List ℕ → ℕ

@@ -1,5 +1,6 @@
 pub mod Bytes
 pub mod Vocabulary
+pub mod Sorts
 pub mod Escapes
 pub mod Spells
 pub mod Lexed

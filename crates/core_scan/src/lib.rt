@@ -10,6 +10,7 @@ mod quotes;
 mod runs;
 mod scanner;
 mod shapes;
+mod sort;
 mod symbols;
 mod token;
 mod vocabulary;
@@ -17,6 +18,7 @@ mod vocabulary;
 pub use laws::{first_fault_once, lexed_once, lexed_or_fault, lexed_without_fault};
 pub use places::end_place;
 pub use scanner::scan;
+pub use sort::{Sort, fits, same, sort_of};
 pub use token::{ScanFault, Token, TokenKind};
 
 #[cfg(test)]

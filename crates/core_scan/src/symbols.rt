@@ -1,6 +1,8 @@
 // Symbols of one and of two bytes.
 ghost use Rattle.std.specs.Prelude.{◌≡◌, ◌≤◌, length};
-ghost use Rattle.core_scan.specs.Fronts.{is_single, is_pair, symbol_len};
+ghost use Rattle.core_scan.specs.Fronts.{symbol_len};
+
+use crate::vocabulary::{is_pair, is_single};
 
 /// How many bytes at the front are a symbol, the longest that stands there.
 pub fn symbol_len(rest: &[u8]) -> usize
@@ -16,28 +18,4 @@ pub fn symbol_len(rest: &[u8]) -> usize
         }
     }
     if is_single(*first) { 1 } else { 0 }
-}
-
-fn is_single(byte: u8) -> bool
-    ensures { result ≡ is_single byte }
-{
-    match byte {
-        b'(' | b')' | b'{' | b'}' | b'[' | b']' | b'<' | b'>' => true,
-        b'|' | b',' | b':' | b'/' | b'=' => true,
-        _ => false,
-    }
-}
-
-fn is_pair(first: u8, second: u8) -> bool
-    ensures { result ≡ is_pair first second }
-{
-    match first {
-        b'-' => second == b'>' || second == b'|',
-        b'#' => second == b'{' || second == b'<',
-        b'}' => second == b'#' || second == b'~',
-        b'~' => second == b'{',
-        b'=' => second == b'>',
-        b':' => second == b'=',
-        _ => false,
-    }
 }

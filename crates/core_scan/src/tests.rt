@@ -1,5 +1,5 @@
 // Texts with their tokens or faults, worked out from the rules by hand.
-use crate::{ScanFault, Token, TokenKind, end_place, scan};
+use crate::{ScanFault, Sort, Token, TokenKind, end_place, fits, same, scan, sort_of};
 use std::process::Abort;
 use std::test::Fail;
 use type_kinds::Place;
@@ -249,6 +249,137 @@ fn scans_others(rt: HostRuntime) -> Result<(), Fail> {
 #[test]
 fn scans_listing(rt: HostRuntime) -> Result<(), Fail> {
     check(&rt, &rt, LISTING)
+}
+
+// texts with the sorts of their tokens
+const SORTS: &[(&[u8], &[Sort])] = &[
+    (
+        b"after apply attributes call case catch",
+        &[
+            Sort::After,
+            Sort::Apply,
+            Sort::Attributes,
+            Sort::Call,
+            Sort::Case,
+            Sort::Catch,
+        ],
+    ),
+    (
+        b"do end fun in let letrec",
+        &[
+            Sort::Do,
+            Sort::End,
+            Sort::Fun,
+            Sort::In,
+            Sort::Let,
+            Sort::Letrec,
+        ],
+    ),
+    (
+        b"module of primop receive try when",
+        &[
+            Sort::Module,
+            Sort::Of,
+            Sort::Primop,
+            Sort::Receive,
+            Sort::Try,
+            Sort::When,
+        ],
+    ),
+    (
+        b"( ) { } [ ] < >",
+        &[
+            Sort::OpenRound,
+            Sort::CloseRound,
+            Sort::OpenCurly,
+            Sort::CloseCurly,
+            Sort::OpenSquare,
+            Sort::CloseSquare,
+            Sort::Less,
+            Sort::Greater,
+        ],
+    ),
+    (
+        b"| , : / = -> -|",
+        &[
+            Sort::Bar,
+            Sort::Comma,
+            Sort::Colon,
+            Sort::Slash,
+            Sort::Equals,
+            Sort::Arrow,
+            Sort::Noted,
+        ],
+    ),
+    (
+        b"#{ }# #< ~{ }~ => :=",
+        &[
+            Sort::OpenBinary,
+            Sort::CloseBinary,
+            Sort::OpenSegment,
+            Sort::OpenMap,
+            Sort::CloseMap,
+            Sort::Assoc,
+            Sort::Exact,
+        ],
+    ),
+    (
+        b"0 255 256 +5 -0",
+        &[
+            Sort::Small,
+            Sort::Small,
+            Sort::Integer,
+            Sort::Integer,
+            Sort::Integer,
+        ],
+    ),
+    (
+        b"X 1.5 $a 'a' \"\" \"a\"",
+        &[
+            Sort::Variable,
+            Sort::Float,
+            Sort::Char,
+            Sort::Atom,
+            Sort::EmptyText,
+            Sort::Text,
+        ],
+    ),
+];
+
+#[test]
+fn sorts(rt: HostRuntime) -> Result<(), Fail> {
+    for (text, want) in SORTS {
+        check_sorts(&rt, &rt, text, want)?;
+    }
+    Ok(())
+}
+
+fn check_sorts(
+    rt: &impl Abort,
+    host: &HostRuntime,
+    text: &[u8],
+    want: &[Sort],
+) -> Result<(), Fail> {
+    if text.len() > 1000 {
+        return Ok(());
+    }
+    match scan(host.alloc(), text) {
+        Ok(tokens) => {
+            let got = tokens.as_slice().iter().map(sort_of);
+            assert!(rt; got.eq(want.iter().copied()), "at {text:?}");
+        }
+        Err(fault) => panic!(rt; "{fault:?}"),
+    }
+    Ok(())
+}
+
+#[test]
+fn fitting(rt: HostRuntime) {
+    assert!(rt; fits(Sort::Integer, Sort::Small));
+    assert!(rt; !fits(Sort::Small, Sort::Integer));
+    assert!(rt; fits(Sort::Comma, Sort::Comma));
+    assert!(rt; !fits(Sort::Comma, Sort::Colon));
+    assert!(rt; same(Sort::Small, Sort::Small) && !same(Sort::Integer, Sort::Small));
 }
 
 fn check(rt: &impl Abort, host: &HostRuntime, cases: &[(&[u8], &[u8])]) -> Result<(), Fail> {
