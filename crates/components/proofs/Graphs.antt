@@ -8,16 +8,16 @@ use Rattle.std.proofs.lemmas.List.Folds.{Any-from_list_any}
 use Rattle.std.proofs.lemmas.Bool.{cases_eq, eqb-true}
 use Rattle.components.specs.Graph.{IsGraph, Leads, targets, with_target, with_pair}
 
-contains_it : (xs : List ℕ) (g : ℕ) → list_any (λ x. x == g) xs ≡ true → Contains xs g
+contains_it : (xs : List ℕ) (g : ℕ) → list_any (λ x. g == x) xs ≡ true → Contains xs g
 contains_it xs g e =
-    let found = Any-from_list_any (λ x. x == g) xs e in
-    let is : found.1 ≡ g = eqb-true found.1 g found.4 in
-    (found.0, found.2, get_or_default xs found.0 g found.1 found.2 ∙ found.3 ∙ is)
+    let found = Any-from_list_any (λ x. g == x) xs e in
+    let is : g ≡ found.1 = eqb-true g found.1 found.4 in
+    (found.0, found.2, get_or_default xs found.0 g found.1 found.2 ∙ found.3 ∙ sym is)
 
 with_target_cases : (xs : List ℕ) (g h : ℕ) → Contains (with_target xs g) h ↔ (Contains xs h ⊎ (h ≡ g))
-with_target_cases xs g h = go (list_any (λ x. x == g) xs) refl
+with_target_cases xs g h = go (list_any (λ x. g == x) xs) refl
   where
-    go : (b : Bool) → list_any (λ x. x == g) xs ≡ b → Contains (if b then xs else xs ++ g ∷ []) h ↔ (Contains xs h ⊎ (h ≡ g))
+    go : (b : Bool) → list_any (λ x. g == x) xs ≡ b → Contains (if b then xs else xs ++ g ∷ []) h ↔ (Contains xs h ⊎ (h ≡ g))
     go true e = ((λ found. inl found), elim [ inl found ↦ found | inr is ↦ subst (λ v. Contains xs v) (sym is) (contains_it xs g e) ])
     go false e = (
       (λ found. elim (Contains-push_cases xs g h found) [ inl old ↦ inl old | inr is ↦ inr (sym is) ]),

@@ -24,10 +24,10 @@ pub data Reaches (graph : List (List ℕ)) : ℕ → ℕ → Type 0 where
 abbrev pub Together : List (List ℕ) → ℕ → ℕ → Type 0
 Together graph f g = (f ≡ g) ⊎ (Reaches graph f g × Reaches graph g f)
 
--- A list of targets with one more, which stays once where it is there already.
+-- A list of targets with one more, last, where it isn't there already.
 abbrev pub with_target : List ℕ → ℕ → List ℕ
-with_target xs g = if list_any (λ x. x == g) xs then xs else xs ++ g ∷ []
+with_target xs g = if list_any (λ x. g == x) xs then xs else xs ++ g ∷ []
 
--- A graph with one more pair, which stays once where it is there already.
+-- A graph with one more pair, where it isn't there already.
 abbrev pub with_pair : List (List ℕ) → ℕ → ℕ → List (List ℕ)
 with_pair graph f g = slice_set graph f (with_target (targets graph f) g)

@@ -1,16 +1,17 @@
-ghost use Rattle.std.specs.Prelude.{◌≡◌, ℕ, ◌<◌, ◌^◌, ◌↔◌, ◌⊎◌, [], length, replicate, IfOk, OnOk, OnErr};
-ghost use Rattle.components.specs.Graph.{targets, Leads, IsGraph, with_target, with_pair};
+ghost use Rattle.std.specs.Prelude.{◌≡◌, ℕ, ◌<◌, ◌↔◌, ◌⊎◌, [], length, replicate, IfOk, OnOk, OnErr};
+ghost use Rattle.components.specs.Graph.{targets, Leads, IsGraph, with_pair};
 
-use crate::tools::empty_lists;
+use crate::targets::Targets;
+use crate::tools::push;
 use std::alloc::Global;
 use std::marker::Model;
-use type_kinds::{List, Memory};
+use type_kinds::Memory;
 
 /// A graph whose nodes are numbers from 0. Contracts see, for each node, the list of the nodes that it
 /// leads to.
 #[derive(Drop)]
 pub struct Graph {
-    leads: Vec<List<u32>>,
+    leads: Vec<Targets>,
 }
 
 impl Model for Graph {
@@ -26,13 +27,16 @@ impl Model for Graph {
 }
 
 impl Graph {
-    /// A graph of so many nodes, without pairs.
+    /// A graph of this many nodes, without pairs.
     pub fn new(alloc: Global, count: u32) -> Result<Graph, Memory>
         ensures value { IfOk result (λ graph. graph ≡ replicate count []) }
         ensures count { IfOk result (λ graph. length graph ≡ count) }
         ensures none { IfOk result (λ graph. (f g : ℕ) → Leads graph f g → ⊥) }
     {
-        let leads = empty_lists(alloc, count)?;
+        let mut leads = Vec::new(alloc);
+        for _ in 0..count {
+            push(&mut leads, Targets::new(alloc))?;
+        }
         Ok(Graph { leads })
     }
 
@@ -53,8 +57,8 @@ impl Graph {
         found.as_slice()
     }
 
-    /// Lets one node lead to another. A pair that is there stays once. Where memory is wanting the graph
-    /// stays as it was.
+    /// Lets one node lead to another. A pair that is there already changes nothing. If allocation
+    /// fails, the graph stays as it was.
     pub fn add(&mut self, from: u32, to: u32) -> Result<(), Memory>
         requires from { from < length self.old }
         requires to { to < length self.old }
@@ -64,20 +68,6 @@ impl Graph {
         ensures err { OnErr result (self.new ≡ self.old) }
     {
         let found = &mut self.leads[from as usize];
-        include(found, to)
-    }
-}
-
-// Adds a target to a list of targets, which stays once where it is there.
-fn include(found: &mut List<u32>, to: u32) -> Result<(), Memory>
-    ensures ok { OnOk result (found.new ≡ with_target found.old to) }
-    ensures err { OnErr result (found.new ≡ found.old) }
-{
-    if found.as_slice().contains(&to) {
-        return Ok(());
-    }
-    match found.push(to) {
-        Ok(()) => Ok(()),
-        Err(_) => Err(Memory),
+        found.insert(to)
     }
 }

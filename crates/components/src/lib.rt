@@ -8,6 +8,7 @@ mod node_set;
 mod numbering;
 mod ready;
 mod search;
+mod targets;
 #[cfg(test)]
 mod tests;
 mod tools;

@@ -11,15 +11,15 @@ invariant_of-self c =
     let to_low : c.args.to < length c.self.inside.leads.items = subst (λ g. c.args.to < length g) (sym c.self.view_is) c.requires.to in
     let is : c.index_mut-found.result.now ≡ targets c.self.inside.leads.items c.args.from =
     c.index_mut-found.ensures.value ∙ get_or_default c.self.inside.leads.items c.args.from c.index_mut-found.result.now [] from_low in
-    written_graph c.include.result c.self.inside.leads.items c.args.from c.args.to c.include.new.found c.self.invariant from_low to_low
-    (subst (λ xs. OnOk c.include.result (c.include.new.found ≡ with_target xs c.args.to)) is c.include.ensures.ok)
-    (subst (λ xs. OnErr c.include.result (c.include.new.found ≡ xs)) is c.include.ensures.err)
+    written_graph c.insert.result c.self.inside.leads.items c.args.from c.args.to c.insert.new.self c.self.invariant from_low to_low
+    (subst (λ xs. OnOk c.insert.result (c.insert.new.self ≡ with_target xs c.args.to)) is c.insert.ensures.ok)
+    (subst (λ xs. OnErr c.insert.result (c.insert.new.self ≡ xs)) is c.insert.ensures.err)
 
 pub returns-clause-pairs : goal.returns-clause-pairs
 returns-clause-pairs c =
     let from_low : c.args.from < length c.self.inside.leads.items = subst (λ g. c.args.from < length g) (sym c.self.view_is) c.requires.from in
     let is : c.index_mut-found.result.now ≡ targets c.self.inside.leads.items c.args.from =
     c.index_mut-found.ensures.value ∙ get_or_default c.self.inside.leads.items c.args.from c.index_mut-found.result.now [] from_low in
-    subst (λ graph. OnOk c.include.result ((f g : ℕ) → Leads (set c.self.inside.leads.items c.args.from c.include.new.found) f g ↔ (Leads graph f g ⊎ ((f ≡ c.args.from) × (g ≡ c.args.to))))) c.self.view_is
-    (written_pairs c.include.result c.self.inside.leads.items c.args.from c.args.to c.include.new.found from_low
-    (subst (λ xs. OnOk c.include.result (c.include.new.found ≡ with_target xs c.args.to)) is c.include.ensures.ok))
+    subst (λ graph. OnOk c.insert.result ((f g : ℕ) → Leads (set c.self.inside.leads.items c.args.from c.insert.new.self) f g ↔ (Leads graph f g ⊎ ((f ≡ c.args.from) × (g ≡ c.args.to))))) c.self.view_is
+    (written_pairs c.insert.result c.self.inside.leads.items c.args.from c.args.to c.insert.new.self from_low
+    (subst (λ xs. OnOk c.insert.result (c.insert.new.self ≡ with_target xs c.args.to)) is c.insert.ensures.ok))
