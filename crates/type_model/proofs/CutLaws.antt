@@ -58,11 +58,11 @@ module _ {F E : Type 0} {HasF : Value → F → Type 0} {NormalF : F → Type 0}
       (s.normal t k.0, is_false (e.is_none (lower t)) (λ q. low.lattice.none_empty w.0 (subst (λ x. HasE w.0 x) (low.none-is_none (lower t) q) (s.above t k.0 w.0 w.1))))
 
   -- ---- rows
-  row_normal : (es : List F) → AreElements NormalF f es → AreElements NormalE e (map lower es)
+  pub row_normal : (es : List F) → AreElements NormalF f es → AreElements NormalE e (map lower es)
   row_normal [] k = tt
   row_normal (t ∷ ts) k = (element_normal t k.0, row_normal ts k.1)
 
-  row_above : (es : List F) → AreElements NormalF f es → (vs : Values) → HasEach HasF vs es → HasEach HasE vs (map lower es)
+  pub row_above : (es : List F) → AreElements NormalF f es → (vs : Values) → HasEach HasF vs es → HasEach HasE vs (map lower es)
   row_above [] k no_value h = tt
   row_above [] k (and_value v vs) h = absurd h
   row_above (t ∷ ts) k no_value h = absurd h
@@ -91,7 +91,7 @@ module _ {F E : Type 0} {HasF : Value → F → Type 0} {NormalF : F → Type 0}
   length-lower [] = refl
   length-lower (t ∷ ts) = ap suc (length-lower ts)
 
-  found_normal : (n : ℕ) (r : Option (List F)) → NormalRow NormalF f n r → NormalRow NormalE e n (option_map (map lower) r)
+  pub found_normal : (n : ℕ) (r : Option (List F)) → NormalRow NormalF f n r → NormalRow NormalE e n (option_map (map lower) r)
   found_normal n None k = tt
   found_normal n (Some es) k = (length-lower es ∙ k.0, row_normal es k.1)
 
@@ -178,7 +178,7 @@ module _ {F E : Type 0} {HasF : Value → F → Type 0} {NormalF : F → Type 0}
         (ap (first_of v) a.1.1.0, sym (find-key name_total name_same m a.0) ∙ row_is_some a.1.0 (find name_cmp m a.0) a.1.1.1),
       )) j.1
 
-  all_each : e.has_tags ≡ false → (gs : List E) → AreElements NormalE e gs → (vs : Values) → count vs ≡ length gs → HasEach HasE vs gs
+  pub all_each : e.has_tags ≡ false → (gs : List E) → AreElements NormalE e gs → (vs : Values) → count vs ≡ length gs → HasEach HasE vs gs
   all_each a [] k no_value q = tt
   all_each a [] k (and_value v vs) q = absurd (omega arith)
   all_each a (g ∷ gs) k no_value q = absurd (omega arith)
@@ -193,7 +193,7 @@ module _ {F E : Type 0} {HasF : Value → F → Type 0} {NormalF : F → Type 0}
       let r = found_normal (suc n) (Some (elements f (tags m))) (elements_normal high (suc n) (tags m) j) in
       all_each a gs k.0.1 vs (count_each low vs (map lower (elements f (tags m))) h ∙ r.0 ∙ sym k.0.0)
 
-  body_least : (n : ℕ) (b : Body F) (u : Body E) → NormalBody NormalF f n (Some b) → NormalBody NormalE e n (Some u) → ((vs : Values) → HasBody HasF vs (Some b) → HasBody HasE vs (Some u)) → (vs : Values) → HasBody HasE vs (Some (body_lower lower f e b)) → HasBody HasE vs (Some u)
+  pub body_least : (n : ℕ) (b : Body F) (u : Body E) → NormalBody NormalF f n (Some b) → NormalBody NormalE e n (Some u) → ((vs : Values) → HasBody HasF vs (Some b) → HasBody HasE vs (Some u)) → (vs : Values) → HasBody HasE vs (Some (body_lower lower f e b)) → HasBody HasE vs (Some u)
   body_least n (product es) (product gs) j k p vs h = row_least es gs j.0.1 k.0.1 p vs h
   body_least n (product es) (tags m) j k p vs h = absurd (not_tags n es m j k p)
   body_least zero (tags m) u j k p vs h = absurd j

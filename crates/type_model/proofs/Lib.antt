@@ -1,11 +1,15 @@
 pub mod BodyLaws
 pub mod CellLaws
 pub mod CutLaws
+pub mod ElementLaws
 pub mod LevelLaws
+pub mod LiftLaws
+pub mod ListLaws
 pub mod MadeLaws
 pub mod NormalOnce
 pub mod PartsLaws
 pub mod PlainLaws
+pub mod ProductLaws
 pub mod RankLaws
 pub mod RowLaws
 pub mod TableLaws

@@ -41,7 +41,7 @@ module _ {E : Type 0} {Has : Value → E → Type 0} {Normal : E → Type 0} {o 
   not_none : (e : E) (v : Value) → Has v e → o.is_none e ≡ false
   not_none e v h = is_false (o.is_none e) (λ q. l.lattice.none_empty v (subst (λ x. Has v x) (l.none-is_none e q) h))
 
-  are_elements : (es : List E) → AreNormal Normal es → has_none o es ≡ false → AreElements Normal o es
+  pub are_elements : (es : List E) → AreNormal Normal es → has_none o es ≡ false → AreElements Normal o es
   are_elements [] k q = tt
   are_elements (e ∷ es) k q = let p = neither (o.is_none e) (has_none o es) q in ((k.0, p.0), are_elements es k.1 p.1)
 
@@ -381,7 +381,7 @@ module _ {E : Type 0} {Has : Value → E → Type 0} {Normal : E → Type 0} {o 
   abbrev at_place : Option (Body E) → ℕ → Option E
   at_place b i = elim b [ None ↦ None | Some c ↦ slice_get (elements o c) i ]
 
-  body_place : (n : ℕ) (b : Option (Body E)) → NormalBody Normal o n b → (vs : Values) → HasBody Has vs b → (i : ℕ) (v : Value) → value_at vs i ≡ Some v → (e : E) × ((at_place b i ≡ Some e) × (Normal e × Has v e))
+  pub body_place : (n : ℕ) (b : Option (Body E)) → NormalBody Normal o n b → (vs : Values) → HasBody Has vs b → (i : ℕ) (v : Value) → value_at vs i ≡ Some v → (e : E) × ((at_place b i ≡ Some e) × (Normal e × Has v e))
   body_place n None k vs h i v q = absurd h
   body_place n (Some c) k vs h i v q = place_in vs (elements o c) (elements_above l n c k vs h) (elements_normal l n c k).1 i v q
 

@@ -5,6 +5,7 @@ pub mod HasType
 pub mod Operations
 pub mod Normal
 pub mod Cut
+pub mod Elements
 pub mod Parts
 pub mod Laws
 pub mod Forms

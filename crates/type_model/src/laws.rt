@@ -1,13 +1,16 @@
 //! The laws of types, as functions that do nothing: who calls one has its clauses. They speak of
 //! types of any level.
-ghost use Rattle.std.specs.Prelude.{◌≡◌, ◌≤◌, ◌<◌, ◌-◌, ℕ, suc, Bool, true, List, Some};
-ghost use Rattle.type_model.specs.Values.{Value, Values, nil, cons, tuple, end_of, count};
+ghost use Rattle.std.specs.Prelude.{◌≡◌, ◌↔◌, ◌≤◌, ◌<◌, ◌-◌, ℕ, pos, suc, Bool, true, false, List, Some, nat_lt, length, map};
+ghost use Rattle.type_sets.specs.Numbers as numbers;
+ghost use Rattle.type_sets.specs.Numbers.{Numbers};
+ghost use Rattle.type_model.specs.Values.{Value, Values, and_value, nil, cons, tuple, heads, end_of, count};
 ghost use Rattle.type_model.specs.Shapes.{TypeAt};
-ghost use Rattle.type_model.specs.HasType.{HasAt, HasEach};
+ghost use Rattle.type_model.specs.HasType.{HasAt, HasAll, HasEach};
 ghost use Rattle.type_model.specs.Operations.{ops};
 ghost use Rattle.type_model.specs.Normal.{NormalAt};
 ghost use Rattle.type_model.specs.Laws.{BelowBy, Laws, Lowering};
 ghost use Rattle.type_model.specs.Cut.{cut};
+ghost use Rattle.type_model.specs.Elements.{elements_at};
 ghost use Rattle.type_model.specs.Ranks.{rank, most_at, FallsAt};
 ghost use Rattle.type_model.specs.Parts.{tuple_at, cons_at, project_at, elem_at, tail_at, is_list, value_at, AreNormal};
 
@@ -25,24 +28,47 @@ pub fn cut_laws()
     ensures exact { (e d : ℕ) → e ≤ d → (t : TypeAt e) → NormalAt e t → (v : Value) → HasAt d v (cut e d t) → HasAt e v t }
 {}
 
-/// The type of a product is the least of its level that has the tuples.
+/// The type of a product is the least of its level that has the tuples, and has nothing but tuples: up
+/// to 64 elements just those of the types cut to the level below. The type of an element is above what
+/// stands there, and the least such type up to 64 elements.
 pub fn tuple_laws()
     ensures normal { (d : ℕ) (es : List (TypeAt d)) → AreNormal (NormalAt d) es → NormalAt d (tuple_at d es) }
     ensures above { (d : ℕ) (es : List (TypeAt d)) → AreNormal (NormalAt d) es → (vs : Values) → HasEach (HasAt d) vs es → HasAt d (tuple vs) (tuple_at d es) }
     ensures least { (d : ℕ) (es : List (TypeAt d)) → AreNormal (NormalAt d) es → (u : TypeAt d) → NormalAt d u → ((vs : Values) → HasEach (HasAt d) vs es → HasAt d (tuple vs) u) → BelowBy (HasAt d) (tuple_at d es) u }
+    ensures only { (d : ℕ) (es : List (TypeAt (suc d))) (v : Value) → HasAt (suc d) v (tuple_at (suc d) es) → (vs : Values) × (v ≡ tuple vs) }
+    ensures exact { (d : ℕ) (es : List (TypeAt (suc d))) → AreNormal (NormalAt (suc d)) es → nat_lt (length es) 65 ≡ true → (vs : Values) → HasAt (suc d) (tuple vs) (tuple_at (suc d) es) ↔ HasEach (HasAt d) vs (map (cut (suc d) d) es) }
     ensures project { (d : ℕ) (t : TypeAt (suc d)) → NormalAt (suc d) t → (n : ℕ) (vs : Values) → HasAt (suc d) (tuple vs) t → count vs ≡ n → (i : ℕ) (v : Value) → value_at vs (i - 1) ≡ Some v → HasAt (suc d) v (project_at d t n i) }
+    ensures project_least { (d : ℕ) (t : TypeAt (suc d)) → NormalAt (suc d) t → (n i : ℕ) → n ≤ 64 → 1 ≤ i → i ≤ n → (u : TypeAt (suc d)) → NormalAt (suc d) u → ((vs : Values) (v : Value) → HasAt (suc d) (tuple vs) t → count vs ≡ n → value_at vs (i - 1) ≡ Some v → HasAt (suc d) v u) → BelowBy (HasAt (suc d)) (project_at d t n i) u }
 {}
 
-/// The type of the lists of a head and a tail has them, and where its ends are proper as far as they
-/// may be it is the least of its level. A type has proper lists alone exactly where it is told so.
+/// The join of the elements at the places in a set, over all sizes: it has what stands there, and where
+/// the set has a place it is the least type that does. The first element is at place 1.
+pub fn element_laws()
+    ensures normal { (d : ℕ) (t : TypeAt (suc d)) → NormalAt (suc d) t → (s : Numbers) → NormalAt (suc d) (elements_at d t s) }
+    ensures above { (d : ℕ) (t : TypeAt (suc d)) → NormalAt (suc d) t → (s : Numbers) (vs : Values) → HasAt (suc d) (tuple vs) t → (i : ℕ) (v : Value) → value_at vs i ≡ Some v → numbers.has s (pos (suc i)) ≡ true → HasAt (suc d) v (elements_at d t s) }
+    ensures least { (d : ℕ) (t : TypeAt (suc d)) → NormalAt (suc d) t → (s : Numbers) (p : ℕ) → numbers.has s (pos (suc p)) ≡ true → (u : TypeAt (suc d)) → NormalAt (suc d) u → ((vs : Values) → HasAt (suc d) (tuple vs) t → (i : ℕ) (v : Value) → value_at vs i ≡ Some v → numbers.has s (pos (suc i)) ≡ true → HasAt (suc d) v u) → BelowBy (HasAt (suc d)) (elements_at d t s) u }
+    ensures more { (d : ℕ) (t w : TypeAt (suc d)) → NormalAt (suc d) t → NormalAt (suc d) w → BelowBy (HasAt (suc d)) t w → (s q : Numbers) → numbers.Below s q → BelowBy (HasAt (suc d)) (elements_at d t s) (elements_at d w q) }
+{}
+
+/// The type of the lists of a head and a tail has them and nothing but conses. Where its ends are proper
+/// as far as they may be, it is the least of its level, and has proper lists alone where the tail has;
+/// with free ends it has every list of these heads. A type has proper lists alone exactly where it is
+/// told so. A cons is in a type exactly where its head is among the type's heads and its tail among the
+/// type's tails, and these are the least types of which that is true.
 pub fn list_laws()
     ensures normal { (d : ℕ) (h t : TypeAt (suc d)) (proper : Bool) → NormalAt (suc d) h → NormalAt (suc d) t → NormalAt (suc d) (cons_at d h t proper) }
     ensures above { (d : ℕ) (h t : TypeAt (suc d)) (proper : Bool) → NormalAt (suc d) h → NormalAt (suc d) t → (x y : Value) → HasAt (suc d) x h → HasAt (suc d) y t → HasAt (suc d) (cons x y) (cons_at d h t proper) }
     ensures least { (d : ℕ) (h t : TypeAt (suc d)) → NormalAt (suc d) h → NormalAt (suc d) t → (u : TypeAt (suc d)) → NormalAt (suc d) u → ((x y : Value) → HasAt (suc d) x h → HasAt (suc d) y t → HasAt (suc d) (cons x y) u) → BelowBy (HasAt (suc d)) (cons_at d h t true) u }
+    ensures only { (d : ℕ) (h t : TypeAt (suc d)) (proper : Bool) (v : Value) → HasAt (suc d) v (cons_at d h t proper) → (x : Value) × ((y : Value) × (v ≡ cons x y)) }
+    ensures proper { (d : ℕ) (h t : TypeAt (suc d)) → NormalAt (suc d) t → ((v : Value) → HasAt (suc d) v t → end_of v ≡ nil) → (v : Value) → HasAt (suc d) v (cons_at d h t true) → end_of v ≡ nil }
+    ensures free { (d : ℕ) (h t : TypeAt (suc d)) → NormalAt (suc d) h → NormalAt (suc d) t → (x y : Value) → HasAt (suc d) (cons x y) (cons_at d h t false) ↔ HasAll (HasAt (suc d)) (and_value x (heads y)) (elem_at d (cons_at d h t true)) }
     ensures lists { (d : ℕ) (t : TypeAt (suc d)) → is_list (ops d) t ≡ true → (v : Value) → HasAt (suc d) v t → end_of v ≡ nil }
     ensures are_lists { (d : ℕ) (t : TypeAt (suc d)) → NormalAt (suc d) t → ((v : Value) → HasAt (suc d) v t → end_of v ≡ nil) → is_list (ops d) t ≡ true }
     ensures elem { (d : ℕ) (s : TypeAt (suc d)) → NormalAt (suc d) s → (h t : Value) → HasAt (suc d) (cons h t) s → HasAt (suc d) h (elem_at d s) }
     ensures tail { (d : ℕ) (s : TypeAt (suc d)) (h t : Value) → HasAt (suc d) (cons h t) s → HasAt (suc d) t (tail_at d s) }
+    ensures both { (d : ℕ) (s : TypeAt (suc d)) → NormalAt (suc d) s → (x y : Value) → HasAt (suc d) x (elem_at d s) → HasAt (suc d) y (tail_at d s) → HasAt (suc d) (cons x y) s }
+    ensures elem_least { (d : ℕ) (s : TypeAt (suc d)) → NormalAt (suc d) s → (u : TypeAt (suc d)) → ((x y : Value) → HasAt (suc d) (cons x y) s → HasAt (suc d) x u) → BelowBy (HasAt (suc d)) (elem_at d s) u }
+    ensures tail_least { (d : ℕ) (s : TypeAt (suc d)) → NormalAt (suc d) s → (u : TypeAt (suc d)) → ((x y : Value) → HasAt (suc d) (cons x y) s → HasAt (suc d) y u) → BelowBy (HasAt (suc d)) (tail_at d s) u }
 {}
 
 /// A smaller type has a lower rank, so from a type one can't go down more often than its rank says,

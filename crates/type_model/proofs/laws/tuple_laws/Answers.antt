@@ -1,4 +1,6 @@
 use Rattle.type_model.proofs.MadeLaws.{tuple-normal, tuple-above, tuple-least, project-in}
+use Rattle.type_model.proofs.ProductLaws.{tuple-only, tuple-exact}
+use Rattle.type_model.proofs.ElementLaws.{project-least}
 use Rattle.type_model.proofs.laws.tuple_laws.Goals as goal
 
 pub returns-clause-normal : goal.returns-clause-normal
@@ -12,3 +14,12 @@ returns-clause-least c = tuple-least
 
 pub returns-clause-project : goal.returns-clause-project
 returns-clause-project c = project-in
+
+pub returns-clause-only : goal.returns-clause-only
+returns-clause-only c = tuple-only
+
+pub returns-clause-exact : goal.returns-clause-exact
+returns-clause-exact c = tuple-exact
+
+pub returns-clause-project_least : goal.returns-clause-project_least
+returns-clause-project_least c = project-least

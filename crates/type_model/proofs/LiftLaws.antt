@@ -1,0 +1,197 @@
+-- A join is the same on the next level: the least type of a level above two types is the least of the next level too.
+use Rattle.std.proofs.Common.{◌≡◌, ℕ, zero, suc, Bool, true, false, ◌&&◌, ◌||◌, inl, inr, cond, List, [], ◌∷◌, map, length, Option, Some, None, Less, Equal, Greater, refl, sym, ap, ◌∙◌, subst, true≢false}
+use Rattle.std.specs.Prelude.{nat_lt}
+use Rattle.std.specs.declared.cmp.Ordering.{Ordering}
+use Rattle.std.specs.Ordering.{nat_cmp, is_lt, is_eq}
+use Rattle.std.specs.Cmp.{nat_cmp_total}
+use Rattle.std.specs.FinSet.{IsAntisymmetric, nat_cmp-IsAntisymmetric}
+use Rattle.type_sets.specs.Names.{Name}
+use Rattle.type_sets.proofs.NameLaws.{name_total, name_same}
+use Rattle.type_sets.proofs.Truths.{either, in_first, in_second}
+use Rattle.type_model.specs.Values.{Value}
+use Rattle.type_model.specs.Tables.{keys, held, mapped, put, united}
+use Rattle.type_model.specs.Shapes.{Cell, Body, product, tags, Tuples, sizes, all_tuples, Parts, TypeAt}
+use Rattle.type_model.specs.Operations.{Ops, row_join, rows_join, all_rows_join, elements, tags_join, capped_tags, body_join, capped_sizes, tuples_join, cell_join, parts_join, plain_join, ops}
+use Rattle.type_model.specs.Normal.{AreElements, NormalRow, NormalRows, NormalBody, NormalSizes, NormalTuples, NormalCell, NormalParts, NormalAt}
+use Rattle.type_model.specs.Cut.{cell_lower, body_lower, tuples_lower, parts_lower, cut}
+use Rattle.type_model.specs.Laws.{Laws}
+use Rattle.type_model.proofs.TableLaws.{EachEntry, keys-mapped, length-mapped}
+use Rattle.type_model.proofs.RowLaws.{row_lattice}
+use Rattle.type_model.proofs.BodyLaws.{elements_normal, body_lattice}
+use Rattle.type_model.proofs.LevelLaws.{level_laws}
+use Rattle.type_model.proofs.CutLaws.{cut_lowering}
+
+-- ---- tables whose entries are joined, and what becomes of them
+
+module _ {K X Y : Type 0} {R : K → K → Ordering} (same : IsAntisymmetric R) (g : X → Y) (j : X → X → X) (k : Y → Y → Y) (P : K → X → Type 0) (keeps : (a : K) (x y : X) → P a x → P a y → P a (j x y)) (joins : (a : K) (x y : X) → P a x → P a y → g (j x y) ≡ k (g x) (g y)) where
+  mapped-put : (a : K) (x : X) (m : List (K × X)) → P a x → EachEntry P m → mapped g (put R j a x m) ≡ put R k a (g x) (mapped g m)
+  mapped-put a x [] p q = refl
+  mapped-put a x (e ∷ m) p q =
+      elim (R a e.0) as (λ r. R a e.0 ≡ r → mapped g (cond (is_lt r) ((a, x) ∷ e ∷ m) (cond (is_eq r) ((e.0, j e.1 x) ∷ m) (e ∷ put R j a x m))) ≡ cond (is_lt r) ((a, g x) ∷ (e.0, g e.1) ∷ mapped g m) (cond (is_eq r) ((e.0, k (g e.1) (g x)) ∷ mapped g m) ((e.0, g e.1) ∷ put R k a (g x) (mapped g m)))) [
+        | Less ↦ λ s. refl
+        | Equal ↦ λ s. ap (λ y. (e.0, y) ∷ mapped g m) (joins e.0 e.1 x q.0 (subst (λ z. P z x) (same a e.0 s) p))
+        | Greater ↦ λ s. ap (λ w. (e.0, g e.1) ∷ w) (mapped-put a x m p q.1)
+      ] refl
+
+  each-put : (a : K) (x : X) (m : List (K × X)) → P a x → EachEntry P m → EachEntry P (put R j a x m)
+  each-put a x [] p q = (p, tt)
+  each-put a x (e ∷ m) p q =
+      elim (R a e.0) as (λ r. R a e.0 ≡ r → EachEntry P (cond (is_lt r) ((a, x) ∷ e ∷ m) (cond (is_eq r) ((e.0, j e.1 x) ∷ m) (e ∷ put R j a x m)))) [
+        | Less ↦ λ s. (p, q)
+        | Equal ↦ λ s. (keeps e.0 e.1 x q.0 (subst (λ z. P z x) (same a e.0 s) p), q.1)
+        | Greater ↦ λ s. (q.0, each-put a x m p q.1)
+      ] refl
+
+  mapped-united : (m w : List (K × X)) → EachEntry P m → EachEntry P w → mapped g (united R j m w) ≡ united R k (mapped g m) (mapped g w)
+  mapped-united m [] p q = refl
+  mapped-united m (e ∷ w) p q =
+      mapped-united (put R j e.0 e.1 m) w (each-put e.0 e.1 m q.0 p) q.1 ∙ ap (λ z. united R k z (mapped g w)) (mapped-put e.0 e.1 m q.0 p)
+
+  each-united : (m w : List (K × X)) → EachEntry P m → EachEntry P w → EachEntry P (united R j m w)
+  each-united m [] p q = p
+  each-united m (e ∷ w) p q = each-united (put R j e.0 e.1 m) w (each-put e.0 e.1 m q.0 p) q.1
+
+-- ---- from the types of one level to those of another, and so one level up
+
+-- a way to another level that keeps joins, and sets of atoms where there may be tags
+record Lifting {F E : Type 0} (NormalF : F → Type 0) (f : Ops F) (e : Ops E) (lower : F → E) : Type 0 where
+  pub joins : (x y : F) → NormalF x → NormalF y → lower (f.join x y) ≡ e.join (lower x) (lower y)
+  pub tags_stay : f.has_tags ≡ true → e.has_tags ≡ true
+  pub names_stay : f.has_tags ≡ true → (xs : List Name) → lower (f.of_names xs) ≡ e.of_names xs
+
+module _ {F E : Type 0} {HasF : Value → F → Type 0} {NormalF : F → Type 0} {f : Ops F} (high : Laws HasF NormalF f) {e : Ops E} {lower : F → E} (s : Lifting NormalF f e lower) where
+  -- ---- products
+  row_joins : (es fs : List F) → AreElements NormalF f es → AreElements NormalF f fs → map lower (row_join f es fs) ≡ row_join e (map lower es) (map lower fs)
+  row_joins [] fs j k = refl
+  row_joins (x ∷ xs) [] j k = refl
+  row_joins (x ∷ xs) (y ∷ ys) j k = λ i. s.joins x y j.0.0 k.0.0 i ∷ row_joins xs ys j.1 k.1 i
+
+  rows_joins : (n : ℕ) (es : List F) (m : List (Name × List F)) → NormalRow NormalF f n (Some es) → NormalRows NormalF f n m → map lower (rows_join f es (held m)) ≡ rows_join e (map lower es) (held (mapped (map lower) m))
+  rows_joins n es [] j k = refl
+  rows_joins n es (x ∷ m) j k =
+      rows_joins n (row_join f es x.1) m ((row_lattice high n).join_normal (Some es) (Some x.1) j k.0) k.1 ∙ ap (λ z. rows_join e z (held (mapped (map lower) m))) (row_joins es x.1 j.1 k.0.1)
+
+  all_rows_joins : (n : ℕ) (m : List (Name × List F)) → NormalRows NormalF f n m → map lower (all_rows_join f (held m)) ≡ all_rows_join e (held (mapped (map lower) m))
+  all_rows_joins n [] k = refl
+  all_rows_joins n (x ∷ m) k = rows_joins n x.1 m k.0 k.1
+
+  -- ---- tags
+  abbrev kept : List (Name × List F) → List (Name × List E)
+  kept m = mapped (map lower) m
+
+  tags_elements : (n : ℕ) (m : List (Name × List F)) → f.has_tags ≡ true → NormalRows NormalF f n m → map lower (elements f (tags m)) ≡ elements e (tags (kept m))
+  tags_elements n m a k =
+      let first : lower (f.of_names (keys m)) ≡ e.of_names (keys (kept m)) = s.names_stay a (keys m) ∙ ap e.of_names (sym (keys-mapped name_total name_same (map lower) m)) in
+      λ i. first i ∷ all_rows_joins n m k i
+
+  tags_kept : (m : List (Name × List F)) → f.has_tags ≡ true → body_lower lower f e (tags m) ≡ tags (kept m)
+  tags_kept m a = ap (λ b. cond b (tags (kept m)) (product (map lower (elements f (tags m))))) (s.tags_stay a)
+
+  rows_each : (n : ℕ) (m : List (Name × List F)) → NormalRows NormalF f n m → EachEntry (λ a es. NormalRow NormalF f n (Some es)) m
+  rows_each n [] k = tt
+  rows_each n (x ∷ m) k = (k.0, rows_each n m k.1)
+
+  each_rows : (n : ℕ) (m : List (Name × List F)) → EachEntry (λ a es. NormalRow NormalF f n (Some es)) m → NormalRows NormalF f n m
+  each_rows n [] k = tt
+  each_rows n (x ∷ m) k = (k.0, each_rows n m k.1)
+
+  row_keeps : (n : ℕ) (a : Name) (es fs : List F) → NormalRow NormalF f n (Some es) → NormalRow NormalF f n (Some fs) → NormalRow NormalF f n (Some (row_join f es fs))
+  row_keeps n a es fs j k = (row_lattice high n).join_normal (Some es) (Some fs) j k
+
+  tags_joins : (n : ℕ) (m w : List (Name × List F)) → NormalRows NormalF f n m → NormalRows NormalF f n w → kept (tags_join f m w) ≡ tags_join e (kept m) (kept w)
+  tags_joins n m w j k = mapped-united name_same (map lower) (row_join f) (row_join e) (λ a es. NormalRow NormalF f n (Some es)) (row_keeps n) (λ a es fs p q. row_joins es fs p.1 q.1) m w (rows_each n m j) (rows_each n w k)
+
+  joined_rows : (n : ℕ) (m w : List (Name × List F)) → NormalRows NormalF f n m → NormalRows NormalF f n w → NormalRows NormalF f n (tags_join f m w)
+  joined_rows n m w j k = each_rows n (tags_join f m w) (each-united name_same (map lower) (row_join f) (row_join e) (λ a es. NormalRow NormalF f n (Some es)) (row_keeps n) (λ a es fs p q. row_joins es fs p.1 q.1) m w (rows_each n m j) (rows_each n w k))
+
+  capped_stay : (n : ℕ) (m : List (Name × List F)) (b : Bool) → f.has_tags ≡ true → NormalRows NormalF f n m → body_lower lower f e (cond b (tags m) (product (elements f (tags m)))) ≡ cond b (tags (kept m)) (product (elements e (tags (kept m))))
+  capped_stay n m true a k = tags_kept m a
+  capped_stay n m false a k = ap product (tags_elements n m a k)
+
+  tags_capped : (n : ℕ) (m : List (Name × List F)) → f.has_tags ≡ true → NormalRows NormalF f n m → body_lower lower f e (capped_tags f m) ≡ capped_tags e (kept m)
+  tags_capped n m a k =
+      capped_stay n m (nat_lt (length m) 14) a k
+      ∙ ap (λ i. cond (nat_lt i 14) (tags (kept m)) (product (elements e (tags (kept m))))) (sym (length-mapped name_total name_same (map lower) m))
+
+  -- ---- the tuples of one size
+  elements_stay : (n : ℕ) (b : Body F) → NormalBody NormalF f n (Some b) → map lower (elements f b) ≡ elements e (body_lower lower f e b)
+  elements_stay n (product es) k = refl
+  elements_stay zero (tags m) k = absurd k
+  elements_stay (suc n) (tags m) k = tags_elements n m k.2 k.0.2 ∙ ap (elements e) (sym (tags_kept m k.2))
+
+  body_joins : (n : ℕ) (b c : Body F) → NormalBody NormalF f n (Some b) → NormalBody NormalF f n (Some c) → body_lower lower f e (body_join f b c) ≡ body_join e (body_lower lower f e b) (body_lower lower f e c)
+  body_joins n (product es) c j k =
+      ap product (row_joins es (elements f c) j.0.1 (elements_normal high n c k).1 ∙ ap (row_join e (map lower es)) (elements_stay n c k))
+  body_joins zero (tags m) c j k = absurd j
+  body_joins (suc n) (tags m) (product fs) j k =
+      ap product (row_joins (elements f (tags m)) fs (elements_normal high (suc n) (tags m) j).1 k.0.1 ∙ ap (λ z. row_join e z (map lower fs)) (tags_elements n m j.2 j.0.2))
+      ∙ ap (λ z. body_join e z (product (map lower fs))) (sym (tags_kept m j.2))
+  body_joins (suc n) (tags m) (tags w) j k =
+      tags_capped n (tags_join f m w) j.2 (joined_rows n m w j.0.2 k.0.2)
+      ∙ ap (capped_tags e) (tags_joins n m w j.0.2 k.0.2)
+      ∙ (λ i. body_join e (sym (tags_kept m j.2) i) (sym (tags_kept w k.2) i))
+
+  -- ---- tuples
+  sizes_each : (m : List (ℕ × Body F)) → NormalSizes NormalF f m → EachEntry (λ n b. NormalBody NormalF f n (Some b)) m
+  sizes_each [] k = tt
+  sizes_each (x ∷ m) k = (k.1, sizes_each m k.2)
+
+  body_keeps : (n : ℕ) (b c : Body F) → NormalBody NormalF f n (Some b) → NormalBody NormalF f n (Some c) → NormalBody NormalF f n (Some (body_join f b c))
+  body_keeps n b c j k = (body_lattice high n).join_normal (Some b) (Some c) j k
+
+  abbrev low_sizes : List (ℕ × Body F) → List (ℕ × Body E)
+  low_sizes m = mapped (body_lower lower f e) m
+
+  sizes_joins : (m w : List (ℕ × Body F)) → NormalSizes NormalF f m → NormalSizes NormalF f w → low_sizes (united nat_cmp (body_join f) m w) ≡ united nat_cmp (body_join e) (low_sizes m) (low_sizes w)
+  sizes_joins m w j k = mapped-united nat_cmp-IsAntisymmetric (body_lower lower f e) (body_join f) (body_join e) (λ n b. NormalBody NormalF f n (Some b)) body_keeps body_joins m w (sizes_each m j) (sizes_each w k)
+
+  sizes_capped : (m : List (ℕ × Body F)) → tuples_lower lower f e (capped_sizes f m) ≡ capped_sizes e (low_sizes m)
+  sizes_capped m =
+      elim (nat_lt (length m) 9) as (λ b. tuples_lower lower f e (cond b (sizes m) all_tuples) ≡ cond b (sizes (low_sizes m)) all_tuples) [ true ↦ refl | false ↦ refl ]
+      ∙ ap (λ i. cond (nat_lt i 9) (sizes (low_sizes m)) all_tuples) (sym (length-mapped nat_cmp_total nat_cmp-IsAntisymmetric (body_lower lower f e) m))
+
+  tuples_joins : (a b : Tuples F) → NormalTuples NormalF f a → NormalTuples NormalF f b → tuples_lower lower f e (tuples_join f a b) ≡ tuples_join e (tuples_lower lower f e a) (tuples_lower lower f e b)
+  tuples_joins all_tuples b j k = refl
+  tuples_joins (sizes m) all_tuples j k = refl
+  tuples_joins (sizes m) (sizes w) j k = sizes_capped (united nat_cmp (body_join f) m w) ∙ ap (capped_sizes e) (sizes_joins m w j.2 k.2)
+
+  -- ---- lists, and types
+  cell_joins : (c d : Option (Cell F)) → NormalCell NormalF f c → NormalCell NormalF f d → cell_lower lower f e (cell_join f c d) ≡ cell_join e (cell_lower lower f e c) (cell_lower lower f e d)
+  cell_joins None d j k = refl
+  cell_joins (Some c) None j k = refl
+  cell_joins (Some c) (Some d) j k = ap (λ x. Some (record { element = x; is_proper = c.is_proper && d.is_proper })) (s.joins c.element d.element j.0 k.0)
+
+  parts_joins : (p q : Parts F) → NormalParts NormalF f p → NormalParts NormalF f q → parts_lower lower f e (parts_join f p q) ≡ parts_join e (parts_lower lower f e p) (parts_lower lower f e q)
+  parts_joins p q j k = λ i. record { plain = plain_join p.plain q.plain; cell = cell_joins p.cell q.cell j.1 k.1 i; tuples = tuples_joins p.tuples q.tuples j.2 k.2 i }
+
+-- ---- each level
+
+names_lift : (d : ℕ) → (ops d).has_tags ≡ true → (xs : List Name) → cut d (suc d) ((ops d).of_names xs) ≡ (ops (suc d)).of_names xs
+unfolding cut ops
+names_lift zero a xs = absurd (true≢false (sym a))
+names_lift (suc d) a xs = refl
+
+tags_lift : (d : ℕ) → (ops d).has_tags ≡ true → (ops (suc d)).has_tags ≡ true
+unfolding ops
+tags_lift d a = refl
+
+-- of none and any
+base_joins : (s t : Bool) → cut 0 1 ((ops 0).join s t) ≡ (ops 1).join (cut 0 1 s) (cut 0 1 t)
+unfolding NormalAt ops
+base_joins s t =
+    let l = (level_laws 1).lattice in
+    let up = cut_lowering 0 1 in
+    let u : TypeAt 1 = cut 0 1 s in
+    let w : TypeAt 1 = cut 0 1 t in
+    let j : TypeAt 1 = cut 0 1 (s || t) in
+    let both = l.join_normal u w (up.normal s tt) (up.normal t tt) in
+    l.same j ((ops 1).join u w) (up.normal (s || t) tt) both (up.least (s || t) ((ops 1).join u w) tt both (λ v h. elim (either s t h) [
+      | inl y ↦ l.join_left u w (up.normal s tt) (up.normal t tt) v (up.above s tt v y)
+      | inr y ↦ l.join_right u w (up.normal s tt) (up.normal t tt) v (up.above t tt v y)
+    ])) (l.join_least u w j (up.normal s tt) (up.normal t tt) (up.normal (s || t) tt) (up.least s j tt (up.normal (s || t) tt) (λ v h. up.above (s || t) tt v (in_first s t h))) (up.least t j tt (up.normal (s || t) tt) (λ v h. up.above (s || t) tt v (in_second s t h))))
+
+pub lift_join : (d : ℕ) (s t : TypeAt d) → NormalAt d s → NormalAt d t → cut d (suc d) ((ops d).join s t) ≡ (ops (suc d)).join (cut d (suc d) s) (cut d (suc d) t)
+unfolding cut NormalAt ops
+lift_join zero s t j k = base_joins s t
+lift_join (suc d) s t j k =
+    parts_joins (level_laws d) {e = ops (suc d)} (record { joins = lift_join d; tags_stay = tags_lift d; names_stay = names_lift d }) s t j k

@@ -1,0 +1,30 @@
+-- The elements of tuples at some places, over all sizes.
+use Rattle.std.specs.Prelude.{ℕ, suc, pos, cond, List, [], ◌∷◌, ◌++◌}
+use Rattle.type_sets.specs.Numbers as numbers
+use Rattle.type_sets.specs.Numbers.{Numbers}
+use Rattle.type_model.specs.Shapes.{Body, Tuples, sizes, all_tuples, TypeAt}
+use Rattle.type_model.specs.Operations.{Ops, elements, ops}
+use Rattle.type_model.specs.Cut.{cut}
+
+-- those of the element types whose places are in the set, where the first of them stands at place i
+abbrev pub at_places : {E : Type 0} → Numbers → ℕ → List E → List E
+at_places s i [] = []
+at_places s i (e ∷ es) = cond (numbers.has s (pos i)) (e ∷ at_places s (suc i) es) (at_places s (suc i) es)
+
+-- those of all sizes. The first element of a tuple is at place 1, and places outside a size don't count
+abbrev pub sizes_at : {E : Type 0} → Ops E → Numbers → List (ℕ × Body E) → List E
+sizes_at o s [] = []
+sizes_at o s (b ∷ m) = at_places s 1 (elements o b.1) ++ sizes_at o s m
+
+-- the join of a type and of some element types
+abbrev pub with_elements : (d : ℕ) → TypeAt (suc d) → List (TypeAt d) → TypeAt (suc d)
+with_elements d t [] = t
+with_elements d t (e ∷ es) = with_elements d ((ops (suc d)).join t (cut d (suc d) e)) es
+
+-- the join of the elements at these places, over all sizes; any for all tuples
+abbrev pub tuples_at : (d : ℕ) → Tuples (TypeAt d) → Numbers → TypeAt (suc d)
+tuples_at d (sizes m) s = with_elements d (ops (suc d)).none (sizes_at (ops d) s m)
+tuples_at d all_tuples s = (ops (suc d)).any
+
+abbrev pub elements_at : (d : ℕ) → TypeAt (suc d) → Numbers → TypeAt (suc d)
+elements_at d t s = tuples_at d t.tuples s
