@@ -1,0 +1,169 @@
+ghost use Rattle.std.specs.Prelude.{◌≡◌, ℕ, ◌<◌, ◌≤◌, ◌↔◌, IsTrue, IfOk, OnErr, IfSome, IfNone, length};
+
+use crate::event::Event;
+use crate::fill::{all_waiting, callees_of, parts_of};
+use crate::job::{Done, Job, Take};
+use crate::progress::{
+    Progress, called_at, is_out_at, is_over, least_ready, outputs, set_progress,
+};
+use crate::same::{are_outputs, same_part, solved_from};
+use crate::work::Work;
+use std::alloc::Global;
+use std::marker::Model;
+use type_kinds::{Filling, List, Memory, Shared};
+
+/// How far the components of a work have come, with the outputs of those that are done, and a
+/// journal of what happened. All memory but that of a job's inputs is taken by `Board::new`.
+#[derive(Drop)]
+pub struct Board<W: Work> {
+    alloc: Global,
+    parts: List<Shared<W::Part>>,
+    callees: List<List<u32>>,
+    progress: List<Progress<W::Out>>,
+    stopped: bool,
+    journal: Filling<Event>,
+}
+
+impl<W: Work> Model for Board<W> {
+    ghost use Rattle.std.specs.Prelude.{◌≤◌};
+    ghost use Rattle.summary_board.specs.BoardValue.{BoardValue};
+
+    ghost Value = { BoardValue W.Part W.Out };
+
+    ghost use Rattle.summary_board.specs.BoardValue.{IsSound};
+    ghost use Rattle.summary_board.specs.steps.Room.{left};
+
+    ghost view = { λ b. record { parts = b.parts; callees = b.callees; progress = b.progress; stopped = b.stopped; journal = b.journal.items } };
+
+    ghost invariant = { λ b. IsSound W.written (record { parts = b.parts; callees = b.callees; progress = b.progress; stopped = b.stopped; journal = b.journal.items }) × (left b.progress b.stopped ≤ b.journal.spare) };
+}
+
+impl<W: Work> Board<W> {
+    ghost use Rattle.summary_board.specs.BoardValue.{IsSound, IsEntry};
+    ghost use Rattle.summary_board.specs.Machine.{times_taken, times_finished};
+    ghost use Rattle.summary_board.specs.Calls.{fresh, Takes, Fits, finished, halted};
+
+    /// A board over the parts and callees of a work, on which nothing has happened. It has room for
+    /// all that can happen.
+    pub fn new(alloc: Global, work: &W) -> Result<Board<W>, Memory>
+        ensures { IfOk result (λ board. board ≡ fresh (W.count_of work.now) (W.part_of work.now) (W.callees_of work.now)) }
+    {
+        let count = work.count();
+        let parts = parts_of(alloc, work, count)?;
+        let callees = callees_of(alloc, work, count)?;
+        let progress = all_waiting::<W::Out>(alloc, count)?;
+        let mut journal: Filling<Event> = Filling::new(alloc);
+        journal.reserve(2 * count as usize + 1)?;
+        Ok(Board {
+            alloc,
+            parts,
+            callees,
+            progress,
+            stopped: false,
+            journal,
+        })
+    }
+
+    /// What happened, in order. Takes no memory.
+    pub fn journal(&self) -> &[Event]
+        ensures events { result.now ≡ self.now.journal }
+        ensures sound { IsSound W.written self.now }
+        ensures once { (c : ℕ) → (times_taken c result.now ≤ 1) × (times_finished c result.now ≤ 1) }
+    {
+        self.journal.as_slice()
+    }
+
+    /// Hands out the least ready component, with its part and the outputs of its callees, or says why
+    /// there is none. If allocation fails, the board is as before.
+    pub fn take(&mut self, seat: u32) -> Result<Take<W>, Memory>
+        ensures ok { IfOk result (λ told. Takes self.old seat told self.new) }
+        ensures err { OnErr result (self.new ≡ self.old) }
+    {
+        if self.stopped {
+            return Ok(Take::Stopped);
+        }
+        if is_over(&self.progress) {
+            return Ok(Take::AllDone);
+        }
+        let Some(c) = least_ready(&self.progress, &self.callees) else {
+            return Ok(Take::NoneReady);
+        };
+        let inputs = outputs(self.alloc, &self.progress, called_at(&self.callees, c))?;
+        let part = self.parts.at(c).share()?;
+        let component = c as u32;
+        set_progress(&mut self.progress, c, Progress::Out(seat));
+        self.journal.put(Event::Taken(seat, component));
+        Ok(Take::Given(Job {
+            component,
+            part,
+            inputs,
+        }))
+    }
+
+    /// Publishes the output of a component that is out with this seat. Takes no memory.
+    pub fn finish(&mut self, seat: u32, done: Done<W>)
+        requires { Fits self.old seat done }
+        ensures { self.new ≡ finished self.old seat done }
+    {
+        let Done { job, output } = done;
+        let Job {
+            component,
+            part: _part,
+            inputs,
+        } = job;
+        set_progress(
+            &mut self.progress,
+            component as usize,
+            Progress::Done(inputs, output),
+        );
+        self.journal.put(Event::Finished(seat, component));
+    }
+
+    /// Whether a solved job can be finished: its component is out with this seat, and it was solved
+    /// from the part and the inputs that were handed out for it. Takes no memory.
+    pub fn fits(&self, seat: u32, done: &Done<W>) -> bool
+        ensures { IsTrue result ↔ Fits self.now seat done.now }
+    {
+        let c = done.job.component as usize;
+        is_out_at(&self.progress, c, seat)
+            && same_part::<W>(self.parts.at(c).get(), done.job.part.get())
+            && are_outputs::<W>(
+                &self.progress,
+                called_at(&self.callees, c),
+                &done.job.inputs,
+            )
+    }
+
+    /// The output of a component that was solved from this part and these inputs: `None` exactly
+    /// where the component isn't done, or has another part or was solved from other inputs. Takes no
+    /// memory.
+    pub fn find(
+        &self,
+        component: u32,
+        part: &W::Part,
+        inputs: &List<Shared<W::Out>>,
+    ) -> Option<&Shared<W::Out>>
+        ensures some { IfSome result (λ output. IsEntry self.now component part.now inputs.now output.now) }
+        ensures none { IfNone result ((output : W.Out) → IsEntry self.now component part.now inputs.now output → ⊥) }
+        ensures written { IfSome result (λ output. output.now ≡ W.written part.now inputs.now) }
+    {
+        let c = component as usize;
+        let found = solved_from::<W>(&self.progress, c, inputs)?;
+        if same_part::<W>(self.parts.at(c).get(), part) {
+            Some(found)
+        } else {
+            None
+        }
+    }
+
+    /// Stops the board: no component is handed out any more. A second stop changes nothing. Takes no
+    /// memory.
+    pub fn stop(&mut self)
+        ensures { self.new ≡ halted self.old }
+    {
+        if !self.stopped {
+            self.stopped = true;
+            self.journal.put(Event::Stopped);
+        }
+    }
+}
