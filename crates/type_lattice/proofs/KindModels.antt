@@ -7,28 +7,28 @@ use Rattle.type_sets.specs.Numbers as numbers
 use Rattle.type_sets.specs.Numbers.{Numbers}
 use Rattle.type_sets.specs.declared.bits.Bits.TheVariants.{No}
 use Rattle.type_model.specs.Values.{Value}
-use Rattle.type_model.specs.Shapes.{Plain, TypeAt, sizes, no_function}
+use Rattle.type_model.specs.Shapes.{PlainParts, TypeAt, sizes, no_function}
 use Rattle.type_model.specs.HasType.{HasAt}
-use Rattle.type_model.specs.Operations.{no_kinds, plain_none}
+use Rattle.type_model.specs.Operations.{no_flags, plain_none}
 use Rattle.type_lattice.specs.declared.kinds.Kind.{Kind}
 use Rattle.type_lattice.specs.declared.kinds.Kind.TheVariants as kind
 use Rattle.type_lattice.specs.Types.{Type4, same_type, HasType, of_atoms, of_ints, every_tuple}
 use Rattle.type_lattice.specs.Kinds.{HasAtom, HasInt, IsKind, plain_of_kind, of_kind}
 
 -- these plain values and nothing else
-abbrev alone : Plain → TypeAt 4
+abbrev alone : PlainParts → TypeAt 4
 alone p = record { plain = p; cell = None; tuples = sizes [] }
 
 -- ---- their values, by cases on the value
 
 -- the values are those of which P holds
-abbrev Only : Plain → (Value → Type 0) → Type 0
+abbrev Only : PlainParts → (Value → Type 0) → Type 0
 Only p P = (v : Value) → HasAt 4 v (alone p) ↔ P v
 
-atoms_only : (s : Names) → Only (record { atoms = s; ints = numbers.none; bits = No; kinds = no_kinds; functions = no_function }) (λ v. HasAtom v s)
+atoms_only : (s : Names) → Only (record { atoms = s; ints = numbers.none; bits = No; flags = no_flags; functions = no_function }) (λ v. HasAtom v s)
 atoms_only s v = (λ h. grind arith, λ h. grind arith)
 
-ints_only : (s : Numbers) → Only (record { atoms = names.none; ints = s; bits = No; kinds = no_kinds; functions = no_function }) (λ v. HasInt v s)
+ints_only : (s : Numbers) → Only (record { atoms = names.none; ints = s; bits = No; flags = no_flags; functions = no_function }) (λ v. HasInt v s)
 ints_only s v = (λ h. grind arith, λ h. grind arith)
 
 float_only : Only (plain_of_kind kind.Float) (IsKind kind.Float)
@@ -49,6 +49,9 @@ port_only v = (λ h. grind arith, λ h. grind arith)
 reference_only : Only (plain_of_kind kind.Reference) (IsKind kind.Reference)
 reference_only v = (λ h. grind arith, λ h. grind arith)
 
+map_only : Only (plain_of_kind kind.Map) (IsKind kind.Map)
+map_only v = (λ h. grind arith, λ h. grind arith)
+
 nil_only : Only (plain_of_kind kind.Nil) (IsKind kind.Nil)
 nil_only v = (λ h. grind arith, λ h. grind arith)
 
@@ -64,13 +67,13 @@ tuples_only v = (λ h. grind arith, λ h. grind arith)
 
 -- ---- the types of one part
 
-pub atoms_type : (s : Names) (t : Type4) (p : Plain) → p ≡ record { atoms = s; ints = numbers.none; bits = No; kinds = no_kinds; functions = no_function } → t.ty ≡ alone p → t ≡ of_atoms s
+pub atoms_type : (s : Names) (t : Type4) (p : PlainParts) → p ≡ record { atoms = s; ints = numbers.none; bits = No; flags = no_flags; functions = no_function } → t.ty ≡ alone p → t ≡ of_atoms s
 unfolding of_atoms
 atoms_type s t p e f = same_type t (of_atoms s) (f ∙ ap alone e)
 
-pub ints_type : (s : Numbers) (t : Type4) (p : Plain) → p ≡ plain_none → t.ty ≡ alone (record { atoms = p.atoms; ints = s; bits = p.bits; kinds = p.kinds; functions = p.functions }) → t ≡ of_ints s
+pub ints_type : (s : Numbers) (t : Type4) (p : PlainParts) → p ≡ plain_none → t.ty ≡ alone (record { atoms = p.atoms; ints = s; bits = p.bits; flags = p.flags; functions = p.functions }) → t ≡ of_ints s
 unfolding of_ints
-ints_type s t p e f = same_type t (of_ints s) (f ∙ ap (λ q. alone (record { atoms = q.atoms; ints = s; bits = q.bits; kinds = q.kinds; functions = q.functions })) e)
+ints_type s t p e f = same_type t (of_ints s) (f ∙ ap (λ q. alone (record { atoms = q.atoms; ints = s; bits = q.bits; flags = q.flags; functions = q.functions })) e)
 
 plain_kind_type : (k : Kind) → (k ≡ kind.AnyTuple → ⊥) → alone (plain_of_kind k) ≡ (of_kind k).ty
 unfolding of_kind
@@ -80,12 +83,13 @@ plain_kind_type kind.Bitstring f = refl
 plain_kind_type kind.Pid f = refl
 plain_kind_type kind.Port f = refl
 plain_kind_type kind.Reference f = refl
+plain_kind_type kind.Map f = refl
 plain_kind_type kind.AnyFun f = refl
 plain_kind_type (kind.FunOf n) f = refl
 plain_kind_type kind.Nil f = refl
 plain_kind_type kind.AnyTuple f = absurd (f refl)
 
-pub kind_type : (k : Kind) (t : Type4) (p : Plain) → (k ≡ kind.AnyTuple → ⊥) → p ≡ plain_of_kind k → t.ty ≡ alone p → t ≡ of_kind k
+pub kind_type : (k : Kind) (t : Type4) (p : PlainParts) → (k ≡ kind.AnyTuple → ⊥) → p ≡ plain_of_kind k → t.ty ≡ alone p → t ≡ of_kind k
 kind_type k t p n e f = same_type t (of_kind k) (f ∙ ap alone e ∙ plain_kind_type k n)
 
 pub tuples_type : (k : Kind) (t : Type4) → k ≡ kind.AnyTuple → t ≡ every_tuple → t ≡ of_kind k
@@ -111,6 +115,7 @@ kind-only kind.Bitstring f v = bitstring_only v
 kind-only kind.Pid f v = pid_only v
 kind-only kind.Port f v = port_only v
 kind-only kind.Reference f v = reference_only v
+kind-only kind.Map f v = map_only v
 kind-only kind.AnyFun f v = functions_only v
 kind-only (kind.FunOf n) f v = arity_only n (f n refl) v
 kind-only kind.Nil f v = nil_only v

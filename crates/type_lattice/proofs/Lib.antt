@@ -1,3 +1,4 @@
+mod CanonicalTypes
 mod KindModels
 mod MakerLaws
 mod MonotoneLaws

@@ -6,10 +6,10 @@ use Rattle.std.proofs.lemmas.List.{take_more, take_all, map-append, length-map}
 use Rattle.type_sets.specs.Names as names
 use Rattle.type_sets.specs.Numbers as numbers
 use Rattle.type_sets.specs.declared.bits.Bits.TheVariants.{No}
-use Rattle.type_model.specs.Shapes.{no_function, Plain, TypeAt, sizes, all_tuples}
+use Rattle.type_model.specs.Shapes.{no_function, PlainParts, TypeAt, sizes, all_tuples}
 use Rattle.type_model.specs.Operations.{Ops, ops, has_none, body_of, elements, of_plain, plain_none, plain_all, is_no_plain, is_empty, no_tuples}
 use Rattle.type_model.specs.Normal.{NormalFunctions, IsElement, NormalTuples, NormalParts, NormalAt}
-use Rattle.type_model.specs.Parts.{AreNormal, product_of, without_nil, proper_cell, is_list, element_with, kinds_of_nil, tail_parts}
+use Rattle.type_model.specs.Parts.{AreNormal, product_of, without_nil, proper_cell, is_list, element_with, flags_of_nil, tail_parts}
 use Rattle.type_model.proofs.LevelLaws.{level_laws}
 use Rattle.type_model.proofs.BodyLaws.{elements_normal}
 use Rattle.type_model.proofs.MadeLaws.{product_normal, tail_normal}
@@ -55,7 +55,7 @@ module _ {E : Type 0} (o : Ops E) where
 -- parts without a plain value aren't all full
 not_full : (d : ℕ) (p : PartsOf Node) → p.plain ≡ plain_none → parts_view d p ≡ (ops (suc d)).any → ⊥
 unfolding ops
-not_full d p e h = true≢false (sym (ap (λ t. t.plain.kinds.nil) h) ∙ ap (λ t. t.kinds.nil) e)
+not_full d p e h = true≢false (sym (ap (λ t. t.plain.flags.nil) h) ∙ ap (λ t. t.flags.nil) e)
 
 -- ---- lists
 
@@ -137,7 +137,7 @@ cell_fits d t p c x e f g h = subst (λ y. Fits d y) (sym g) (subst (λ y. EachI
 
 -- ---- the lists of an element type
 
-module _ (d : ℕ) (p : Plain) (x y : Node) (b : Bool) (ss : List (SizeOf Node)) where
+module _ (d : ℕ) (p : PlainParts) (x y : Node) (b : Bool) (ss : List (SizeOf Node)) where
   abbrev made_cell : PartsOf Node
   made_cell = record { plain = p; cell = Some (record { element = x; is_proper = b }); tuples = Sizes ss }
 
@@ -185,14 +185,14 @@ place_view d b ns i x y g h e = ap (λ z. Some (view d z)) g ∙ slice_get-map (
 
 -- ---- what may follow the head of a list
 
-module _ (d : ℕ) (c : CellOf Node) (p : Plain) (x : Node) (ts : TuplesOf Node) where
+module _ (d : ℕ) (c : CellOf Node) (p : PlainParts) (x : Node) (ts : TuplesOf Node) where
   abbrev made_tail : PartsOf Node
   made_tail = record { plain = p; cell = Some (record { element = x; is_proper = c.is_proper }); tuples = ts }
 
-  pub tail_view : p ≡ cond c.is_proper (record { atoms = names.none; ints = numbers.none; bits = No; kinds = kinds_of_nil; functions = no_function }) plain_all → x ≡ c.element → tuples_view d ts ≡ cond c.is_proper (sizes []) all_tuples → parts_view d made_tail ≡ tail_parts (ops d) (cell_view d (Some c))
+  pub tail_view : p ≡ cond c.is_proper (record { atoms = names.none; ints = numbers.none; bits = No; flags = flags_of_nil; functions = no_function }) plain_all → x ≡ c.element → tuples_view d ts ≡ cond c.is_proper (sizes []) all_tuples → parts_view d made_tail ≡ tail_parts (ops d) (cell_view d (Some c))
   tail_view e f g = λ n. record { plain = e n; cell = Some (record { element = view d (f n); is_proper = c.is_proper }); tuples = g n }
 
-  pub tail_fits : p ≡ cond c.is_proper (record { atoms = names.none; ints = numbers.none; bits = No; kinds = kinds_of_nil; functions = no_function }) plain_all → x ≡ c.element → tuples_view d ts ≡ cond c.is_proper (sizes []) all_tuples → EachInTuples (Fits d) ts → CellFits d (Some c) → PartsFit d made_tail
+  pub tail_fits : p ≡ cond c.is_proper (record { atoms = names.none; ints = numbers.none; bits = No; flags = flags_of_nil; functions = no_function }) plain_all → x ≡ c.element → tuples_view d ts ≡ cond c.is_proper (sizes []) all_tuples → EachInTuples (Fits d) ts → CellFits d (Some c) → PartsFit d made_tail
   tail_fits e f g h k = record {
     normal = subst (λ t. NormalParts (NormalAt d) (ops d) t) (sym (tail_view e f g)) (tail_normal (level_laws d) (cell_view d (Some c)) k.normal);
     each = (subst (λ y. Fits d y) (sym f) k.each, h);
@@ -235,7 +235,7 @@ sole : (old ss : List (SizeOf Node)) (s : SizeOf Node) → old ≡ [] → ss ≡
 sole old ss s e f = f ∙ ap (λ l. l ++ s ∷ []) e
 
 -- a tree of tuples of one size, where the body stands for a product of some types
-module _ {A : Type 0} (d : ℕ) (f : A → TypeAt d) (xs : List A) (p : Plain) (old ss : List (SizeOf Node)) (b : BodyOf Node) where
+module _ {A : Type 0} (d : ℕ) (f : A → TypeAt d) (xs : List A) (p : PlainParts) (old ss : List (SizeOf Node)) (b : BodyOf Node) where
   abbrev made_product : PartsOf Node
   made_product = record { plain = p; cell = None; tuples = Sizes ss }
 

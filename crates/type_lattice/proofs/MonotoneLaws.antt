@@ -11,7 +11,7 @@ use Rattle.type_model.specs.Normal.{NormalCell, AreElements, NormalBody, NormalT
 use Rattle.type_model.specs.Cut as levels
 use Rattle.type_model.specs.Parts.{is_list, element_with, element_at, tail_parts, cons_at, lifted, project_at, element_of, elem_at, tail_at}
 use Rattle.type_model.specs.Laws.{BelowBy, Laws}
-use Rattle.type_model.specs.Forms.{PlainBelow, Form, leaf, pair, row, form, HasForm, has-form}
+use Rattle.type_model.specs.ValueShapes.{PlainBelow, Shape, leaf, pair, row, shape, HasShape, has-shape}
 use Rattle.type_model.proofs.TableLaws.{some-none}
 use Rattle.type_model.proofs.PlainLaws.{plain-all}
 use Rattle.type_model.proofs.CellLaws.{value_of, filled-not_none, all-more, cell-below}
@@ -122,9 +122,9 @@ module _ {E : Type 0} {Has : Value → E → Type 0} {Normal : E → Type 0} {o 
 
   -- a type is below another whose parts are larger
   parts_more : (p q : Parts E) → PlainBelow p.plain q.plain → BelowBy (HasCell Has) p.cell q.cell → BelowBy (HasTuple Has) p.tuples q.tuples → BelowBy (HasParts Has) p q
-  parts_more p q f g h v m = subst (λ T. T) (sym (has-form Has v q)) (each (form v) (subst (λ T. T) (has-form Has v p) m))
+  parts_more p q f g h v m = subst (λ T. T) (sym (has-shape Has v q)) (each (shape v) (subst (λ T. T) (has-shape Has v p) m))
     where
-      each : (x : Form) → HasForm Has x p → HasForm Has x q
+      each : (x : Shape) → HasShape Has x p → HasShape Has x q
       each (leaf x) m = f x m
       each (pair a b) m = g (a, b) m
       each (row vs) m = h vs m

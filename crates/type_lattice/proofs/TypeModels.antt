@@ -4,7 +4,7 @@ use Rattle.std.specs.Prelude.{◌↔◌, ◌⊎◌, IsTrue, not, nat_lt, slice_g
 use Rattle.std.proofs.lemmas.Bool.{lt-ltb, le-ltb}
 use Rattle.std.proofs.lemmas.List.{length-map}
 use Rattle.type_model.specs.Tables.{find}
-use Rattle.type_model.specs.Shapes.{Plain, Parts, Body, Tuples, sizes, all_tuples, TypeAt}
+use Rattle.type_model.specs.Shapes.{PlainParts, Parts, Body, Tuples, sizes, all_tuples, TypeAt}
 use Rattle.type_model.specs.HasType.{HasAt}
 use Rattle.type_model.specs.Operations.{ops, plain_none, is_empty, has_none, body_of, elements}
 use Rattle.type_model.specs.Cut as levels
@@ -38,7 +38,7 @@ unfolding any
 any_type t n e f = same_type t any (f ∙ view_any n e 4)
 
 -- a tree of these plain values and tuples and no list
-alone_normal : (p : Plain) (t : TuplesOf Node) → NormalFunctions p.functions → NormalTuples (NormalAt 3) (ops 3) (tuples_view 3 t) → EachInTuples (Fits 3) t → PartsFit 3 (record { plain = p; cell = None; tuples = t })
+alone_normal : (p : PlainParts) (t : TuplesOf Node) → NormalFunctions p.functions → NormalTuples (NormalAt 3) (ops 3) (tuples_view 3 t) → EachInTuples (Fits 3) t → PartsFit 3 (record { plain = p; cell = None; tuples = t })
 alone_normal p t k n e = record { normal = (k, tt, n); each = (tt, e) }
 
 -- where there is no list it isn't every value
@@ -46,31 +46,31 @@ not_any : (p : Parts (TypeAt 3)) → p.cell ≡ None → p ≡ (ops 4).any → �
 unfolding ops
 not_any p e f = let g = sym e ∙ ap (λ q. q.cell) f in cc
 
-pub alone_fits : (p : Plain) (t : TuplesOf Node) → NormalFunctions p.functions → NormalTuples (NormalAt 3) (ops 3) (tuples_view 3 t) → EachInTuples (Fits 3) t → Fits 4 (v.Of (record { plain = p; cell = None; tuples = t }))
+pub alone_fits : (p : PlainParts) (t : TuplesOf Node) → NormalFunctions p.functions → NormalTuples (NormalAt 3) (ops 3) (tuples_view 3 t) → EachInTuples (Fits 3) t → Fits 4 (v.Of (record { plain = p; cell = None; tuples = t }))
 alone_fits p t k n e =
     let q : PartsOf Node = record { plain = p; cell = None; tuples = t } in
     of_fits (v.Of q) q refl 3 (alone_normal p t k n e) (not_any (parts_view 3 q) refl)
 
-pub alone_view : (p : Plain) (t : TuplesOf Node) → view 4 (v.Of (record { plain = p; cell = None; tuples = t })) ≡ record { plain = p; cell = None; tuples = tuples_view 3 t }
+pub alone_view : (p : PlainParts) (t : TuplesOf Node) → view 4 (v.Of (record { plain = p; cell = None; tuples = t })) ≡ record { plain = p; cell = None; tuples = tuples_view 3 t }
 alone_view p t = view_of (v.Of (record { plain = p; cell = None; tuples = t })) (record { plain = p; cell = None; tuples = t }) refl 3
 
-pub plain_fits : (p : Plain) (ss : List (SizeOf Node)) → ss ≡ [] → NormalFunctions p.functions → Fits 4 (v.Of (record { plain = p; cell = None; tuples = Sizes ss }))
+pub plain_fits : (p : PlainParts) (ss : List (SizeOf Node)) → ss ≡ [] → NormalFunctions p.functions → Fits 4 (v.Of (record { plain = p; cell = None; tuples = Sizes ss }))
 plain_fits p ss e k =
     subst (λ x. Fits 4 (v.Of (record { plain = p; cell = None; tuples = Sizes x }))) (sym e) (alone_fits p (Sizes []) k (refl, refl, tt) tt)
 
-pub plain_view : (p : Plain) (ss : List (SizeOf Node)) → ss ≡ [] → view 4 (v.Of (record { plain = p; cell = None; tuples = Sizes ss })) ≡ record { plain = p; cell = None; tuples = sizes [] }
+pub plain_view : (p : PlainParts) (ss : List (SizeOf Node)) → ss ≡ [] → view 4 (v.Of (record { plain = p; cell = None; tuples = Sizes ss })) ≡ record { plain = p; cell = None; tuples = sizes [] }
 plain_view p ss e =
     alone_view p (Sizes ss) ∙ ap (λ x. record { plain = p; cell = None; tuples = sizes (sizes_view 3 x) }) e
 
-pub tuples_fit : (p : Plain) → p ≡ plain_none → Fits 4 (v.Of (record { plain = p; cell = None; tuples = All }))
+pub tuples_fit : (p : PlainParts) → p ≡ plain_none → Fits 4 (v.Of (record { plain = p; cell = None; tuples = All }))
 tuples_fit p e = alone_fits p All (subst (λ q. NormalFunctions q.functions) (sym e) tt) tt tt
 
-pub tuples_type : (t : Type4) (p : Plain) → p ≡ plain_none → t.ty ≡ view 4 (v.Of (record { plain = p; cell = None; tuples = All })) → t ≡ every_tuple
+pub tuples_type : (t : Type4) (p : PlainParts) → p ≡ plain_none → t.ty ≡ view 4 (v.Of (record { plain = p; cell = None; tuples = All })) → t ≡ every_tuple
 unfolding every_tuple
 tuples_type t p e f =
     same_type t every_tuple (f ∙ alone_view p All ∙ ap (λ q. record { plain = q; cell = None; tuples = all_tuples }) e)
 
-pub none_type : (t : Type4) (p : Plain) → p ≡ plain_none → t.ty ≡ record { plain = p; cell = None; tuples = sizes [] } → t ≡ none
+pub none_type : (t : Type4) (p : PlainParts) → p ≡ plain_none → t.ty ≡ record { plain = p; cell = None; tuples = sizes [] } → t ≡ none
 unfolding none ops
 none_type t p e f = same_type t none (f ∙ ap (λ q. record { plain = q; cell = None; tuples = sizes [] }) e)
 
@@ -120,7 +120,7 @@ any_up : levels.cut 3 4 (ops 3).any ≡ (ops 4).any
 any_up =
     sym (ap (levels.cut 3 4) (view_any v.Any refl 3)) ∙ sym (lift 3 4 (omega arith) v.Any (any_fits v.Any refl 3)).1 ∙ view_any v.Any refl 4
 
--- a type by the form of its tree
+-- a type by the variant of its tree
 pub parts_are : (t : Type4) (n : Node) (p : PartsOf Node) → n ≡ v.Of p → view 4 n ≡ t.ty → t.ty ≡ parts_view 3 p
 parts_are t n p e f = sym f ∙ view_of n p e 3
 

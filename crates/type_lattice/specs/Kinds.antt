@@ -6,9 +6,9 @@ use Rattle.type_sets.specs.Numbers as numbers
 use Rattle.type_sets.specs.Numbers.{Numbers}
 use Rattle.type_sets.specs.declared.bits.Bits.{Bits}
 use Rattle.type_sets.specs.declared.bits.Bits.TheVariants.{No, Whole, Any}
-use Rattle.type_model.specs.Values.{Value, int, atom, bits, float, pid, port, reference, nil, tuple, closure, external, foreign}
-use Rattle.type_model.specs.Shapes.{Kinds, Functions, no_function, of_arity, all_functions, Plain}
-use Rattle.type_model.specs.Operations.{no_kinds}
+use Rattle.type_model.specs.Values.{Value, int, atom, bits, float, pid, port, reference, nil, tuple, map, closure, external, foreign}
+use Rattle.type_model.specs.Shapes.{Flags, Functions, no_function, of_arity, all_functions, PlainParts}
+use Rattle.type_model.specs.Operations.{no_flags}
 use Rattle.type_model.specs.Normal.{NormalFunctions}
 use Rattle.type_lattice.specs.declared.kinds.Kind.{Kind}
 use Rattle.type_lattice.specs.declared.kinds.Kind.TheVariants as kind
@@ -46,6 +46,7 @@ IsKind kind.Bitstring (bits bs) = Unit {0}
 IsKind kind.Pid (pid n) = Unit {0}
 IsKind kind.Port (port n) = Unit {0}
 IsKind kind.Reference (reference n) = Unit {0}
+IsKind kind.Map (map ps) = Unit {0}
 IsKind kind.AnyFun v = IsFunction v
 IsKind (kind.FunOf k) v = HasArity v k
 IsKind kind.Nil nil = Unit {0}
@@ -53,13 +54,14 @@ IsKind kind.AnyTuple (tuple vs) = Unit {0}
 IsKind k v = ⊥
 
 -- the plain parts of a type of the kind
-abbrev pub kinds_of_kind : Kind → Kinds
-kinds_of_kind kind.Float = record { float = true; pid = false; port = false; reference = false; nil = false }
-kinds_of_kind kind.Pid = record { float = false; pid = true; port = false; reference = false; nil = false }
-kinds_of_kind kind.Port = record { float = false; pid = false; port = true; reference = false; nil = false }
-kinds_of_kind kind.Reference = record { float = false; pid = false; port = false; reference = true; nil = false }
-kinds_of_kind kind.Nil = record { float = false; pid = false; port = false; reference = false; nil = true }
-kinds_of_kind k = no_kinds
+abbrev pub flags_of_kind : Kind → Flags
+flags_of_kind kind.Float = record { float = true; pid = false; port = false; reference = false; nil = false; map = false }
+flags_of_kind kind.Pid = record { float = false; pid = true; port = false; reference = false; nil = false; map = false }
+flags_of_kind kind.Port = record { float = false; pid = false; port = true; reference = false; nil = false; map = false }
+flags_of_kind kind.Reference = record { float = false; pid = false; port = false; reference = true; nil = false; map = false }
+flags_of_kind kind.Map = record { float = false; pid = false; port = false; reference = false; nil = false; map = true }
+flags_of_kind kind.Nil = record { float = false; pid = false; port = false; reference = false; nil = true; map = false }
+flags_of_kind k = no_flags
 
 abbrev pub functions_of_kind : Kind → Functions
 functions_of_kind kind.AnyFun = all_functions
@@ -71,8 +73,8 @@ bits_of_kind kind.Binary = Whole
 bits_of_kind kind.Bitstring = Any
 bits_of_kind k = No
 
-abbrev pub plain_of_kind : Kind → Plain
-plain_of_kind k = record { atoms = names.none; ints = numbers.none; bits = bits_of_kind k; kinds = kinds_of_kind k; functions = functions_of_kind k }
+abbrev pub plain_of_kind : Kind → PlainParts
+plain_of_kind k = record { atoms = names.none; ints = numbers.none; bits = bits_of_kind k; flags = flags_of_kind k; functions = functions_of_kind k }
 
 pub kind_normal : (k : Kind) → NormalFunctions (functions_of_kind k)
 kind_normal kind.AnyFun = tt

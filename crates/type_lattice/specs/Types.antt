@@ -8,12 +8,11 @@ use Rattle.type_sets.specs.Names as names
 use Rattle.type_sets.specs.Names.{Name, Names}
 use Rattle.type_sets.specs.Numbers as numbers
 use Rattle.type_sets.specs.Numbers.{Numbers}
-use Rattle.type_sets.specs.declared.bits.Bits.{Bits}
 use Rattle.type_sets.specs.declared.bits.Bits.TheVariants.{No}
 use Rattle.type_model.specs.Values.{Value, Values}
-use Rattle.type_model.specs.Shapes.{Kinds, Functions, no_function, Plain, Cell, Body, product, tags, Tuples, sizes, all_tuples, Parts, TypeAt}
+use Rattle.type_model.specs.Shapes.{no_function, PlainParts, Cell, Body, product, tags, Tuples, sizes, all_tuples, Parts, TypeAt}
 use Rattle.type_model.specs.HasType.{HasAt, HasEach}
-use Rattle.type_model.specs.Operations.{ops, no_kinds, plain_none}
+use Rattle.type_model.specs.Operations.{ops, no_flags, plain_none}
 use Rattle.type_model.specs.Normal.{NormalFunctions, NormalAt}
 use Rattle.type_model.specs.Cut as levels
 use Rattle.type_model.specs.Parts.{AreNormal, tuple_at, cons_at, project_at, elem_at, tail_at}
@@ -52,7 +51,7 @@ HasTypes vs ts = HasEach HasType vs ts
 
 -- ---- types of one part
 
-pub plain_normal : (p : Plain) → NormalFunctions p.functions → NormalAt 4 (record { plain = p; cell = None; tuples = sizes [] })
+pub plain_normal : (p : PlainParts) → NormalFunctions p.functions → NormalAt 4 (record { plain = p; cell = None; tuples = sizes [] })
 unfolding NormalAt
 plain_normal p k = (k, tt, (refl, refl, tt))
 
@@ -61,23 +60,14 @@ unfolding NormalAt
 tuples_normal = (tt, tt, tt)
 
 -- the values of these plain parts
-abbrev pub of_plain : (p : Plain) → NormalFunctions p.functions → Type4
+abbrev pub of_plain : (p : PlainParts) → NormalFunctions p.functions → Type4
 of_plain p k = record { ty = record { plain = p; cell = None; tuples = sizes [] }; normal = plain_normal p k }
 
 unfoldable pub of_atoms : Names → Type4
-of_atoms s = of_plain (record { atoms = s; ints = numbers.none; bits = No; kinds = no_kinds; functions = no_function }) tt
+of_atoms s = of_plain (record { atoms = s; ints = numbers.none; bits = No; flags = no_flags; functions = no_function }) tt
 
 unfoldable pub of_ints : Numbers → Type4
-of_ints s = of_plain (record { atoms = names.none; ints = s; bits = No; kinds = no_kinds; functions = no_function }) tt
-
-unfoldable pub of_bits : Bits → Type4
-of_bits b = of_plain (record { atoms = names.none; ints = numbers.none; bits = b; kinds = no_kinds; functions = no_function }) tt
-
-unfoldable pub of_kinds : Kinds → Type4
-of_kinds k = of_plain (record { atoms = names.none; ints = numbers.none; bits = No; kinds = k; functions = no_function }) tt
-
-unfoldable pub of_functions : (f : Functions) → NormalFunctions f → Type4
-of_functions f k = of_plain (record { atoms = names.none; ints = numbers.none; bits = No; kinds = no_kinds; functions = f }) k
+of_ints s = of_plain (record { atoms = names.none; ints = s; bits = No; flags = no_flags; functions = no_function }) tt
 
 unfoldable pub every_tuple : Type4
 every_tuple = record { ty = record { plain = plain_none; cell = None; tuples = all_tuples }; normal = tuples_normal }
@@ -171,7 +161,7 @@ abbrev pub tuples_code : {E : Type 0} → Coded E → Coded (Tuples E)
 tuples_code {E} c = code_by (List (ℕ × Body E) ⊎ Bool) (coded⊎ (coded_list (coded× coded_ℕ (body_code c))) coded_bool) tuples_apart tuples_from tuples_back
 
 abbrev pub parts_code : {E : Type 0} → Coded E → Coded (Parts E)
-parts_code {E} c = code_by (Plain × (Option (Cell E) × Tuples E)) (coded× plain_code (coded× (coded_option (cell_code c)) (tuples_code c))) (λ p. (p.plain, (p.cell, p.tuples))) (λ t. record { plain = t.0; cell = t.1.0; tuples = t.1.1 }) (λ _. refl)
+parts_code {E} c = code_by (PlainParts × (Option (Cell E) × Tuples E)) (coded× plain_code (coded× (coded_option (cell_code c)) (tuples_code c))) (λ p. (p.plain, (p.cell, p.tuples))) (λ t. record { plain = t.0; cell = t.1.0; tuples = t.1.1 }) (λ _. refl)
 
 abbrev pub type_code_at : (d : ℕ) → Coded (TypeAt d)
 type_code_at zero = coded_bool

@@ -16,6 +16,7 @@ pub enum Kind {
     Pid,
     Port,
     Reference,
+    Map,
     AnyFun,
     /// The functions of one arity.
     FunOf(u32),
@@ -40,15 +41,16 @@ pub fn plain_kind(kind: Kind) -> Plain
 {
     let mut plain = Plain::none();
     match kind {
-        Kind::Float => plain.kinds.float = true,
+        Kind::Float => plain.flags.float = true,
         Kind::Binary => plain.bits = Bits::Whole,
         Kind::Bitstring => plain.bits = Bits::Any,
-        Kind::Pid => plain.kinds.pid = true,
-        Kind::Port => plain.kinds.port = true,
-        Kind::Reference => plain.kinds.reference = true,
+        Kind::Pid => plain.flags.pid = true,
+        Kind::Port => plain.flags.port = true,
+        Kind::Reference => plain.flags.reference = true,
+        Kind::Map => plain.flags.map = true,
         Kind::AnyFun => plain.functions = FunSet::Every,
         Kind::FunOf(arity) => plain.functions = FunSet::OfArity(arity),
-        Kind::Nil => plain.kinds.nil = true,
+        Kind::Nil => plain.flags.nil = true,
         Kind::AnyTuple => {}
     }
     plain

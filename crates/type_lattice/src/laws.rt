@@ -1,6 +1,7 @@
 //! The laws of types, as functions that do nothing: who calls one has its clauses.
 ghost use Rattle.std.specs.Prelude.{◌≡◌, ◌<◌, ◌↔◌, ℕ, Bool, List};
 ghost use Rattle.type_model.specs.Values.{Value};
+ghost use Rattle.type_model.specs.Canonical.{IsCanonical};
 ghost use Rattle.type_lattice.specs.Types.{Type4, HasType, Below, AreBelow, none, any, meet, join, cut, tuple, cons, project, elem, tail, rank};
 
 /// Types are sets of values, each in one form, and inclusion is an order. A type is none or has a
@@ -30,4 +31,10 @@ pub fn monotone_laws()
     ensures project { (s t : Type4) (n i : ℕ) → Below s t → Below (project s n i) (project t n i) }
     ensures elem { (s t : Type4) → Below s t → Below (elem s) (elem t) }
     ensures tail { (s t : Type4) → Below s t → Below (tail s) (tail t) }
+{}
+
+/// Canonical values tell types apart as well as all values do: where each canonical value of a type
+/// is one of another, each of its values is.
+pub fn canonical_laws()
+    ensures { (s t : Type4) → ((v : Value) → IsCanonical v → HasType v s → HasType v t) → Below s t }
 {}

@@ -7,5 +7,5 @@ mod makers;
 mod types;
 
 pub use kinds::{Ends, Kind};
-pub use laws::{monotone_laws, type_laws};
+pub use laws::{canonical_laws, monotone_laws, type_laws};
 pub use types::Ty;

@@ -4,7 +4,7 @@ ghost use Rattle.type_sets.specs.Names as names;
 ghost use Rattle.type_sets.specs.Numbers as numbers;
 ghost use Rattle.type_sets.specs.declared.bits.Bits.TheVariants.{No};
 ghost use Rattle.type_model.specs.Operations.{ops, has_none, elements, plain_none, plain_all};
-ghost use Rattle.type_model.specs.Parts.{product_of, kinds_of_nil, is_list as lists_alone, element_with as joined_element, tail_parts as after_head};
+ghost use Rattle.type_model.specs.Parts.{product_of, flags_of_nil, is_list as lists_alone, element_with as joined_element, tail_parts as after_head};
 ghost use Rattle.type_model.specs.Shapes.{sizes, all_tuples, no_function};
 ghost use Rattle.type_trees.specs.View.{view, Fits, body_view, cell_view, parts_view, tuples_view, BodyFits, CellFits, PartsFit, EachInTuples};
 
@@ -143,7 +143,7 @@ pub fn tail_parts(alloc: Global, cell: &CellOf<Node>) -> Result<PartsOf<Node>, M
 
 // The plain values at the end of a list.
 fn tail_plain(is_proper: bool) -> Plain
-    ensures { result ≡ cond is_proper (record { atoms = names.none; ints = numbers.none; bits = No; kinds = kinds_of_nil; functions = no_function }) plain_all }
+    ensures { result ≡ cond is_proper (record { atoms = names.none; ints = numbers.none; bits = No; flags = flags_of_nil; functions = no_function }) plain_all }
 {
     if is_proper {
         plain_kind(Kind::Nil)

@@ -1,3 +1,3 @@
-mod Forms
+mod Variants
 mod Memberships
 mod Weights

@@ -6,10 +6,10 @@ use borrow.Author.Tests.{ltb-true, eqb-true, eq-eqb}
 use Rattle.type_kinds.specs.declared.atom.Atom.{Atom}
 use Rattle.type_sets.specs.Names.{name_cmp}
 use Rattle.type_model.specs.Values as m
-use Rattle.type_model.specs.Shapes.{Plain}
+use Rattle.type_model.specs.Shapes.{PlainParts}
 use Rattle.type_model.specs.Tables.{find}
 use Rattle.type_model.specs.HasType.{HasAt, HasParts, HasCell, HasAll, HasEach, HasRow, HasTag, HasBody, HasTuple}
-use Rattle.type_model.specs.Forms.{Form, Leaf, leaf, form, has_leaf, has-form, HasForm}
+use Rattle.type_model.specs.ValueShapes.{Shape, Leaf, leaf, shape, has_leaf, has-shape, HasShape}
 use Rattle.type_model.proofs.LevelLaws.{level_laws}
 use Rattle.type_model.proofs.TupleLaws.{small_at, some_at}
 use Rattle.type_trees.specs.declared.node.Node.{Node}
@@ -28,7 +28,7 @@ use Rattle.type_trees.proofs.Inclusions.{refuted, after_fits, row_length}
 use Rattle.type_meaning.specs.declared.value.Value.{Value}
 use Rattle.type_meaning.specs.declared.value.Value.TheVariants as v
 use Rattle.type_meaning.specs.Values.{value_of}
-use Rattle.type_meaning.proofs.Forms.{all_values, is_int, is_float, is_atom, is_bits, is_nil, is_cons, is_tuple, is_pid, is_port, is_reference, is_function, shape, is_leaf, value-Int, value-Float, value-Atom, value-Bits, value-Nil, value-Cons, value-Tuple, value-Pid, value-Port, value-Reference, value-Function}
+use Rattle.type_meaning.proofs.Variants.{all_values, all_pairs, is_int, is_float, is_atom, is_bits, is_nil, is_cons, is_tuple, is_map, is_pid, is_port, is_reference, is_function, variant, is_leaf, value-Int, value-Float, value-Atom, value-Bits, value-Nil, value-Cons, value-Tuple, value-Map, value-Pid, value-Port, value-Reference, value-Function}
 
 -- ---- plain values
 
@@ -36,14 +36,14 @@ same_test : (r b : Bool) → r ≡ b → IsTrue r ↔ (b ≡ true)
 same_test r b e = (λ h. sym e ∙ h, λ h. e ∙ h)
 
 -- a value has one leaf, so what is asked of that one is told
-pub leaf_told : (x : Value) (a : Leaf) (p : Plain) (r : Bool) → form (value_of x) ≡ leaf a → r ≡ has_leaf p a → (l : Leaf) → form (value_of x) ≡ leaf l → IsTrue r ↔ (has_leaf p l ≡ true)
+pub leaf_told : (x : Value) (a : Leaf) (p : PlainParts) (r : Bool) → shape (value_of x) ≡ leaf a → r ≡ has_leaf p a → (l : Leaf) → shape (value_of x) ≡ leaf l → IsTrue r ↔ (has_leaf p l ≡ true)
 leaf_told x a p r f h l g =
     let same : leaf a ≡ leaf l = sym f ∙ g in
     let is : a ≡ l = cc in
     same_test r (has_leaf p l) (h ∙ ap (has_leaf p) is)
 
 -- a value that holds others has none
-pub no_leaf_told : (x : Value) (f : Form) (p : Plain) (r : Bool) → form (value_of x) ≡ f → ((l : Leaf) → f ≡ leaf l → ⊥) → (l : Leaf) → form (value_of x) ≡ leaf l → IsTrue r ↔ (has_leaf p l ≡ true)
+pub no_leaf_told : (x : Value) (f : Shape) (p : PlainParts) (r : Bool) → shape (value_of x) ≡ f → ((l : Leaf) → f ≡ leaf l → ⊥) → (l : Leaf) → shape (value_of x) ≡ leaf l → IsTrue r ↔ (has_leaf p l ≡ true)
 no_leaf_told x f p r e no_leaf l g = absurd (no_leaf l (sym e ∙ g))
 
 pub same_number : (k j : ℕ) → (k == j) ≡ (j == k)
@@ -73,10 +73,10 @@ tuples_tell d t p x vs ws r e k f g i =
     parts_tell d t p x (m.tuple (all_values vs)) r e k (ap value_of f ∙ value-Tuple vs) (subst (λ y. IsTrue r ↔ HasTuple (HasAt (d - 1)) (all_values y) (tuples_view (d - 1) p.tuples)) g i)
 
 -- another value is in a type by its plain part
-pub plain_tells : (d : ℕ) (t : Node) (p : PartsOf Node) (x : Value) (r : Bool) → t ≡ n.Of p → Fits d t → ((h w : Value) → x ≡ v.Cons h w → ⊥) → ((vs : List Value) → x ≡ v.Tuple vs → ⊥) → ((l : Leaf) → form (value_of x) ≡ leaf l → IsTrue r ↔ (has_leaf p.plain l ≡ true)) → IsTrue r ↔ HasAt d (value_of x) (view d t)
+pub plain_tells : (d : ℕ) (t : Node) (p : PartsOf Node) (x : Value) (r : Bool) → t ≡ n.Of p → Fits d t → ((h w : Value) → x ≡ v.Cons h w → ⊥) → ((vs : List Value) → x ≡ v.Tuple vs → ⊥) → ((l : Leaf) → shape (value_of x) ≡ leaf l → IsTrue r ↔ (has_leaf p.plain l ≡ true)) → IsTrue r ↔ HasAt d (value_of x) (view d t)
 plain_tells d t p x r e k no_cons no_tuple f =
     let l = is_leaf x no_cons no_tuple in
-    parts_tell d t p x (value_of x) r e k refl (subst (λ T. IsTrue r ↔ T) (sym (has-form (HasAt (d - 1)) (value_of x) (parts_view (d - 1) p) ∙ ap (λ y. HasForm (HasAt (d - 1)) y (parts_view (d - 1) p)) l.1)) (f l.0 l.1))
+    parts_tell d t p x (value_of x) r e k refl (subst (λ T. IsTrue r ↔ T) (sym (has-shape (HasAt (d - 1)) (value_of x) (parts_view (d - 1) p) ∙ ap (λ y. HasShape (HasAt (d - 1)) y (parts_view (d - 1) p)) l.1)) (f l.0 l.1))
 
 -- what is kept of the parts
 pub cell_fits : (d : ℕ) (p : PartsOf Node) (c : CellOf Node) → p.cell ≡ Some c → PartsFit d p → Fits d c.element
@@ -119,7 +119,7 @@ nil_follows d x c e = subst (λ y. Follows d y c) (sym (ap value_of e ∙ value-
 ends_chain : (x : Value) → (x ≡ v.Nil → ⊥) → ((h w : Value) → x ≡ v.Cons h w → ⊥) → (m.heads (value_of x) ≡ m.no_value) × (m.end_of (value_of x) ≡ m.nil → ⊥)
 ends_chain x no_nil no_cons =
     let by : (w : m.Value) → value_of x ≡ w → (m.heads w ≡ m.no_value) × (m.end_of w ≡ m.nil → ⊥) → (m.heads (value_of x) ≡ m.no_value) × (m.end_of (value_of x) ≡ m.nil → ⊥) = λ w e. subst (λ y. (m.heads y ≡ m.no_value) × (m.end_of y ≡ m.nil → ⊥)) (sym e) in
-    elim (shape x) [
+    elim (variant x) [
       | is_int n e ↦ by (m.int n) (ap value_of e ∙ value-Int n) (refl, λ h. cc)
       | is_float s e ↦ by (m.float s) (ap value_of e ∙ value-Float s) (refl, λ h. cc)
       | is_atom a e ↦ by (m.atom a) (ap value_of e ∙ value-Atom a) (refl, λ h. cc)
@@ -127,6 +127,7 @@ ends_chain x no_nil no_cons =
       | is_nil e ↦ absurd (no_nil e)
       | is_cons h t e ↦ absurd (no_cons h t e)
       | is_tuple vs e ↦ by (m.tuple (all_values vs)) (ap value_of e ∙ value-Tuple vs) (refl, λ h. cc)
+      | is_map ps e ↦ by (m.map (all_pairs ps)) (ap value_of e ∙ value-Map ps) (refl, λ h. cc)
       | is_pid n e ↦ by (m.pid n) (ap value_of e ∙ value-Pid n) (refl, λ h. cc)
       | is_port n e ↦ by (m.port n) (ap value_of e ∙ value-Port n) (refl, λ h. cc)
       | is_reference n e ↦ by (m.reference n) (ap value_of e ∙ value-Reference n) (refl, λ h. cc)
@@ -175,7 +176,7 @@ tag_tells d vs x xs a b ts us q r e s f g i h =
 no_tag : (d : ℕ) (x : Value) (ws : m.Values) (ts : List (TagOf Node)) → ((a : Atom) → x ≡ v.Atom a → ⊥) → HasTag (HasAt d) (m.and_value (value_of x) ws) (tags_view d ts) → ⊥
 no_tag d x ws ts no_atom =
     let by : (w : m.Value) → value_of x ≡ w → (HasTag (HasAt d) (m.and_value w ws) (tags_view d ts) → ⊥) → HasTag (HasAt d) (m.and_value (value_of x) ws) (tags_view d ts) → ⊥ = λ w e. subst (λ y. HasTag (HasAt d) (m.and_value y ws) (tags_view d ts) → ⊥) (sym e) in
-    elim (shape x) [
+    elim (variant x) [
       | is_int n e ↦ by (m.int n) (ap value_of e ∙ value-Int n) (λ h. h)
       | is_float s e ↦ by (m.float s) (ap value_of e ∙ value-Float s) (λ h. h)
       | is_atom a e ↦ absurd (no_atom a e)
@@ -183,6 +184,7 @@ no_tag d x ws ts no_atom =
       | is_nil e ↦ by m.nil (ap value_of e ∙ value-Nil) (λ h. h)
       | is_cons h t e ↦ by (m.cons (value_of h) (value_of t)) (ap value_of e ∙ value-Cons h t) (λ h. h)
       | is_tuple vs e ↦ by (m.tuple (all_values vs)) (ap value_of e ∙ value-Tuple vs) (λ h. h)
+      | is_map ps e ↦ by (m.map (all_pairs ps)) (ap value_of e ∙ value-Map ps) (λ h. h)
       | is_pid n e ↦ by (m.pid n) (ap value_of e ∙ value-Pid n) (λ h. h)
       | is_port n e ↦ by (m.port n) (ap value_of e ∙ value-Port n) (λ h. h)
       | is_reference n e ↦ by (m.reference n) (ap value_of e ∙ value-Reference n) (λ h. h)

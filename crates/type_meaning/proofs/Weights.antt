@@ -4,7 +4,7 @@ use Rattle.type_model.specs.Values as m
 use Rattle.type_meaning.specs.declared.value.Value.{Value}
 use Rattle.type_meaning.specs.declared.value.Value.TheVariants as v
 use Rattle.type_meaning.specs.Values.{value_of}
-use Rattle.type_meaning.proofs.Forms.{all_values, value-Cons, value-Tuple}
+use Rattle.type_meaning.proofs.Variants.{all_values, value-Cons, value-Tuple}
 
 abbrev mutual
   pub weight : m.Value → ℕ

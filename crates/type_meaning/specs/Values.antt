@@ -13,6 +13,10 @@ abbrev pub values : List m.Value → m.Values
 values [] = m.no_value
 values (v ∷ vs) = m.and_value v (values vs)
 
+abbrev pub pairs : List (m.Value × m.Value) → m.Pairs
+pairs [] = m.no_pair
+pairs (p ∷ ps) = m.and_pair p.0 p.1 (pairs ps)
+
 -- one layer, whose parts are values of the model already
 abbrev pub value_layer : Value-F m.Value → m.Value
 value_layer (Value-F.Int n) = m.int n
@@ -22,6 +26,7 @@ value_layer (Value-F.Bits n) = m.bits (zero_bits n)
 value_layer Value-F.Nil = m.nil
 value_layer (Value-F.Cons h t) = m.cons h t
 value_layer (Value-F.Tuple vs) = m.tuple (values vs)
+value_layer (Value-F.Map ps) = m.map (pairs ps)
 value_layer (Value-F.Pid n) = m.pid n
 value_layer (Value-F.Port n) = m.port n
 value_layer (Value-F.Reference n) = m.reference n

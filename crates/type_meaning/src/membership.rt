@@ -1,5 +1,5 @@
 ghost use Rattle.std.specs.Prelude.{◌≡◌, ◌↔◌, true, Some, IsTrue, length, map};
-ghost use Rattle.type_model.specs.Forms.{Leaf, has_leaf, form, leaf};
+ghost use Rattle.type_model.specs.ValueShapes.{Leaf, has_leaf, shape, leaf};
 ghost use Rattle.type_model.specs.HasType.{HasAt, HasAll, HasEach, HasBody, HasTuple};
 ghost use Rattle.type_model.specs.Values as m;
 ghost use Rattle.type_lattice.specs.Types.{HasType};
@@ -109,21 +109,22 @@ fn each_in(level: u32, elements: &[Value], row: &[Node]) -> bool
 
 // Whether a value that is no cons and no tuple is among the plain values.
 fn plain_in(v: &Value, plain: &Plain) -> bool
-    ensures { (l : Leaf) → form (value_of v.now) ≡ leaf l → IsTrue result ↔ (has_leaf plain.now l ≡ true) }
+    ensures { (l : Leaf) → shape (value_of v.now) ≡ leaf l → IsTrue result ↔ (has_leaf plain.now l ≡ true) }
 {
     match v {
         Value::Int(n) => plain.ints.contains(*n),
-        Value::Float(_) => plain.kinds.float,
+        Value::Float(_) => plain.flags.float,
         Value::Atom(atom) => plain.atoms.contains(atom),
         Value::Bits(length) => match plain.bits {
             Bits::No => false,
             Bits::Whole => *length % 8 == 0,
             Bits::Any => true,
         },
-        Value::Nil => plain.kinds.nil,
-        Value::Pid(_) => plain.kinds.pid,
-        Value::Port(_) => plain.kinds.port,
-        Value::Reference(_) => plain.kinds.reference,
+        Value::Nil => plain.flags.nil,
+        Value::Map(_) => plain.flags.map,
+        Value::Pid(_) => plain.flags.pid,
+        Value::Port(_) => plain.flags.port,
+        Value::Reference(_) => plain.flags.reference,
         Value::Function(arity) => match plain.functions {
             FunSet::Nothing => false,
             FunSet::OfArity(other) => *arity == other,

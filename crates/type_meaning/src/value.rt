@@ -11,6 +11,8 @@ pub enum Value {
     Nil,
     Cons(Boxed<Value>, Boxed<Value>),
     Tuple(List<Value>),
+    /// The pairs of a map, each a key and the value at it.
+    Map(List<(Value, Value)>),
     Pid(u64),
     Port(u64),
     Reference(u64),

@@ -8,7 +8,7 @@ use Rattle.type_sets.specs.Names.{Name, name_cmp, are_listed}
 use Rattle.type_sets.proofs.Truths.{both}
 use Rattle.type_sets.proofs.AscendingLaws as ascending
 use Rattle.type_sets.proofs.NameLaws.{name_total, name_same, listed-ascending, listed-few}
-use Rattle.type_model.specs.Values.{Value, int, atom, bits, float, pid, port, reference, nil, cons, tuple, closure, external, foreign, Values, no_value, and_value, count}
+use Rattle.type_model.specs.Values.{Value, int, atom, bits, float, pid, port, reference, nil, cons, tuple, map, closure, external, foreign, Values, no_value, and_value, count}
 use Rattle.type_model.specs.Tables.{keys, held, all_hold, is_table, find}
 use Rattle.type_model.specs.Shapes.{Body, product, tags}
 use Rattle.type_model.specs.HasType.{HasEach, HasRow, HasTag, HasBody}
@@ -92,6 +92,7 @@ module _ {E : Type 0} {Has : Value → E → Type 0} {Normal : E → Type 0} {o 
   tagged (and_value (pid n) vs) m h = absurd h
   tagged (and_value (port n) vs) m h = absurd h
   tagged (and_value (reference n) vs) m h = absurd h
+  tagged (and_value (map ps) vs) m h = absurd h
   tagged (and_value nil vs) m h = absurd h
   tagged (and_value (cons x y) vs) m h = absurd h
   tagged (and_value (tuple us) vs) m h = absurd h

@@ -11,7 +11,7 @@ use Rattle.type_sets.specs.Names.{Name, name_cmp}
 use Rattle.type_sets.proofs.NameLaws.{name_total, name_same, listed-from}
 use Rattle.type_sets.proofs.AscendingLaws.{is_it}
 use Rattle.type_sets.proofs.Truths.{is_false}
-use Rattle.type_model.specs.Values.{Value, int, atom, bits, float, pid, port, reference, nil, cons, tuple, closure, external, foreign, Values, no_value, and_value, count, heads}
+use Rattle.type_model.specs.Values.{Value, int, atom, bits, float, pid, port, reference, nil, cons, tuple, map as map_value, closure, external, foreign, Values, no_value, and_value, count, heads}
 use Rattle.type_model.specs.Tables.{keys, mapped, find}
 use Rattle.type_model.specs.Shapes.{Cell, Body, product, tags, Tuples, sizes, all_tuples, Parts, TypeAt}
 use Rattle.type_model.specs.HasType.{HasAll, HasEach, HasRow, HasCell, HasTag, HasBody, HasTuple, HasParts, HasAt}
@@ -266,6 +266,7 @@ module _ {F E : Type 0} {HasF : Value → F → Type 0} {NormalF : F → Type 0}
   parts_above p k (pid n) h = h
   parts_above p k (port n) h = h
   parts_above p k (reference n) h = h
+  parts_above p k (map_value ps) h = h
   parts_above p k nil h = h
   parts_above p k (cons x y) h = cell_above p.cell k.1 (x, y) h
   parts_above p k (tuple vs) h = tuples_above p.tuples k.2 vs h
@@ -281,6 +282,7 @@ module _ {F E : Type 0} {HasF : Value → F → Type 0} {NormalF : F → Type 0}
   parts_least p u j k q (pid n) h = q (pid n) h
   parts_least p u j k q (port n) h = q (port n) h
   parts_least p u j k q (reference n) h = q (reference n) h
+  parts_least p u j k q (map_value ps) h = q (map_value ps) h
   parts_least p u j k q nil h = q nil h
   parts_least p u j k q (cons x y) h = cell_least p.cell u.cell j.1 k.1 (λ c. q (cons c.0 c.1)) (x, y) h
   parts_least p u j k q (tuple vs) h = tuples_least p.tuples u.tuples j.2 k.2 (λ us. q (tuple us)) vs h
@@ -377,6 +379,7 @@ module _ {F E : Type 0} {HasF : Value → F → Type 0} {NormalF : F → Type 0}
   next_exact p k (pid n) h = h
   next_exact p k (port n) h = h
   next_exact p k (reference n) h = h
+  next_exact p k (map_value ps) h = h
   next_exact p k nil h = h
   next_exact p k (cons x y) h = cell_exact p.cell k.1 (x, y) h
   next_exact p k (tuple vs) h = tuples_exact p.tuples k.2 vs h

@@ -1,4 +1,5 @@
 pub mod BodyLaws
+pub mod CanonicalLaws
 pub mod CellLaws
 pub mod CutLaws
 pub mod ElementLaws
@@ -12,5 +13,6 @@ pub mod PlainLaws
 pub mod ProductLaws
 pub mod RankLaws
 pub mod RowLaws
+mod Spellings
 pub mod TableLaws
 pub mod TupleLaws

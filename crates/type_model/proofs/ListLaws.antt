@@ -10,9 +10,9 @@ use Rattle.type_model.specs.HasType.{HasAll, HasCell, HasParts, HasAt}
 use Rattle.type_model.specs.Operations.{plain_none, plain_all, ops}
 use Rattle.type_model.specs.Normal.{NormalCell, NormalAt}
 use Rattle.type_model.specs.Cut.{cut}
-use Rattle.type_model.specs.Parts.{is_list, element_with, kinds_of_nil, tail_parts, cons_at, lifted, element_of, elem_at, tail_at}
+use Rattle.type_model.specs.Parts.{is_list, element_with, flags_of_nil, tail_parts, cons_at, lifted, element_of, elem_at, tail_at}
 use Rattle.type_model.specs.Laws.{BelowBy}
-use Rattle.type_model.specs.Forms.{an_int, an_atom}
+use Rattle.type_model.specs.ValueShapes.{an_int, an_atom}
 use Rattle.type_model.proofs.PlainLaws.{plain-none_empty}
 use Rattle.type_model.proofs.CellLaws.{value_of}
 use Rattle.type_model.proofs.LevelLaws.{level_laws}
@@ -23,7 +23,7 @@ use Rattle.type_model.proofs.MadeLaws.{cons-normal, cons-above, lists-is_list}
 
 module _ {E : Type 0} (Has : Value → E → Type 0) where
   -- its heads are in the element type, and it ends in nil where the list has to
-  tail_out : (c : Cell E) (b : Bool) (y : Value) → (c.is_proper ≡ true → b ≡ true) → HasParts Has y (record { plain = cond b (record { atoms = names.none; ints = numbers.none; bits = No; kinds = kinds_of_nil; functions = no_function }) plain_all; cell = Some c; tuples = cond b (sizes []) all_tuples }) → HasAll Has (heads y) c.element × (c.is_proper ≡ true → end_of y ≡ nil)
+  tail_out : (c : Cell E) (b : Bool) (y : Value) → (c.is_proper ≡ true → b ≡ true) → HasParts Has y (record { plain = cond b (record { atoms = names.none; ints = numbers.none; bits = No; flags = flags_of_nil; functions = no_function }) plain_all; cell = Some c; tuples = cond b (sizes []) all_tuples }) → HasAll Has (heads y) c.element × (c.is_proper ≡ true → end_of y ≡ nil)
   tail_out c b (cons x y) f h = h
   tail_out c b nil f h = (tt, λ e. refl)
   tail_out c true (tuple vs) f h = absurd h

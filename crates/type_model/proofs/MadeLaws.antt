@@ -11,16 +11,16 @@ use Rattle.type_sets.specs.declared.bits.Bits.TheVariants.{No}
 use Rattle.type_sets.proofs.NameLaws as name_laws
 use Rattle.type_sets.proofs.AscendingLaws.{is_it, itself}
 use Rattle.type_sets.proofs.Truths.{both, first, second, is_false}
-use Rattle.type_model.specs.Values.{Value, int, atom, bits, float, pid, port, reference, nil, cons, tuple, closure, external, foreign, Values, no_value, and_value, count, heads, end_of}
+use Rattle.type_model.specs.Values.{Value, int, atom, bits, float, pid, port, reference, nil, cons, tuple, map, closure, external, foreign, Values, no_value, and_value, count, heads, end_of}
 use Rattle.type_model.specs.Tables.{find}
-use Rattle.type_model.specs.Shapes.{floats, pids, ports, references, nils, no_function, Plain, Cell, Body, Tuples, sizes, all_tuples, Parts, TypeAt}
+use Rattle.type_model.specs.Shapes.{floats, pids, ports, references, nils, maps, no_function, PlainParts, Cell, Body, Tuples, sizes, all_tuples, Parts, TypeAt}
 use Rattle.type_model.specs.HasType.{HasAll, HasEach, HasCell, HasBody, HasTuple, HasParts, HasAt}
 use Rattle.type_model.specs.Operations.{Ops, plain_none, plain_all, is_no_plain, is_atoms, is_empty, has_none, body_of, elements, no_tuples, of_plain, ops}
 use Rattle.type_model.specs.Normal.{IsElement, NormalCell, AreElements, NormalBody, NormalSizes, NormalTuples, NormalParts, NormalAt}
 use Rattle.type_model.specs.Cut.{cut}
-use Rattle.type_model.specs.Parts.{value_at, AreNormal, product_of, proper_cell, without_nil, is_list, element_with, element_at, kinds_of_nil, tail_parts, tuple_at, cons_at, lifted, project_at, element_of, elem_at, tail_at}
+use Rattle.type_model.specs.Parts.{value_at, AreNormal, product_of, proper_cell, without_nil, is_list, element_with, element_at, flags_of_nil, tail_parts, tuple_at, cons_at, lifted, project_at, element_of, elem_at, tail_at}
 use Rattle.type_model.specs.Laws.{BelowBy, Laws}
-use Rattle.type_model.specs.Forms.{Leaf, an_int, an_atom, some_bits, of_kind, a_function, has_leaf, leaf, form, value_of_form, form-value_of_form, HasForm, has-form}
+use Rattle.type_model.specs.ValueShapes.{Leaf, an_int, an_atom, some_bits, of_flag, a_function, has_leaf, leaf, shape, value_of_shape, shape-value_of_shape, HasShape, has-shape}
 use Rattle.type_model.proofs.PlainLaws.{plain-none_is, plain-none_empty, plain-all, is_atoms-other}
 use Rattle.type_model.proofs.CellLaws.{value_of, all-more, element-join}
 use Rattle.type_model.proofs.RowLaws.{values_of, count_each, row_filled-not_none}
@@ -81,6 +81,7 @@ module _ {E : Type 0} {Has : Value → E → Type 0} {Normal : E → Type 0} {o 
   of_tuples t (pid n) h = absurd (true≢false (sym h))
   of_tuples t (port n) h = absurd (true≢false (sym h))
   of_tuples t (reference n) h = absurd (true≢false (sym h))
+  of_tuples t (map ps) h = absurd (true≢false (sym h))
   of_tuples t nil h = absurd (true≢false (sym h))
   of_tuples t (cons x y) h = absurd h
   of_tuples t (tuple vs) h = (vs, (refl, h))
@@ -145,17 +146,17 @@ tuple-least d es k u j p v h = (cut_lowering (suc d) d).least (product_of (ops d
 
 -- ---- lists: which types have nothing but proper lists
 
-no_leaf : (p : Plain) → is_no_plain p ≡ true → (x : Leaf) → has_leaf p x ≡ true → ⊥
+no_leaf : (p : PlainParts) → is_no_plain p ≡ true → (x : Leaf) → has_leaf p x ≡ true → ⊥
 no_leaf p e x h = plain-none_empty x (subst (λ q. has_leaf q x ≡ true) (plain-none_is p e) h)
 
-some_leaf : (p : Plain) → is_no_plain p ≡ false → (x : Leaf) × (has_leaf p x ≡ true)
+some_leaf : (p : PlainParts) → is_no_plain p ≡ false → (x : Leaf) × (has_leaf p x ≡ true)
 some_leaf p e = elim (names.is_none p.atoms) as (λ b. names.is_none p.atoms ≡ b → (b && is_atoms p) ≡ false → (x : Leaf) × (has_leaf p x ≡ true)) [
   | true ↦ λ q r. let x = is_atoms-other p r in (x.0, x.1.0)
   | false ↦ λ q r. let a = name_laws.has_some p.atoms q in (an_atom a.0, a.1)
 ] refl e
 
 -- a value that holds no others and ends in nil is nil
-leaf_end : (v : Value) (x : Leaf) → form v ≡ leaf x → end_of v ≡ nil → x ≡ of_kind nils
+leaf_end : (v : Value) (x : Leaf) → shape v ≡ leaf x → end_of v ≡ nil → x ≡ of_flag nils
 leaf_end (int n) x f q = absurd cc
 leaf_end (atom a) x f q = absurd cc
 leaf_end (bits bs) x f q = absurd cc
@@ -163,6 +164,7 @@ leaf_end (float s) x f q = absurd cc
 leaf_end (pid n) x f q = absurd cc
 leaf_end (port n) x f q = absurd cc
 leaf_end (reference n) x f q = absurd cc
+leaf_end (map ps) x f q = absurd cc
 leaf_end nil x f q = cc
 leaf_end (cons h t) x f q = absurd cc
 leaf_end (tuple vs) x f q = absurd cc
@@ -172,19 +174,20 @@ leaf_end (foreign y n) x f q = absurd cc
 
 module _ {E : Type 0} {Has : Value → E → Type 0} {Normal : E → Type 0} {o : Ops E} (l : Laws Has Normal o) where
   -- each leaf but nil
-  kept_leaf : (p : Plain) (x : Leaf) → has_leaf (without_nil p) x ≡ true → (has_leaf p x ≡ true) × (x ≡ of_kind nils → ⊥)
+  kept_leaf : (p : PlainParts) (x : Leaf) → has_leaf (without_nil p) x ≡ true → (has_leaf p x ≡ true) × (x ≡ of_flag nils → ⊥)
   kept_leaf p (an_int n) h = (h, λ q. absurd cc)
   kept_leaf p (an_atom a) h = (h, λ q. absurd cc)
   kept_leaf p (some_bits n) h = (h, λ q. absurd cc)
-  kept_leaf p (of_kind floats) h = (h, λ q. absurd cc)
-  kept_leaf p (of_kind pids) h = (h, λ q. absurd cc)
-  kept_leaf p (of_kind ports) h = (h, λ q. absurd cc)
-  kept_leaf p (of_kind references) h = (h, λ q. absurd cc)
-  kept_leaf p (of_kind nils) h = absurd (true≢false (sym h))
+  kept_leaf p (of_flag floats) h = (h, λ q. absurd cc)
+  kept_leaf p (of_flag pids) h = (h, λ q. absurd cc)
+  kept_leaf p (of_flag ports) h = (h, λ q. absurd cc)
+  kept_leaf p (of_flag references) h = (h, λ q. absurd cc)
+  kept_leaf p (of_flag maps) h = (h, λ q. absurd cc)
+  kept_leaf p (of_flag nils) h = absurd (true≢false (sym h))
   kept_leaf p (a_function n) h = (h, λ q. absurd cc)
 
-  has_value : (x : Leaf) (p : Parts E) → has_leaf p.plain x ≡ true → HasParts Has (value_of_form (leaf x)) p
-  has_value x p h = subst (λ T. T) (sym (has-form Has (value_of_form (leaf x)) p)) (subst (λ g. HasForm Has g p) (sym (form-value_of_form (leaf x))) h)
+  has_value : (x : Leaf) (p : Parts E) → has_leaf p.plain x ≡ true → HasParts Has (value_of_shape (leaf x)) p
+  has_value x p h = subst (λ T. T) (sym (has-shape Has (value_of_shape (leaf x)) p)) (subst (λ g. HasShape Has g p) (sym (shape-value_of_shape (leaf x))) h)
 
   proper_end : (c : Option (Cell E)) → proper_cell c ≡ true → (h t : Value) → HasCell Has (h, t) c → end_of t ≡ nil
   proper_end None e h t k = absurd k
@@ -206,10 +209,11 @@ module _ {E : Type 0} {Has : Value → E → Type 0} {Normal : E → Type 0} {o 
       each p x y z (int n) h = absurd (no_leaf (without_nil p.plain) x (an_int n) h)
       each p x y z (atom a) h = absurd (no_leaf (without_nil p.plain) x (an_atom a) h)
       each p x y z (bits bs) h = absurd (no_leaf (without_nil p.plain) x (some_bits (length bs)) h)
-      each p x y z (float s) h = absurd (no_leaf (without_nil p.plain) x (of_kind floats) h)
-      each p x y z (pid n) h = absurd (no_leaf (without_nil p.plain) x (of_kind pids) h)
-      each p x y z (port n) h = absurd (no_leaf (without_nil p.plain) x (of_kind ports) h)
-      each p x y z (reference n) h = absurd (no_leaf (without_nil p.plain) x (of_kind references) h)
+      each p x y z (float s) h = absurd (no_leaf (without_nil p.plain) x (of_flag floats) h)
+      each p x y z (pid n) h = absurd (no_leaf (without_nil p.plain) x (of_flag pids) h)
+      each p x y z (port n) h = absurd (no_leaf (without_nil p.plain) x (of_flag ports) h)
+      each p x y z (reference n) h = absurd (no_leaf (without_nil p.plain) x (of_flag references) h)
+      each p x y z (map ps) h = absurd (no_leaf (without_nil p.plain) x (of_flag maps) h)
       each p x y z nil h = refl
       each p x y z (cons a b) h = proper_end p.cell y a b h
       each p x y z (tuple vs) h = absurd (without_tuples p.tuples z vs h)
@@ -229,7 +233,7 @@ module _ {E : Type 0} {Has : Value → E → Type 0} {Normal : E → Type 0} {o 
       let x : a ≡ true = is_true a (λ q.
       let w = some_leaf (without_nil p.plain) q in
       let y = kept_leaf p.plain w.0 w.1 in
-      y.1 (leaf_end (value_of_form (leaf w.0)) w.0 (form-value_of_form (leaf w.0)) (f (value_of_form (leaf w.0)) (has_value w.0 p y.0)))) in
+      y.1 (leaf_end (value_of_shape (leaf w.0)) w.0 (shape-value_of_shape (leaf w.0)) (f (value_of_shape (leaf w.0)) (has_value w.0 p y.0)))) in
       let y : b ≡ true = ends_proper p.cell k.1 (λ h t z. f (cons h t) z) in
       let z : c ≡ true = elim ((tuples_lattice l).filled p.tuples k.2) [ inl q ↦ ap (no_tuples o) q | inr w ↦ absurd (not_nil w.0 (f (tuple w.0) w.1)) ] in
       both (a && b) c (both a b x y) z
@@ -264,6 +268,7 @@ module _ {E : Type 0} {Has : Value → E → Type 0} {Normal : E → Type 0} {o 
   element_with-rest e p j k (pid n) h = tt
   element_with-rest e p j k (port n) h = tt
   element_with-rest e p j k (reference n) h = tt
+  element_with-rest e p j k (map ps) h = tt
   element_with-rest e p j k nil h = tt
   element_with-rest e p j k (cons a b) h = walk p.cell k h
     where
@@ -346,6 +351,7 @@ of_cell d c u p (float x) h = absurd (true≢false (sym h))
 of_cell d c u p (pid n) h = absurd (true≢false (sym h))
 of_cell d c u p (port n) h = absurd (true≢false (sym h))
 of_cell d c u p (reference n) h = absurd (true≢false (sym h))
+of_cell d c u p (map ps) h = absurd (true≢false (sym h))
 of_cell d c u p nil h = absurd (true≢false (sym h))
 of_cell d c u p (cons x y) h = p x y h
 of_cell d c u p (tuple vs) h = absurd h
@@ -414,7 +420,7 @@ module _ {E : Type 0} {Has : Value → E → Type 0} {Normal : E → Type 0} {o 
   ]
 
   -- what follows the head of a list
-  tail_from : (c : Cell E) (b : Bool) (t : Value) → HasAll Has (heads t) c.element → (b ≡ true → end_of t ≡ nil) → (c.is_proper ≡ true → end_of t ≡ nil) → HasParts Has t (record { plain = cond b (record { atoms = names.none; ints = numbers.none; bits = No; kinds = kinds_of_nil; functions = no_function }) plain_all; cell = Some c; tuples = cond b (sizes []) all_tuples })
+  tail_from : (c : Cell E) (b : Bool) (t : Value) → HasAll Has (heads t) c.element → (b ≡ true → end_of t ≡ nil) → (c.is_proper ≡ true → end_of t ≡ nil) → HasParts Has t (record { plain = cond b (record { atoms = names.none; ints = numbers.none; bits = No; flags = flags_of_nil; functions = no_function }) plain_all; cell = Some c; tuples = cond b (sizes []) all_tuples })
   tail_from c true (int n) h f g = absurd (let q = f refl in cc)
   tail_from c true (atom a) h f g = absurd (let q = f refl in cc)
   tail_from c true (bits bs) h f g = absurd (let q = f refl in cc)
@@ -422,6 +428,7 @@ module _ {E : Type 0} {Has : Value → E → Type 0} {Normal : E → Type 0} {o 
   tail_from c true (pid n) h f g = absurd (let q = f refl in cc)
   tail_from c true (port n) h f g = absurd (let q = f refl in cc)
   tail_from c true (reference n) h f g = absurd (let q = f refl in cc)
+  tail_from c true (map ps) h f g = absurd (let q = f refl in cc)
   tail_from c true nil h f g = refl
   tail_from c true (cons x y) h f g = (h, g)
   tail_from c true (tuple vs) h f g = absurd (let q = f refl in cc)
@@ -435,6 +442,7 @@ module _ {E : Type 0} {Has : Value → E → Type 0} {Normal : E → Type 0} {o 
   tail_from c false (pid n) h f g = refl
   tail_from c false (port n) h f g = refl
   tail_from c false (reference n) h f g = refl
+  tail_from c false (map ps) h f g = refl
   tail_from c false nil h f g = refl
   tail_from c false (cons x y) h f g = (h, g)
   tail_from c false (tuple vs) h f g = tt
@@ -448,7 +456,7 @@ module _ {E : Type 0} {Has : Value → E → Type 0} {Normal : E → Type 0} {o 
 
   pub tail_normal : (c : Option (Cell E)) → NormalCell Normal o c → NormalParts Normal o (tail_parts o c)
   tail_normal None k = (next_laws l).lattice.none_normal
-  tail_normal (Some c) k = elim c.is_proper as (λ b. NormalParts Normal o (record { plain = cond b (record { atoms = names.none; ints = numbers.none; bits = No; kinds = kinds_of_nil; functions = no_function }) plain_all; cell = Some c; tuples = cond b (sizes []) all_tuples })) [
+  tail_normal (Some c) k = elim c.is_proper as (λ b. NormalParts Normal o (record { plain = cond b (record { atoms = names.none; ints = numbers.none; bits = No; flags = flags_of_nil; functions = no_function }) plain_all; cell = Some c; tuples = cond b (sizes []) all_tuples })) [
     | true ↦ (tt, k, (tuples_lattice l).none_normal)
     | false ↦ (tt, k, tt)
   ]

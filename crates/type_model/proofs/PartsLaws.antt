@@ -14,7 +14,7 @@ use Rattle.type_model.specs.HasType.{HasAll, HasCell, HasTuple, HasParts}
 use Rattle.type_model.specs.Operations.{Ops, plain_none, is_atoms, is_empty, cell_meet, cell_join, tuples_meet, tuples_join, no_cell, no_tuples, is_only_atoms, of_plain, of_atoms, parts_any, parts_is_none, parts_meet, parts_join, parts_only, next}
 use Rattle.type_model.specs.Normal.{NormalCell, NormalTuples, NormalParts}
 use Rattle.type_model.specs.Laws.{BelowBy, Lattice, Naming, Laws}
-use Rattle.type_model.specs.Forms.{Leaf, an_atom, has_leaf, Form, leaf, pair, row, form, value_of_form, form-value_of_form, HasForm, has-form}
+use Rattle.type_model.specs.ValueShapes.{Leaf, an_atom, has_leaf, Shape, leaf, pair, row, shape, value_of_shape, shape-value_of_shape, HasShape, has-shape}
 use Rattle.type_model.proofs.PlainLaws.{plain-meet, plain-join-left, plain-join-right, plain-join-least, plain-same, plain-none_empty, plain-all, is_atoms-only, is_atoms-other, functions-normal_meet, functions-normal_join}
 use Rattle.type_model.proofs.CellLaws.{cell_lattice}
 use Rattle.type_model.proofs.TupleLaws.{tuples_lattice}
@@ -93,8 +93,8 @@ module _ {E : Type 0} {Has : Value → E → Type 0} {Normal : E → Type 0} {o 
   abbrev P : Type 0
   P = Parts E
 
-  abbrev HasF : Form → P → Type 0
-  HasF = HasForm Has
+  abbrev HasF : Shape → P → Type 0
+  HasF = HasShape Has
 
   abbrev HasP : Value → P → Type 0
   HasP = HasParts Has
@@ -130,9 +130,9 @@ module _ {E : Type 0} {Has : Value → E → Type 0} {Normal : E → Type 0} {o 
   none-is p e =
       only_atoms-is p (second (names.is_none p.plain.atoms) (is_only_atoms o p) e) ∙ ap (of_atoms o) (name_laws.is_none-is p.plain.atoms (first (names.is_none p.plain.atoms) (is_only_atoms o p) e))
 
-  -- what else there is has a form that is no atom
-  pub other_form : (p : P) → NormalP p → is_only_atoms o p ≡ false → (x : Form) × (HasF x p × ((a : Name) → x ≡ leaf (an_atom a) → ⊥))
-  other_form p k e = elim (decided (is_atoms p.plain)) [
+  -- what else there is has a shape that is no atom
+  pub other_shape : (p : P) → NormalP p → is_only_atoms o p ≡ false → (x : Shape) × (HasF x p × ((a : Name) → x ≡ leaf (an_atom a) → ⊥))
+  other_shape p k e = elim (decided (is_atoms p.plain)) [
     | inr n ↦ let w = is_atoms-other p.plain n in (leaf w.0, (w.1.0, λ a q. w.1.1 a (leaf_same w.0 (an_atom a) q)))
     | inl y ↦ elim (cells.filled p.cell k.1) [
       | inr c ↦ (pair c.0.0 c.0.1, (c.1, λ a q. pair_other c.0.0 c.0.1 (an_atom a) q))
@@ -154,93 +154,93 @@ module _ {E : Type 0} {Has : Value → E → Type 0} {Normal : E → Type 0} {o 
 
   -- ---- the forms of a type
 
-  forms_empty : (x : Form) → HasF x (of_plain o plain_none) → ⊥
-  forms_empty (leaf x) h = plain-none_empty x h
-  forms_empty (pair h t) c = c
-  forms_empty (row vs) h = h
+  shapes_empty : (x : Shape) → HasF x (of_plain o plain_none) → ⊥
+  shapes_empty (leaf x) h = plain-none_empty x h
+  shapes_empty (pair h t) c = c
+  shapes_empty (row vs) h = h
 
-  forms_filled : (p : P) → NormalP p → (p ≡ of_plain o plain_none) ⊎ ((x : Form) × HasF x p)
-  forms_filled p k = elim (decided (is_only_atoms o p)) [
-    | inr n ↦ let w = other_form p k n in inr (w.0, w.1.0)
+  shapes_filled : (p : P) → NormalP p → (p ≡ of_plain o plain_none) ⊎ ((x : Shape) × HasF x p)
+  shapes_filled p k = elim (decided (is_only_atoms o p)) [
+    | inr n ↦ let w = other_shape p k n in inr (w.0, w.1.0)
     | inl y ↦ elim (decided (names.is_none p.plain.atoms)) [
       | inl z ↦ inl (none-is p (both (names.is_none p.plain.atoms) (is_only_atoms o p) z y))
       | inr z ↦ let w = name_laws.has_some p.plain.atoms z in inr (leaf (an_atom w.0), w.1)
     ]
   ]
 
-  forms_same : (p q : P) → NormalP p → NormalP q → BelowBy HasF p q → BelowBy HasF q p → p ≡ q
-  forms_same p q j k f h =
+  shapes_same : (p q : P) → NormalP p → NormalP q → BelowBy HasF p q → BelowBy HasF q p → p ≡ q
+  shapes_same p q j k f h =
       let a = plain-same p.plain q.plain (λ x. f (leaf x)) (λ x. h (leaf x)) in
       let c = cells.same p.cell q.cell j.1 k.1 (λ x. f (pair x.0 x.1)) (λ x. h (pair x.0 x.1)) in
       let t = rows.same p.tuples q.tuples j.2 k.2 (λ vs. f (row vs)) (λ vs. h (row vs)) in
       λ i. record { plain = a i; cell = c i; tuples = t i }
 
-  forms_meet_normal : (p q : P) → NormalP p → NormalP q → NormalP (parts_meet o p q)
-  forms_meet_normal p q j k = (functions-normal_meet p.plain.functions q.plain.functions j.0 k.0, cells.meet_normal p.cell q.cell j.1 k.1, rows.meet_normal p.tuples q.tuples j.2 k.2)
+  shapes_meet_normal : (p q : P) → NormalP p → NormalP q → NormalP (parts_meet o p q)
+  shapes_meet_normal p q j k = (functions-normal_meet p.plain.functions q.plain.functions j.0 k.0, cells.meet_normal p.cell q.cell j.1 k.1, rows.meet_normal p.tuples q.tuples j.2 k.2)
 
-  forms_meet_in : (p q : P) → NormalP p → NormalP q → (x : Form) → HasF x p → HasF x q → HasF x (parts_meet o p q)
-  forms_meet_in p q j k (leaf x) f h = plain-meet p.plain q.plain x ∙ both (has_leaf p.plain x) (has_leaf q.plain x) f h
-  forms_meet_in p q j k (pair x y) f h = cells.meet_in p.cell q.cell j.1 k.1 (x, y) f h
-  forms_meet_in p q j k (row vs) f h = rows.meet_in p.tuples q.tuples j.2 k.2 vs f h
+  shapes_meet_in : (p q : P) → NormalP p → NormalP q → (x : Shape) → HasF x p → HasF x q → HasF x (parts_meet o p q)
+  shapes_meet_in p q j k (leaf x) f h = plain-meet p.plain q.plain x ∙ both (has_leaf p.plain x) (has_leaf q.plain x) f h
+  shapes_meet_in p q j k (pair x y) f h = cells.meet_in p.cell q.cell j.1 k.1 (x, y) f h
+  shapes_meet_in p q j k (row vs) f h = rows.meet_in p.tuples q.tuples j.2 k.2 vs f h
 
-  forms_meet_left : (p q : P) → NormalP p → NormalP q → BelowBy HasF (parts_meet o p q) p
-  forms_meet_left p q j k (leaf x) h = first (has_leaf p.plain x) (has_leaf q.plain x) (sym (plain-meet p.plain q.plain x) ∙ h)
-  forms_meet_left p q j k (pair x y) h = cells.meet_left p.cell q.cell j.1 k.1 (x, y) h
-  forms_meet_left p q j k (row vs) h = rows.meet_left p.tuples q.tuples j.2 k.2 vs h
+  shapes_meet_left : (p q : P) → NormalP p → NormalP q → BelowBy HasF (parts_meet o p q) p
+  shapes_meet_left p q j k (leaf x) h = first (has_leaf p.plain x) (has_leaf q.plain x) (sym (plain-meet p.plain q.plain x) ∙ h)
+  shapes_meet_left p q j k (pair x y) h = cells.meet_left p.cell q.cell j.1 k.1 (x, y) h
+  shapes_meet_left p q j k (row vs) h = rows.meet_left p.tuples q.tuples j.2 k.2 vs h
 
-  forms_meet_right : (p q : P) → NormalP p → NormalP q → BelowBy HasF (parts_meet o p q) q
-  forms_meet_right p q j k (leaf x) h = second (has_leaf p.plain x) (has_leaf q.plain x) (sym (plain-meet p.plain q.plain x) ∙ h)
-  forms_meet_right p q j k (pair x y) h = cells.meet_right p.cell q.cell j.1 k.1 (x, y) h
-  forms_meet_right p q j k (row vs) h = rows.meet_right p.tuples q.tuples j.2 k.2 vs h
+  shapes_meet_right : (p q : P) → NormalP p → NormalP q → BelowBy HasF (parts_meet o p q) q
+  shapes_meet_right p q j k (leaf x) h = second (has_leaf p.plain x) (has_leaf q.plain x) (sym (plain-meet p.plain q.plain x) ∙ h)
+  shapes_meet_right p q j k (pair x y) h = cells.meet_right p.cell q.cell j.1 k.1 (x, y) h
+  shapes_meet_right p q j k (row vs) h = rows.meet_right p.tuples q.tuples j.2 k.2 vs h
 
-  forms_join_normal : (p q : P) → NormalP p → NormalP q → NormalP (parts_join o p q)
-  forms_join_normal p q j k = (functions-normal_join p.plain.functions q.plain.functions j.0 k.0, cells.join_normal p.cell q.cell j.1 k.1, rows.join_normal p.tuples q.tuples j.2 k.2)
+  shapes_join_normal : (p q : P) → NormalP p → NormalP q → NormalP (parts_join o p q)
+  shapes_join_normal p q j k = (functions-normal_join p.plain.functions q.plain.functions j.0 k.0, cells.join_normal p.cell q.cell j.1 k.1, rows.join_normal p.tuples q.tuples j.2 k.2)
 
-  forms_join_left : (p q : P) → NormalP p → NormalP q → BelowBy HasF p (parts_join o p q)
-  forms_join_left p q j k (leaf x) h = plain-join-left p.plain q.plain x h
-  forms_join_left p q j k (pair x y) h = cells.join_left p.cell q.cell j.1 k.1 (x, y) h
-  forms_join_left p q j k (row vs) h = rows.join_left p.tuples q.tuples j.2 k.2 vs h
+  shapes_join_left : (p q : P) → NormalP p → NormalP q → BelowBy HasF p (parts_join o p q)
+  shapes_join_left p q j k (leaf x) h = plain-join-left p.plain q.plain x h
+  shapes_join_left p q j k (pair x y) h = cells.join_left p.cell q.cell j.1 k.1 (x, y) h
+  shapes_join_left p q j k (row vs) h = rows.join_left p.tuples q.tuples j.2 k.2 vs h
 
-  forms_join_right : (p q : P) → NormalP p → NormalP q → BelowBy HasF q (parts_join o p q)
-  forms_join_right p q j k (leaf x) h = plain-join-right p.plain q.plain x h
-  forms_join_right p q j k (pair x y) h = cells.join_right p.cell q.cell j.1 k.1 (x, y) h
-  forms_join_right p q j k (row vs) h = rows.join_right p.tuples q.tuples j.2 k.2 vs h
+  shapes_join_right : (p q : P) → NormalP p → NormalP q → BelowBy HasF q (parts_join o p q)
+  shapes_join_right p q j k (leaf x) h = plain-join-right p.plain q.plain x h
+  shapes_join_right p q j k (pair x y) h = cells.join_right p.cell q.cell j.1 k.1 (x, y) h
+  shapes_join_right p q j k (row vs) h = rows.join_right p.tuples q.tuples j.2 k.2 vs h
 
-  forms_join_least : (p q u : P) → NormalP p → NormalP q → NormalP u → BelowBy HasF p u → BelowBy HasF q u → BelowBy HasF (parts_join o p q) u
-  forms_join_least p q u i j k f h (leaf x) v = plain-join-least p.plain q.plain u.plain (λ y. f (leaf y)) (λ y. h (leaf y)) x v
-  forms_join_least p q u i j k f h (pair x y) v = cells.join_least p.cell q.cell u.cell i.1 j.1 k.1 (λ c. f (pair c.0 c.1)) (λ c. h (pair c.0 c.1)) (x, y) v
-  forms_join_least p q u i j k f h (row vs) v = rows.join_least p.tuples q.tuples u.tuples i.2 j.2 k.2 (λ ws. f (row ws)) (λ ws. h (row ws)) vs v
+  shapes_join_least : (p q u : P) → NormalP p → NormalP q → NormalP u → BelowBy HasF p u → BelowBy HasF q u → BelowBy HasF (parts_join o p q) u
+  shapes_join_least p q u i j k f h (leaf x) v = plain-join-least p.plain q.plain u.plain (λ y. f (leaf y)) (λ y. h (leaf y)) x v
+  shapes_join_least p q u i j k f h (pair x y) v = cells.join_least p.cell q.cell u.cell i.1 j.1 k.1 (λ c. f (pair c.0 c.1)) (λ c. h (pair c.0 c.1)) (x, y) v
+  shapes_join_least p q u i j k f h (row vs) v = rows.join_least p.tuples q.tuples u.tuples i.2 j.2 k.2 (λ ws. f (row ws)) (λ ws. h (row ws)) vs v
 
-  pub form_lattice : Lattice HasF NormalP (of_plain o plain_none) (parts_meet o) (parts_join o)
-  form_lattice = record {
+  pub shape_lattice : Lattice HasF NormalP (of_plain o plain_none) (parts_meet o) (parts_join o)
+  shape_lattice = record {
     none_normal = (tt, cells.none_normal, rows.none_normal);
-    none_empty = forms_empty;
-    filled = forms_filled;
-    same = forms_same;
-    meet_normal = forms_meet_normal;
-    meet_in = forms_meet_in;
-    meet_left = forms_meet_left;
-    meet_right = forms_meet_right;
-    join_normal = forms_join_normal;
-    join_left = forms_join_left;
-    join_right = forms_join_right;
-    join_least = forms_join_least;
+    none_empty = shapes_empty;
+    filled = shapes_filled;
+    same = shapes_same;
+    meet_normal = shapes_meet_normal;
+    meet_in = shapes_meet_in;
+    meet_left = shapes_meet_left;
+    meet_right = shapes_meet_right;
+    join_normal = shapes_join_normal;
+    join_left = shapes_join_left;
+    join_right = shapes_join_right;
+    join_least = shapes_join_least;
   }
 
   -- ---- the values of a type are those of its forms
 
   pub parts_lattice : Lattice HasP NormalP (of_plain o plain_none) (parts_meet o) (parts_join o)
-  parts_lattice = carried (HasParts Has) (HasForm Has) form value_of_form form-value_of_form (has-form Has) form_lattice
+  parts_lattice = carried (HasParts Has) (HasShape Has) shape value_of_shape shape-value_of_shape (has-shape Has) shape_lattice
 
   -- any has each value
   all_any : (vs : Values) → HasAll Has vs o.any
   all_any no_value = tt
   all_any (and_value v vs) = (l.any_in v, all_any vs)
 
-  forms_any : (x : Form) → HasF x (parts_any o)
-  forms_any (leaf x) = plain-all x
-  forms_any (pair h t) = (all_any (and_value h (heads t)), λ e. absurd (true≢false (sym e)))
-  forms_any (row vs) = tt
+  shapes_any : (x : Shape) → HasF x (parts_any o)
+  shapes_any (leaf x) = plain-all x
+  shapes_any (pair h t) = (all_any (and_value h (heads t)), λ e. absurd (true≢false (sym e)))
+  shapes_any (row vs) = tt
 
   pub any-not_none : o.is_none o.any ≡ false
   any-not_none = elim (decided (o.is_none o.any)) [
@@ -274,10 +274,10 @@ module _ {E : Type 0} {Has : Value → E → Type 0} {Normal : E → Type 0} {o 
   only-found : (p : P) → NormalP p → (xs : List Name) → are_listed xs ≡ true → ((v : Value) → HasP v p → (a : Name) × ((v ≡ atom a) × (has_item name_cmp xs a ≡ true))) → parts_only o p ≡ None → ⊥
   only-found p k xs few f e = elim (is_only_atoms o p) as (λ b. is_only_atoms o p ≡ b → cond b (names.members_of p.plain.atoms) None ≡ None → ⊥) [
     | false ↦ λ r _.
-        let w = other_form p k r in
-        let v = value_of_form w.0 in
-        let t = f v (subst (λ T. T) (sym (has-form Has v p)) (subst (λ x. HasF x p) (sym (form-value_of_form w.0)) w.1.0)) in
-        w.1.1 t.0 (sym (form-value_of_form w.0) ∙ ap form t.1.0)
+        let w = other_shape p k r in
+        let v = value_of_shape w.0 in
+        let t = f v (subst (λ T. T) (sym (has-shape Has v p)) (subst (λ x. HasF x p) (sym (shape-value_of_shape w.0)) w.1.0)) in
+        w.1.1 t.0 (sym (shape-value_of_shape w.0) ∙ ap shape t.1.0)
     | true ↦ λ r q. name_laws.not_listed xs few (λ a. let t = f (atom a) (listed-not p.plain.atoms q a) in subst (λ n. has_item name_cmp xs n ≡ true) (sym (atom_name a t.0 t.1.0)) t.1.1)
   ] refl e
     where
@@ -310,6 +310,6 @@ module _ {E : Type 0} {Has : Value → E → Type 0} {Normal : E → Type 0} {o 
     is_none-none = refl;
     none-is_none = none-is;
     any_normal = (tt, (l.any_normal, any-not_none), tt);
-    any_in = λ v. subst (λ T. T) (sym (has-form Has v (parts_any o))) (forms_any (form v));
+    any_in = λ v. subst (λ T. T) (sym (has-shape Has v (parts_any o))) (shapes_any (shape v));
     naming = parts_naming;
   }

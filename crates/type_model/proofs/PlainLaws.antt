@@ -12,11 +12,11 @@ use Rattle.type_sets.proofs.Truths.{both, first, second, in_first, in_second, ei
 use Rattle.type_sets.proofs.NameLaws as name_laws
 use Rattle.type_sets.proofs.NumberLaws as number_laws
 use Rattle.type_sets.proofs.BitLaws as bit_laws
-use Rattle.type_model.specs.Shapes.{Kind, floats, pids, ports, references, nils, Kinds, Functions, no_function, of_arity, all_functions, Plain}
-use Rattle.type_model.specs.HasType.{has_kind, has_arity}
-use Rattle.type_model.specs.Operations.{no_kinds, all_kinds, kinds_meet, kinds_join, is_no_kind, functions_meet, functions_join, is_no_function, is_no_bits, plain_none, plain_all, plain_meet, plain_join, is_atoms, is_no_plain}
+use Rattle.type_model.specs.Shapes.{Flag, floats, pids, ports, references, nils, maps, Flags, Functions, no_function, of_arity, all_functions, PlainParts}
+use Rattle.type_model.specs.HasType.{has_flag, has_arity}
+use Rattle.type_model.specs.Operations.{no_flags, all_flags, flags_meet, flags_join, is_no_flag, functions_meet, functions_join, is_no_function, is_no_bits, plain_none, plain_all, plain_meet, plain_join, is_atoms, is_no_plain}
 use Rattle.type_model.specs.Normal.{NormalFunctions}
-use Rattle.type_model.specs.Forms.{PlainBelow, Leaf, an_int, an_atom, some_bits, of_kind, a_function, has_leaf}
+use Rattle.type_model.specs.ValueShapes.{PlainBelow, Leaf, an_int, an_atom, some_bits, of_flag, a_function, has_leaf}
 
 -- tests that are true together are equal
 pub same_test : (a b : Bool) → (a ≡ true → b ≡ true) → (b ≡ true → a ≡ true) → a ≡ b
@@ -24,64 +24,70 @@ same_test true b f g = sym (f refl)
 same_test false true f g = g refl
 same_test false false f g = refl
 
--- ---- kinds
+-- ---- flags
 
-pub has_kind-meet : (k l : Kinds) (x : Kind) → has_kind (kinds_meet k l) x ≡ (has_kind k x && has_kind l x)
-has_kind-meet k l floats = refl
-has_kind-meet k l pids = refl
-has_kind-meet k l ports = refl
-has_kind-meet k l references = refl
-has_kind-meet k l nils = refl
+pub has_flag-meet : (k l : Flags) (x : Flag) → has_flag (flags_meet k l) x ≡ (has_flag k x && has_flag l x)
+has_flag-meet k l floats = refl
+has_flag-meet k l pids = refl
+has_flag-meet k l ports = refl
+has_flag-meet k l references = refl
+has_flag-meet k l maps = refl
+has_flag-meet k l nils = refl
 
-pub has_kind-join : (k l : Kinds) (x : Kind) → has_kind (kinds_join k l) x ≡ (has_kind k x || has_kind l x)
-has_kind-join k l floats = refl
-has_kind-join k l pids = refl
-has_kind-join k l ports = refl
-has_kind-join k l references = refl
-has_kind-join k l nils = refl
+pub has_flag-join : (k l : Flags) (x : Flag) → has_flag (flags_join k l) x ≡ (has_flag k x || has_flag l x)
+has_flag-join k l floats = refl
+has_flag-join k l pids = refl
+has_flag-join k l ports = refl
+has_flag-join k l references = refl
+has_flag-join k l maps = refl
+has_flag-join k l nils = refl
 
-pub all_kinds-has : (x : Kind) → has_kind all_kinds x ≡ true
-all_kinds-has floats = refl
-all_kinds-has pids = refl
-all_kinds-has ports = refl
-all_kinds-has references = refl
-all_kinds-has nils = refl
+pub all_flags-has : (x : Flag) → has_flag all_flags x ≡ true
+all_flags-has floats = refl
+all_flags-has pids = refl
+all_flags-has ports = refl
+all_flags-has references = refl
+all_flags-has maps = refl
+all_flags-has nils = refl
 
-pub no_kinds-has : (x : Kind) → has_kind no_kinds x ≡ false
-no_kinds-has floats = refl
-no_kinds-has pids = refl
-no_kinds-has ports = refl
-no_kinds-has references = refl
-no_kinds-has nils = refl
+pub no_flags-has : (x : Flag) → has_flag no_flags x ≡ false
+no_flags-has floats = refl
+no_flags-has pids = refl
+no_flags-has ports = refl
+no_flags-has references = refl
+no_flags-has maps = refl
+no_flags-has nils = refl
 
-pub same_kinds : (k l : Kinds) → ((x : Kind) → has_kind k x ≡ has_kind l x) → k ≡ l
-same_kinds k l f = λ i. record { float = f floats i; pid = f pids i; port = f ports i; reference = f references i; nil = f nils i }
+pub same_flags : (k l : Flags) → ((x : Flag) → has_flag k x ≡ has_flag l x) → k ≡ l
+same_flags k l f = λ i. record { float = f floats i; pid = f pids i; port = f ports i; reference = f references i; nil = f nils i; map = f maps i }
 
--- none of five tests
-either_kind : (a b c d e : Bool) → not (a || b || c || d || e) ≡ true → (a ≡ false) × (b ≡ false) × (c ≡ false) × (d ≡ false) × (e ≡ false)
-either_kind false false false false false h = (refl, refl, refl, refl, refl)
-either_kind true b c d e h = absurd (true≢false (sym h))
-either_kind false true c d e h = absurd (true≢false (sym h))
-either_kind false false true d e h = absurd (true≢false (sym h))
-either_kind false false false true e h = absurd (true≢false (sym h))
-either_kind false false false false true h = absurd (true≢false (sym h))
+-- none of six tests
+either_flag : (a b c d e f : Bool) → not (a || b || c || d || e || f) ≡ true → (a ≡ false) × (b ≡ false) × (c ≡ false) × (d ≡ false) × (e ≡ false) × (f ≡ false)
+either_flag false false false false false false h = (refl, refl, refl, refl, refl, refl)
+either_flag true b c d e f h = absurd (true≢false (sym h))
+either_flag false true c d e f h = absurd (true≢false (sym h))
+either_flag false false true d e f h = absurd (true≢false (sym h))
+either_flag false false false true e f h = absurd (true≢false (sym h))
+either_flag false false false false true f h = absurd (true≢false (sym h))
+either_flag false false false false false true h = absurd (true≢false (sym h))
 
-pub no_kind-is : (k : Kinds) → is_no_kind k ≡ true → k ≡ no_kinds
-no_kind-is k h =
-    let f = either_kind k.float k.pid k.port k.reference k.nil h in
-    λ i. record { float = f.0 i; pid = f.1 i; port = f.2 i; reference = f.3 i; nil = f.4 i }
+pub no_flag-is : (k : Flags) → is_no_flag k ≡ true → k ≡ no_flags
+no_flag-is k h =
+    let f = either_flag k.float k.pid k.port k.reference k.nil k.map h in
+    λ i. record { float = f.0 i; pid = f.1 i; port = f.2 i; reference = f.3 i; nil = f.4 i; map = f.5 i }
 
--- one of five
-some_of : (k : Kinds) (a b c d e : Bool) → k.float ≡ a → k.pid ≡ b → k.port ≡ c → k.reference ≡ d → k.nil ≡ e → not (a || b || c || d || e) ≡ false → (x : Kind) × (has_kind k x ≡ true)
-some_of k true b c d e p q r s t h = (floats, p)
-some_of k false true c d e p q r s t h = (pids, q)
-some_of k false false true d e p q r s t h = (ports, r)
-some_of k false false false true e p q r s t h = (references, s)
-some_of k false false false false true p q r s t h = (nils, t)
-some_of k false false false false false p q r s t h = absurd (true≢false h)
+-- one of six
+some_of : (k : Flags) (a b c d e f : Bool) → k.float ≡ a → k.pid ≡ b → k.port ≡ c → k.reference ≡ d → k.nil ≡ e → k.map ≡ f → not (a || b || c || d || e || f) ≡ false → (x : Flag) × (has_flag k x ≡ true)
+some_of k true b c d e f p q r s t u h = (floats, p)
+some_of k false true c d e f p q r s t u h = (pids, q)
+some_of k false false true d e f p q r s t u h = (ports, r)
+some_of k false false false true e f p q r s t u h = (references, s)
+some_of k false false false false true f p q r s t u h = (nils, t)
+some_of k false false false false false true p q r s t u h = (maps, u)
+some_of k false false false false false false p q r s t u h = absurd (true≢false h)
 
-pub some_kind : (k : Kinds) → is_no_kind k ≡ false → (x : Kind) × (has_kind k x ≡ true)
-some_kind k h = some_of k k.float k.pid k.port k.reference k.nil refl refl refl refl refl h
+pub some_flag : (k : Flags) → is_no_flag k ≡ false → (x : Flag) × (has_flag k x ≡ true)
+some_flag k h = some_of k k.float k.pid k.port k.reference k.nil k.map refl refl refl refl refl refl h
 
 -- ---- functions
 
@@ -190,85 +196,85 @@ some_length Any h = (0, refl)
 
 -- ---- all of them
 
-pub plain-meet : (p q : Plain) (x : Leaf) → has_leaf (plain_meet p q) x ≡ (has_leaf p x && has_leaf q x)
+pub plain-meet : (p q : PlainParts) (x : Leaf) → has_leaf (plain_meet p q) x ≡ (has_leaf p x && has_leaf q x)
 plain-meet p q (an_int n) = number_laws.has-meet p.ints q.ints n
 plain-meet p q (an_atom a) = name_laws.has-meet p.atoms q.atoms a
 plain-meet p q (some_bits n) = bit_laws.has-meet p.bits q.bits n
-plain-meet p q (of_kind k) = has_kind-meet p.kinds q.kinds k
+plain-meet p q (of_flag k) = has_flag-meet p.flags q.flags k
 plain-meet p q (a_function n) = has_arity-meet p.functions q.functions n
 
-pub plain-join-left : (p q : Plain) → PlainBelow p (plain_join p q)
+pub plain-join-left : (p q : PlainParts) → PlainBelow p (plain_join p q)
 plain-join-left p q (an_int n) h = number_laws.join-left p.ints q.ints n h
 plain-join-left p q (an_atom a) h = name_laws.join-left p.atoms q.atoms a h
 plain-join-left p q (some_bits n) h = bit_laws.join-left p.bits q.bits n h
-plain-join-left p q (of_kind k) h = has_kind-join p.kinds q.kinds k ∙ in_first (has_kind p.kinds k) (has_kind q.kinds k) h
+plain-join-left p q (of_flag k) h = has_flag-join p.flags q.flags k ∙ in_first (has_flag p.flags k) (has_flag q.flags k) h
 plain-join-left p q (a_function n) h = functions_join-left p.functions q.functions n h
 
-pub plain-join-right : (p q : Plain) → PlainBelow q (plain_join p q)
+pub plain-join-right : (p q : PlainParts) → PlainBelow q (plain_join p q)
 plain-join-right p q (an_int n) h = number_laws.join-right p.ints q.ints n h
 plain-join-right p q (an_atom a) h = name_laws.join-right p.atoms q.atoms a h
 plain-join-right p q (some_bits n) h = bit_laws.join-right p.bits q.bits n h
-plain-join-right p q (of_kind k) h = has_kind-join p.kinds q.kinds k ∙ in_second (has_kind p.kinds k) (has_kind q.kinds k) h
+plain-join-right p q (of_flag k) h = has_flag-join p.flags q.flags k ∙ in_second (has_flag p.flags k) (has_flag q.flags k) h
 plain-join-right p q (a_function n) h = functions_join-right p.functions q.functions n h
 
-pub plain-join-least : (p q u : Plain) → PlainBelow p u → PlainBelow q u → PlainBelow (plain_join p q) u
+pub plain-join-least : (p q u : PlainParts) → PlainBelow p u → PlainBelow q u → PlainBelow (plain_join p q) u
 plain-join-least p q u f g (an_int n) h = number_laws.join-least p.ints q.ints u.ints (λ m. f (an_int m)) (λ m. g (an_int m)) n h
 plain-join-least p q u f g (an_atom a) h = name_laws.join-least p.atoms q.atoms u.atoms (λ b. f (an_atom b)) (λ b. g (an_atom b)) a h
 plain-join-least p q u f g (some_bits n) h = bit_laws.join-least p.bits q.bits u.bits (λ m. f (some_bits m)) (λ m. g (some_bits m)) n h
-plain-join-least p q u f g (of_kind k) h = elim (either (has_kind p.kinds k) (has_kind q.kinds k) (sym (has_kind-join p.kinds q.kinds k) ∙ h)) [ inl x ↦ f (of_kind k) x | inr x ↦ g (of_kind k) x ]
+plain-join-least p q u f g (of_flag k) h = elim (either (has_flag p.flags k) (has_flag q.flags k) (sym (has_flag-join p.flags q.flags k) ∙ h)) [ inl x ↦ f (of_flag k) x | inr x ↦ g (of_flag k) x ]
 plain-join-least p q u f g (a_function n) h = functions_join-least p.functions q.functions u.functions (λ m. f (a_function m)) (λ m. g (a_function m)) n h
 
 -- sets of the same values are one
-pub plain-same : (p q : Plain) → PlainBelow p q → PlainBelow q p → p ≡ q
+pub plain-same : (p q : PlainParts) → PlainBelow p q → PlainBelow q p → p ≡ q
 plain-same p q f g =
     let a = name_laws.same_names p.atoms q.atoms (λ x. f (an_atom x)) (λ x. g (an_atom x)) in
     let b = number_laws.same_numbers p.ints q.ints (λ x. f (an_int x)) (λ x. g (an_int x)) in
     let c = bit_laws.same_bits p.bits q.bits (λ x. f (some_bits x)) (λ x. g (some_bits x)) in
-    let d = same_kinds p.kinds q.kinds (λ k. same_test (has_kind p.kinds k) (has_kind q.kinds k) (f (of_kind k)) (g (of_kind k))) in
+    let d = same_flags p.flags q.flags (λ k. same_test (has_flag p.flags k) (has_flag q.flags k) (f (of_flag k)) (g (of_flag k))) in
     let e = same_functions p.functions q.functions (λ x. f (a_function x)) (λ x. g (a_function x)) in
-    λ i. record { atoms = a i; ints = b i; bits = c i; kinds = d i; functions = e i }
+    λ i. record { atoms = a i; ints = b i; bits = c i; flags = d i; functions = e i }
 
 pub plain-all : (x : Leaf) → has_leaf plain_all x ≡ true
 plain-all (an_int n) = refl
 plain-all (an_atom a) = refl
 plain-all (some_bits n) = refl
-plain-all (of_kind k) = all_kinds-has k
+plain-all (of_flag k) = all_flags-has k
 plain-all (a_function n) = refl
 
 pub plain-none_empty : (x : Leaf) → has_leaf plain_none x ≡ true → ⊥
 plain-none_empty (an_int n) h = true≢false (sym h)
 plain-none_empty (an_atom a) h = true≢false (sym h)
 plain-none_empty (some_bits n) h = true≢false (sym h)
-plain-none_empty (of_kind k) h = true≢false (sym h ∙ no_kinds-has k)
+plain-none_empty (of_flag k) h = true≢false (sym h ∙ no_flags-has k)
 plain-none_empty (a_function n) h = true≢false (sym h)
 
 -- ---- atoms and nothing else
 
-abbrev pub atoms_alone : names.Names → Plain
-atoms_alone s = record { atoms = s; ints = numbers.none; bits = No; kinds = no_kinds; functions = no_function }
+abbrev pub atoms_alone : names.Names → PlainParts
+atoms_alone s = record { atoms = s; ints = numbers.none; bits = No; flags = no_flags; functions = no_function }
 
-pub is_atoms-only : (p : Plain) → is_atoms p ≡ true → p ≡ atoms_alone p.atoms
+pub is_atoms-only : (p : PlainParts) → is_atoms p ≡ true → p ≡ atoms_alone p.atoms
 is_atoms-only p h =
     let x = numbers.is_none p.ints in
     let y = is_no_bits p.bits in
-    let z = is_no_kind p.kinds in
+    let z = is_no_flag p.flags in
     let w = is_no_function p.functions in
     let xyz : (x && y && z) ≡ true = first (x && y && z) w h in
     let xy : (x && y) ≡ true = first (x && y) z xyz in
     let b = number_laws.is_none-is p.ints (first x y xy) in
     let c = no_bits-is p.bits (second x y xy) in
-    let d = no_kind-is p.kinds (second (x && y) z xyz) in
+    let d = no_flag-is p.flags (second (x && y) z xyz) in
     let e = no_function-is p.functions (second (x && y && z) w h) in
-    λ i. record { atoms = p.atoms; ints = b i; bits = c i; kinds = d i; functions = e i }
+    λ i. record { atoms = p.atoms; ints = b i; bits = c i; flags = d i; functions = e i }
 
 -- what isn't atoms alone has a value that is no atom
-pub is_atoms-other : (p : Plain) → is_atoms p ≡ false → (x : Leaf) × ((has_leaf p x ≡ true) × ((a : Name) → x ≡ an_atom a → ⊥))
+pub is_atoms-other : (p : PlainParts) → is_atoms p ≡ false → (x : Leaf) × ((has_leaf p x ≡ true) × ((a : Name) → x ≡ an_atom a → ⊥))
 is_atoms-other p h = elim (decided (numbers.is_none p.ints)) [
   | inr k ↦ let n = number_laws.has_some p.ints k in (an_int n.0, (n.1, λ a e. cc))
   | inl k ↦ elim (decided (is_no_bits p.bits)) [
     | inr l ↦ let n = some_length p.bits l in (some_bits n.0, (n.1, λ a e. cc))
-    | inl l ↦ elim (decided (is_no_kind p.kinds)) [
-      | inr m ↦ let n = some_kind p.kinds m in (of_kind n.0, (n.1, λ a e. cc))
+    | inl l ↦ elim (decided (is_no_flag p.flags)) [
+      | inr m ↦ let n = some_flag p.flags m in (of_flag n.0, (n.1, λ a e. cc))
       | inl m ↦ elim (decided (is_no_function p.functions)) [
         | inr o ↦ let n = some_arity p.functions o in (a_function n.0, (n.1, λ a e. cc))
         | inl o ↦ absurd (true≢false (sym (all_four k l m o) ∙ h))
@@ -276,17 +282,17 @@ is_atoms-other p h = elim (decided (numbers.is_none p.ints)) [
     ]
   ]
 ] where
-  all_four : numbers.is_none p.ints ≡ true → is_no_bits p.bits ≡ true → is_no_kind p.kinds ≡ true → is_no_function p.functions ≡ true → is_atoms p ≡ true
+  all_four : numbers.is_none p.ints ≡ true → is_no_bits p.bits ≡ true → is_no_flag p.flags ≡ true → is_no_function p.functions ≡ true → is_atoms p ≡ true
   all_four k l m o =
       let x = numbers.is_none p.ints in
       let y = is_no_bits p.bits in
-      let z = is_no_kind p.kinds in
+      let z = is_no_flag p.flags in
       let w = is_no_function p.functions in
       both (x && y && z) w (both (x && y) z (both x y k l) m) o
 
 -- ---- nothing at all
 
-pub plain-none_is : (p : Plain) → is_no_plain p ≡ true → p ≡ plain_none
+pub plain-none_is : (p : PlainParts) → is_no_plain p ≡ true → p ≡ plain_none
 plain-none_is p h =
     is_atoms-only p (second (names.is_none p.atoms) (is_atoms p) h)
     ∙ ap atoms_alone (name_laws.is_none-is p.atoms (first (names.is_none p.atoms) (is_atoms p) h))
@@ -295,7 +301,7 @@ pub is_no_plain-none : is_no_plain plain_none ≡ true
 is_no_plain-none = refl
 
 -- what isn't nothing has a value
-pub plain-filled : (p : Plain) → is_no_plain p ≡ false → (x : Leaf) × (has_leaf p x ≡ true)
+pub plain-filled : (p : PlainParts) → is_no_plain p ≡ false → (x : Leaf) × (has_leaf p x ≡ true)
 plain-filled p h = elim (decided (names.is_none p.atoms)) [
   | inr k ↦ let a = name_laws.has_some p.atoms k in (an_atom a.0, a.1)
   | inl k ↦ elim (decided (is_atoms p)) [

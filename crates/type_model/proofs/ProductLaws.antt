@@ -18,7 +18,7 @@ use Rattle.type_model.specs.Normal.{NormalRow, NormalBody, NormalAt}
 use Rattle.type_model.specs.Cut.{body_lower, tuples_lower, parts_lower, cut}
 use Rattle.type_model.specs.Parts.{AreNormal, product_of, tuple_at}
 use Rattle.type_model.specs.Laws.{BelowBy, Laws, Lowering}
-use Rattle.type_model.specs.Forms.{an_int, an_atom}
+use Rattle.type_model.specs.ValueShapes.{an_int, an_atom}
 use Rattle.type_model.proofs.TableLaws.{find-mapped, find-all_hold}
 use Rattle.type_model.proofs.PlainLaws.{plain-none_empty}
 use Rattle.type_model.proofs.RowLaws.{count_each}

@@ -20,13 +20,13 @@ use Rattle.type_sets.proofs.NumberHeights as number_heights
 use Rattle.type_sets.proofs.BitHeights as bit_heights
 use Rattle.type_model.specs.Values.{Value, nil, cons, tuple}
 use Rattle.type_model.specs.Tables.{keys, is_table, find}
-use Rattle.type_model.specs.Shapes.{Kind, floats, pids, ports, references, nils, Kinds, Functions, no_function, of_arity, all_functions, Plain, Cell, Body, product, tags, Tuples, sizes, all_tuples, Parts, TypeAt}
-use Rattle.type_model.specs.HasType.{has_kind, has_arity, HasRow, HasCell, HasBody, HasTuple, HasParts, HasAt}
+use Rattle.type_model.specs.Shapes.{Flag, floats, pids, ports, references, nils, maps, Flags, Functions, no_function, of_arity, all_functions, PlainParts, Cell, Body, product, tags, Tuples, sizes, all_tuples, Parts, TypeAt}
+use Rattle.type_model.specs.HasType.{has_flag, has_arity, HasRow, HasCell, HasBody, HasTuple, HasParts, HasAt}
 use Rattle.type_model.specs.Operations.{Ops, row_at, ops}
 use Rattle.type_model.specs.Normal.{AreElements, NormalCell, NormalRow, NormalRows, NormalTags, NormalBody, NormalSizes, NormalTuples, NormalParts, NormalAt}
 use Rattle.type_model.specs.Laws.{BelowBy, Laws}
-use Rattle.type_model.specs.Forms.{PlainBelow, an_int, an_atom, some_bits, of_kind, a_function, leaf, value_of_form, form-value_of_form, HasForm, has-form}
-use Rattle.type_model.specs.Ranks.{kinds_rank, functions_rank, plain_rank, cell_rank, row_rank, tags_rank, body_rank, sizes_rank, most_body, tuples_rank, parts_rank, most_parts, most_at, rank, FallsAt}
+use Rattle.type_model.specs.ValueShapes.{PlainBelow, an_int, an_atom, some_bits, of_flag, a_function, leaf, value_of_shape, shape-value_of_shape, HasShape, has-shape}
+use Rattle.type_model.specs.Ranks.{flags_rank, functions_rank, plain_rank, cell_rank, row_rank, tags_rank, body_rank, sizes_rank, most_body, tuples_rank, parts_rank, most_parts, most_at, rank, FallsAt}
 use Rattle.type_model.proofs.TableLaws as tables
 use Rattle.type_model.proofs.TableLaws.{EachEntry, some-none}
 use Rattle.type_model.proofs.CellLaws.{value_of, cell-below}
@@ -94,14 +94,15 @@ lower-test true false f = absurd (true≢false (sym (f refl)))
 lower-test false true f = lower-less (omega arith)
 lower-test false false f = lower-same refl
 
-kinds-lower : (k l : Kinds) → ((x : Kind) → has_kind k x ≡ true → has_kind l x ≡ true) → Lower (kinds_rank k) (kinds_rank l) k l
-kinds-lower k l f =
+flags-lower : (k l : Flags) → ((x : Flag) → has_flag k x ≡ true → has_flag l x ≡ true) → Lower (flags_rank k) (flags_rank l) k l
+flags-lower k l f =
     let a = lower-test k.float l.float (f floats) in
     let b = lower-test k.pid l.pid (f pids) in
     let c = lower-test k.port l.port (f ports) in
     let d = lower-test k.reference l.reference (f references) in
     let e = lower-test k.nil l.nil (f nils) in
-    lower-of (λ p. record { float = p.0.0.0.0; pid = p.0.0.0.1; port = p.0.0.1; reference = p.0.1; nil = p.1 }) (lower-both (lower-both (lower-both (lower-both a b) c) d) e)
+    let g = lower-test k.map l.map (f maps) in
+    lower-of (λ p. record { float = p.0.0.0.0.0; pid = p.0.0.0.0.1; port = p.0.0.0.1; reference = p.0.0.1; nil = p.0.1; map = p.1 }) (lower-both (lower-both (lower-both (lower-both (lower-both a b) c) d) e) g)
 
 functions-lower : (f g : Functions) → ((n : ℕ) → has_arity f n ≡ true → has_arity g n ≡ true) → Lower (functions_rank f) (functions_rank g) f g
 functions-lower no_function no_function h = lower-same refl
@@ -114,14 +115,14 @@ functions-lower all_functions no_function h = absurd (true≢false (sym (h 0 ref
 functions-lower all_functions (of_arity k) h = absurd (omega (arith, eqb-true k (suc k) (h (suc k) refl)))
 functions-lower all_functions all_functions h = lower-same refl
 
-plain-lower : (p q : Plain) → PlainBelow p q → Lower (plain_rank p) (plain_rank q) p q
+plain-lower : (p q : PlainParts) → PlainBelow p q → Lower (plain_rank p) (plain_rank q) p q
 plain-lower p q f =
     let a = lower-height names.height p.atoms q.atoms (name_heights.height-lower p.atoms q.atoms (λ x. f (an_atom x))) in
     let b = lower-height numbers.height p.ints q.ints (number_heights.height-lower p.ints q.ints (λ x. f (an_int x))) in
     let c = lower-height bit_lengths.height p.bits q.bits (bit_heights.height-lower p.bits q.bits (λ x. f (some_bits x))) in
-    let d = kinds-lower p.kinds q.kinds (λ x. f (of_kind x)) in
+    let d = flags-lower p.flags q.flags (λ x. f (of_flag x)) in
     let e = functions-lower p.functions q.functions (λ x. f (a_function x)) in
-    lower-of (λ p. record { atoms = p.0.0.0.0; ints = p.0.0.0.1; bits = p.0.0.1; kinds = p.0.1; functions = p.1 }) (lower-both (lower-both (lower-both (lower-both a b) c) d) e)
+    lower-of (λ p. record { atoms = p.0.0.0.0; ints = p.0.0.0.1; bits = p.0.0.1; flags = p.0.1; functions = p.1 }) (lower-both (lower-both (lower-both (lower-both a b) c) d) e)
 
 test-most : (b : Bool) → cond b 1 0 ≤ 1
 test-most true = omega arith
@@ -132,16 +133,17 @@ functions-most no_function = omega arith
 functions-most (of_arity n) = omega arith
 functions-most all_functions = omega arith
 
-plain-most : (p : Plain) → plain_rank p ≤ 41
+plain-most : (p : PlainParts) → plain_rank p ≤ 42
 plain-most p =
     let a = name_heights.height-most p.atoms in
     let b = number_heights.height-most p.ints in
     let c = bit_heights.height-most p.bits in
-    let d = test-most p.kinds.float in
-    let e = test-most p.kinds.pid in
-    let f = test-most p.kinds.port in
-    let g = test-most p.kinds.reference in
-    let h = test-most p.kinds.nil in
+    let d = test-most p.flags.float in
+    let e = test-most p.flags.pid in
+    let f = test-most p.flags.port in
+    let g = test-most p.flags.reference in
+    let h = test-most p.flags.nil in
+    let k = test-most p.flags.map in
     let j = functions-most p.functions in
     omega arith
 
@@ -369,9 +371,9 @@ module _ {E : Type 0} {Has : Value → E → Type 0} {Normal : E → Type 0} {o 
 
   leaf_below : (p q : Parts E) → BelowBy (HasParts Has) p q → PlainBelow p.plain q.plain
   leaf_below p q f x h =
-      let v = value_of_form (leaf x) in
-      let there : HasParts Has v p = subst (λ T. T) (sym (has-form Has v p)) (subst (λ g. HasForm Has g p) (sym (form-value_of_form (leaf x))) h) in
-      subst (λ g. HasForm Has g q) (form-value_of_form (leaf x)) (subst (λ T. T) (has-form Has v q) (f v there))
+      let v = value_of_shape (leaf x) in
+      let there : HasParts Has v p = subst (λ T. T) (sym (has-shape Has v p)) (subst (λ g. HasShape Has g p) (sym (shape-value_of_shape (leaf x))) h) in
+      subst (λ g. HasShape Has g q) (shape-value_of_shape (leaf x)) (subst (λ T. T) (has-shape Has v q) (f v there))
 
   pub next_ranked : Ranked (HasParts Has) (NormalParts Normal o) (parts_rank rank_of most) (most_parts rank_of most)
   next_ranked = record {

@@ -5,16 +5,17 @@ use Rattle.type_sets.specs.Names as names
 use Rattle.type_sets.specs.Names.{Name, name_cmp}
 use Rattle.type_sets.specs.Numbers as numbers
 use Rattle.type_sets.specs.BitLengths as bit_lengths
-use Rattle.type_model.specs.Values.{Value, int, atom, bits, float, pid, port, reference, nil, cons, tuple, closure, external, foreign, Values, no_value, and_value, count, heads, end_of}
+use Rattle.type_model.specs.Values.{Value, int, atom, bits, float, pid, port, reference, nil, cons, tuple, map, closure, external, foreign, Values, no_value, and_value, count, heads, end_of}
 use Rattle.type_model.specs.Tables.{find}
-use Rattle.type_model.specs.Shapes.{Kind, floats, pids, ports, references, nils, Kinds, Functions, no_function, of_arity, all_functions, Cell, Body, product, tags, Tuples, sizes, all_tuples, Parts, TypeAt}
+use Rattle.type_model.specs.Shapes.{Flag, floats, pids, ports, references, nils, maps, Flags, Functions, no_function, of_arity, all_functions, Cell, Body, product, tags, Tuples, sizes, all_tuples, Parts, TypeAt}
 
-abbrev pub has_kind : Kinds → Kind → Bool
-has_kind k floats = k.float
-has_kind k pids = k.pid
-has_kind k ports = k.port
-has_kind k references = k.reference
-has_kind k nils = k.nil
+abbrev pub has_flag : Flags → Flag → Bool
+has_flag k floats = k.float
+has_flag k pids = k.pid
+has_flag k ports = k.port
+has_flag k references = k.reference
+has_flag k maps = k.map
+has_flag k nils = k.nil
 
 -- whether functions of this arity are among them
 abbrev pub has_arity : Functions → ℕ → Bool
@@ -63,11 +64,12 @@ module _ {E : Type 0} (Has : Value → E → Type 0) where
   HasParts (int n) p = numbers.has p.plain.ints n ≡ true
   HasParts (atom a) p = names.has p.plain.atoms a ≡ true
   HasParts (bits bs) p = bit_lengths.has p.plain.bits (length bs) ≡ true
-  HasParts (float s) p = p.plain.kinds.float ≡ true
-  HasParts (pid n) p = p.plain.kinds.pid ≡ true
-  HasParts (port n) p = p.plain.kinds.port ≡ true
-  HasParts (reference n) p = p.plain.kinds.reference ≡ true
-  HasParts nil p = p.plain.kinds.nil ≡ true
+  HasParts (float s) p = p.plain.flags.float ≡ true
+  HasParts (pid n) p = p.plain.flags.pid ≡ true
+  HasParts (port n) p = p.plain.flags.port ≡ true
+  HasParts (reference n) p = p.plain.flags.reference ≡ true
+  HasParts (map ps) p = p.plain.flags.map ≡ true
+  HasParts nil p = p.plain.flags.nil ≡ true
   HasParts (cons h t) p = HasCell (h, t) p.cell
   HasParts (tuple vs) p = HasTuple vs p.tuples
   HasParts (closure m l n env) p = has_arity p.plain.functions n ≡ true

@@ -1,4 +1,5 @@
 pub mod Values
+pub mod Canonical
 pub mod Tables
 pub mod Shapes
 pub mod HasType
@@ -8,5 +9,5 @@ pub mod Cut
 pub mod Elements
 pub mod Parts
 pub mod Laws
-pub mod Forms
+pub mod ValueShapes
 pub mod Ranks

@@ -9,24 +9,24 @@ use Rattle.type_sets.specs.BitLengths as bit_lengths
 use Rattle.type_sets.specs.declared.bits.Bits.{Bits}
 use Rattle.type_sets.specs.declared.bits.Bits.TheVariants.{No, Whole, Any}
 use Rattle.type_model.specs.Tables.{keys, held, all_hold, chosen, find, united}
-use Rattle.type_model.specs.Shapes.{Kinds, Functions, no_function, of_arity, all_functions, Plain, Cell, Body, product, tags, Tuples, sizes, all_tuples, Parts, TypeAt}
+use Rattle.type_model.specs.Shapes.{Flags, Functions, no_function, of_arity, all_functions, PlainParts, Cell, Body, product, tags, Tuples, sizes, all_tuples, Parts, TypeAt}
 
 -- ---- the parts that hold no other values
 
-abbrev pub no_kinds : Kinds
-no_kinds = record { float = false; pid = false; port = false; reference = false; nil = false }
+abbrev pub no_flags : Flags
+no_flags = record { float = false; pid = false; port = false; reference = false; nil = false; map = false }
 
-abbrev pub all_kinds : Kinds
-all_kinds = record { float = true; pid = true; port = true; reference = true; nil = true }
+abbrev pub all_flags : Flags
+all_flags = record { float = true; pid = true; port = true; reference = true; nil = true; map = true }
 
-abbrev pub kinds_meet : Kinds → Kinds → Kinds
-kinds_meet k l = record { float = k.float && l.float; pid = k.pid && l.pid; port = k.port && l.port; reference = k.reference && l.reference; nil = k.nil && l.nil }
+abbrev pub flags_meet : Flags → Flags → Flags
+flags_meet k l = record { float = k.float && l.float; pid = k.pid && l.pid; port = k.port && l.port; reference = k.reference && l.reference; nil = k.nil && l.nil; map = k.map && l.map }
 
-abbrev pub kinds_join : Kinds → Kinds → Kinds
-kinds_join k l = record { float = k.float || l.float; pid = k.pid || l.pid; port = k.port || l.port; reference = k.reference || l.reference; nil = k.nil || l.nil }
+abbrev pub flags_join : Flags → Flags → Flags
+flags_join k l = record { float = k.float || l.float; pid = k.pid || l.pid; port = k.port || l.port; reference = k.reference || l.reference; nil = k.nil || l.nil; map = k.map || l.map }
 
-abbrev pub is_no_kind : Kinds → Bool
-is_no_kind k = not (k.float || k.pid || k.port || k.reference || k.nil)
+abbrev pub is_no_flag : Flags → Bool
+is_no_flag k = not (k.float || k.pid || k.port || k.reference || k.nil || k.map)
 
 abbrev pub functions_meet : Functions → Functions → Functions
 functions_meet no_function g = no_function
@@ -52,23 +52,23 @@ is_no_bits No = true
 is_no_bits Whole = false
 is_no_bits Any = false
 
-abbrev pub plain_none : Plain
-plain_none = record { atoms = names.none; ints = numbers.none; bits = No; kinds = no_kinds; functions = no_function }
+abbrev pub plain_none : PlainParts
+plain_none = record { atoms = names.none; ints = numbers.none; bits = No; flags = no_flags; functions = no_function }
 
-abbrev pub plain_all : Plain
-plain_all = record { atoms = names.every; ints = numbers.all; bits = Any; kinds = all_kinds; functions = all_functions }
+abbrev pub plain_all : PlainParts
+plain_all = record { atoms = names.every; ints = numbers.all; bits = Any; flags = all_flags; functions = all_functions }
 
-abbrev pub plain_meet : Plain → Plain → Plain
-plain_meet p q = record { atoms = names.meet p.atoms q.atoms; ints = numbers.meet p.ints q.ints; bits = bit_lengths.meet p.bits q.bits; kinds = kinds_meet p.kinds q.kinds; functions = functions_meet p.functions q.functions }
+abbrev pub plain_meet : PlainParts → PlainParts → PlainParts
+plain_meet p q = record { atoms = names.meet p.atoms q.atoms; ints = numbers.meet p.ints q.ints; bits = bit_lengths.meet p.bits q.bits; flags = flags_meet p.flags q.flags; functions = functions_meet p.functions q.functions }
 
-abbrev pub plain_join : Plain → Plain → Plain
-plain_join p q = record { atoms = names.join p.atoms q.atoms; ints = numbers.join p.ints q.ints; bits = bit_lengths.join p.bits q.bits; kinds = kinds_join p.kinds q.kinds; functions = functions_join p.functions q.functions }
+abbrev pub plain_join : PlainParts → PlainParts → PlainParts
+plain_join p q = record { atoms = names.join p.atoms q.atoms; ints = numbers.join p.ints q.ints; bits = bit_lengths.join p.bits q.bits; flags = flags_join p.flags q.flags; functions = functions_join p.functions q.functions }
 
 -- whether there is nothing but atoms, and whether there is nothing at all
-abbrev pub is_atoms : Plain → Bool
-is_atoms p = numbers.is_none p.ints && is_no_bits p.bits && is_no_kind p.kinds && is_no_function p.functions
+abbrev pub is_atoms : PlainParts → Bool
+is_atoms p = numbers.is_none p.ints && is_no_bits p.bits && is_no_flag p.flags && is_no_function p.functions
 
-abbrev pub is_no_plain : Plain → Bool
+abbrev pub is_no_plain : PlainParts → Bool
 is_no_plain p = names.is_none p.atoms && is_atoms p
 
 -- ---- types
@@ -213,11 +213,11 @@ module _ {E : Type 0} (o : Ops E) where
   is_only_atoms p = is_atoms p.plain && no_cell p.cell && no_tuples p.tuples
 
   -- some plain values and nothing else
-  abbrev pub of_plain : Plain → Parts E
+  abbrev pub of_plain : PlainParts → Parts E
   of_plain p = record { plain = p; cell = None; tuples = sizes [] }
 
   abbrev pub of_atoms : Names → Parts E
-  of_atoms s = of_plain (record { atoms = s; ints = numbers.none; bits = No; kinds = no_kinds; functions = no_function })
+  of_atoms s = of_plain (record { atoms = s; ints = numbers.none; bits = No; flags = no_flags; functions = no_function })
 
   abbrev pub parts_any : Parts E
   parts_any = record { plain = plain_all; cell = Some (record { element = o.any; is_proper = false }); tuples = all_tuples }

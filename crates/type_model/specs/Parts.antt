@@ -6,7 +6,7 @@ use Rattle.type_sets.specs.Numbers as numbers
 use Rattle.type_sets.specs.declared.bits.Bits.TheVariants.{No}
 use Rattle.type_model.specs.Values.{Value, Values, no_value, and_value}
 use Rattle.type_model.specs.Tables.{find}
-use Rattle.type_model.specs.Shapes.{Kinds, Plain, no_function, Cell, Tuples, sizes, all_tuples, Parts, TypeAt}
+use Rattle.type_model.specs.Shapes.{Flags, PlainParts, no_function, Cell, Tuples, sizes, all_tuples, Parts, TypeAt}
 use Rattle.type_model.specs.Operations.{Ops, plain_none, plain_all, is_no_plain, is_empty, has_none, body_of, elements, no_tuples, of_plain, ops}
 use Rattle.type_model.specs.Cut.{cut}
 
@@ -15,11 +15,11 @@ abbrev pub proper_cell : {E : Type 0} → Option (Cell E) → Bool
 proper_cell None = true
 proper_cell (Some c) = c.is_proper
 
-abbrev pub without_nil : Plain → Plain
-without_nil p = record { atoms = p.atoms; ints = p.ints; bits = p.bits; kinds = record { float = p.kinds.float; pid = p.kinds.pid; port = p.kinds.port; reference = p.kinds.reference; nil = false }; functions = p.functions }
+abbrev pub without_nil : PlainParts → PlainParts
+without_nil p = record { atoms = p.atoms; ints = p.ints; bits = p.bits; flags = record { float = p.flags.float; pid = p.flags.pid; port = p.flags.port; reference = p.flags.reference; nil = false; map = p.flags.map }; functions = p.functions }
 
-abbrev pub kinds_of_nil : Kinds
-kinds_of_nil = record { float = false; pid = false; port = false; reference = false; nil = true }
+abbrev pub flags_of_nil : Flags
+flags_of_nil = record { float = false; pid = false; port = false; reference = false; nil = true; map = false }
 
 module _ {E : Type 0} (o : Ops E) where
   -- the tuples whose elements are of these types, one level up
@@ -50,7 +50,7 @@ module _ {E : Type 0} (o : Ops E) where
   tail_parts None = of_plain o plain_none
   tail_parts (Some c) =
       record {
-        plain = cond c.is_proper (record { atoms = names.none; ints = numbers.none; bits = No; kinds = kinds_of_nil; functions = no_function }) plain_all;
+        plain = cond c.is_proper (record { atoms = names.none; ints = numbers.none; bits = No; flags = flags_of_nil; functions = no_function }) plain_all;
         cell = Some c;
         tuples = cond c.is_proper (sizes []) all_tuples;
       }

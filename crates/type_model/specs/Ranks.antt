@@ -4,7 +4,7 @@ use Rattle.type_sets.specs.Names as names
 use Rattle.type_sets.specs.Names.{Name}
 use Rattle.type_sets.specs.Numbers as numbers
 use Rattle.type_sets.specs.BitLengths as bit_lengths
-use Rattle.type_model.specs.Shapes.{Kinds, Functions, no_function, of_arity, all_functions, Plain, Cell, Body, product, tags, Tuples, sizes, all_tuples, Parts, TypeAt}
+use Rattle.type_model.specs.Shapes.{Flags, Functions, no_function, of_arity, all_functions, PlainParts, Cell, Body, product, tags, Tuples, sizes, all_tuples, Parts, TypeAt}
 use Rattle.type_model.specs.HasType.{HasAt}
 use Rattle.type_model.specs.Normal.{NormalAt}
 use Rattle.type_model.specs.Laws.{BelowBy}
@@ -12,16 +12,16 @@ use Rattle.type_model.specs.Laws.{BelowBy}
 abbrev one_if : Bool → ℕ
 one_if b = cond b 1 0
 
-abbrev pub kinds_rank : Kinds → ℕ
-kinds_rank k = one_if k.float + one_if k.pid + one_if k.port + one_if k.reference + one_if k.nil
+abbrev pub flags_rank : Flags → ℕ
+flags_rank k = one_if k.float + one_if k.pid + one_if k.port + one_if k.reference + one_if k.nil + one_if k.map
 
 abbrev pub functions_rank : Functions → ℕ
 functions_rank no_function = 0
 functions_rank (of_arity n) = 1
 functions_rank all_functions = 2
 
-abbrev pub plain_rank : Plain → ℕ
-plain_rank p = names.height p.atoms + numbers.height p.ints + bit_lengths.height p.bits + kinds_rank p.kinds + functions_rank p.functions
+abbrev pub plain_rank : PlainParts → ℕ
+plain_rank p = names.height p.atoms + numbers.height p.ints + bit_lengths.height p.bits + flags_rank p.flags + functions_rank p.functions
 
 -- of a level whose elements have these ranks, of which none is above `most`
 module _ {E : Type 0} (rank_of : E → ℕ) (most : ℕ) where
@@ -59,7 +59,7 @@ module _ {E : Type 0} (rank_of : E → ℕ) (most : ℕ) where
   parts_rank p = plain_rank p.plain + cell_rank p.cell + tuples_rank p.tuples
 
   abbrev pub most_parts : ℕ
-  most_parts = 41 + (2 + most) + (1 + 8 * (1 + most_body))
+  most_parts = 42 + (2 + most) + (1 + 8 * (1 + most_body))
 
 -- the highest rank of a level, and the rank of a type
 unfoldable pub most_at : ℕ → ℕ

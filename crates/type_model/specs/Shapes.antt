@@ -6,21 +6,23 @@ use Rattle.type_sets.specs.Names.{Name, Names}
 use Rattle.type_sets.specs.Numbers.{Numbers}
 use Rattle.type_sets.specs.declared.bits.Bits.{Bits}
 
--- the kinds of values of which a type has all or none
-pub data Kind : Type 0 where
-  floats : Kind
-  pids : Kind
-  ports : Kind
-  references : Kind
-  nils : Kind
+-- the parts of a type that are no or yes: of each of these a type has all values or none
+pub data Flag : Type 0 where
+  floats : Flag
+  pids : Flag
+  ports : Flag
+  references : Flag
+  nils : Flag
+  maps : Flag
 
--- for each such kind, whether the type has it
-pub record Kinds : Type 0 where
+-- whether the type has each of them
+pub record Flags : Type 0 where
   pub float : Bool
   pub pid : Bool
   pub port : Bool
   pub reference : Bool
   pub nil : Bool
+  pub map : Bool
 
 -- no functions, those of one arity, or all
 pub data Functions : Type 0 where
@@ -29,11 +31,11 @@ pub data Functions : Type 0 where
   all_functions : Functions
 
 -- the values that hold no others
-pub record Plain : Type 0 where
+pub record PlainParts : Type 0 where
   pub atoms : Names
   pub ints : Numbers
   pub bits : Bits
-  pub kinds : Kinds
+  pub flags : Flags
   pub functions : Functions
 
 -- the lists that aren't empty: all their heads are in the element type; where the ends are proper there is nil at the end,
@@ -54,7 +56,7 @@ pub data Tuples (E : Type 0) : Type 0 where
   all_tuples : Tuples E
 
 pub record Parts (E : Type 0) : Type 0 where
-  pub plain : Plain
+  pub plain : PlainParts
   pub cell : Option (Cell E)
   pub tuples : Tuples E
 

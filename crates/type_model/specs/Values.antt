@@ -22,7 +22,9 @@ mutual
     nil : Value
     cons : (head tail : Value) → Value
     tuple : (vs : Values) → Value
-    -- a `fun` of a module, by its label and arity, with what stood round it when it was made
+    -- a map, by its pairs of a key and a value; in a value of a run the keys ascend strictly (`Canonical.antt`)
+    map : (ps : Pairs) → Value
+    -- a `fun` of a module, by its label and arity, with the captured environment
     closure : (home : Name) (label arity : ℕ) (env : Env) → Value
     -- an exported function
     external : (home : Name) (name : Name) (arity : ℕ) → Value
@@ -33,7 +35,12 @@ mutual
     no_value : Values
     and_value : (v : Value) (vs : Values) → Values
 
-  -- the variables and the functions of `letrec`s round a place, the innermost first
+  -- the pairs of a map
+  pub data Pairs : Type 0 where
+    no_pair : Pairs
+    and_pair : (key value : Value) (ps : Pairs) → Pairs
+
+  -- the variables and the functions of the `letrec`s that enclose a place, the innermost first
   pub data Env : Type 0 where
     no_variable : Env
     and_variable : (x : Name) (v : Value) (env : Env) → Env

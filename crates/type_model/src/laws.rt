@@ -3,7 +3,8 @@
 ghost use Rattle.std.specs.Prelude.{◌≡◌, ◌↔◌, ◌≤◌, ◌<◌, ◌-◌, ℕ, pos, suc, Bool, true, false, List, Some, nat_lt, length, map};
 ghost use Rattle.type_sets.specs.Numbers as numbers;
 ghost use Rattle.type_sets.specs.Numbers.{Numbers};
-ghost use Rattle.type_model.specs.Values.{Value, Values, and_value, nil, cons, tuple, heads, end_of, count};
+ghost use Rattle.type_model.specs.Values.{Value, Values, and_value, Pairs, nil, cons, tuple, map as map_value, heads, end_of, count};
+ghost use Rattle.type_model.specs.Canonical.{spelled, IsCanonical, HoldsPair, PairsBelow};
 ghost use Rattle.type_model.specs.Shapes.{TypeAt};
 ghost use Rattle.type_model.specs.HasType.{HasAt, HasAll, HasEach};
 ghost use Rattle.type_model.specs.Operations.{ops};
@@ -77,4 +78,14 @@ pub fn rank_laws()
     ensures lower { (d : ℕ) (s t : TypeAt d) → NormalAt d s → NormalAt d t → BelowBy (HasAt d) s t → (s ≡ t → ⊥) → rank d s < rank d t }
     ensures bound { (d n : ℕ) (t : TypeAt d) → NormalAt d t → FallsAt d n t → n ≤ rank d t }
     ensures most { (d : ℕ) (t : TypeAt d) → NormalAt d t → rank d t ≤ most_at d }
+{}
+
+/// Canonical values. A value is told by its spelling, by which values are ordered. A map is told by
+/// its pairs, and has one value at each key. What each canonical value of a type meets, each of its
+/// values meets: canonical values tell types apart as well as all values do.
+pub fn value_laws()
+    ensures spelled { (v w : Value) → spelled v ≡ spelled w → v ≡ w }
+    ensures maps { (ps qs : Pairs) → IsCanonical (map_value ps) → IsCanonical (map_value qs) → PairsBelow ps qs → PairsBelow qs ps → map_value ps ≡ map_value qs }
+    ensures keys { (ps : Pairs) → IsCanonical (map_value ps) → (k v w : Value) → HoldsPair ps k v → HoldsPair ps k w → v ≡ w }
+    ensures below { (d : ℕ) (s t : TypeAt d) → ((v : Value) → IsCanonical v → HasAt d v s → HasAt d v t) → BelowBy (HasAt d) s t }
 {}

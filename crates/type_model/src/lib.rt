@@ -5,4 +5,4 @@
 
 mod laws;
 
-pub use laws::{cut_laws, element_laws, list_laws, rank_laws, tuple_laws, type_laws};
+pub use laws::{cut_laws, element_laws, list_laws, rank_laws, tuple_laws, type_laws, value_laws};

@@ -1,4 +1,4 @@
-//! Forty types and sixty values: what the calls on types answer, against membership.
+//! Forty-four types and sixty-four values: what the calls on types answer, against membership.
 use crate::values::values;
 use std::alloc::Global;
 use type_kinds::{List, Memory};
@@ -6,7 +6,7 @@ use type_lattice::Ty;
 use type_meaning::{Value, value_in};
 use type_text::{TextFault, read};
 
-const TYPES: [&[u8]; 40] = [
+const TYPES: [&[u8]; 44] = [
     b"none()",
     b"any()",
     b"atom()",
@@ -23,6 +23,8 @@ const TYPES: [&[u8]; 40] = [
     b"binary()",
     b"bitstring()",
     b"pid() | port() | reference()",
+    b"map()",
+    b"'a' | map()",
     b"fun()",
     b"fun(1)",
     b"fun(2) | []",
@@ -32,6 +34,8 @@ const TYPES: [&[u8]; 40] = [
     b"cons_any(integer(0..255))",
     b"[] | cons_any(any())",
     b"cons(cons('a'))",
+    b"[] | cons(map())",
+    b"{map(),integer()}",
     b"tuple()",
     b"{}",
     b"{any()}",
@@ -98,7 +102,7 @@ fn agrees(alloc: Global, s: &Ty, types: &[Ty], values: &[Value]) -> Result<bool,
 fn calls_agree_with_membership(rt: HostRuntime) -> Result<(), TextFault> {
     let alloc = rt.alloc();
     let values = values(alloc)?;
-    assert_eq!(rt; values.len(), 60);
+    assert_eq!(rt; values.len(), 64);
     let types = types(alloc)?;
     for s in types.as_slice() {
         assert!(rt; agrees(alloc, s, types.as_slice(), values.as_slice())?);

@@ -102,12 +102,30 @@ fn add_tuples(alloc: Global, values: &mut List<Value>) -> Result<(), Memory> {
     put(values, one(alloc, other)?)
 }
 
-/// Sixty values, of each kind.
+fn map(alloc: Global, key: Value, value: Value) -> Result<Value, Memory> {
+    let mut pairs = List::new(alloc);
+    match pairs.push((key, value)) {
+        Ok(()) => Ok(Value::Map(pairs)),
+        Err(_) => Err(Memory),
+    }
+}
+
+fn add_maps(alloc: Global, values: &mut List<Value>) -> Result<(), Memory> {
+    put(values, Value::Map(List::new(alloc)))?;
+    put(values, map(alloc, atom(alloc, b"a")?, Value::Int(1))?)?;
+    let inner = map(alloc, Value::Int(1), Value::Nil)?;
+    put(values, two(alloc, inner, Value::Int(1))?)?;
+    let last = map(alloc, Value::Map(List::new(alloc)), Value::Nil)?;
+    put(values, cons(alloc, last, Value::Nil)?)
+}
+
+/// Sixty-four values, of each kind.
 pub fn values(alloc: Global) -> Result<List<Value>, Memory> {
     let mut values = List::new(alloc);
     add_numbers(&mut values)?;
     add_names(alloc, &mut values)?;
     add_lists(alloc, &mut values)?;
     add_tuples(alloc, &mut values)?;
+    add_maps(alloc, &mut values)?;
     Ok(values)
 }

@@ -2,6 +2,7 @@
 use std::alloc::Global;
 use type_kinds::{List, Memory};
 use type_lattice::{Ends, Kind, Ty};
+use type_meaning::{Value, value_in};
 use type_text::{TextFault, print, read};
 
 fn is(alloc: Global, t: &Ty, text: &[u8]) -> Result<bool, Memory> {
@@ -90,7 +91,7 @@ fn wide(alloc: Global, size: usize) -> Result<Ty, Memory> {
 #[test]
 fn texts_are_read_back(rt: HostRuntime) -> Result<(), TextFault> {
     let alloc = rt.alloc();
-    let texts: [&[u8]; 24] = [
+    let texts: [&[u8]; 26] = [
         b"none()",
         b"any()",
         b"atom()",
@@ -103,6 +104,7 @@ fn texts_are_read_back(rt: HostRuntime) -> Result<(), TextFault> {
         b"integer(1..max)",
         b"'ok' | 1",
         b"float() | binary() | pid() | port() | reference() | fun(3) | []",
+        b"reference() | map() | fun(3)",
         b"bitstring()",
         b"fun()",
         b"fun(4294967295)",
@@ -113,6 +115,7 @@ fn texts_are_read_back(rt: HostRuntime) -> Result<(), TextFault> {
         b"{any(),'a' | 1}",
         b"{'error',integer()} | {'ok',any()}",
         b"{} | {'a'} | {'b'} | {atom(),float()}",
+        b"{'ok',map()}",
         b"{{{'b'}}}",
         b"cons({'a',cons(1 | {any()})})",
     ];
@@ -125,7 +128,7 @@ fn texts_are_read_back(rt: HostRuntime) -> Result<(), TextFault> {
 #[test]
 fn other_texts_are_of_no_type(rt: HostRuntime) {
     let alloc = rt.alloc();
-    let texts: [&[u8]; 26] = [
+    let texts: [&[u8]; 29] = [
         b"",
         b" 'ok'",
         b"'ok' ",
@@ -145,6 +148,9 @@ fn other_texts_are_of_no_type(rt: HostRuntime) {
         b"1 | 2 | 3 | 4 | 5 | 6 | 7 | 8 | 9 | 10 | 11 | 12 | 13 | 14",
         b"fun(4294967296)",
         b"fun(1) | fun(2)",
+        b"map() | reference()",
+        b"fun() | map()",
+        b"map(1)",
         b"none() | 1",
         b"{none()}",
         b"{'a' | 'b'}",
@@ -161,7 +167,7 @@ fn other_texts_are_of_no_type(rt: HostRuntime) {
 #[test]
 fn joins(rt: HostRuntime) -> Result<(), TextFault> {
     let alloc = rt.alloc();
-    let rows: [(&[u8], &[u8], &[u8]); 12] = [
+    let rows: [(&[u8], &[u8], &[u8]); 13] = [
         (
             b"'a' | 'b' | 'c' | 'd' | 'e' | 'f' | 'g' | 'h' | 'i' | 'j' | 'k' | 'l'",
             b"'m'",
@@ -194,6 +200,7 @@ fn joins(rt: HostRuntime) -> Result<(), TextFault> {
         (b"integer(1..255)", b"0", b"integer(0..255)"),
         (b"cons(1)", b"cons_any('a')", b"cons_any('a' | 1)"),
         (b"{any()}", b"none()", b"{any()}"),
+        (b"map()", b"reference() | []", b"reference() | map() | []"),
     ];
     for (a, b, c) in rows {
         assert!(rt; join_is(alloc, a, b, c)?);
@@ -251,7 +258,7 @@ fn heads_and_tails(rt: HostRuntime) -> Result<(), TextFault> {
         tail_is(
             alloc,
             b"cons_any(1)",
-            b"atom() | integer() | float() | bitstring() | pid() | port() | reference() | fun() | [] | cons_any(1) | tuple()"
+            b"atom() | integer() | float() | bitstring() | pid() | port() | reference() | map() | fun() | [] | cons_any(1) | tuple()"
         )?
     );
     Ok(())
@@ -307,5 +314,30 @@ fn cuts(rt: HostRuntime) -> Result<(), TextFault> {
     for (t, level, cut) in rows {
         assert!(rt; cut_is(alloc, t, level, cut)?);
     }
+    Ok(())
+}
+
+#[test]
+fn maps(rt: HostRuntime) -> Result<(), TextFault> {
+    let alloc = rt.alloc();
+    let mut pairs = List::new(alloc);
+    let Ok(()) = pairs.push((Value::Int(1), Value::Nil)) else {
+        return Err(TextFault::Memory);
+    };
+    let map = Value::Map(pairs);
+    let every = Ty::kind(alloc, Kind::Map);
+    assert!(rt; is(alloc, &every, b"map()")?);
+    assert!(rt; value_in(&map, &every));
+    assert!(rt; value_in(&map, &Ty::any()));
+    assert!(rt; !value_in(&Value::Nil, &every));
+    // Every part but `map()`.
+    let others = read(
+        alloc,
+        b"atom() | integer() | float() | bitstring() | pid() | port() | reference() | fun() | [] | cons_any(any()) | tuple()",
+    )?;
+    assert!(rt; !value_in(&map, &others));
+    let all = others.join(alloc, &every)?;
+    assert!(rt; is(alloc, &all, b"any()")?);
+    assert!(rt; others.meet(alloc, &every)?.is_none());
     Ok(())
 }

@@ -12,7 +12,7 @@ use Rattle.type_sets.specs.declared.ends.High.TheVariants as high
 use Rattle.type_sets.specs.declared.bits.Bits.{Bits}
 use Rattle.type_sets.specs.declared.bits.Bits.TheVariants.{No, Whole, Any}
 use Rattle.type_sets.proofs.Truths.{first, second, is_false}
-use Rattle.type_model.specs.Shapes.{Functions, no_function, of_arity, all_functions, Plain, Cell, Tuples, sizes, all_tuples, TypeAt}
+use Rattle.type_model.specs.Shapes.{Functions, no_function, of_arity, all_functions, PlainParts, Cell, Tuples, sizes, all_tuples, TypeAt}
 use Rattle.type_model.specs.Operations.{ops, plain_all}
 use Rattle.type_model.specs.Normal.{NormalAt}
 use Rattle.type_trees.specs.declared.node.Node.{Node, out-Node}
@@ -74,25 +74,27 @@ functions_all no_function h = absurd (true≢false (sym h))
 functions_all (of_arity n) h = absurd (true≢false (sym h))
 functions_all all_functions h = refl
 
-plain_is_all : (p : Plain) → is_all_plain p ≡ true → p ≡ plain_all
+plain_is_all : (p : PlainParts) → is_all_plain p ≡ true → p ≡ plain_all
 plain_is_all p h =
-    let references = first _ p.kinds.nil h in
-    let ports = first _ p.kinds.reference references in
-    let pids = first _ p.kinds.port ports in
-    let floats = first _ p.kinds.pid pids in
-    let functions = first _ p.kinds.float floats in
+    let nils = first _ p.flags.map h in
+    let references = first _ p.flags.nil nils in
+    let ports = first _ p.flags.reference references in
+    let pids = first _ p.flags.port ports in
+    let floats = first _ p.flags.pid pids in
+    let functions = first _ p.flags.float floats in
     let bits = first _ (is_all_functions p.functions) functions in
     let ints = first _ (is_all_bits p.bits) bits in
     λ i. record {
       atoms = atoms_all p.atoms (first (is_all_atoms p.atoms) (is_all_ints p.ints) ints) i;
       ints = ints_all p.ints (second (is_all_atoms p.atoms) (is_all_ints p.ints) ints) i;
       bits = bits_all p.bits (second _ (is_all_bits p.bits) bits) i;
-      kinds = record {
-        float = second _ p.kinds.float floats i;
-        pid = second _ p.kinds.pid pids i;
-        port = second _ p.kinds.port ports i;
-        reference = second _ p.kinds.reference references i;
-        nil = second _ p.kinds.nil h i;
+      flags = record {
+        float = second _ p.flags.float floats i;
+        pid = second _ p.flags.pid pids i;
+        port = second _ p.flags.port ports i;
+        reference = second _ p.flags.reference references i;
+        nil = second _ p.flags.nil nils i;
+        map = second _ p.flags.map h i;
       };
       functions = functions_all p.functions (second _ (is_all_functions p.functions) functions) i;
     }

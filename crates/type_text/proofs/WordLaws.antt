@@ -21,21 +21,21 @@ use Rattle.type_sets.proofs.NameLaws as name_laws
 use Rattle.type_sets.proofs.NumberLaws as number_laws
 use Rattle.type_model.specs.Values.{Value, atom, Values, no_value, and_value, count}
 use Rattle.type_model.specs.Tables.{is_table, find}
-use Rattle.type_model.specs.Shapes.{floats, pids, ports, references, nils, Kinds, Functions, no_function, of_arity, all_functions, Plain, Cell, Body, product, tags, Tuples, sizes, all_tuples, Parts, TypeAt}
+use Rattle.type_model.specs.Shapes.{floats, pids, ports, references, nils, maps, Flags, Functions, no_function, of_arity, all_functions, PlainParts, Cell, Body, product, tags, Tuples, sizes, all_tuples, Parts, TypeAt}
 use Rattle.type_model.specs.HasType.{HasEach, HasRow, HasTag, HasBody, HasTuple}
-use Rattle.type_model.specs.Operations.{Ops, no_kinds, plain_none, body_of, of_plain, of_atoms, parts_is_none, parts_join, ops}
+use Rattle.type_model.specs.Operations.{Ops, no_flags, plain_none, body_of, of_plain, of_atoms, parts_is_none, parts_join, ops}
 use Rattle.type_model.specs.Normal.{NormalFunctions, IsElement, AreElements, NormalCell, NormalRow, NormalRows, NormalBody, NormalSizes, NormalTuples, NormalParts, NormalAt}
 use Rattle.type_model.specs.Laws.{BelowBy, Lattice, Laws}
-use Rattle.type_model.specs.Forms.{an_int, an_atom, some_bits, of_kind, a_function, Form, leaf, pair, row, HasForm}
-use Rattle.type_model.proofs.PlainLaws.{no_kinds-has, plain-none_empty}
+use Rattle.type_model.specs.ValueShapes.{an_int, an_atom, some_bits, of_flag, a_function, Shape, leaf, pair, row, HasShape}
+use Rattle.type_model.proofs.PlainLaws.{no_flags-has, plain-none_empty}
 use Rattle.type_model.proofs.CellLaws.{filled-not_none}
 use Rattle.type_model.proofs.RowLaws.{count_each}
 use Rattle.type_model.proofs.BodyLaws.{tagged, body_of_in, body_of_out, body_of_normal, count_body}
 use Rattle.type_model.proofs.TableLaws as tables
-use Rattle.type_model.proofs.PartsLaws.{form_lattice}
+use Rattle.type_model.proofs.PartsLaws.{shape_lattice}
 use Rattle.type_model.proofs.LevelLaws.{level_laws}
 use Rattle.type_text.specs.Texts.{separated, word_if, atom_words, range_word, int_words, bits_words, function_words, plain_words, cell_words, tuple_word, tag_words, body_words, size_words, tuples_words, parts_words, is_any, text_at}
-use Rattle.type_text.specs.WordTypes.{float_kind, pid_kind, port_kind, reference_kind, nil_kind, of_ints, of_bits, of_kinds, of_functions, of_cell, of_list, of_tuples, of_row, IsWordOf, one_atom, every_atom, one_int, ints_between, every_float, whole_bits, every_bits, every_pid, every_port, every_reference, every_function, one_arity, empty_list, proper_list, any_list, every_tuple, one_tuple, IsWord, AreWordsOf, spelled, joined_with, WordsOf}
+use Rattle.type_text.specs.WordTypes.{float_flag, pid_flag, port_flag, reference_flag, map_flag, nil_flag, of_ints, of_bits, of_flags, of_functions, of_cell, of_list, of_tuples, of_row, IsWordOf, one_atom, every_atom, one_int, ints_between, every_float, whole_bits, every_bits, every_pid, every_port, every_reference, every_map, every_function, one_arity, empty_list, proper_list, any_list, every_tuple, one_tuple, IsWord, AreWordsOf, spelled, joined_with, WordsOf}
 
 -- ---- a type joined with others, one after the other
 
@@ -102,8 +102,8 @@ module _ {E : Type 0} {Has : Value → E → Type 0} {Normal : E → Type 0} {o 
   abbrev P : Type 0
   P = Parts E
 
-  abbrev HasF : Form → P → Type 0
-  HasF = HasForm Has
+  abbrev HasF : Shape → P → Type 0
+  HasF = HasShape Has
 
   abbrev Pairs : Type 0
   Pairs = List (List ℕ × P)
@@ -136,27 +136,27 @@ module _ {E : Type 0} {Has : Value → E → Type 0} {Normal : E → Type 0} {o 
 
   -- ---- words whose types together have certain forms, and no others
 
-  record Spelled (ws : List (List ℕ)) (F : Form → Type 0) : Type 0 where
+  record Spelled (ws : List (List ℕ)) (F : Shape → Type 0) : Type 0 where
     pairs : Pairs
     words : Words pairs
     same : spelled pairs ≡ ws
-    out : (f : Form) → SomeHas HasF f pairs → F f
-    into : (f : Form) → F f → SomeHas HasF f pairs
+    out : (f : Shape) → SomeHas HasF f pairs → F f
+    into : (f : Shape) → F f → SomeHas HasF f pairs
 
   words-append : (ps qs : Pairs) → Words ps → Words qs → Words (ps ++ qs)
   words-append [] qs j k = k
   words-append (p ∷ ps) qs j k = (j.0, words-append ps qs j.1 k)
 
-  nothing : (F : Form → Type 0) → ((f : Form) → F f → ⊥) → Spelled [] F
+  nothing : (F : Shape → Type 0) → ((f : Shape) → F f → ⊥) → Spelled [] F
   nothing F empty = record { pairs = []; words = tt; same = refl; out = λ f h. absurd h; into = λ f h. absurd (empty f h) }
 
   one : (w : List ℕ) (u : P) → Word w u → Spelled (w ∷ []) (λ f. HasF f u)
   one w u k = record { pairs = (w, u) ∷ []; words = (k, tt); same = refl; out = λ f h. elim h [ inl x ↦ x | inr x ↦ absurd x ]; into = λ f h. inl h }
 
-  changed : {ws : List (List ℕ)} {F : Form → Type 0} (G : Form → Type 0) → Spelled ws F → ((f : Form) → F f → G f) → ((f : Form) → G f → F f) → Spelled ws G
+  changed : {ws : List (List ℕ)} {F : Shape → Type 0} (G : Shape → Type 0) → Spelled ws F → ((f : Shape) → F f → G f) → ((f : Shape) → G f → F f) → Spelled ws G
   changed G s out into = record { pairs = s.pairs; words = s.words; same = s.same; out = λ f h. out f (s.out f h); into = λ f h. s.into f (into f h) }
 
-  append : {vs ws : List (List ℕ)} {F G : Form → Type 0} → Spelled vs F → Spelled ws G → Spelled (vs ++ ws) (λ f. F f ⊎ G f)
+  append : {vs ws : List (List ℕ)} {F G : Shape → Type 0} → Spelled vs F → Spelled ws G → Spelled (vs ++ ws) (λ f. F f ⊎ G f)
   append s t = record {
     pairs = s.pairs ++ t.pairs;
     words = words-append s.pairs t.pairs s.words t.words;
@@ -165,25 +165,25 @@ module _ {E : Type 0} {Has : Value → E → Type 0} {Normal : E → Type 0} {o 
     into = λ f h. elim h [ inl x ↦ some-left HasF f s.pairs t.pairs (s.into f x) | inr x ↦ some-right HasF f s.pairs t.pairs (t.into f x) ];
   }
 
-  no_form : (f : Form) → HasF f (of_plain o plain_none) → ⊥
-  no_form f h = (form_lattice l).none_empty f h
+  no_shape : (f : Shape) → HasF f (of_plain o plain_none) → ⊥
+  no_shape f h = (shape_lattice l).none_empty f h
 
   -- ---- atoms
 
-  abbrev IsAtom : (Name → Bool) → Form → Type 0
+  abbrev IsAtom : (Name → Bool) → Shape → Type 0
   IsAtom s f = (q : Name) × ((f ≡ leaf (an_atom q)) × (s q ≡ true))
 
-  atom-out : (s : Names) (f : Form) → HasF f (of_atoms o s) → IsAtom (names.has s) f
+  atom-out : (s : Names) (f : Shape) → HasF f (of_atoms o s) → IsAtom (names.has s) f
   atom-out s (leaf (an_atom a)) h = (a, (refl, h))
-  atom-out s (leaf (of_kind k)) h = absurd (true≢false (sym h ∙ no_kinds-has k))
+  atom-out s (leaf (of_flag k)) h = absurd (true≢false (sym h ∙ no_flags-has k))
   atom-out s (leaf x) h = absurd (true≢false (sym h))
   atom-out s (pair x y) h = absurd h
   atom-out s (row vs) h = absurd h
 
-  atom-in : (s : Names) (f : Form) → IsAtom (names.has s) f → HasF f (of_atoms o s)
+  atom-in : (s : Names) (f : Shape) → IsAtom (names.has s) f → HasF f (of_atoms o s)
   atom-in s f h = subst (λ g. HasF g (of_atoms o s)) (sym h.1.0) h.1.1
 
-  abbrev OneAtom : Name → Form → Type 0
+  abbrev OneAtom : Name → Shape → Type 0
   OneAtom x f = HasF f (of_atoms o (names.listed (x ∷ [])))
 
   -- each listed atom is a word
@@ -192,14 +192,14 @@ module _ {E : Type 0} {Has : Value → E → Type 0} {Normal : E → Type 0} {o 
   listed_atoms (x ∷ xs) =
       changed (IsAtom (has_item name_cmp (x ∷ xs))) (append (one (quoted x) (of_atoms o (names.listed (x ∷ []))) (one_atom x)) (listed_atoms xs)) out into
     where
-      out : (f : Form) → OneAtom x f ⊎ IsAtom (has_item name_cmp xs) f → IsAtom (has_item name_cmp (x ∷ xs)) f
+      out : (f : Shape) → OneAtom x f ⊎ IsAtom (has_item name_cmp xs) f → IsAtom (has_item name_cmp (x ∷ xs)) f
       out f (inl h) =
           let t = atom-out (names.listed (x ∷ [])) f h in
           let it = (name_laws.has-one x t.0).0 t.1.1 in
           (t.0, (t.1.0, in_first (eq_by_cmp name_cmp t.0 x) (has_item name_cmp xs t.0) (ap (λ q. eq_by_cmp name_cmp q x) it ∙ ascending.itself name_laws.name_total name_laws.name_same x)))
       out f (inr h) = (h.0, (h.1.0, in_second (eq_by_cmp name_cmp h.0 x) (has_item name_cmp xs h.0) h.1.1))
 
-      into : (f : Form) → IsAtom (has_item name_cmp (x ∷ xs)) f → OneAtom x f ⊎ IsAtom (has_item name_cmp xs) f
+      into : (f : Shape) → IsAtom (has_item name_cmp (x ∷ xs)) f → OneAtom x f ⊎ IsAtom (has_item name_cmp xs) f
       into f h = elim (either (eq_by_cmp name_cmp h.0 x) (has_item name_cmp xs h.0) h.1.1) [
         | inl e ↦ inl (atom-in (names.listed (x ∷ [])) f (h.0, (h.1.0, (name_laws.has-one x h.0).1 (ascending.is_it name_laws.name_total name_laws.name_same h.0 x e))))
         | inr e ↦ inr (h.0, (h.1.0, e))
@@ -212,20 +212,20 @@ module _ {E : Type 0} {Has : Value → E → Type 0} {Normal : E → Type 0} {o 
 
   -- ---- integers
 
-  abbrev IsInt : (ℤ → Bool) → Form → Type 0
+  abbrev IsInt : (ℤ → Bool) → Shape → Type 0
   IsInt s f = (n : ℤ) × ((f ≡ leaf (an_int n)) × (s n ≡ true))
 
-  int-out : (s : Numbers) (f : Form) → HasF f (of_ints o s) → IsInt (numbers.has s) f
+  int-out : (s : Numbers) (f : Shape) → HasF f (of_ints o s) → IsInt (numbers.has s) f
   int-out s (leaf (an_int n)) h = (n, (refl, h))
-  int-out s (leaf (of_kind k)) h = absurd (true≢false (sym h ∙ no_kinds-has k))
+  int-out s (leaf (of_flag k)) h = absurd (true≢false (sym h ∙ no_flags-has k))
   int-out s (leaf x) h = absurd (true≢false (sym h))
   int-out s (pair x y) h = absurd h
   int-out s (row vs) h = absurd h
 
-  int-in : (s : Numbers) (f : Form) → IsInt (numbers.has s) f → HasF f (of_ints o s)
+  int-in : (s : Numbers) (f : Shape) → IsInt (numbers.has s) f → HasF f (of_ints o s)
   int-in s f h = subst (λ g. HasF g (of_ints o s)) (sym h.1.0) h.1.1
 
-  abbrev OneInt : ℤ → Form → Type 0
+  abbrev OneInt : ℤ → Shape → Type 0
   OneInt x f = HasF f (of_ints o (numbers.listed (x ∷ [])))
 
   -- each listed integer is a word
@@ -237,14 +237,14 @@ module _ {E : Type 0} {Has : Value → E → Type 0} {Normal : E → Type 0} {o 
       narrow : is_narrow x ≡ true
       narrow = first (is_narrow x) (list_all is_narrow xs) k
 
-      out : (f : Form) → OneInt x f ⊎ IsInt (has_item int_cmp xs) f → IsInt (has_item int_cmp (x ∷ xs)) f
+      out : (f : Shape) → OneInt x f ⊎ IsInt (has_item int_cmp xs) f → IsInt (has_item int_cmp (x ∷ xs)) f
       out f (inl h) =
           let t = int-out (numbers.listed (x ∷ [])) f h in
           let it = (number_laws.has-one x t.0 narrow).0 t.1.1 in
           (t.0, (t.1.0, in_first (eq_by_cmp int_cmp t.0 x) (has_item int_cmp xs t.0) (ap (λ q. eq_by_cmp int_cmp q x) it ∙ ascending.itself int_cmp_total int_cmp-IsAntisymmetric x)))
       out f (inr h) = (h.0, (h.1.0, in_second (eq_by_cmp int_cmp h.0 x) (has_item int_cmp xs h.0) h.1.1))
 
-      into : (f : Form) → IsInt (has_item int_cmp (x ∷ xs)) f → OneInt x f ⊎ IsInt (has_item int_cmp xs) f
+      into : (f : Shape) → IsInt (has_item int_cmp (x ∷ xs)) f → OneInt x f ⊎ IsInt (has_item int_cmp xs) f
       into f h = elim (either (eq_by_cmp int_cmp h.0 x) (has_item int_cmp xs h.0) h.1.1) [
         | inl e ↦ inl (int-in (numbers.listed (x ∷ [])) f (h.0, (h.1.0, (number_laws.has-one x h.0 narrow).1 (ascending.is_it int_cmp_total int_cmp-IsAntisymmetric h.0 x e))))
         | inr e ↦ inr (h.0, (h.1.0, e))
@@ -259,163 +259,178 @@ module _ {E : Type 0} {Has : Value → E → Type 0} {Normal : E → Type 0} {o 
 
   -- ---- the other values that hold none
 
-  abbrev kinds_if : Bool → Bool → Bool → Bool → Bool → Kinds
-  kinds_if a b c d e = record { float = a; pid = b; port = c; reference = d; nil = e }
+  abbrev flags_if : Bool → Bool → Bool → Bool → Bool → Bool → Flags
+  flags_if a b c d e f = record { float = a; pid = b; port = c; reference = d; nil = e; map = f }
 
-  floats_spelled : (b : Bool) → Spelled (word_if b (codes "float()")) (λ f. HasF f (of_kinds o (kinds_if b false false false false)))
-  floats_spelled true = one (codes "float()") (of_kinds o float_kind) every_float
-  floats_spelled false = nothing (λ f. HasF f (of_kinds o no_kinds)) no_form
+  floats_spelled : (b : Bool) → Spelled (word_if b (codes "float()")) (λ f. HasF f (of_flags o (flags_if b false false false false false)))
+  floats_spelled true = one (codes "float()") (of_flags o float_flag) every_float
+  floats_spelled false = nothing (λ f. HasF f (of_flags o no_flags)) no_shape
 
-  pids_spelled : (b : Bool) → Spelled (word_if b (codes "pid()")) (λ f. HasF f (of_kinds o (kinds_if false b false false false)))
-  pids_spelled true = one (codes "pid()") (of_kinds o pid_kind) every_pid
-  pids_spelled false = nothing (λ f. HasF f (of_kinds o no_kinds)) no_form
+  pids_spelled : (b : Bool) → Spelled (word_if b (codes "pid()")) (λ f. HasF f (of_flags o (flags_if false b false false false false)))
+  pids_spelled true = one (codes "pid()") (of_flags o pid_flag) every_pid
+  pids_spelled false = nothing (λ f. HasF f (of_flags o no_flags)) no_shape
 
-  ports_spelled : (b : Bool) → Spelled (word_if b (codes "port()")) (λ f. HasF f (of_kinds o (kinds_if false false b false false)))
-  ports_spelled true = one (codes "port()") (of_kinds o port_kind) every_port
-  ports_spelled false = nothing (λ f. HasF f (of_kinds o no_kinds)) no_form
+  ports_spelled : (b : Bool) → Spelled (word_if b (codes "port()")) (λ f. HasF f (of_flags o (flags_if false false b false false false)))
+  ports_spelled true = one (codes "port()") (of_flags o port_flag) every_port
+  ports_spelled false = nothing (λ f. HasF f (of_flags o no_flags)) no_shape
 
-  references_spelled : (b : Bool) → Spelled (word_if b (codes "reference()")) (λ f. HasF f (of_kinds o (kinds_if false false false b false)))
-  references_spelled true = one (codes "reference()") (of_kinds o reference_kind) every_reference
-  references_spelled false = nothing (λ f. HasF f (of_kinds o no_kinds)) no_form
+  references_spelled : (b : Bool) → Spelled (word_if b (codes "reference()")) (λ f. HasF f (of_flags o (flags_if false false false b false false)))
+  references_spelled true = one (codes "reference()") (of_flags o reference_flag) every_reference
+  references_spelled false = nothing (λ f. HasF f (of_flags o no_flags)) no_shape
 
-  nils_spelled : (b : Bool) → Spelled (word_if b (codes "[]")) (λ f. HasF f (of_kinds o (kinds_if false false false false b)))
-  nils_spelled true = one (codes "[]") (of_kinds o nil_kind) empty_list
-  nils_spelled false = nothing (λ f. HasF f (of_kinds o no_kinds)) no_form
+  maps_spelled : (b : Bool) → Spelled (word_if b (codes "map()")) (λ f. HasF f (of_flags o (flags_if false false false false false b)))
+  maps_spelled true = one (codes "map()") (of_flags o map_flag) every_map
+  maps_spelled false = nothing (λ f. HasF f (of_flags o no_flags)) no_shape
+
+  nils_spelled : (b : Bool) → Spelled (word_if b (codes "[]")) (λ f. HasF f (of_flags o (flags_if false false false false b false)))
+  nils_spelled true = one (codes "[]") (of_flags o nil_flag) empty_list
+  nils_spelled false = nothing (λ f. HasF f (of_flags o no_flags)) no_shape
 
   bits_spelled : (s : Bits) → Spelled (bits_words s) (λ f. HasF f (of_bits o s))
-  bits_spelled No = nothing (λ f. HasF f (of_bits o No)) no_form
+  bits_spelled No = nothing (λ f. HasF f (of_bits o No)) no_shape
   bits_spelled Whole = one (codes "binary()") (of_bits o Whole) whole_bits
   bits_spelled Any = one (codes "bitstring()") (of_bits o Any) every_bits
 
   functions_spelled : (s : Functions) → NormalFunctions s → Spelled (function_words s) (λ f. HasF f (of_functions o s))
-  functions_spelled no_function k = nothing (λ f. HasF f (of_functions o no_function)) no_form
+  functions_spelled no_function k = nothing (λ f. HasF f (of_functions o no_function)) no_shape
   functions_spelled (of_arity n) k = one (codes "fun(" ++ decimal n ++ codes ")") (of_functions o (of_arity n)) (one_arity n k)
   functions_spelled all_functions k = one (codes "fun()") (of_functions o all_functions) every_function
 
   -- ---- all that hold none
 
-  module _ (p : Plain) where
-    abbrev Atoms : Form → Type 0
+  module _ (p : PlainParts) where
+    abbrev Atoms : Shape → Type 0
     Atoms f = HasF f (of_atoms o p.atoms)
 
-    abbrev Ints : Form → Type 0
+    abbrev Ints : Shape → Type 0
     Ints f = HasF f (of_ints o p.ints)
 
-    abbrev Floats : Form → Type 0
-    Floats f = HasF f (of_kinds o (kinds_if p.kinds.float false false false false))
+    abbrev Floats : Shape → Type 0
+    Floats f = HasF f (of_flags o (flags_if p.flags.float false false false false false))
 
-    abbrev SomeBits : Form → Type 0
+    abbrev SomeBits : Shape → Type 0
     SomeBits f = HasF f (of_bits o p.bits)
 
-    abbrev Pids : Form → Type 0
-    Pids f = HasF f (of_kinds o (kinds_if false p.kinds.pid false false false))
+    abbrev Pids : Shape → Type 0
+    Pids f = HasF f (of_flags o (flags_if false p.flags.pid false false false false))
 
-    abbrev Ports : Form → Type 0
-    Ports f = HasF f (of_kinds o (kinds_if false false p.kinds.port false false))
+    abbrev Ports : Shape → Type 0
+    Ports f = HasF f (of_flags o (flags_if false false p.flags.port false false false))
 
-    abbrev References : Form → Type 0
-    References f = HasF f (of_kinds o (kinds_if false false false p.kinds.reference false))
+    abbrev References : Shape → Type 0
+    References f = HasF f (of_flags o (flags_if false false false p.flags.reference false false))
 
-    abbrev SomeFunctions : Form → Type 0
+    abbrev Maps : Shape → Type 0
+    Maps f = HasF f (of_flags o (flags_if false false false false false p.flags.map))
+
+    abbrev SomeFunctions : Shape → Type 0
     SomeFunctions f = HasF f (of_functions o p.functions)
 
-    abbrev Nils : Form → Type 0
-    Nils f = HasF f (of_kinds o (kinds_if false false false false p.kinds.nil))
+    abbrev Nils : Shape → Type 0
+    Nils f = HasF f (of_flags o (flags_if false false false false p.flags.nil false))
 
-    abbrev EachPart : Form → Type 0
-    EachPart f = (((((((Atoms f ⊎ Ints f) ⊎ Floats f) ⊎ SomeBits f) ⊎ Pids f) ⊎ Ports f) ⊎ References f) ⊎ SomeFunctions f) ⊎ Nils f
+    abbrev EachPart : Shape → Type 0
+    EachPart f = ((((((((Atoms f ⊎ Ints f) ⊎ Floats f) ⊎ SomeBits f) ⊎ Pids f) ⊎ Ports f) ⊎ References f) ⊎ Maps f) ⊎ SomeFunctions f) ⊎ Nils f
 
-    plain-into : (f : Form) → HasF f (of_plain o p) → EachPart f
-    plain-into (leaf (an_atom a)) h = inl (inl (inl (inl (inl (inl (inl (inl h)))))))
-    plain-into (leaf (an_int n)) h = inl (inl (inl (inl (inl (inl (inl (inr h)))))))
-    plain-into (leaf (of_kind floats)) h = inl (inl (inl (inl (inl (inl (inr h))))))
-    plain-into (leaf (some_bits n)) h = inl (inl (inl (inl (inl (inr h)))))
-    plain-into (leaf (of_kind pids)) h = inl (inl (inl (inl (inr h))))
-    plain-into (leaf (of_kind ports)) h = inl (inl (inl (inr h)))
-    plain-into (leaf (of_kind references)) h = inl (inl (inr h))
+    plain-into : (f : Shape) → HasF f (of_plain o p) → EachPart f
+    plain-into (leaf (an_atom a)) h = inl (inl (inl (inl (inl (inl (inl (inl (inl h))))))))
+    plain-into (leaf (an_int n)) h = inl (inl (inl (inl (inl (inl (inl (inl (inr h))))))))
+    plain-into (leaf (of_flag floats)) h = inl (inl (inl (inl (inl (inl (inl (inr h)))))))
+    plain-into (leaf (some_bits n)) h = inl (inl (inl (inl (inl (inl (inr h))))))
+    plain-into (leaf (of_flag pids)) h = inl (inl (inl (inl (inl (inr h)))))
+    plain-into (leaf (of_flag ports)) h = inl (inl (inl (inl (inr h))))
+    plain-into (leaf (of_flag references)) h = inl (inl (inl (inr h)))
+    plain-into (leaf (of_flag maps)) h = inl (inl (inr h))
     plain-into (leaf (a_function n)) h = inl (inr h)
-    plain-into (leaf (of_kind nils)) h = inr h
+    plain-into (leaf (of_flag nils)) h = inr h
     plain-into (pair x y) h = absurd h
     plain-into (row vs) h = absurd h
 
     -- what one part has, all have
-    atoms-out : (f : Form) → Atoms f → HasF f (of_plain o p)
+    atoms-out : (f : Shape) → Atoms f → HasF f (of_plain o p)
     atoms-out (leaf (an_atom a)) h = h
-    atoms-out (leaf (of_kind k)) h = absurd (true≢false (sym h ∙ no_kinds-has k))
+    atoms-out (leaf (of_flag k)) h = absurd (true≢false (sym h ∙ no_flags-has k))
     atoms-out (leaf x) h = absurd (true≢false (sym h))
     atoms-out (pair x y) h = absurd h
     atoms-out (row vs) h = absurd h
 
-    ints-out : (f : Form) → Ints f → HasF f (of_plain o p)
+    ints-out : (f : Shape) → Ints f → HasF f (of_plain o p)
     ints-out (leaf (an_int n)) h = h
-    ints-out (leaf (of_kind k)) h = absurd (true≢false (sym h ∙ no_kinds-has k))
+    ints-out (leaf (of_flag k)) h = absurd (true≢false (sym h ∙ no_flags-has k))
     ints-out (leaf x) h = absurd (true≢false (sym h))
     ints-out (pair x y) h = absurd h
     ints-out (row vs) h = absurd h
 
-    floats-out : (f : Form) → Floats f → HasF f (of_plain o p)
-    floats-out (leaf (of_kind floats)) h = h
+    floats-out : (f : Shape) → Floats f → HasF f (of_plain o p)
+    floats-out (leaf (of_flag floats)) h = h
     floats-out (leaf x) h = absurd (true≢false (sym h))
     floats-out (pair x y) h = absurd h
     floats-out (row vs) h = absurd h
 
-    bits-out : (f : Form) → SomeBits f → HasF f (of_plain o p)
+    bits-out : (f : Shape) → SomeBits f → HasF f (of_plain o p)
     bits-out (leaf (some_bits n)) h = h
-    bits-out (leaf (of_kind k)) h = absurd (true≢false (sym h ∙ no_kinds-has k))
+    bits-out (leaf (of_flag k)) h = absurd (true≢false (sym h ∙ no_flags-has k))
     bits-out (leaf x) h = absurd (true≢false (sym h))
     bits-out (pair x y) h = absurd h
     bits-out (row vs) h = absurd h
 
-    pids-out : (f : Form) → Pids f → HasF f (of_plain o p)
-    pids-out (leaf (of_kind pids)) h = h
+    pids-out : (f : Shape) → Pids f → HasF f (of_plain o p)
+    pids-out (leaf (of_flag pids)) h = h
     pids-out (leaf x) h = absurd (true≢false (sym h))
     pids-out (pair x y) h = absurd h
     pids-out (row vs) h = absurd h
 
-    ports-out : (f : Form) → Ports f → HasF f (of_plain o p)
-    ports-out (leaf (of_kind ports)) h = h
+    ports-out : (f : Shape) → Ports f → HasF f (of_plain o p)
+    ports-out (leaf (of_flag ports)) h = h
     ports-out (leaf x) h = absurd (true≢false (sym h))
     ports-out (pair x y) h = absurd h
     ports-out (row vs) h = absurd h
 
-    references-out : (f : Form) → References f → HasF f (of_plain o p)
-    references-out (leaf (of_kind references)) h = h
+    references-out : (f : Shape) → References f → HasF f (of_plain o p)
+    references-out (leaf (of_flag references)) h = h
     references-out (leaf x) h = absurd (true≢false (sym h))
     references-out (pair x y) h = absurd h
     references-out (row vs) h = absurd h
 
-    functions-out : (f : Form) → SomeFunctions f → HasF f (of_plain o p)
+    maps-out : (f : Shape) → Maps f → HasF f (of_plain o p)
+    maps-out (leaf (of_flag maps)) h = h
+    maps-out (leaf x) h = absurd (true≢false (sym h))
+    maps-out (pair x y) h = absurd h
+    maps-out (row vs) h = absurd h
+
+    functions-out : (f : Shape) → SomeFunctions f → HasF f (of_plain o p)
     functions-out (leaf (a_function n)) h = h
-    functions-out (leaf (of_kind k)) h = absurd (true≢false (sym h ∙ no_kinds-has k))
+    functions-out (leaf (of_flag k)) h = absurd (true≢false (sym h ∙ no_flags-has k))
     functions-out (leaf x) h = absurd (true≢false (sym h))
     functions-out (pair x y) h = absurd h
     functions-out (row vs) h = absurd h
 
-    nils-out : (f : Form) → Nils f → HasF f (of_plain o p)
-    nils-out (leaf (of_kind nils)) h = h
+    nils-out : (f : Shape) → Nils f → HasF f (of_plain o p)
+    nils-out (leaf (of_flag nils)) h = h
     nils-out (leaf x) h = absurd (true≢false (sym h))
     nils-out (pair x y) h = absurd h
     nils-out (row vs) h = absurd h
 
-    plain-out : (f : Form) → EachPart f → HasF f (of_plain o p)
-    plain-out f (inl (inl (inl (inl (inl (inl (inl (inl h)))))))) = atoms-out f h
-    plain-out f (inl (inl (inl (inl (inl (inl (inl (inr h)))))))) = ints-out f h
-    plain-out f (inl (inl (inl (inl (inl (inl (inr h))))))) = floats-out f h
-    plain-out f (inl (inl (inl (inl (inl (inr h)))))) = bits-out f h
-    plain-out f (inl (inl (inl (inl (inr h))))) = pids-out f h
-    plain-out f (inl (inl (inl (inr h)))) = ports-out f h
-    plain-out f (inl (inl (inr h))) = references-out f h
+    plain-out : (f : Shape) → EachPart f → HasF f (of_plain o p)
+    plain-out f (inl (inl (inl (inl (inl (inl (inl (inl (inl h))))))))) = atoms-out f h
+    plain-out f (inl (inl (inl (inl (inl (inl (inl (inl (inr h))))))))) = ints-out f h
+    plain-out f (inl (inl (inl (inl (inl (inl (inl (inr h)))))))) = floats-out f h
+    plain-out f (inl (inl (inl (inl (inl (inl (inr h))))))) = bits-out f h
+    plain-out f (inl (inl (inl (inl (inl (inr h)))))) = pids-out f h
+    plain-out f (inl (inl (inl (inl (inr h))))) = ports-out f h
+    plain-out f (inl (inl (inl (inr h)))) = references-out f h
+    plain-out f (inl (inl (inr h))) = maps-out f h
     plain-out f (inl (inr h)) = functions-out f h
     plain-out f (inr h) = nils-out f h
 
     plain_spelled : NormalFunctions p.functions → Spelled (plain_words p) (λ f. HasF f (of_plain o p))
     plain_spelled k =
-        changed (λ f. HasF f (of_plain o p)) (append (append (append (append (append (append (append (append (atoms_spelled p.atoms) (ints_spelled p.ints)) (floats_spelled p.kinds.float)) (bits_spelled p.bits)) (pids_spelled p.kinds.pid)) (ports_spelled p.kinds.port)) (references_spelled p.kinds.reference)) (functions_spelled p.functions k)) (nils_spelled p.kinds.nil)) plain-out plain-into
+        changed (λ f. HasF f (of_plain o p)) (append (append (append (append (append (append (append (append (append (atoms_spelled p.atoms) (ints_spelled p.ints)) (floats_spelled p.flags.float)) (bits_spelled p.bits)) (pids_spelled p.flags.pid)) (ports_spelled p.flags.port)) (references_spelled p.flags.reference)) (maps_spelled p.flags.map)) (functions_spelled p.functions k)) (nils_spelled p.flags.nil)) plain-out plain-into
 
   -- ---- lists
 
   cell_spelled : (c : Option (Cell E)) → NormalCell Normal o c → Spelled (cell_words text c) (λ f. HasF f (of_cell o c))
-  cell_spelled None k = nothing (λ f. HasF f (of_cell o None)) no_form
+  cell_spelled None k = nothing (λ f. HasF f (of_cell o None)) no_shape
   cell_spelled (Some c) k =
       elim c.is_proper as (λ b. Spelled ((cond b (codes "cons(") (codes "cons_any(") ++ text c.element ++ codes ")") ∷ []) (λ f. HasF f (of_list o c.element b))) [
         | true ↦ one (codes "cons(" ++ text c.element ++ codes ")") (of_list o c.element true) (proper_list c.element k)
@@ -424,15 +439,15 @@ module _ {E : Type 0} {Has : Value → E → Type 0} {Normal : E → Type 0} {o 
 
   -- ---- tuples
 
-  abbrev IsRow : (Values → Type 0) → Form → Type 0
+  abbrev IsRow : (Values → Type 0) → Shape → Type 0
   IsRow F f = (vs : Values) × ((f ≡ row vs) × F vs)
 
-  row-out : (t : Tuples E) (f : Form) → HasF f (of_tuples o t) → IsRow (λ vs. HasTuple Has vs t) f
+  row-out : (t : Tuples E) (f : Shape) → HasF f (of_tuples o t) → IsRow (λ vs. HasTuple Has vs t) f
   row-out t (leaf x) h = absurd (plain-none_empty x h)
   row-out t (pair x y) h = absurd h
   row-out t (row vs) h = (vs, (refl, h))
 
-  row-in : (t : Tuples E) (f : Form) → IsRow (λ vs. HasTuple Has vs t) f → HasF f (of_tuples o t)
+  row-in : (t : Tuples E) (f : Shape) → IsRow (λ vs. HasTuple Has vs t) f → HasF f (of_tuples o t)
   row-in t f h = subst (λ g. HasF g (of_tuples o t)) (sym h.1.0) h.1.1
 
   same_size : (m n : ℕ) → m ≡ n → eq_by_cmp nat_cmp m n ≡ true
@@ -490,11 +505,11 @@ module _ {E : Type 0} {Has : Value → E → Type 0} {Normal : E → Type 0} {o 
           | inr s ↦ subst (HasRow Has w.1.0) (sym (tables.find-later name_laws.name_total name_laws.name_same e m w.0 s)) w.1.1.1
         ])
 
-    tag-out : o.has_tags ≡ true → is_table name_cmp (e ∷ m) ≡ true → (f : Form) → IsRow (λ vs. HasEach Has vs (o.of_names (e.0 ∷ []) ∷ e.1)) f ⊎ IsRow (λ vs. HasTag Has vs m) f → IsRow (λ vs. HasTag Has vs (e ∷ m)) f
+    tag-out : o.has_tags ≡ true → is_table name_cmp (e ∷ m) ≡ true → (f : Shape) → IsRow (λ vs. HasEach Has vs (o.of_names (e.0 ∷ []) ∷ e.1)) f ⊎ IsRow (λ vs. HasTag Has vs m) f → IsRow (λ vs. HasTag Has vs (e ∷ m)) f
     tag-out t table f (inl h) = (h.0, (h.1.0, tag_first-out t h.0 h.1.1))
     tag-out t table f (inr h) = (h.0, (h.1.0, tag_later-out table h.0 h.1.1))
 
-    tag-into : (f : Form) → IsRow (λ vs. HasTag Has vs (e ∷ m)) f → IsRow (λ vs. HasEach Has vs (o.of_names (e.0 ∷ []) ∷ e.1)) f ⊎ IsRow (λ vs. HasTag Has vs m) f
+    tag-into : (f : Shape) → IsRow (λ vs. HasTag Has vs (e ∷ m)) f → IsRow (λ vs. HasEach Has vs (o.of_names (e.0 ∷ []) ∷ e.1)) f ⊎ IsRow (λ vs. HasTag Has vs m) f
     tag-into f h =
         let w = tagged l h.0 (e ∷ m) h.1.1 in
         let vs = and_value (atom w.0) w.1.0 in
@@ -525,11 +540,11 @@ module _ {E : Type 0} {Has : Value → E → Type 0} {Normal : E → Type 0} {o 
       | inr s ↦ subst (HasBody Has vs) (sym (tables.find-later nat_cmp_total nat_cmp-IsAntisymmetric e m (count vs) s)) h
     ]
 
-    size-out : NormalBody Normal o e.0 (Some e.1) → is_table nat_cmp (e ∷ m) ≡ true → (f : Form) → IsRow (λ vs. HasBody Has vs (Some e.1)) f ⊎ IsRow (λ vs. HasTuple Has vs (sizes m)) f → IsRow (λ vs. HasTuple Has vs (sizes (e ∷ m))) f
+    size-out : NormalBody Normal o e.0 (Some e.1) → is_table nat_cmp (e ∷ m) ≡ true → (f : Shape) → IsRow (λ vs. HasBody Has vs (Some e.1)) f ⊎ IsRow (λ vs. HasTuple Has vs (sizes m)) f → IsRow (λ vs. HasTuple Has vs (sizes (e ∷ m))) f
     size-out k table f (inl h) = (h.0, (h.1.0, size_first-out k h.0 h.1.1))
     size-out k table f (inr h) = (h.0, (h.1.0, size_later-out table h.0 h.1.1))
 
-    size-into : (f : Form) → IsRow (λ vs. HasTuple Has vs (sizes (e ∷ m))) f → IsRow (λ vs. HasBody Has vs (Some e.1)) f ⊎ IsRow (λ vs. HasTuple Has vs (sizes m)) f
+    size-into : (f : Shape) → IsRow (λ vs. HasTuple Has vs (sizes (e ∷ m))) f → IsRow (λ vs. HasBody Has vs (Some e.1)) f ⊎ IsRow (λ vs. HasTuple Has vs (sizes m)) f
     size-into f h =
         let n = count h.0 in
         elim (decided (eq_by_cmp nat_cmp n e.0)) [
@@ -548,15 +563,15 @@ module _ {E : Type 0} {Has : Value → E → Type 0} {Normal : E → Type 0} {o 
 
   -- ---- a whole type
 
-  abbrev EachOf : Parts E → Form → Type 0
+  abbrev EachOf : Parts E → Shape → Type 0
   EachOf t f = (HasF f (of_plain o t.plain) ⊎ HasF f (of_cell o t.cell)) ⊎ HasF f (of_tuples o t.tuples)
 
-  parts-into : (t : Parts E) (f : Form) → HasF f t → EachOf t f
+  parts-into : (t : Parts E) (f : Shape) → HasF f t → EachOf t f
   parts-into t (leaf x) h = inl (inl h)
   parts-into t (pair x y) h = inl (inr h)
   parts-into t (row vs) h = inr h
 
-  parts-out : (t : Parts E) (f : Form) → EachOf t f → HasF f t
+  parts-out : (t : Parts E) (f : Shape) → EachOf t f → HasF f t
   parts-out t (leaf x) (inl (inl h)) = h
   parts-out t (leaf x) (inl (inr h)) = absurd (plain-none_empty x h)
   parts-out t (leaf x) (inr h) = absurd (plain-none_empty x h)
@@ -580,8 +595,8 @@ module _ {E : Type 0} {Has : Value → E → Type 0} {Normal : E → Type 0} {o 
     pub written : parts_words text t ≡ word ∷ spelled later
     pub together : joined_with (parts_join o) first later ≡ t
 
-  written_from : (t : Parts E) → NormalParts Normal o t → parts_is_none o t ≡ false → (ps : Pairs) → Words ps → spelled ps ≡ parts_words text t → ((f : Form) → SomeHas HasF f ps → HasF f t) → ((f : Form) → HasF f t → SomeHas HasF f ps) → Written t
-  written_from t k some [] words same out into = elim ((form_lattice l).filled t k) [
+  written_from : (t : Parts E) → NormalParts Normal o t → parts_is_none o t ≡ false → (ps : Pairs) → Words ps → spelled ps ≡ parts_words text t → ((f : Shape) → SomeHas HasF f ps → HasF f t) → ((f : Shape) → HasF f t → SomeHas HasF f ps) → Written t
+  written_from t k some [] words same out into = elim ((shape_lattice l).filled t k) [
     | inl e ↦ absurd (true≢false (sym (ap (parts_is_none o) e) ∙ some))
     | inr w ↦ absurd (into w.0 w.1)
   ]
@@ -592,7 +607,7 @@ module _ {E : Type 0} {Has : Value → E → Type 0} {Normal : E → Type 0} {o 
     is_word = words.0;
     are_words = words.1;
     written = sym same;
-    together = joined_with-is (form_lattice l) p.1 ps t (word_of-normal p.0 p.1 words.0) (words_of-normal ps words.1) k out into;
+    together = joined_with-is (shape_lattice l) p.1 ps t (word_of-normal p.0 p.1 words.0) (words_of-normal ps words.1) k out into;
   }
 
   pub written : (t : Parts E) → NormalParts Normal o t → parts_is_none o t ≡ false → Written t

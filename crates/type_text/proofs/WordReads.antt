@@ -6,7 +6,7 @@ use Rattle.std.specs.Fmt.{decimal}
 use borrow.Author.Tests.{ltb-true, lt-ltb, leb-true, eqb-true}
 use Rattle.type_sets.proofs.Truths.{first, second, either}
 use Rattle.std.proofs.lemmas.List.{append-nil, length-map, map-append}
-use Rattle.type_model.specs.Shapes.{of_arity, Plain, Cell, Body, Tuples, sizes, all_tuples, Parts, TypeAt}
+use Rattle.type_model.specs.Shapes.{of_arity, PlainParts, Cell, Body, Tuples, sizes, all_tuples, Parts, TypeAt}
 use Rattle.type_model.specs.Operations.{ops, plain_none, of_plain, body_of}
 use Rattle.type_model.specs.Normal.{NormalFunctions, IsElement, AreElements, NormalParts, NormalAt, NormalBody}
 use Rattle.type_model.proofs.BodyLaws.{body_of_normal}
@@ -67,43 +67,43 @@ without_list t p e f d u is k each =
       each = (subst (EachInCell (Fits d)) (sym f) tt, each);
     }) (λ h. no_cell (cell_view d p.cell) (record { element = (ops d).any; is_proper = false }) (ap (cell_view d) f) (ap (λ (x : Parts (TypeAt d)). x.cell) h))
 
-plain_parts : (q : Plain) (ss : List (SizeOf Node)) → ss ≡ [] → (d : ℕ) → parts_view d (record { plain = q; cell = None; tuples = Sizes ss }) ≡ of_plain (ops d) q
+plain_parts : (q : PlainParts) (ss : List (SizeOf Node)) → ss ≡ [] → (d : ℕ) → parts_view d (record { plain = q; cell = None; tuples = Sizes ss }) ≡ of_plain (ops d) q
 plain_parts q ss e d = λ n. record { plain = q; cell = None; tuples = sizes (sizes_view d (e n)) }
 
-pub plain_value : (t : Node) (q : Plain) (ss : List (SizeOf Node)) → t ≡ v.Of (record { plain = q; cell = None; tuples = Sizes ss }) → ss ≡ [] → (d : ℕ) → view (suc d) t ≡ of_plain (ops d) q
+pub plain_value : (t : Node) (q : PlainParts) (ss : List (SizeOf Node)) → t ≡ v.Of (record { plain = q; cell = None; tuples = Sizes ss }) → ss ≡ [] → (d : ℕ) → view (suc d) t ≡ of_plain (ops d) q
 plain_value t q ss e f d = view_of t (record { plain = q; cell = None; tuples = Sizes ss }) e d ∙ plain_parts q ss f d
 
-pub plain_fits : (t : Node) (q : Plain) (ss : List (SizeOf Node)) → t ≡ v.Of (record { plain = q; cell = None; tuples = Sizes ss }) → ss ≡ [] → NormalFunctions q.functions → (d : ℕ) → Fits (suc d) t
+pub plain_fits : (t : Node) (q : PlainParts) (ss : List (SizeOf Node)) → t ≡ v.Of (record { plain = q; cell = None; tuples = Sizes ss }) → ss ≡ [] → NormalFunctions q.functions → (d : ℕ) → Fits (suc d) t
 plain_fits t q ss e f k d =
     without_list t (record { plain = q; cell = None; tuples = Sizes ss }) e refl d (of_plain (ops d) q) (plain_parts q ss f d) (k, tt, (refl, refl, tt)) (subst (EachSize (Fits d)) (sym f) tt)
 
-tuple_parts : (q : Plain) → q ≡ plain_none → (d : ℕ) → parts_view d (record { plain = q; cell = None; tuples = All }) ≡ of_tuples (ops d) all_tuples
+tuple_parts : (q : PlainParts) → q ≡ plain_none → (d : ℕ) → parts_view d (record { plain = q; cell = None; tuples = All }) ≡ of_tuples (ops d) all_tuples
 tuple_parts q e d = λ n. record { plain = e n; cell = None; tuples = all_tuples }
 
-pub every_tuple_value : (t : Node) (q : Plain) → t ≡ v.Of (record { plain = q; cell = None; tuples = All }) → q ≡ plain_none → (d : ℕ) → view (suc d) t ≡ of_tuples (ops d) all_tuples
+pub every_tuple_value : (t : Node) (q : PlainParts) → t ≡ v.Of (record { plain = q; cell = None; tuples = All }) → q ≡ plain_none → (d : ℕ) → view (suc d) t ≡ of_tuples (ops d) all_tuples
 every_tuple_value t q e f d = view_of t (record { plain = q; cell = None; tuples = All }) e d ∙ tuple_parts q f d
 
-pub every_tuple_fits : (t : Node) (q : Plain) → t ≡ v.Of (record { plain = q; cell = None; tuples = All }) → q ≡ plain_none → (d : ℕ) → Fits (suc d) t
+pub every_tuple_fits : (t : Node) (q : PlainParts) → t ≡ v.Of (record { plain = q; cell = None; tuples = All }) → q ≡ plain_none → (d : ℕ) → Fits (suc d) t
 every_tuple_fits t q e f d = without_list t (record { plain = q; cell = None; tuples = All }) e refl d (of_tuples (ops d) all_tuples) (tuple_parts q f d) (tt, tt, tt) tt
 
-size_parts : (q : Plain) (ss : List (SizeOf Node)) (s : SizeOf Node) → q ≡ plain_none → ss ≡ s ∷ [] → (d : ℕ) → parts_view d (record { plain = q; cell = None; tuples = Sizes ss }) ≡ of_tuples (ops d) (sizes ((s.size, body_view d s.body) ∷ []))
+size_parts : (q : PlainParts) (ss : List (SizeOf Node)) (s : SizeOf Node) → q ≡ plain_none → ss ≡ s ∷ [] → (d : ℕ) → parts_view d (record { plain = q; cell = None; tuples = Sizes ss }) ≡ of_tuples (ops d) (sizes ((s.size, body_view d s.body) ∷ []))
 size_parts q ss s e f d = λ n. record { plain = e n; cell = None; tuples = sizes (sizes_view d (f n)) }
 
-pub size_value : (t : Node) (q : Plain) (ss : List (SizeOf Node)) (s : SizeOf Node) → t ≡ v.Of (record { plain = q; cell = None; tuples = Sizes ss }) → q ≡ plain_none → ss ≡ s ∷ [] → (d : ℕ) → view (suc d) t ≡ of_tuples (ops d) (sizes ((s.size, body_view d s.body) ∷ []))
+pub size_value : (t : Node) (q : PlainParts) (ss : List (SizeOf Node)) (s : SizeOf Node) → t ≡ v.Of (record { plain = q; cell = None; tuples = Sizes ss }) → q ≡ plain_none → ss ≡ s ∷ [] → (d : ℕ) → view (suc d) t ≡ of_tuples (ops d) (sizes ((s.size, body_view d s.body) ∷ []))
 size_value t q ss s i e f d = view_of t (record { plain = q; cell = None; tuples = Sizes ss }) i d ∙ size_parts q ss s e f d
 
-pub size_fits : (t : Node) (q : Plain) (ss : List (SizeOf Node)) (s : SizeOf Node) → t ≡ v.Of (record { plain = q; cell = None; tuples = Sizes ss }) → q ≡ plain_none → ss ≡ s ∷ [] → (d : ℕ) → s.size < 65 → BodyFits d s.size s.body → Fits (suc d) t
+pub size_fits : (t : Node) (q : PlainParts) (ss : List (SizeOf Node)) (s : SizeOf Node) → t ≡ v.Of (record { plain = q; cell = None; tuples = Sizes ss }) → q ≡ plain_none → ss ≡ s ∷ [] → (d : ℕ) → s.size < 65 → BodyFits d s.size s.body → Fits (suc d) t
 size_fits t q ss s i e f d few k =
     without_list t (record { plain = q; cell = None; tuples = Sizes ss }) i refl d (of_tuples (ops d) (sizes ((s.size, body_view d s.body) ∷ []))) (size_parts q ss s e f d)
     (tt, tt, (refl, refl, (lt-ltb s.size 65 few, k.normal, tt))) (subst (EachSize (Fits d)) (sym f) (k.each, tt))
 
-list_parts : (q : Plain) (ss : List (SizeOf Node)) (c e : Node) (p : Bool) → q ≡ plain_none → ss ≡ [] → c ≡ e → (d : ℕ) → parts_view d (record { plain = q; cell = Some (record { element = c; is_proper = p }); tuples = Sizes ss }) ≡ of_list (ops d) (view d e) p
+list_parts : (q : PlainParts) (ss : List (SizeOf Node)) (c e : Node) (p : Bool) → q ≡ plain_none → ss ≡ [] → c ≡ e → (d : ℕ) → parts_view d (record { plain = q; cell = Some (record { element = c; is_proper = p }); tuples = Sizes ss }) ≡ of_list (ops d) (view d e) p
 list_parts q ss c e p f g h d = λ n. record { plain = f n; cell = Some (record { element = view d (h n); is_proper = p }); tuples = sizes (sizes_view d (g n)) }
 
-pub list_value : (t : Node) (q : Plain) (ss : List (SizeOf Node)) (c e : Node) (p : Bool) → t ≡ v.Of (record { plain = q; cell = Some (record { element = c; is_proper = p }); tuples = Sizes ss }) → q ≡ plain_none → ss ≡ [] → c ≡ e → (d : ℕ) → view (suc d) t ≡ of_list (ops d) (view d e) p
+pub list_value : (t : Node) (q : PlainParts) (ss : List (SizeOf Node)) (c e : Node) (p : Bool) → t ≡ v.Of (record { plain = q; cell = Some (record { element = c; is_proper = p }); tuples = Sizes ss }) → q ≡ plain_none → ss ≡ [] → c ≡ e → (d : ℕ) → view (suc d) t ≡ of_list (ops d) (view d e) p
 list_value t q ss c e p i f g h d = view_of t (record { plain = q; cell = Some (record { element = c; is_proper = p }); tuples = Sizes ss }) i d ∙ list_parts q ss c e p f g h d
 
-pub list_fits : (t : Node) (q : Plain) (ss : List (SizeOf Node)) (c e : Node) (p : Bool) → t ≡ v.Of (record { plain = q; cell = Some (record { element = c; is_proper = p }); tuples = Sizes ss }) → q ≡ plain_none → ss ≡ [] → c ≡ e → (d : ℕ) → Fits d e → (ops d).is_none (view d e) ≡ false → Fits (suc d) t
+pub list_fits : (t : Node) (q : PlainParts) (ss : List (SizeOf Node)) (c e : Node) (p : Bool) → t ≡ v.Of (record { plain = q; cell = Some (record { element = c; is_proper = p }); tuples = Sizes ss }) → q ≡ plain_none → ss ≡ [] → c ≡ e → (d : ℕ) → Fits d e → (ops d).is_none (view d e) ≡ false → Fits (suc d) t
 unfolding ops
 list_fits t q ss c e p i f g h d k some =
     of_fits t (record { plain = q; cell = Some (record { element = c; is_proper = p }); tuples = Sizes ss }) i d (record {
@@ -348,15 +348,16 @@ no_start now quote number brace proper any name = record {
   every_atom = name.every_atom;
   every_int = name.interval.every;
   range = name.interval.range;
-  float = name.kind.float;
+  float = name.flag.float;
   whole_bits = name.bits.whole;
   every_bits = name.bits.every;
-  pid = name.kind.pid;
-  port = name.kind.port;
-  reference = name.kind.reference;
+  pid = name.flag.pid;
+  port = name.flag.port;
+  reference = name.flag.reference;
+  map = name.flag.map;
   every_function = name.function.every;
   arity = name.function.arity;
-  nil = name.kind.nil;
+  nil = name.flag.nil;
   proper_list = proper;
   any_list = any;
   every_tuple = name.every_tuple;

@@ -25,7 +25,7 @@ use Rattle.type_model.specs.Operations.{Ops, of_atoms}
 use Rattle.type_model.specs.Normal.{IsElement, AreElements}
 use Rattle.type_text.specs.Starts.{is_number, begins_number, Lacks}
 use Rattle.type_text.specs.Texts.{separated, low_text, high_text, range_word}
-use Rattle.type_text.specs.WordTypes.{float_kind, pid_kind, port_kind, reference_kind, nil_kind, of_ints, of_bits, of_kinds, of_functions, of_list, of_tuples, of_row, IsWordOf, one_atom, every_atom, one_int, ints_between, every_float, whole_bits, every_bits, every_pid, every_port, every_reference, every_function, one_arity, empty_list, proper_list, any_list, every_tuple, one_tuple}
+use Rattle.type_text.specs.WordTypes.{float_flag, pid_flag, port_flag, reference_flag, map_flag, nil_flag, of_ints, of_bits, of_flags, of_functions, of_list, of_tuples, of_row, IsWordOf, one_atom, every_atom, one_int, ints_between, every_float, whole_bits, every_bits, every_pid, every_port, every_reference, every_map, every_function, one_arity, empty_list, proper_list, any_list, every_tuple, one_tuple}
 
 -- a minus or a digit
 abbrev pub IsNumberStart : ℕ → Type 0
@@ -89,7 +89,7 @@ module _ {E : Type 0} {text : E → List ℕ} {Normal : E → Type 0} {o : Ops E
   at_every_atom w u (ints_between l h k) now rest more a b = absurd (true≢false (ap (begins (codes "atom()")) (sym b ∙ a ∙ ap (λ t. t ++ rest) (range-start l h).1)))
   at_every_atom w u i now rest more a b = absurd (true≢false (ap (begins (codes "atom()")) (sym b ∙ a)))
 
-  pub at_float : (w : List ℕ) (u : Parts E) → IsWordOf text Normal o w u → (now rest more : List ℕ) → now ≡ w ++ rest → now ≡ codes "float()" ++ more → (u ≡ of_kinds o float_kind) × (more ≡ rest)
+  pub at_float : (w : List ℕ) (u : Parts E) → IsWordOf text Normal o w u → (now rest more : List ℕ) → now ≡ w ++ rest → now ≡ codes "float()" ++ more → (u ≡ of_flags o float_flag) × (more ≡ rest)
   at_float w u every_float now rest more a b = (refl, ap (drop 7) (sym b ∙ a))
   at_float w u (one_int n k) now rest more a b = absurd (no_number n k rest 102 (codes "loat()" ++ more) (sym a ∙ b) (omega arith))
   at_float w u (ints_between l h k) now rest more a b = absurd (true≢false (ap (begins (codes "float()")) (sym b ∙ a ∙ ap (λ t. t ++ rest) (range-start l h).1)))
@@ -107,25 +107,31 @@ module _ {E : Type 0} {text : E → List ℕ} {Normal : E → Type 0} {o : Ops E
   at_every_bits w u (ints_between l h k) now rest more a b = absurd (true≢false (ap (begins (codes "bitstring()")) (sym b ∙ a ∙ ap (λ t. t ++ rest) (range-start l h).1)))
   at_every_bits w u i now rest more a b = absurd (true≢false (ap (begins (codes "bitstring()")) (sym b ∙ a)))
 
-  pub at_pid : (w : List ℕ) (u : Parts E) → IsWordOf text Normal o w u → (now rest more : List ℕ) → now ≡ w ++ rest → now ≡ codes "pid()" ++ more → (u ≡ of_kinds o pid_kind) × (more ≡ rest)
+  pub at_pid : (w : List ℕ) (u : Parts E) → IsWordOf text Normal o w u → (now rest more : List ℕ) → now ≡ w ++ rest → now ≡ codes "pid()" ++ more → (u ≡ of_flags o pid_flag) × (more ≡ rest)
   at_pid w u every_pid now rest more a b = (refl, ap (drop 5) (sym b ∙ a))
   at_pid w u (one_int n k) now rest more a b = absurd (no_number n k rest 112 (codes "id()" ++ more) (sym a ∙ b) (omega arith))
   at_pid w u (ints_between l h k) now rest more a b = absurd (true≢false (ap (begins (codes "pid()")) (sym b ∙ a ∙ ap (λ t. t ++ rest) (range-start l h).1)))
   at_pid w u i now rest more a b = absurd (true≢false (ap (begins (codes "pid()")) (sym b ∙ a)))
 
-  pub at_port : (w : List ℕ) (u : Parts E) → IsWordOf text Normal o w u → (now rest more : List ℕ) → now ≡ w ++ rest → now ≡ codes "port()" ++ more → (u ≡ of_kinds o port_kind) × (more ≡ rest)
+  pub at_port : (w : List ℕ) (u : Parts E) → IsWordOf text Normal o w u → (now rest more : List ℕ) → now ≡ w ++ rest → now ≡ codes "port()" ++ more → (u ≡ of_flags o port_flag) × (more ≡ rest)
   at_port w u every_port now rest more a b = (refl, ap (drop 6) (sym b ∙ a))
   at_port w u (one_int n k) now rest more a b = absurd (no_number n k rest 112 (codes "ort()" ++ more) (sym a ∙ b) (omega arith))
   at_port w u (ints_between l h k) now rest more a b = absurd (true≢false (ap (begins (codes "port()")) (sym b ∙ a ∙ ap (λ t. t ++ rest) (range-start l h).1)))
   at_port w u i now rest more a b = absurd (true≢false (ap (begins (codes "port()")) (sym b ∙ a)))
 
-  pub at_reference : (w : List ℕ) (u : Parts E) → IsWordOf text Normal o w u → (now rest more : List ℕ) → now ≡ w ++ rest → now ≡ codes "reference()" ++ more → (u ≡ of_kinds o reference_kind) × (more ≡ rest)
+  pub at_reference : (w : List ℕ) (u : Parts E) → IsWordOf text Normal o w u → (now rest more : List ℕ) → now ≡ w ++ rest → now ≡ codes "reference()" ++ more → (u ≡ of_flags o reference_flag) × (more ≡ rest)
   at_reference w u every_reference now rest more a b = (refl, ap (drop 11) (sym b ∙ a))
   at_reference w u (one_int n k) now rest more a b = absurd (no_number n k rest 114 (codes "eference()" ++ more) (sym a ∙ b) (omega arith))
   at_reference w u (ints_between l h k) now rest more a b = absurd (true≢false (ap (begins (codes "reference()")) (sym b ∙ a ∙ ap (λ t. t ++ rest) (range-start l h).1)))
   at_reference w u i now rest more a b = absurd (true≢false (ap (begins (codes "reference()")) (sym b ∙ a)))
 
-  pub at_nil : (w : List ℕ) (u : Parts E) → IsWordOf text Normal o w u → (now rest more : List ℕ) → now ≡ w ++ rest → now ≡ codes "[]" ++ more → (u ≡ of_kinds o nil_kind) × (more ≡ rest)
+  pub at_map : (w : List ℕ) (u : Parts E) → IsWordOf text Normal o w u → (now rest more : List ℕ) → now ≡ w ++ rest → now ≡ codes "map()" ++ more → (u ≡ of_flags o map_flag) × (more ≡ rest)
+  at_map w u every_map now rest more a b = (refl, ap (drop 5) (sym b ∙ a))
+  at_map w u (one_int n k) now rest more a b = absurd (no_number n k rest 109 (codes "ap()" ++ more) (sym a ∙ b) (omega arith))
+  at_map w u (ints_between l h k) now rest more a b = absurd (true≢false (ap (begins (codes "map()")) (sym b ∙ a ∙ ap (λ t. t ++ rest) (range-start l h).1)))
+  at_map w u i now rest more a b = absurd (true≢false (ap (begins (codes "map()")) (sym b ∙ a)))
+
+  pub at_nil : (w : List ℕ) (u : Parts E) → IsWordOf text Normal o w u → (now rest more : List ℕ) → now ≡ w ++ rest → now ≡ codes "[]" ++ more → (u ≡ of_flags o nil_flag) × (more ≡ rest)
   at_nil w u empty_list now rest more a b = (refl, ap (drop 2) (sym b ∙ a))
   at_nil w u (one_int n k) now rest more a b = absurd (no_number n k rest 91 (codes "]" ++ more) (sym a ∙ b) (omega arith))
   at_nil w u (ints_between l h k) now rest more a b = absurd (true≢false (ap (begins (codes "[]")) (sym b ∙ a ∙ ap (λ t. t ++ rest) (range-start l h).1)))
@@ -236,6 +242,7 @@ pub record NoStart (now : List ℕ) : Type 0 where
   pub pid : Lacks now (codes "pid()")
   pub port : Lacks now (codes "port()")
   pub reference : Lacks now (codes "reference()")
+  pub map : Lacks now (codes "map()")
   pub every_function : Lacks now (codes "fun()")
   pub arity : Lacks now (codes "fun(")
   pub nil : Lacks now (codes "[]")
@@ -255,6 +262,7 @@ some_start w u every_bits now rest a n = n.every_bits rest a
 some_start w u every_pid now rest a n = n.pid rest a
 some_start w u every_port now rest a n = n.port rest a
 some_start w u every_reference now rest a n = n.reference rest a
+some_start w u every_map now rest a n = n.map rest a
 some_start w u every_function now rest a n = n.every_function rest a
 some_start w u (one_arity m k) now rest a n = n.arity (decimal m ++ codes ")" ++ rest) a
 some_start w u empty_list now rest a n = n.nil rest a

@@ -14,12 +14,13 @@ begins_number (b ∷ t) = is_number b
 abbrev pub Lacks : List ℕ → List ℕ → Type 0
 Lacks now start = (more : List ℕ) → now ≡ start ++ more → ⊥
 
--- it begins with no word for a kind of values of which a type has all or none
-pub record NoKind (now : List ℕ) : Type 0 where
+-- it begins with no word for a part that is no or yes
+pub record NoFlag (now : List ℕ) : Type 0 where
   pub float : Lacks now (codes "float()")
   pub pid : Lacks now (codes "pid()")
   pub port : Lacks now (codes "port()")
   pub reference : Lacks now (codes "reference()")
+  pub map : Lacks now (codes "map()")
   pub nil : Lacks now (codes "[]")
 
 -- with none for bits, functions or intervals
@@ -39,7 +40,7 @@ pub record NoInterval (now : List ℕ) : Type 0 where
 pub record NoName (now : List ℕ) : Type 0 where
   pub every_tuple : Lacks now (codes "tuple()")
   pub every_atom : Lacks now (codes "atom()")
-  pub kind : NoKind now
+  pub flag : NoFlag now
   pub bits : NoBits now
   pub function : NoFunction now
   pub interval : NoInterval now

@@ -12,7 +12,7 @@ use Rattle.type_sets.specs.declared.ends.High.{High}
 use Rattle.type_sets.specs.declared.ends.High.TheVariants as high
 use Rattle.type_sets.specs.declared.bits.Bits.{Bits}
 use Rattle.type_sets.specs.declared.bits.Bits.TheVariants.{No, Whole, Any}
-use Rattle.type_model.specs.Shapes.{Functions, no_function, of_arity, all_functions, Plain, Cell, Body, product, tags, Tuples, sizes, all_tuples, Parts, TypeAt}
+use Rattle.type_model.specs.Shapes.{Functions, no_function, of_arity, all_functions, PlainParts, Cell, Body, product, tags, Tuples, sizes, all_tuples, Parts, TypeAt}
 use Rattle.type_model.specs.Operations.{ops}
 use Rattle.type_lattice.specs.Types.{Type4}
 
@@ -72,11 +72,11 @@ function_words no_function = []
 function_words (of_arity n) = (codes "fun(" ++ decimal n ++ codes ")") ∷ []
 function_words all_functions = codes "fun()" ∷ []
 
-abbrev pub plain_words : Plain → List (List ℕ)
+abbrev pub plain_words : PlainParts → List (List ℕ)
 plain_words p =
-    atom_words p.atoms ++ int_words p.ints ++ word_if p.kinds.float (codes "float()") ++ bits_words p.bits
-    ++ word_if p.kinds.pid (codes "pid()") ++ word_if p.kinds.port (codes "port()") ++ word_if p.kinds.reference (codes "reference()")
-    ++ function_words p.functions ++ word_if p.kinds.nil (codes "[]")
+    atom_words p.atoms ++ int_words p.ints ++ word_if p.flags.float (codes "float()") ++ bits_words p.bits
+    ++ word_if p.flags.pid (codes "pid()") ++ word_if p.flags.port (codes "port()") ++ word_if p.flags.reference (codes "reference()") ++ word_if p.flags.map (codes "map()")
+    ++ function_words p.functions ++ word_if p.flags.nil (codes "[]")
 
 -- ---- lists and tuples
 
@@ -129,10 +129,10 @@ is_all_functions no_function = false
 is_all_functions (of_arity n) = false
 is_all_functions all_functions = true
 
-abbrev pub is_all_plain : Plain → Bool
+abbrev pub is_all_plain : PlainParts → Bool
 is_all_plain p =
     is_all_atoms p.atoms && is_all_ints p.ints && is_all_bits p.bits && is_all_functions p.functions
-    && p.kinds.float && p.kinds.pid && p.kinds.port && p.kinds.reference && p.kinds.nil
+    && p.flags.float && p.flags.pid && p.flags.port && p.flags.reference && p.flags.nil && p.flags.map
 
 abbrev pub is_any_cell : {E : Type 0} → (E → Bool) → Option (Cell E) → Bool
 is_any_cell is_any None = false

@@ -11,40 +11,43 @@ use Rattle.type_sets.specs.declared.ends.Low.{Low}
 use Rattle.type_sets.specs.declared.ends.High.{High}
 use Rattle.type_sets.specs.declared.bits.Bits.{Bits}
 use Rattle.type_sets.specs.declared.bits.Bits.TheVariants.{No, Whole, Any}
-use Rattle.type_model.specs.Shapes.{Kinds, Functions, no_function, of_arity, all_functions, Cell, Tuples, sizes, all_tuples, Parts, TypeAt}
-use Rattle.type_model.specs.Operations.{Ops, no_kinds, plain_none, body_of, of_plain, of_atoms, ops}
+use Rattle.type_model.specs.Shapes.{Flags, Functions, no_function, of_arity, all_functions, Cell, Tuples, sizes, all_tuples, Parts, TypeAt}
+use Rattle.type_model.specs.Operations.{Ops, no_flags, plain_none, body_of, of_plain, of_atoms, ops}
 use Rattle.type_model.specs.Normal.{IsElement, AreElements, NormalAt}
 use Rattle.type_text.specs.Texts.{after, range_word, tuple_word, text_at}
 
 -- ---- types of one part
 
-abbrev pub float_kind : Kinds
-float_kind = record { float = true; pid = false; port = false; reference = false; nil = false }
+abbrev pub float_flag : Flags
+float_flag = record { float = true; pid = false; port = false; reference = false; nil = false; map = false }
 
-abbrev pub pid_kind : Kinds
-pid_kind = record { float = false; pid = true; port = false; reference = false; nil = false }
+abbrev pub pid_flag : Flags
+pid_flag = record { float = false; pid = true; port = false; reference = false; nil = false; map = false }
 
-abbrev pub port_kind : Kinds
-port_kind = record { float = false; pid = false; port = true; reference = false; nil = false }
+abbrev pub port_flag : Flags
+port_flag = record { float = false; pid = false; port = true; reference = false; nil = false; map = false }
 
-abbrev pub reference_kind : Kinds
-reference_kind = record { float = false; pid = false; port = false; reference = true; nil = false }
+abbrev pub reference_flag : Flags
+reference_flag = record { float = false; pid = false; port = false; reference = true; nil = false; map = false }
 
-abbrev pub nil_kind : Kinds
-nil_kind = record { float = false; pid = false; port = false; reference = false; nil = true }
+abbrev pub map_flag : Flags
+map_flag = record { float = false; pid = false; port = false; reference = false; nil = false; map = true }
+
+abbrev pub nil_flag : Flags
+nil_flag = record { float = false; pid = false; port = false; reference = false; nil = true; map = false }
 
 module _ {E : Type 0} (o : Ops E) where
   abbrev pub of_ints : Numbers → Parts E
-  of_ints s = of_plain o (record { atoms = names.none; ints = s; bits = No; kinds = no_kinds; functions = no_function })
+  of_ints s = of_plain o (record { atoms = names.none; ints = s; bits = No; flags = no_flags; functions = no_function })
 
   abbrev pub of_bits : Bits → Parts E
-  of_bits s = of_plain o (record { atoms = names.none; ints = numbers.none; bits = s; kinds = no_kinds; functions = no_function })
+  of_bits s = of_plain o (record { atoms = names.none; ints = numbers.none; bits = s; flags = no_flags; functions = no_function })
 
-  abbrev pub of_kinds : Kinds → Parts E
-  of_kinds k = of_plain o (record { atoms = names.none; ints = numbers.none; bits = No; kinds = k; functions = no_function })
+  abbrev pub of_flags : Flags → Parts E
+  of_flags k = of_plain o (record { atoms = names.none; ints = numbers.none; bits = No; flags = k; functions = no_function })
 
   abbrev pub of_functions : Functions → Parts E
-  of_functions f = of_plain o (record { atoms = names.none; ints = numbers.none; bits = No; kinds = no_kinds; functions = f })
+  of_functions f = of_plain o (record { atoms = names.none; ints = numbers.none; bits = No; flags = no_flags; functions = f })
 
   abbrev pub of_cell : Option (Cell E) → Parts E
   of_cell c = record { plain = plain_none; cell = c; tuples = sizes [] }
@@ -67,16 +70,17 @@ pub data IsWordOf {E : Type 0} (text : E → List ℕ) (Normal : E → Type 0) (
   every_atom : IsWordOf text Normal o (codes "atom()") (of_atoms o names.every)
   one_int : (n : ℤ) → is_narrow n ≡ true → IsWordOf text Normal o (signed_decimal n) (of_ints o (numbers.listed (n ∷ [])))
   ints_between : (l : Low) (h : High) → is_range l h ≡ true → IsWordOf text Normal o (range_word l h) (of_ints o (numbers.range l h))
-  every_float : IsWordOf text Normal o (codes "float()") (of_kinds o float_kind)
+  every_float : IsWordOf text Normal o (codes "float()") (of_flags o float_flag)
   whole_bits : IsWordOf text Normal o (codes "binary()") (of_bits o Whole)
   every_bits : IsWordOf text Normal o (codes "bitstring()") (of_bits o Any)
-  every_pid : IsWordOf text Normal o (codes "pid()") (of_kinds o pid_kind)
-  every_port : IsWordOf text Normal o (codes "port()") (of_kinds o port_kind)
-  every_reference : IsWordOf text Normal o (codes "reference()") (of_kinds o reference_kind)
+  every_pid : IsWordOf text Normal o (codes "pid()") (of_flags o pid_flag)
+  every_port : IsWordOf text Normal o (codes "port()") (of_flags o port_flag)
+  every_reference : IsWordOf text Normal o (codes "reference()") (of_flags o reference_flag)
+  every_map : IsWordOf text Normal o (codes "map()") (of_flags o map_flag)
   every_function : IsWordOf text Normal o (codes "fun()") (of_functions o all_functions)
   -- the functions of one arity
   one_arity : (n : ℕ) → nat_lt n (2 ^ 32) ≡ true → IsWordOf text Normal o (codes "fun(" ++ decimal n ++ codes ")") (of_functions o (of_arity n))
-  empty_list : IsWordOf text Normal o (codes "[]") (of_kinds o nil_kind)
+  empty_list : IsWordOf text Normal o (codes "[]") (of_flags o nil_flag)
   -- the lists with proper ends, and those with any
   proper_list : (e : E) → IsElement Normal o e → IsWordOf text Normal o (codes "cons(" ++ text e ++ codes ")") (of_list o e true)
   any_list : (e : E) → IsElement Normal o e → IsWordOf text Normal o (codes "cons_any(" ++ text e ++ codes ")") (of_list o e false)

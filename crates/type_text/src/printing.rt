@@ -196,13 +196,14 @@ fn append_plain(plain: &Plain, some: &mut bool, out: &mut Bytes) -> Result<(), M
 {
     append_atoms(&plain.atoms, some, out)?;
     append_ints(&plain.ints, some, out)?;
-    append_if(plain.kinds.float, b"float()", some, out)?;
+    append_if(plain.flags.float, b"float()", some, out)?;
     append_bits(plain.bits, some, out)?;
-    append_if(plain.kinds.pid, b"pid()", some, out)?;
-    append_if(plain.kinds.port, b"port()", some, out)?;
-    append_if(plain.kinds.reference, b"reference()", some, out)?;
+    append_if(plain.flags.pid, b"pid()", some, out)?;
+    append_if(plain.flags.port, b"port()", some, out)?;
+    append_if(plain.flags.reference, b"reference()", some, out)?;
+    append_if(plain.flags.map, b"map()", some, out)?;
     append_functions(plain.functions, some, out)?;
-    append_if(plain.kinds.nil, b"[]", some, out)
+    append_if(plain.flags.nil, b"[]", some, out)
 }
 
 // Appends a word for each atom, or the word of all atoms.

@@ -8,19 +8,19 @@ ghost use Rattle.type_sets.specs.Numbers.{is_narrow};
 ghost use Rattle.type_model.specs.Shapes.{TypeAt, sizes, all_tuples};
 ghost use Rattle.type_model.specs.Operations.{ops, of_plain, of_atoms};
 ghost use Rattle.type_model.specs.Normal.{NormalAt, NormalFunctions, IsElement, AreElements};
-ghost use Rattle.type_trees.specs.Plains.{kinds_of, functions_of};
+ghost use Rattle.type_trees.specs.Plains.{flags_of, functions_of};
 ghost use Rattle.type_trees.specs.View.{view, body_view, row_view, Fits, EachNode, BodyFits};
 ghost use Rattle.type_text.specs.Texts.{text_at, after, separated};
 ghost use Rattle.type_text.specs.Words.{TypeStop, WordStop};
-ghost use Rattle.type_text.specs.WordTypes.{IsWord, AreWords, spelled, joined_with, of_tuples, of_list, of_row, of_kinds, of_bits, of_functions, of_ints};
-ghost use Rattle.type_text.specs.Starts.{begins_number, NoKind, NoBits, NoFunction, NoInterval, NoName};
+ghost use Rattle.type_text.specs.WordTypes.{IsWord, AreWords, spelled, joined_with, of_tuples, of_list, of_row, of_flags, of_bits, of_functions, of_ints};
+ghost use Rattle.type_text.specs.Starts.{begins_number, NoFlag, NoBits, NoFunction, NoInterval, NoName};
 
 use crate::leaves::{after_word, read_arity, read_integer, read_quoted, read_range};
 use std::alloc::Global;
 use type_kinds::{Boxed, List, Memory};
 use type_sets::{AtomSet, Bits, High, IntSet, Low};
 use type_trees::{
-    BodyOf, CellOf, FunSet, KindSet, Node, PartsOf, Plain, SizeOf, TuplesOf, add, add_size,
+    BodyOf, CellOf, FlagSet, FunSet, Node, PartsOf, Plain, SizeOf, TuplesOf, add, add_size,
     discard, is_none, join, product_body,
 };
 
@@ -330,8 +330,8 @@ fn read_name(alloc: Global, text: &[u8]) -> Option<(Node, &[u8])>
     if let Some(rest) = after_word(text, b"atom()") {
         return Some((plain_alone(alloc, Plain::of_atoms(AtomSet::all())), rest));
     }
-    if let Some((kinds, rest)) = read_kinds(text) {
-        return Some((kinds_alone(alloc, kinds), rest));
+    if let Some((flags, rest)) = read_flags(text) {
+        return Some((flags_alone(alloc, flags), rest));
     }
     if let Some((bits, rest)) = read_bits(text) {
         return Some((bits_alone(alloc, bits), rest));
@@ -343,37 +343,42 @@ fn read_name(alloc: Global, text: &[u8]) -> Option<(Node, &[u8])>
     Some((ints_alone(alloc, ints), rest))
 }
 
-// One of the kinds of which a type has all values or none.
-fn read_kinds(text: &[u8]) -> Option<(KindSet, &[u8])>
+// A part that is no or yes.
+fn read_flags(text: &[u8]) -> Option<(FlagSet, &[u8])>
     ensures shorter { IfSome result (λ p. length p.1.now ≤ length text.now) }
-    ensures complete { (d : ℕ) (w rest : List ℕ) (u : TypeAt (suc d)) → IsWord d w u → text.now ≡ w ++ rest → MatchOption result (NoKind text.now) (λ p. (of_kinds (ops d) (kinds_of p.0) ≡ u) × (p.1.now ≡ rest)) }
+    ensures complete { (d : ℕ) (w rest : List ℕ) (u : TypeAt (suc d)) → IsWord d w u → text.now ≡ w ++ rest → MatchOption result (NoFlag text.now) (λ p. (of_flags (ops d) (flags_of p.0) ≡ u) × (p.1.now ≡ rest)) }
 {
-    let mut kinds = KindSet {
+    let mut flags = FlagSet {
         float: false,
         pid: false,
         port: false,
         reference: false,
         nil: false,
+        map: false,
     };
     if let Some(rest) = after_word(text, b"float()") {
-        kinds.float = true;
-        return Some((kinds, rest));
+        flags.float = true;
+        return Some((flags, rest));
     }
     if let Some(rest) = after_word(text, b"pid()") {
-        kinds.pid = true;
-        return Some((kinds, rest));
+        flags.pid = true;
+        return Some((flags, rest));
     }
     if let Some(rest) = after_word(text, b"port()") {
-        kinds.port = true;
-        return Some((kinds, rest));
+        flags.port = true;
+        return Some((flags, rest));
     }
     if let Some(rest) = after_word(text, b"reference()") {
-        kinds.reference = true;
-        return Some((kinds, rest));
+        flags.reference = true;
+        return Some((flags, rest));
+    }
+    if let Some(rest) = after_word(text, b"map()") {
+        flags.map = true;
+        return Some((flags, rest));
     }
     let rest = after_word(text, b"[]")?;
-    kinds.nil = true;
-    Some((kinds, rest))
+    flags.nil = true;
+    Some((flags, rest))
 }
 
 // Some bits.
@@ -432,14 +437,14 @@ fn every_tuple() -> Node
     })
 }
 
-fn kinds_alone(alloc: Global, kinds: KindSet) -> Node
+fn flags_alone(alloc: Global, flags: FlagSet) -> Node
     ensures fits { (d : ℕ) → Fits (suc d) result }
-    ensures value { (d : ℕ) → view (suc d) result ≡ of_kinds (ops d) (kinds_of kinds) }
+    ensures value { (d : ℕ) → view (suc d) result ≡ of_flags (ops d) (flags_of flags) }
 {
     plain_alone(
         alloc,
         Plain {
-            kinds,
+            flags,
             ..Plain::none()
         },
     )

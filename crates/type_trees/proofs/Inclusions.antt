@@ -15,7 +15,7 @@ use Rattle.type_model.specs.HasType.{HasAt, HasParts, HasCell, HasRow, HasBody, 
 use Rattle.type_model.specs.Operations.{ops, row_at}
 use Rattle.type_model.specs.Normal.{NormalAt, NormalRow, NormalRows, NormalBody, NormalSizes}
 use Rattle.type_model.specs.Laws.{BelowBy}
-use Rattle.type_model.specs.Forms.{Form, leaf, pair, row, form, value_of_form, form-value_of_form, HasForm, has-form, PlainBelow}
+use Rattle.type_model.specs.ValueShapes.{Shape, leaf, pair, row, shape, value_of_shape, shape-value_of_shape, HasShape, has-shape, PlainBelow}
 use Rattle.type_model.proofs.TableLaws.{EachEntry, each_at, each_from, some-none}
 use Rattle.type_model.proofs.CellLaws.{value_of, cell-below, all-more}
 use Rattle.type_model.proofs.RowLaws.{BelowEach, values_of, each-more, each-below}
@@ -80,29 +80,29 @@ parts_tell (suc d) a b p q r e f k h =
     subst₂ (λ s t. IsTrue r ↔ BelowBy (HasAt (suc d)) s t) (sym (view_of a p e d)) (sym (view_of b q f d)) g
 
 module _ {E : Type 0} (Has : Value → E → Type 0) (p q : Parts E) where
-  forms_below : PlainBelow p.plain q.plain → BelowBy (HasCell Has) p.cell q.cell → BelowBy (HasTuple Has) p.tuples q.tuples → (x : Form) → HasForm Has x p → HasForm Has x q
-  forms_below f g h (leaf l) = f l
-  forms_below f g h (pair x y) = g (x, y)
-  forms_below f g h (row vs) = h vs
+  shapes_below : PlainBelow p.plain q.plain → BelowBy (HasCell Has) p.cell q.cell → BelowBy (HasTuple Has) p.tuples q.tuples → (x : Shape) → HasShape Has x p → HasShape Has x q
+  shapes_below f g h (leaf l) = f l
+  shapes_below f g h (pair x y) = g (x, y)
+  shapes_below f g h (row vs) = h vs
 
   -- types are included where their parts are
   pub all_parts_below : PlainBelow p.plain q.plain → BelowBy (HasCell Has) p.cell q.cell → BelowBy (HasTuple Has) p.tuples q.tuples → BelowBy (HasParts Has) p q
-  all_parts_below f g h x k = subst (λ T. T) (sym (has-form Has x q)) (forms_below f g h (form x) (subst (λ T. T) (has-form Has x p) k))
+  all_parts_below f g h x k = subst (λ T. T) (sym (has-shape Has x q)) (shapes_below f g h (shape x) (subst (λ T. T) (has-shape Has x p) k))
 
-  form_below : BelowBy (HasParts Has) p q → (x : Form) → HasForm Has x p → HasForm Has x q
-  form_below f x k =
-      let w = value_of_form x in
-      let there : HasForm Has (form w) p = subst (λ y. HasForm Has y p) (sym (form-value_of_form x)) k in
-      subst (λ y. HasForm Has y q) (form-value_of_form x) (subst (λ T. T) (has-form Has w q) (f w (subst (λ T. T) (sym (has-form Has w p)) there)))
+  shape_below : BelowBy (HasParts Has) p q → (x : Shape) → HasShape Has x p → HasShape Has x q
+  shape_below f x k =
+      let w = value_of_shape x in
+      let there : HasShape Has (shape w) p = subst (λ y. HasShape Has y p) (sym (shape-value_of_shape x)) k in
+      subst (λ y. HasShape Has y q) (shape-value_of_shape x) (subst (λ T. T) (has-shape Has w q) (f w (subst (λ T. T) (sym (has-shape Has w p)) there)))
 
   pub plain_below : BelowBy (HasParts Has) p q → PlainBelow p.plain q.plain
-  plain_below f l = form_below f (leaf l)
+  plain_below f l = shape_below f (leaf l)
 
   pub cell_below : BelowBy (HasParts Has) p q → BelowBy (HasCell Has) p.cell q.cell
-  cell_below f x = form_below f (pair x.0 x.1)
+  cell_below f x = shape_below f (pair x.0 x.1)
 
   pub tuples_below : BelowBy (HasParts Has) p q → BelowBy (HasTuple Has) p.tuples q.tuples
-  tuples_below f vs = form_below f (row vs)
+  tuples_below f vs = shape_below f (row vs)
 
 -- the tuples decide, once the rest is included
 pub tuples_tell : (d : ℕ) (p q : PartsOf Node) (r : Bool) → PlainBelow p.plain q.plain → BelowBy (HasCell (HasAt d)) (cell_view d p.cell) (cell_view d q.cell) → IsTrue r ↔ BelowBy (HasTuple (HasAt d)) (tuples_view d p.tuples) (tuples_view d q.tuples) → IsTrue r ↔ BelowBy (HasParts (HasAt d)) (parts_view d p) (parts_view d q)

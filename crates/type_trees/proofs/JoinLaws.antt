@@ -14,9 +14,9 @@ use Rattle.type_sets.specs.Names.{Name, Names, name_cmp, every, none, are_listed
 use Rattle.type_sets.proofs.NameLaws.{or_else-no, name_total, name_same}
 use Rattle.type_sets.specs.Numbers as numbers
 use Rattle.type_sets.specs.declared.bits.Bits.TheVariants.{No}
-use Rattle.type_model.specs.Shapes.{TypeAt, Plain, no_function, Parts, Tuples, all_tuples, Body, product, tags, sizes}
+use Rattle.type_model.specs.Shapes.{TypeAt, PlainParts, no_function, Parts, Tuples, all_tuples, Body, product, tags, sizes}
 use Rattle.type_model.specs.Tables.{keys, held, is_table, put, united}
-use Rattle.type_model.specs.Operations.{Ops, ops, zip, is_empty, row_join, rows_join, all_rows_join, tags_join, body_join, elements, capped_tags, capped_sizes, no_kinds, of_atoms, parts_join}
+use Rattle.type_model.specs.Operations.{Ops, ops, zip, is_empty, row_join, rows_join, all_rows_join, tags_join, body_join, elements, capped_tags, capped_sizes, no_flags, of_atoms, parts_join}
 use Rattle.type_model.specs.Normal.{NormalAt, NormalRow, NormalRows, AreTags, NormalBody, NormalSizes, NormalParts}
 use Rattle.type_model.proofs.TableLaws.{same_some, table-put, table-united}
 use Rattle.type_model.proofs.RowLaws.{length-zip, row_lattice}
@@ -154,10 +154,10 @@ sizes-not_all : {E : Type 0} (t : Tuples E) (m : List (ℕ × Body E)) → t ≡
 sizes-not_all t m e f = cc
 
 -- a type of some atoms and nothing else
-atoms_part : (s : Names) (q : Plain) (ss : List (SizeOf Node)) → q ≡ record { atoms = s; ints = numbers.none; bits = No; kinds = no_kinds; functions = no_function } → ss ≡ [] → (d : ℕ) → parts_view d (record { plain = q; cell = None; tuples = Sizes ss }) ≡ of_atoms (ops d) s
+atoms_part : (s : Names) (q : PlainParts) (ss : List (SizeOf Node)) → q ≡ record { atoms = s; ints = numbers.none; bits = No; flags = no_flags; functions = no_function } → ss ≡ [] → (d : ℕ) → parts_view d (record { plain = q; cell = None; tuples = Sizes ss }) ≡ of_atoms (ops d) s
 atoms_part s q ss e f d = λ n. record { plain = e n; cell = None; tuples = sizes (sizes_view d (f n)) }
 
-pub atoms_fit : (t : Node) (s : Names) (q : Plain) (ss : List (SizeOf Node)) → t ≡ v.Of (record { plain = q; cell = None; tuples = Sizes ss }) → q ≡ record { atoms = s; ints = numbers.none; bits = No; kinds = no_kinds; functions = no_function } → ss ≡ [] → (d : ℕ) → Fits (suc d) t
+pub atoms_fit : (t : Node) (s : Names) (q : PlainParts) (ss : List (SizeOf Node)) → t ≡ v.Of (record { plain = q; cell = None; tuples = Sizes ss }) → q ≡ record { atoms = s; ints = numbers.none; bits = No; flags = no_flags; functions = no_function } → ss ≡ [] → (d : ℕ) → Fits (suc d) t
 unfolding ops
 atoms_fit t s q ss i e f d =
     let whole = atoms_part s q ss e f d in
@@ -166,7 +166,7 @@ atoms_fit t s q ss i e f d =
       each = (tt, subst (EachSize (Fits d)) (sym f) tt);
     }) (λ h. sizes-not_all (tuples_view d (Sizes ss)) (sizes_view d ss) refl (ap (λ (p : Parts (TypeAt d)). p.tuples) h))
 
-pub atoms_value : (t : Node) (s : Names) (q : Plain) (ss : List (SizeOf Node)) (ts : List (TagOf Node)) → t ≡ v.Of (record { plain = q; cell = None; tuples = Sizes ss }) → q ≡ record { atoms = s; ints = numbers.none; bits = No; kinds = no_kinds; functions = no_function } → ss ≡ [] → ((d : ℕ) → s ≡ or_else (keys (tags_view d ts)) every) → (d : ℕ) → view (suc d) t ≡ (ops (suc d)).of_names (keys (tags_view (suc d) ts))
+pub atoms_value : (t : Node) (s : Names) (q : PlainParts) (ss : List (SizeOf Node)) (ts : List (TagOf Node)) → t ≡ v.Of (record { plain = q; cell = None; tuples = Sizes ss }) → q ≡ record { atoms = s; ints = numbers.none; bits = No; flags = no_flags; functions = no_function } → ss ≡ [] → ((d : ℕ) → s ≡ or_else (keys (tags_view d ts)) every) → (d : ℕ) → view (suc d) t ≡ (ops (suc d)).of_names (keys (tags_view (suc d) ts))
 unfolding ops
 atoms_value t s q ss ts i e f g d =
     view_of t (record { plain = q; cell = None; tuples = Sizes ss }) i d ∙ atoms_part s q ss e f d ∙ ap (of_atoms (ops d)) (g (suc d))

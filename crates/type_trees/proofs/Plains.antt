@@ -21,17 +21,17 @@ use Rattle.type_sets.specs.contracts.ends.HighPartialEq.TheImpl as high
 use Rattle.type_sets.specs.contracts.bits.BitsPartialEq.TheImpl as bits
 use Rattle.type_sets.proofs.Truths.{in_first, in_second, either}
 use Rattle.type_sets.proofs.NumberLaws.{between-same}
-use Rattle.type_model.specs.Shapes.{Kind, Kinds, Functions, no_function, of_arity, all_functions, Plain}
-use Rattle.type_model.specs.HasType.{has_kind, has_arity}
-use Rattle.type_model.specs.Operations.{kinds_join, plain_all, all_kinds}
-use Rattle.type_model.specs.Forms.{an_int, an_atom, some_bits, of_kind, a_function, PlainBelow}
-use Rattle.type_model.proofs.PlainLaws.{same_test, same_kinds, has_kind-join, same_functions}
+use Rattle.type_model.specs.Shapes.{Flag, Flags, Functions, no_function, of_arity, all_functions, PlainParts}
+use Rattle.type_model.specs.HasType.{has_flag, has_arity}
+use Rattle.type_model.specs.Operations.{flags_join, plain_all, all_flags}
+use Rattle.type_model.specs.ValueShapes.{an_int, an_atom, some_bits, of_flag, a_function, PlainBelow}
+use Rattle.type_model.proofs.PlainLaws.{same_test, same_flags, has_flag-join, same_functions}
 use Rattle.type_model.proofs.TableLaws.{some-none}
-use Rattle.type_trees.specs.declared.plain.KindSet.{KindSet}
+use Rattle.type_trees.specs.declared.plain.FlagSet.{FlagSet}
 use Rattle.type_trees.specs.declared.plain.FunSet.{FunSet}
 use Rattle.type_trees.specs.declared.plain.FunSet.TheVariants as fun
 use Rattle.type_trees.specs.contracts.plain.FunSetPartialEq.TheImpl as fun_eq
-use Rattle.type_trees.specs.Plains.{kinds_of, functions_of}
+use Rattle.type_trees.specs.Plains.{flags_of, functions_of}
 
 -- ---- a test of two parts, the second of which is looked at where the first holds
 
@@ -43,30 +43,30 @@ else_both a v p e f = (λ h. absurd (true≢false (sym h ∙ f ∙ e)), λ h. f 
 
 -- ---- inclusion
 
-abbrev pub KindsBelow : Kinds → Kinds → Type 0
-KindsBelow k l = (x : Kind) → has_kind k x ≡ true → has_kind l x ≡ true
+abbrev pub FlagsBelow : Flags → Flags → Type 0
+FlagsBelow k l = (x : Flag) → has_flag k x ≡ true → has_flag l x ≡ true
 
 abbrev pub FunctionsBelow : Functions → Functions → Type 0
 FunctionsBelow f g = (n : ℕ) → has_arity f n ≡ true → has_arity g n ≡ true
 
-abbrev kinds_test : KindSet → KindSet → Bool
-kinds_test j l = beq j.float l.float && (beq j.pid l.pid && (beq j.port l.port && (beq j.reference l.reference && beq j.nil l.nil)))
+abbrev flags_test : FlagSet → FlagSet → Bool
+flags_test j l = beq j.float l.float && (beq j.pid l.pid && (beq j.port l.port && (beq j.reference l.reference && (beq j.nil l.nil && beq j.map l.map))))
 
--- kinds are the same where each of the five tests finds them so
-kinds_equal : (j l : KindSet) → IsTrue (kinds_test j l) ↔ (kinds_of j ≡ kinds_of l)
-kinds_equal j l =
-    Decides-like (kinds_test j l) (λ h i. record { float = h.0 i; pid = h.1.0 i; port = h.1.1.0 i; reference = h.1.1.1.0 i; nil = h.1.1.1.1 i }) (λ e. (ap (λ k. k.float) e, (ap (λ k. k.pid) e, (ap (λ k. k.port) e, (ap (λ k. k.reference) e, ap (λ k. k.nil) e))))) (Decides-and _ _ (booleans_Decides j.float l.float) (Decides-and _ _ (booleans_Decides j.pid l.pid) (Decides-and _ _ (booleans_Decides j.port l.port) (Decides-and _ _ (booleans_Decides j.reference l.reference) (booleans_Decides j.nil l.nil)))))
+-- flags are the same where each of the six tests finds them so
+flags_equal : (j l : FlagSet) → IsTrue (flags_test j l) ↔ (flags_of j ≡ flags_of l)
+flags_equal j l =
+    Decides-like (flags_test j l) (λ h i. record { float = h.0 i; pid = h.1.0 i; port = h.1.1.0 i; reference = h.1.1.1.0 i; nil = h.1.1.1.1.0 i; map = h.1.1.1.1.1 i }) (λ e. (ap (λ k. k.float) e, (ap (λ k. k.pid) e, (ap (λ k. k.port) e, (ap (λ k. k.reference) e, (ap (λ k. k.nil) e, ap (λ k. k.map) e)))))) (Decides-and _ _ (booleans_Decides j.float l.float) (Decides-and _ _ (booleans_Decides j.pid l.pid) (Decides-and _ _ (booleans_Decides j.port l.port) (Decides-and _ _ (booleans_Decides j.reference l.reference) (Decides-and _ _ (booleans_Decides j.nil l.nil) (booleans_Decides j.map l.map))))))
 
--- kinds are among others where the join of both is the others
-join-below : (k l : Kinds) → kinds_join k l ≡ l → KindsBelow k l
-join-below k l e x h = sym (ap (λ m. has_kind m x) e) ∙ has_kind-join k l x ∙ in_first (has_kind k x) (has_kind l x) h
+-- flags are among others where the join of both is the others
+join-below : (k l : Flags) → flags_join k l ≡ l → FlagsBelow k l
+join-below k l e x h = sym (ap (λ m. has_flag m x) e) ∙ has_flag-join k l x ∙ in_first (has_flag k x) (has_flag l x) h
 
-below-join : (k l : Kinds) → KindsBelow k l → kinds_join k l ≡ l
-below-join k l f = same_kinds (kinds_join k l) l (λ x. same_test (has_kind (kinds_join k l) x) (has_kind l x) (λ h. elim (either (has_kind k x) (has_kind l x) (sym (has_kind-join k l x) ∙ h)) [ inl y ↦ f x y | inr y ↦ y ]) (λ h. has_kind-join k l x ∙ in_second (has_kind k x) (has_kind l x) h))
+below-join : (k l : Flags) → FlagsBelow k l → flags_join k l ≡ l
+below-join k l f = same_flags (flags_join k l) l (λ x. same_test (has_flag (flags_join k l) x) (has_flag l x) (λ h. elim (either (has_flag k x) (has_flag l x) (sym (has_flag-join k l x) ∙ h)) [ inl y ↦ f x y | inr y ↦ y ]) (λ h. has_flag-join k l x ∙ in_second (has_flag k x) (has_flag l x) h))
 
-pub kinds_below : (j k l : KindSet) (b : Bool) → kinds_of j ≡ kinds_join (kinds_of k) (kinds_of l) → b ≡ kinds_test j l → IsTrue b ↔ KindsBelow (kinds_of k) (kinds_of l)
-kinds_below j k l b e f =
-    Decides-like b (λ h. join-below (kinds_of k) (kinds_of l) (sym e ∙ h)) (λ h. e ∙ below-join (kinds_of k) (kinds_of l) h) (Decides-at b (kinds_test j l) f (kinds_equal j l))
+pub flags_below : (j k l : FlagSet) (b : Bool) → flags_of j ≡ flags_join (flags_of k) (flags_of l) → b ≡ flags_test j l → IsTrue b ↔ FlagsBelow (flags_of k) (flags_of l)
+flags_below j k l b e f =
+    Decides-like b (λ h. join-below (flags_of k) (flags_of l) (sym e ∙ h)) (λ h. e ∙ below-join (flags_of k) (flags_of l) h) (Decides-at b (flags_test j l) f (flags_equal j l))
 
 pub arities_below : (f g : Functions) (m n : ℕ) → f ≡ of_arity m → g ≡ of_arity n → IsTrue (m == n) ↔ FunctionsBelow f g
 arities_below f g m n d e =
@@ -89,30 +89,30 @@ every-below f g b d e =
     let u = every_below (functions_of f) (functions_of g) (ap functions_of d) in
     (λ h. u.0 (t.0 h), λ h. t.1 (u.1 h))
 
-abbrev pub AtomsAndIntsBelow : Plain → Plain → Type 0
+abbrev pub AtomsAndIntsBelow : PlainParts → PlainParts → Type 0
 AtomsAndIntsBelow p q = names.Below p.atoms q.atoms × numbers.Below p.ints q.ints
 
-abbrev pub AndBitsBelow : Plain → Plain → Type 0
+abbrev pub AndBitsBelow : PlainParts → PlainParts → Type 0
 AndBitsBelow p q = AtomsAndIntsBelow p q × bit_lengths.Below p.bits q.bits
 
-abbrev pub AndKindsBelow : Plain → Plain → Type 0
-AndKindsBelow p q = AndBitsBelow p q × KindsBelow p.kinds q.kinds
+abbrev pub AndFlagsBelow : PlainParts → PlainParts → Type 0
+AndFlagsBelow p q = AndBitsBelow p q × FlagsBelow p.flags q.flags
 
-abbrev pub PartsBelow : Plain → Plain → Type 0
-PartsBelow p q = AndKindsBelow p q × FunctionsBelow p.functions q.functions
+abbrev pub PartsBelow : PlainParts → PlainParts → Type 0
+PartsBelow p q = AndFlagsBelow p q × FunctionsBelow p.functions q.functions
 
-parts-below : (p q : Plain) → PartsBelow p q → PlainBelow p q
+parts-below : (p q : PlainParts) → PartsBelow p q → PlainBelow p q
 parts-below p q h (an_int n) = h.0.0.0.1 n
 parts-below p q h (an_atom a) = h.0.0.0.0 a
 parts-below p q h (some_bits n) = h.0.0.1 n
-parts-below p q h (of_kind k) = h.0.1 k
+parts-below p q h (of_flag k) = h.0.1 k
 parts-below p q h (a_function n) = h.1 n
 
-below-parts : (p q : Plain) → PlainBelow p q → PartsBelow p q
-below-parts p q k = ((((λ a. k (an_atom a), λ n. k (an_int n)), λ n. k (some_bits n)), λ x. k (of_kind x)), λ n. k (a_function n))
+below-parts : (p q : PlainParts) → PlainBelow p q → PartsBelow p q
+below-parts p q k = ((((λ a. k (an_atom a), λ n. k (an_int n)), λ n. k (some_bits n)), λ x. k (of_flag x)), λ n. k (a_function n))
 
 -- what holds of the parts that are kept holds of what they stand for
-pub plain_below : (p q s t : Plain) (b : Bool) → p ≡ s → q ≡ t → IsTrue b ↔ PartsBelow p q → IsTrue b ↔ PlainBelow s t
+pub plain_below : (p q s t : PlainParts) (b : Bool) → p ≡ s → q ≡ t → IsTrue b ↔ PartsBelow p q → IsTrue b ↔ PlainBelow s t
 plain_below p q s t b d e h =
     Decides-like b (λ k. subst (PlainBelow s) e (subst (λ x. PlainBelow x q) d (parts-below p q k))) (λ k. below-parts p q (subst (λ x. PlainBelow x q) (sym d) (subst (PlainBelow s) (sym e) k))) h
 
@@ -150,18 +150,18 @@ bits_all No b e = (λ h. absurd (true≢false (sym h ∙ e)), λ h. e ∙ ap (λ
 bits_all Whole b e = (λ h. absurd (true≢false (sym h ∙ e)), λ h. e ∙ ap (λ x. (bits.ghosts).eq x Any) h)
 bits_all Any b e = (λ h. refl, λ h. e)
 
-abbrev pub AtomsAndIntsAll : Plain → Type 0
+abbrev pub AtomsAndIntsAll : PlainParts → Type 0
 AtomsAndIntsAll p = (p.atoms ≡ every) × (p.ints ≡ numbers.all)
 
-abbrev pub AndBitsAll : Plain → Type 0
+abbrev pub AndBitsAll : PlainParts → Type 0
 AndBitsAll p = AtomsAndIntsAll p × (p.bits ≡ Any)
 
-abbrev pub AndKindsAll : Plain → Type 0
-AndKindsAll p = AndBitsAll p × (p.kinds ≡ all_kinds)
+abbrev pub AndFlagsAll : PlainParts → Type 0
+AndFlagsAll p = AndBitsAll p × (p.flags ≡ all_flags)
 
-abbrev pub PartsAll : Plain → Type 0
-PartsAll p = AndKindsAll p × (p.functions ≡ all_functions)
+abbrev pub PartsAll : PlainParts → Type 0
+PartsAll p = AndFlagsAll p × (p.functions ≡ all_functions)
 
-pub plain_is_all : (p s : Plain) (b : Bool) → p ≡ s → IsTrue b ↔ PartsAll p → IsTrue b ↔ (s ≡ plain_all)
+pub plain_is_all : (p s : PlainParts) (b : Bool) → p ≡ s → IsTrue b ↔ PartsAll p → IsTrue b ↔ (s ≡ plain_all)
 plain_is_all p s b d h =
-    Decides-like b (λ k. sym d ∙ (λ i. record { atoms = k.0.0.0.0 i; ints = k.0.0.0.1 i; bits = k.0.0.1 i; kinds = k.0.1 i; functions = k.1 i })) (λ e. ((((ap (λ x. x.atoms) (d ∙ e), ap (λ x. x.ints) (d ∙ e)), ap (λ x. x.bits) (d ∙ e)), ap (λ x. x.kinds) (d ∙ e)), ap (λ x. x.functions) (d ∙ e))) h
+    Decides-like b (λ k. sym d ∙ (λ i. record { atoms = k.0.0.0.0 i; ints = k.0.0.0.1 i; bits = k.0.0.1 i; flags = k.0.1 i; functions = k.1 i })) (λ e. ((((ap (λ x. x.atoms) (d ∙ e), ap (λ x. x.ints) (d ∙ e)), ap (λ x. x.bits) (d ∙ e)), ap (λ x. x.flags) (d ∙ e)), ap (λ x. x.functions) (d ∙ e))) h

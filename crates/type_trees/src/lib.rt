@@ -20,4 +20,4 @@ pub use node::{
     BodyOf, CellOf, Node, PartsOf, SizeOf, TagOf, TuplesOf, add, add_size, discard, find_size,
     find_tag, is_none, made,
 };
-pub use plain::{FunSet, KindSet, Plain};
+pub use plain::{FlagSet, FunSet, Plain};

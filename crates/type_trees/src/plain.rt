@@ -1,74 +1,77 @@
 ghost use Rattle.std.specs.Prelude.{◌≡◌, ◌↔◌, ℕ, true, IsTrue, IfOk};
-ghost use Rattle.type_model.specs.Forms.{PlainBelow};
-ghost use Rattle.type_model.specs.HasType.{has_kind, has_arity};
+ghost use Rattle.type_model.specs.ValueShapes.{PlainBelow};
+ghost use Rattle.type_model.specs.HasType.{has_flag, has_arity};
 ghost use Rattle.type_model.specs.Parts.{without_nil};
-ghost use Rattle.type_model.specs.Shapes.{Kind, no_function};
+ghost use Rattle.type_model.specs.Shapes.{Flag, no_function};
 ghost use Rattle.type_sets.specs.Numbers as numbers;
 ghost use Rattle.type_sets.specs.declared.bits.Bits.TheVariants.{No};
-ghost use Rattle.type_model.specs.Operations.{plain_none, plain_all, plain_meet, plain_join, kinds_meet, kinds_join, functions_meet, functions_join, is_no_kind, no_kinds, all_kinds, is_no_function, is_no_plain, is_atoms};
-ghost use Rattle.type_trees.specs.Plains.{kinds_of, functions_of};
+ghost use Rattle.type_model.specs.Operations.{plain_none, plain_all, plain_meet, plain_join, flags_meet, flags_join, functions_meet, functions_join, is_no_flag, no_flags, all_flags, is_no_function, is_no_plain, is_atoms};
+ghost use Rattle.type_trees.specs.Plains.{flags_of, functions_of};
 
 use std::alloc::Global;
 use std::marker::Model;
 use type_kinds::Memory;
 use type_sets::{AtomSet, Bits, High, IntSet, Low};
 
-/// The kinds of values of which a type has all or none.
+/// The parts that are no or yes: of each of these a type has all values or none.
 #[derive(Clone, Copy, Debug, PartialEq, Eq)]
-pub struct KindSet {
+pub struct FlagSet {
     pub float: bool,
     pub pid: bool,
     pub port: bool,
     pub reference: bool,
     pub nil: bool,
+    pub map: bool,
 }
 
-impl KindSet {
-    /// The kinds of both.
-    pub fn meet(&self, other: &KindSet) -> KindSet
-        ensures { kinds_of result ≡ kinds_meet (kinds_of self.now) (kinds_of other.now) }
+impl FlagSet {
+    /// The flags that are in both.
+    pub fn meet(&self, other: &FlagSet) -> FlagSet
+        ensures { flags_of result ≡ flags_meet (flags_of self.now) (flags_of other.now) }
     {
-        KindSet {
+        FlagSet {
             float: self.float && other.float,
             pid: self.pid && other.pid,
             port: self.port && other.port,
             reference: self.reference && other.reference,
             nil: self.nil && other.nil,
+            map: self.map && other.map,
         }
     }
 
-    /// The kinds of one or the other.
-    pub fn join(&self, other: &KindSet) -> KindSet
-        ensures { kinds_of result ≡ kinds_join (kinds_of self.now) (kinds_of other.now) }
+    /// The flags that are in one or the other.
+    pub fn join(&self, other: &FlagSet) -> FlagSet
+        ensures { flags_of result ≡ flags_join (flags_of self.now) (flags_of other.now) }
     {
-        KindSet {
+        FlagSet {
             float: self.float || other.float,
             pid: self.pid || other.pid,
             port: self.port || other.port,
             reference: self.reference || other.reference,
             nil: self.nil || other.nil,
+            map: self.map || other.map,
         }
     }
 
-    /// Whether each kind of this one is in the other.
-    pub fn leq(&self, other: &KindSet) -> bool
-        ensures { IsTrue result ↔ ((k : Kind) → has_kind (kinds_of self.now) k ≡ true → has_kind (kinds_of other.now) k ≡ true) }
+    /// Whether each flag of this one is in the other.
+    pub fn leq(&self, other: &FlagSet) -> bool
+        ensures { IsTrue result ↔ ((k : Flag) → has_flag (flags_of self.now) k ≡ true → has_flag (flags_of other.now) k ≡ true) }
     {
         self.join(other) == *other
     }
 
-    /// Whether every kind is there.
+    /// Whether every flag is there.
     pub fn is_all(&self) -> bool
-        ensures { IsTrue result ↔ (kinds_of self.now ≡ all_kinds) }
+        ensures { IsTrue result ↔ (flags_of self.now ≡ all_flags) }
     {
-        self.float && self.pid && self.port && self.reference && self.nil
+        self.float && self.pid && self.port && self.reference && self.nil && self.map
     }
 
-    /// Whether there is no kind.
+    /// Whether there is no flag.
     pub fn is_none(&self) -> bool
-        ensures { result ≡ is_no_kind (kinds_of self.now) }
+        ensures { result ≡ is_no_flag (flags_of self.now) }
     {
-        !(self.float || self.pid || self.port || self.reference || self.nil)
+        !(self.float || self.pid || self.port || self.reference || self.nil || self.map)
     }
 }
 
@@ -98,7 +101,7 @@ impl FunSet {
         }
     }
 
-    /// The least set round both: of two arities it is every function.
+    /// The smallest set that contains both: every function for two arities.
     pub fn join(&self, other: &FunSet) -> FunSet
         ensures { functions_of result ≡ functions_join (functions_of self.now) (functions_of other.now) }
     {
@@ -141,19 +144,19 @@ pub struct Plain {
     pub atoms: AtomSet,
     pub ints: IntSet,
     pub bits: Bits,
-    pub kinds: KindSet,
+    pub flags: FlagSet,
     pub functions: FunSet,
 }
 
 impl Model for Plain {
-    ghost use Rattle.type_model.specs.Shapes.{Plain};
-    ghost use Rattle.type_trees.specs.Plains.{plain_code, kinds_of, functions_of};
+    ghost use Rattle.type_model.specs.Shapes.{PlainParts};
+    ghost use Rattle.type_trees.specs.Plains.{plain_code, flags_of, functions_of};
 
-    ghost Value = { Plain };
+    ghost Value = { PlainParts };
 
     ghost coded = { plain_code };
 
-    ghost view = { λ p. record { atoms = p.atoms; ints = p.ints; bits = p.bits; kinds = kinds_of p.kinds; functions = functions_of p.functions } };
+    ghost view = { λ p. record { atoms = p.atoms; ints = p.ints; bits = p.bits; flags = flags_of p.flags; functions = functions_of p.functions } };
 }
 
 impl Plain {
@@ -165,12 +168,13 @@ impl Plain {
             atoms: AtomSet::none(),
             ints: IntSet::none(),
             bits: Bits::No,
-            kinds: KindSet {
+            flags: FlagSet {
                 float: false,
                 pid: false,
                 port: false,
                 reference: false,
                 nil: false,
+                map: false,
             },
             functions: FunSet::Nothing,
         }
@@ -184,12 +188,13 @@ impl Plain {
             atoms: AtomSet::all(),
             ints: IntSet::range(Low::Min, High::Max),
             bits: Bits::Any,
-            kinds: KindSet {
+            flags: FlagSet {
                 float: true,
                 pid: true,
                 port: true,
                 reference: true,
                 nil: true,
+                map: true,
             },
             functions: FunSet::Every,
         }
@@ -199,20 +204,20 @@ impl Plain {
     pub fn is_nil_at_most(&self) -> bool
         ensures { result ≡ is_no_plain (without_nil self.now) }
     {
-        let kinds = KindSet {
+        let flags = FlagSet {
             nil: false,
-            ..self.kinds
+            ..self.flags
         };
         self.atoms.is_none()
             && self.ints.is_none()
             && self.bits == Bits::No
-            && kinds.is_none()
+            && flags.is_none()
             && self.functions.is_none()
     }
 
     /// These atoms and nothing else. Takes no memory.
     pub fn of_atoms(atoms: AtomSet) -> Plain
-        ensures { result ≡ record { atoms = atoms; ints = numbers.none; bits = No; kinds = no_kinds; functions = no_function } }
+        ensures { result ≡ record { atoms = atoms; ints = numbers.none; bits = No; flags = no_flags; functions = no_function } }
     {
         Plain {
             atoms,
@@ -228,12 +233,12 @@ impl Plain {
             atoms: self.atoms.meet(alloc, &other.atoms)?,
             ints: self.ints.meet(&other.ints),
             bits: self.bits.meet(&other.bits),
-            kinds: self.kinds.meet(&other.kinds),
+            flags: self.flags.meet(&other.flags),
             functions: self.functions.meet(&other.functions),
         })
     }
 
-    /// The least of them round both.
+    /// The smallest that contains both.
     pub fn join(&self, alloc: Global, other: &Plain) -> Result<Plain, Memory>
         ensures { IfOk result (λ p. p ≡ plain_join self.now other.now) }
     {
@@ -241,7 +246,7 @@ impl Plain {
             atoms: self.atoms.join(alloc, &other.atoms)?,
             ints: self.ints.join(&other.ints),
             bits: self.bits.join(&other.bits),
-            kinds: self.kinds.join(&other.kinds),
+            flags: self.flags.join(&other.flags),
             functions: self.functions.join(&other.functions),
         })
     }
@@ -254,7 +259,7 @@ impl Plain {
             atoms: self.atoms.copy(alloc)?,
             ints: self.ints.copy(),
             bits: self.bits,
-            kinds: self.kinds,
+            flags: self.flags,
             functions: self.functions,
         })
     }
@@ -265,7 +270,7 @@ impl Plain {
     {
         self.ints.is_none()
             && self.bits == Bits::No
-            && self.kinds.is_none()
+            && self.flags.is_none()
             && self.functions.is_none()
     }
 
@@ -276,7 +281,7 @@ impl Plain {
         self.atoms.leq(&other.atoms)
             && self.ints.leq(&other.ints)
             && self.bits.leq(&other.bits)
-            && self.kinds.leq(&other.kinds)
+            && self.flags.leq(&other.flags)
             && self.functions.leq(&other.functions)
     }
 
@@ -287,7 +292,7 @@ impl Plain {
         self.atoms.members().is_none()
             && self.ints.ends() == Some((Low::Min, High::Max))
             && self.bits == Bits::Any
-            && self.kinds.is_all()
+            && self.flags.is_all()
             && self.functions == FunSet::Every
     }
 

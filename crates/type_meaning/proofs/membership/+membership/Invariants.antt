@@ -1,6 +1,6 @@
 use Rattle.std.proofs.Common.{◌↔◌, ◌+◌, drop}
 use Rattle.type_meaning.specs.Values.{value_of}
-use Rattle.type_meaning.proofs.Forms.{all_values}
+use Rattle.type_meaning.proofs.Variants.{all_values}
 use Rattle.type_meaning.proofs.Memberships.{EachIn}
 use Rattle.type_meaning.proofs.Weights.{weight, weights}
 use Rattle.type_meaning.proofs.membership.+membership.Given as goal

@@ -10,7 +10,8 @@ returns-clause-ok c =
     let ints = both c.in_ok-append_atoms.ensures.ok c.in_ok-append_ints.ensures.ok in
     let bits = both (both ints c.in_ok-append_if.ensures.ok) c.in_ok-append_bits.ensures.ok in
     let references = both (both (both bits c.in_ok-append_if-2.ensures.ok) c.in_ok-append_if-3.ensures.ok) c.in_ok-append_if-4.ensures.ok in
-    let functions = both references c.in_ok-append_functions.ensures.ok in
-    on_ok_weaker c.append_if-5.result
-    (λ nil. subst (λ p. Adds (codes " | ") (plain_words p) c.args.some.now c.append_if-5.new.some c.args.out.now c.append_if-5.new.out) c.plain.view_is (both functions nil))
-    c.append_if-5.ensures.ok
+    let maps = both references c.in_ok-append_if-5.ensures.ok in
+    let functions = both maps c.in_ok-append_functions.ensures.ok in
+    on_ok_weaker c.append_if-6.result
+    (λ nil. subst (λ p. Adds (codes " | ") (plain_words p) c.args.some.now c.append_if-6.new.some c.args.out.now c.append_if-6.new.out) c.plain.view_is (both functions nil))
+    c.append_if-6.ensures.ok

@@ -1,0 +1,162 @@
+-- The laws of canonical values: a map is told by its pairs, and a type by the canonical values that it has.
+use Rattle.std.proofs.Common.{◌≡◌, ◌⊎◌, inl, inr, ℕ, zero, suc, Bool, true, false, List, [], ◌∷◌, Option, Some, None, refl, sym, ap, ap₂, ◌∙◌, subst, true≢false}
+use Rattle.std.specs.Prelude.{◌↔◌}
+use Rattle.std.specs.Ordering.{is_lt, nat_cmp}
+use Rattle.type_sets.specs.Ascending.{is_below_all, is_ascending}
+use Rattle.type_sets.specs.Names.{Name, name_cmp}
+use Rattle.type_sets.proofs.Truths.{first, second}
+use Rattle.type_sets.proofs.AscendingLaws as ascending
+use Rattle.type_sets.proofs.NameLaws.{name_total, name_same}
+use Rattle.type_model.specs.Values.{Value, int, atom, bits, float, pid, port, reference, nil, cons, tuple, map, closure, external, foreign, Values, no_value, and_value, Pairs, no_pair, and_pair, no_variable, count, heads, end_of}
+use Rattle.type_model.specs.Tables.{find}
+use Rattle.type_model.specs.Shapes.{Cell, Body, product, tags, Tuples, sizes, all_tuples, Parts, TypeAt}
+use Rattle.type_model.specs.HasType.{HasAll, HasEach, HasRow, HasCell, HasTag, HasBody, HasTuple, HasParts, HasAt}
+use Rattle.type_model.specs.Laws.{BelowBy}
+use Rattle.type_model.specs.Canonical.{spelled, spelled_keys, AreAscending, IsCanonical, AreCanonical, HoldsPair, PairsBelow}
+
+-- ---- maps are told by their pairs
+
+-- a key that stands below all of a map's keys stands below each of them
+below_each : (x : Name) (ps : Pairs) → is_below_all name_cmp x (spelled_keys ps) ≡ true → (k v : Value) → HoldsPair ps k v → is_lt (name_cmp x (spelled k)) ≡ true
+below_each x no_pair h k v i = absurd i
+below_each x (and_pair j w ps) h k v (inl e) = ap (λ q. is_lt (name_cmp x (spelled q))) e.0 ∙ first _ (is_below_all name_cmp x (spelled_keys ps)) h
+below_each x (and_pair j w ps) h k v (inr i) = below_each x ps (second _ (is_below_all name_cmp x (spelled_keys ps)) h) k v i
+
+not_below_itself : (k : Value) → is_lt (name_cmp (spelled k) (spelled k)) ≡ true → ⊥
+not_below_itself k = ascending.below-not_itself name_total name_same (spelled k)
+
+-- no key of what follows is the first one
+later : (j w : Value) (ps : Pairs) → AreAscending (and_pair j w ps) → (k v : Value) → HoldsPair ps k v → k ≡ j → ⊥
+later j w ps a k v h e =
+    not_below_itself j (ap (λ q. is_lt (name_cmp (spelled j) (spelled q))) (sym e) ∙ below_each (spelled j) ps (first _ (is_ascending name_cmp (spelled_keys ps)) a) k v h)
+
+rest_ascends : (k v : Value) (ps : Pairs) → AreAscending (and_pair k v ps) → AreAscending ps
+rest_ascends k v ps a = second (is_below_all name_cmp (spelled k) (spelled_keys ps)) (is_ascending name_cmp (spelled_keys ps)) a
+
+-- the first pairs of two maps that have the same are one
+same_firsts : (k v : Value) (ps : Pairs) (j w : Value) (qs : Pairs) → AreAscending (and_pair k v ps) → AreAscending (and_pair j w qs) → ((k ≡ j) × (v ≡ w)) ⊎ HoldsPair qs k v → ((j ≡ k) × (w ≡ v)) ⊎ HoldsPair ps j w → (k ≡ j) × (v ≡ w)
+same_firsts k v ps j w qs a b (inl e) i = e
+same_firsts k v ps j w qs a b (inr h) (inl e) = (sym e.0, sym e.1)
+same_firsts k v ps j w qs a b (inr h) (inr i) =
+    let under : is_lt (name_cmp (spelled k) (spelled j)) ≡ true = below_each (spelled k) ps (first _ (is_ascending name_cmp (spelled_keys ps)) a) j w i in
+    let over : is_lt (name_cmp (spelled j) (spelled k)) ≡ true = below_each (spelled j) qs (first _ (is_ascending name_cmp (spelled_keys qs)) b) k v h in
+    absurd (ascending.below-both_ways name_total name_same (spelled k) (spelled j) under over)
+
+-- what the rest of the one has, the rest of the other has
+rest_below : (k v : Value) (ps : Pairs) (j w : Value) (qs : Pairs) → AreAscending (and_pair k v ps) → k ≡ j → PairsBelow (and_pair k v ps) (and_pair j w qs) → PairsBelow ps qs
+rest_below k v ps j w qs a e f x y h =
+    elim (f x y (inr h)) [
+      | inl g ↦ absurd (later k v ps a x y h (g.0 ∙ sym e))
+      | inr i ↦ i
+    ]
+
+pub same_pairs : (ps qs : Pairs) → AreAscending ps → AreAscending qs → PairsBelow ps qs → PairsBelow qs ps → ps ≡ qs
+same_pairs no_pair no_pair a b f g = refl
+same_pairs no_pair (and_pair j w qs) a b f g = absurd (g j w (inl (refl, refl)))
+same_pairs (and_pair k v ps) no_pair a b f g = absurd (f k v (inl (refl, refl)))
+same_pairs (and_pair k v ps) (and_pair j w qs) a b f g =
+    let e = same_firsts k v ps j w qs a b (f k v (inl (refl, refl))) (g j w (inl (refl, refl))) in
+    let rest = same_pairs ps qs (rest_ascends k v ps a) (rest_ascends j w qs b) (rest_below k v ps j w qs a e.0 f) (rest_below j w qs k v ps b (sym e.0) g) in
+    λ i. and_pair (e.0 i) (e.1 i) (rest i)
+
+-- a key has one value
+pub one_value : (ps : Pairs) → AreAscending ps → (k v w : Value) → HoldsPair ps k v → HoldsPair ps k w → v ≡ w
+one_value no_pair a k v w h i = absurd h
+one_value (and_pair j u ps) a k v w (inl e) (inl f) = e.1 ∙ sym f.1
+one_value (and_pair j u ps) a k v w (inl e) (inr i) = absurd (later j u ps a k w i e.0)
+one_value (and_pair j u ps) a k v w (inr h) (inl f) = absurd (later j u ps a k v h f.0)
+one_value (and_pair j u ps) a k v w (inr h) (inr i) = one_value ps (rest_ascends j u ps a) k v w h i
+
+-- ---- a value without what a type doesn't look at: its maps have no pairs, and its closures no environment
+
+abbrev mutual
+  bare : Value → Value
+  bare (cons h t) = cons (bare h) (bare t)
+  bare (tuple vs) = tuple (bare_values vs)
+  bare (map ps) = map no_pair
+  bare (closure m l n env) = closure m l n no_variable
+  bare v = v
+
+  bare_values : Values → Values
+  bare_values no_value = no_value
+  bare_values (and_value v vs) = and_value (bare v) (bare_values vs)
+
+mutual
+  bare-canonical : (v : Value) → IsCanonical (bare v)
+  bare-canonical (cons h t) = (bare-canonical h, bare-canonical t)
+  bare-canonical (tuple vs) = bare_values-canonical vs
+  bare-canonical (map ps) = (refl, tt)
+  bare-canonical v = tt
+
+  bare_values-canonical : (vs : Values) → AreCanonical (bare_values vs)
+  bare_values-canonical no_value = tt
+  bare_values-canonical (and_value v vs) = (bare-canonical v, bare_values-canonical vs)
+
+count-bare : (vs : Values) → count (bare_values vs) ≡ count vs
+count-bare no_value = refl
+count-bare (and_value v vs) = ap suc (count-bare vs)
+
+heads-bare : (t : Value) → heads (bare t) ≡ bare_values (heads t)
+heads-bare (cons h t) = ap (and_value (bare h)) (heads-bare t)
+heads-bare v = refl
+
+end-bare : (t : Value) → (end_of (bare t) ≡ nil) ↔ (end_of t ≡ nil)
+end-bare (cons h t) = end-bare t
+end-bare (tuple vs) = (λ h. absurd cc, λ h. absurd cc)
+end-bare (map ps) = (λ h. absurd cc, λ h. absurd cc)
+end-bare (closure m l n env) = (λ h. absurd cc, λ h. absurd cc)
+end-bare v = (λ h. h, λ h. h)
+
+-- ---- it is in the same types
+
+abbrev AreAlike : {E : Type 0} → (Value → E → Type 0) → Type 0
+AreAlike {E} Has = (v : Value) (e : E) → Has (bare v) e ↔ Has v e
+
+module _ {E : Type 0} {Has : Value → E → Type 0} (alike : AreAlike Has) where
+  all_alike : (vs : Values) (e : E) → HasAll Has (bare_values vs) e ↔ HasAll Has vs e
+  all_alike no_value e = (λ h. h, λ h. h)
+  all_alike (and_value v vs) e = (λ h. ((alike v e).0 h.0, (all_alike vs e).0 h.1), λ h. ((alike v e).1 h.0, (all_alike vs e).1 h.1))
+
+  each_alike : (vs : Values) (es : List E) → HasEach Has (bare_values vs) es ↔ HasEach Has vs es
+  each_alike no_value [] = (λ h. h, λ h. h)
+  each_alike no_value (e ∷ es) = (λ h. h, λ h. h)
+  each_alike (and_value v vs) [] = (λ h. h, λ h. h)
+  each_alike (and_value v vs) (e ∷ es) = (λ h. ((alike v e).0 h.0, (each_alike vs es).0 h.1), λ h. ((alike v e).1 h.0, (each_alike vs es).1 h.1))
+
+  row_alike : (vs : Values) (es : Option (List E)) → HasRow Has (bare_values vs) es ↔ HasRow Has vs es
+  row_alike vs None = (λ h. h, λ h. h)
+  row_alike vs (Some es) = each_alike vs es
+
+  cell_alike : (h t : Value) (c : Option (Cell E)) → HasCell Has (bare h, bare t) c ↔ HasCell Has (h, t) c
+  cell_alike h t None = (λ i. i, λ i. i)
+  cell_alike h t (Some c) =
+      let all : HasAll Has (and_value (bare h) (heads (bare t))) c.element ↔ HasAll Has (and_value h (heads t)) c.element = subst (λ vs. HasAll Has (and_value (bare h) vs) c.element ↔ HasAll Has (and_value h (heads t)) c.element) (sym (heads-bare t)) (all_alike (and_value h (heads t)) c.element) in
+      (λ i. (all.0 i.0, λ p. (end-bare t).0 (i.1 p)), λ i. (all.1 i.0, λ p. (end-bare t).1 (i.1 p)))
+
+  tag_alike : (vs : Values) (m : List (Name × List E)) → HasTag Has (bare_values vs) m ↔ HasTag Has vs m
+  tag_alike no_value m = (λ h. h, λ h. h)
+  tag_alike (and_value (atom a) vs) m = row_alike vs (find name_cmp m a)
+  tag_alike (and_value v vs) m = (λ h. absurd h, λ h. absurd h)
+
+  body_alike : (vs : Values) (b : Option (Body E)) → HasBody Has (bare_values vs) b ↔ HasBody Has vs b
+  body_alike vs None = (λ h. h, λ h. h)
+  body_alike vs (Some (product es)) = each_alike vs es
+  body_alike vs (Some (tags m)) = tag_alike vs m
+
+  tuple_alike : (vs : Values) (t : Tuples E) → HasTuple Has (bare_values vs) t ↔ HasTuple Has vs t
+  tuple_alike vs (sizes m) =
+      subst (λ n. HasBody Has (bare_values vs) (find nat_cmp m n) ↔ HasBody Has vs (find nat_cmp m (count vs))) (sym (count-bare vs)) (body_alike vs (find nat_cmp m (count vs)))
+  tuple_alike vs all_tuples = (λ h. h, λ h. h)
+
+  parts_alike : AreAlike (HasParts Has)
+  parts_alike (cons h t) p = cell_alike h t p.cell
+  parts_alike (tuple vs) p = tuple_alike vs p.tuples
+  parts_alike v p = (λ h. h, λ h. h)
+
+level_alike : (d : ℕ) → AreAlike (HasAt d)
+level_alike zero v t = (λ h. h, λ h. h)
+level_alike (suc d) v t = parts_alike (level_alike d) v t
+
+-- so what holds of the canonical values of a type holds of all
+pub canonical_below : (d : ℕ) (s t : TypeAt d) → ((v : Value) → IsCanonical v → HasAt d v s → HasAt d v t) → BelowBy (HasAt d) s t
+canonical_below d s t f v h = (level_alike d v t).0 (f (bare v) (bare-canonical v) ((level_alike d v s).1 h))
