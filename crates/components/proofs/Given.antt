@@ -7,7 +7,7 @@ use Rattle.std.proofs.lemmas.Bool.{cases_lt, cases_eq}
 use Rattle.components.specs.declared.ready.Watcher.{Watcher}
 use Rattle.components.specs.Graph.{targets, Leads}
 use Rattle.components.specs.Lists.{Ascending}
-use Rattle.components.specs.Order.{rank_of, unranked, Ranked, RankedBelow, nobody, watchers_of, PassedTo, WatchesAt, Among, Waits, Ordered}
+use Rattle.components.specs.steps.Order.{rank_of, unranked, Ranked, RankedBelow, nobody, watchers_of, PassedTo, WatchesAt, Among, Waits, Ordered}
 
 -- the first item or a later one
 pub head_cases : (x : ℕ) (xs : List ℕ) (y : ℕ) → Contains (x ∷ xs) y → (x ≡ y) ⊎ Contains xs y
@@ -21,8 +21,8 @@ pub head_least : (x : ℕ) (xs : List ℕ) (y : ℕ) → Ascending (x ∷ xs) �
 head_least x xs y sorted (zero, under, is) = omega (arith, is)
 head_least x xs y sorted (suc k, under, is) = let less : x < get_or xs k y = sorted 0 (suc k) y (omega arith) under in omega (arith, is)
 
-pub leads_at : (callees : List (List ℕ)) (part at e : ℕ) → WatchesAt callees part at e → Leads callees part e
-leads_at callees part at e (under, is) = (at, under, get_or_default (targets callees part) at e 0 under ∙ is)
+pub leads_at : (callees : List (List ℕ)) (component at e : ℕ) → WatchesAt callees component at e → Leads callees component e
+leads_at callees component at e (under, is) = (at, under, get_or_default (targets callees component) at e 0 under ∙ is)
 
 module _ (callees : List (List ℕ)) (ranks : List (Option ℕ)) (ready ready' : List ℕ) (watchers : List (List Watcher)) (count c : ℕ)
     (s : Ordered callees ranks ready watchers [] count) (first : ready ≡ c ∷ ready') (sorted : Ascending ready) (new : rank_of ranks c ≡ None) where
@@ -57,8 +57,8 @@ module _ (callees : List (List ℕ)) (ranks : List (Option ℕ)) (ready ready' :
   ranked : (f : ℕ) → Ranked ranks f → Ranked (set ranks c (Some count)) f
   ranked f (r, e) = (r, stays f r e)
 
-  passed_to : (part at : ℕ) → PassedTo callees ranks part at → PassedTo callees (set ranks c (Some count)) part at
-  passed_to part at (under, before) = (under, λ q less inside. ranked (slice_index (targets callees part) q) (before q less inside))
+  passed_to : (component at : ℕ) → PassedTo callees ranks component at → PassedTo callees (set ranks c (Some count)) component at
+  passed_to component at (under, before) = (under, λ q less inside. ranked (slice_index (targets callees component) q) (before q less inside))
 
   rank_low' : (f r : ℕ) → rank_of (set ranks c (Some count)) f ≡ Some r → r < count + 1
   rank_low' f r e =
@@ -166,15 +166,15 @@ module _ (callees : List (List ℕ)) (ranks : List (Option ℕ)) (ready ready' :
       ]
 
   watching' : (e k : ℕ) → k < length (watchers_of (set watchers c []) e)
-      → PassedTo callees (set ranks c (Some count)) (slice_index_or (watchers_of (set watchers c []) e) k nobody).part (slice_index_or (watchers_of (set watchers c []) e) k nobody).at
-      × WatchesAt callees (slice_index_or (watchers_of (set watchers c []) e) k nobody).part (slice_index_or (watchers_of (set watchers c []) e) k nobody).at e
+      → PassedTo callees (set ranks c (Some count)) (slice_index_or (watchers_of (set watchers c []) e) k nobody).component (slice_index_or (watchers_of (set watchers c []) e) k nobody).at
+      × WatchesAt callees (slice_index_or (watchers_of (set watchers c []) e) k nobody).component (slice_index_or (watchers_of (set watchers c []) e) k nobody).at e
   watching' e k under =
       elim (cases_eq e c) [
         | inl is ↦ absurd (omega (arith, ap length (ap (watchers_of (set watchers c [])) is ∙ watchers_none)))
         | inr ne ↦
             let same = watchers_same e ne in
             let old = s.watching e k (subst (λ ws. k < length ws) same under) in
-            subst (λ (ws : List Watcher). PassedTo callees (set ranks c (Some count)) (get_or ws k nobody).part (get_or ws k nobody).at × WatchesAt callees (get_or ws k nobody).part (get_or ws k nobody).at e) (sym same)
+            subst (λ (ws : List Watcher). PassedTo callees (set ranks c (Some count)) (get_or ws k nobody).component (get_or ws k nobody).at × WatchesAt callees (get_or ws k nobody).component (get_or ws k nobody).at e) (sym same)
             (passed_to _ _ old.0, old.1)
       ]
 

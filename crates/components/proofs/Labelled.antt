@@ -3,23 +3,23 @@ use Rattle.std.proofs.Common.{◌≡◌, ℕ, ◌+◌, ◌<◌, ◌≤◌, ◌�
 use Rattle.std.specs.Prelude.{slice_index, Option, None, Some}
 use Rattle.std.proofs.lemmas.List.{length_push, length-set, get_or_append_left, get_or_push, get_or-set_same, get_or-set_other}
 use Rattle.std.proofs.lemmas.Bool.{cases_lt, cases_eq}
-use Rattle.components.specs.Labels.{IsLabelled, Labelling, NextLabel, label_of}
-use Rattle.components.proofs.Parts.{push_cases}
+use Rattle.components.specs.steps.Labels.{IsLabelled, Labelling, NextLabel, label_of}
+use Rattle.components.proofs.Appended.{push_cases}
 
--- the home was met before
-module _ (homes : List ℕ) (table : List (Option ℕ)) (labels : List ℕ) (count i l : ℕ)
-    (s : Labelling homes table labels count) (here : i ≡ length labels) (met : label_of table (slice_index homes i) ≡ Some l) where
+-- the component was met before
+module _ (component_of : List ℕ) (table : List (Option ℕ)) (labels : List ℕ) (count i l : ℕ)
+    (s : Labelling component_of table labels count) (here : i ≡ length labels) (met : label_of table (slice_index component_of i) ≡ Some l) where
   kept : (f : ℕ) → f < length labels → slice_index (labels ++ l ∷ []) f ≡ slice_index labels f
   kept f under = get_or_append_left labels (l ∷ []) 0 f under
 
-  known_met : (f : ℕ) → f < length (labels ++ l ∷ []) → label_of table (slice_index homes f) ≡ Some (slice_index (labels ++ l ∷ []) f)
+  known_met : (f : ℕ) → f < length (labels ++ l ∷ []) → label_of table (slice_index component_of f) ≡ Some (slice_index (labels ++ l ∷ []) f)
   known_met f under =
       elim (push_cases labels l 0 f under) [
         | inl old ↦ s.known f old.0 ∙ ap Some (sym old.1)
-        | inr end ↦ ap (λ k. label_of table (slice_index homes k)) (end.0 ∙ sym here) ∙ met ∙ ap Some (sym end.1)
+        | inr end ↦ ap (λ k. label_of table (slice_index component_of k)) (end.0 ∙ sym here) ∙ met ∙ ap Some (sym end.1)
       ]
 
-  from_met : (h k : ℕ) → label_of table h ≡ Some k → (k < count) × ((f : ℕ) × (f < length (labels ++ l ∷ [])) × (slice_index homes f ≡ h) × (slice_index (labels ++ l ∷ []) f ≡ k))
+  from_met : (h k : ℕ) → label_of table h ≡ Some k → (k < count) × ((f : ℕ) × (f < length (labels ++ l ∷ [])) × (slice_index component_of f ≡ h) × (slice_index (labels ++ l ∷ []) f ≡ k))
   from_met h k e =
       let old = s.from_node h k e in
       (old.0, (old.1.0, omega (arith, length_push labels l, old.1.1), old.1.2, kept old.1.0 old.1.1 ∙ old.1.3))
@@ -31,12 +31,12 @@ module _ (homes : List ℕ) (table : List (Option ℕ)) (labels : List ℕ) (cou
             let was = s.by_least f k old.0 (omega (arith, old.1)) in
             (was.0, was.1, kept was.0 (omega (arith, was.1)) ∙ was.2)
         | inr end ↦
-            let first = (s.from_node (slice_index homes i) l met).1 in
+            let first = (s.from_node (slice_index component_of i) l met).1 in
             let was = s.by_least first.0 k first.1 (omega (arith, first.3, end.1)) in
             (was.0, omega (arith, was.1, first.1, end.0), kept was.0 (omega (arith, was.1, first.1)) ∙ was.2)
       ]
 
-  pub labelling_met : Labelling homes table (labels ++ l ∷ []) count
+  pub labelling_met : Labelling component_of table (labels ++ l ∷ []) count
   labelling_met = record {
     known = known_met;
     from_node = from_met;
@@ -46,10 +46,10 @@ module _ (homes : List ℕ) (table : List (Option ℕ)) (labels : List ℕ) (cou
     few = omega (arith, s.few, length_push labels l);
   }
 
--- the home gets the next label
-module _ (homes : List ℕ) (table : List (Option ℕ)) (labels : List ℕ) (count i : ℕ)
-    (s : Labelling homes table labels count) (here : i ≡ length labels) (low : slice_index homes i < length table)
-    (unmet : label_of table (slice_index homes i) ≡ None) where
+-- the component gets the next label
+module _ (component_of : List ℕ) (table : List (Option ℕ)) (labels : List ℕ) (count i : ℕ)
+    (s : Labelling component_of table labels count) (here : i ≡ length labels) (low : slice_index component_of i < length table)
+    (unmet : label_of table (slice_index component_of i) ≡ None) where
   kept' : (f : ℕ) → f < length labels → slice_index (labels ++ count ∷ []) f ≡ slice_index labels f
   kept' f under = get_or_append_left labels (count ∷ []) 0 f under
 
@@ -57,45 +57,45 @@ module _ (homes : List ℕ) (table : List (Option ℕ)) (labels : List ℕ) (cou
   last' = get_or_push labels count 0 (length labels) refl
 
   -- a label is the new one, or was there before
-  table_cases : (h k : ℕ) → label_of (set table (slice_index homes i) (Some count)) h ≡ Some k
-      → ((h ≡ slice_index homes i) × (k ≡ count)) ⊎ (label_of table h ≡ Some k)
+  table_cases : (h k : ℕ) → label_of (set table (slice_index component_of i) (Some count)) h ≡ Some k
+      → ((h ≡ slice_index component_of i) × (k ≡ count)) ⊎ (label_of table h ≡ Some k)
   table_cases h k e =
-      elim (cases_eq h (slice_index homes i)) [
+      elim (cases_eq h (slice_index component_of i)) [
         | inl is ↦
-            let now : label_of (set table (slice_index homes i) (Some count)) h ≡ Some count =
-            ap (label_of (set table (slice_index homes i) (Some count))) is ∙ get_or-set_same table (slice_index homes i) (Some count) None low in
+            let now : label_of (set table (slice_index component_of i) (Some count)) h ≡ Some count =
+            ap (label_of (set table (slice_index component_of i) (Some count))) is ∙ get_or-set_same table (slice_index component_of i) (Some count) None low in
             inl (is, let both : Some k ≡ Some count = sym e ∙ now in cc)
-        | inr ne ↦ inr (sym (get_or-set_other table (slice_index homes i) h (Some count) None ne) ∙ e)
+        | inr ne ↦ inr (sym (get_or-set_other table (slice_index component_of i) h (Some count) None ne) ∙ e)
       ]
 
-  stays' : (h k : ℕ) → label_of table h ≡ Some k → label_of (set table (slice_index homes i) (Some count)) h ≡ Some k
+  stays' : (h k : ℕ) → label_of table h ≡ Some k → label_of (set table (slice_index component_of i) (Some count)) h ≡ Some k
   stays' h k e =
-      elim (cases_eq h (slice_index homes i)) [
+      elim (cases_eq h (slice_index component_of i)) [
         | inl is ↦ absurd (let bad : None ≡ Some k = sym unmet ∙ ap (label_of table) (sym is) ∙ e in cc)
-        | inr ne ↦ get_or-set_other table (slice_index homes i) h (Some count) None ne ∙ e
+        | inr ne ↦ get_or-set_other table (slice_index component_of i) h (Some count) None ne ∙ e
       ]
 
-  known' : (f : ℕ) → f < length (labels ++ count ∷ []) → label_of (set table (slice_index homes i) (Some count)) (slice_index homes f) ≡ Some (slice_index (labels ++ count ∷ []) f)
+  known' : (f : ℕ) → f < length (labels ++ count ∷ []) → label_of (set table (slice_index component_of i) (Some count)) (slice_index component_of f) ≡ Some (slice_index (labels ++ count ∷ []) f)
   known' f under =
       elim (push_cases labels count 0 f under) [
-        | inl old ↦ stays' (slice_index homes f) (slice_index labels f) (s.known f old.0) ∙ ap Some (sym old.1)
+        | inl old ↦ stays' (slice_index component_of f) (slice_index labels f) (s.known f old.0) ∙ ap Some (sym old.1)
         | inr end ↦
-            ap (λ k. label_of (set table (slice_index homes i) (Some count)) (slice_index homes k)) (end.0 ∙ sym here)
-            ∙ get_or-set_same table (slice_index homes i) (Some count) None low ∙ ap Some (sym end.1)
+            ap (λ k. label_of (set table (slice_index component_of i) (Some count)) (slice_index component_of k)) (end.0 ∙ sym here)
+            ∙ get_or-set_same table (slice_index component_of i) (Some count) None low ∙ ap Some (sym end.1)
       ]
 
-  from' : (h k : ℕ) → label_of (set table (slice_index homes i) (Some count)) h ≡ Some k
-      → (k < count + 1) × ((f : ℕ) × (f < length (labels ++ count ∷ [])) × (slice_index homes f ≡ h) × (slice_index (labels ++ count ∷ []) f ≡ k))
+  from' : (h k : ℕ) → label_of (set table (slice_index component_of i) (Some count)) h ≡ Some k
+      → (k < count + 1) × ((f : ℕ) × (f < length (labels ++ count ∷ [])) × (slice_index component_of f ≡ h) × (slice_index (labels ++ count ∷ []) f ≡ k))
   from' h k e =
       elim (table_cases h k e) [
         | inl new ↦
-            (omega (arith, new.1), (length labels, omega (arith, length_push labels count), ap (slice_index homes) (sym here) ∙ sym new.0, last' ∙ sym new.1))
+            (omega (arith, new.1), (length labels, omega (arith, length_push labels count), ap (slice_index component_of) (sym here) ∙ sym new.0, last' ∙ sym new.1))
         | inr was ↦
             let old = s.from_node h k was in
             (omega (arith, old.0), (old.1.0, omega (arith, length_push labels count, old.1.1), old.1.2, kept' old.1.0 old.1.1 ∙ old.1.3))
       ]
 
-  apart' : (h j k : ℕ) → label_of (set table (slice_index homes i) (Some count)) h ≡ Some k → label_of (set table (slice_index homes i) (Some count)) j ≡ Some k → h ≡ j
+  apart' : (h j k : ℕ) → label_of (set table (slice_index component_of i) (Some count)) h ≡ Some k → label_of (set table (slice_index component_of i) (Some count)) j ≡ Some k → h ≡ j
   apart' h j k e_h e_j =
       elim (table_cases h k e_h) [
         | inl new_h ↦ elim (table_cases j k e_j) [
@@ -127,7 +127,7 @@ module _ (homes : List ℕ) (table : List (Option ℕ)) (labels : List ℕ) (cou
         ]
       ]
 
-  pub labelling_unmet : Labelling homes (set table (slice_index homes i) (Some count)) (labels ++ count ∷ []) (count + 1)
+  pub labelling_unmet : Labelling component_of (set table (slice_index component_of i) (Some count)) (labels ++ count ∷ []) (count + 1)
   labelling_unmet = record {
     known = known';
     from_node = from';
@@ -137,28 +137,28 @@ module _ (homes : List ℕ) (table : List (Option ℕ)) (labels : List ℕ) (cou
     few = omega (arith, s.few, length_push labels count);
   }
 
-pub label_more : (homes : List ℕ) (table table' : List (Option ℕ)) (labels labels' : List ℕ) (count count' i l : ℕ)
-    → Labelling homes table labels count → i ≡ length labels → slice_index homes i < length table
-    → NextLabel table count (slice_index homes i) l table' count' → labels' ≡ labels ++ l ∷ [] → Labelling homes table' labels' count'
-label_more homes table table' labels labels' count count' i l s here low (inl (met, is_table, is_count)) is =
-    subst (λ ts. Labelling homes ts labels' count') (sym is_table)
-    (subst (λ n. Labelling homes table labels' n) (sym is_count)
-    (subst (λ ls. Labelling homes table ls count) (sym is) (labelling_met homes table labels count i l s here met)))
-label_more homes table table' labels labels' count count' i l s here low (inr (unmet, is_l, is_table, is_count)) is =
-    subst (λ ts. Labelling homes ts labels' count') (sym is_table)
-    (subst (λ n. Labelling homes (set table (slice_index homes i) (Some count)) labels' n) (sym is_count)
-    (subst (λ ls. Labelling homes (set table (slice_index homes i) (Some count)) ls (count + 1)) (sym (is ∙ ap (λ n. labels ++ n ∷ []) is_l))
-    (labelling_unmet homes table labels count i s here low unmet)))
+pub label_more : (component_of : List ℕ) (table table' : List (Option ℕ)) (labels labels' : List ℕ) (count count' i l : ℕ)
+    → Labelling component_of table labels count → i ≡ length labels → slice_index component_of i < length table
+    → NextLabel table count (slice_index component_of i) l table' count' → labels' ≡ labels ++ l ∷ [] → Labelling component_of table' labels' count'
+label_more component_of table table' labels labels' count count' i l s here low (inl (met, is_table, is_count)) is =
+    subst (λ ts. Labelling component_of ts labels' count') (sym is_table)
+    (subst (λ n. Labelling component_of table labels' n) (sym is_count)
+    (subst (λ ls. Labelling component_of table ls count) (sym is) (labelling_met component_of table labels count i l s here met)))
+label_more component_of table table' labels labels' count count' i l s here low (inr (unmet, is_l, is_table, is_count)) is =
+    subst (λ ts. Labelling component_of ts labels' count') (sym is_table)
+    (subst (λ n. Labelling component_of (set table (slice_index component_of i) (Some count)) labels' n) (sym is_count)
+    (subst (λ ls. Labelling component_of (set table (slice_index component_of i) (Some count)) ls (count + 1)) (sym (is ∙ ap (λ n. labels ++ n ∷ []) is_l))
+    (labelling_unmet component_of table labels count i s here low unmet)))
 
-pub labelled : (homes : List ℕ) (table : List (Option ℕ)) (labels : List ℕ) (count : ℕ) → Labelling homes table labels count → length labels ≡ length homes → IsLabelled homes labels count
-labelled homes table labels count s all =
+pub labelled : (component_of : List ℕ) (table : List (Option ℕ)) (labels : List ℕ) (count : ℕ) → Labelling component_of table labels count → length labels ≡ length component_of → IsLabelled component_of labels count
+labelled component_of table labels count s all =
     record {
       sizes = all;
       same = λ f g low_f low_g. (
         (λ e. let both : Some (slice_index labels f) ≡ Some (slice_index labels g) = sym (s.known f (omega arith)) ∙ ap (label_of table) e ∙ s.known g (omega arith) in cc),
-        (λ e. s.apart (slice_index homes f) (slice_index homes g) (slice_index labels f) (s.known f (omega arith)) (s.known g (omega arith) ∙ ap Some (sym e))),
+        (λ e. s.apart (slice_index component_of f) (slice_index component_of g) (slice_index labels f) (s.known f (omega arith)) (s.known g (omega arith) ∙ ap Some (sym e))),
       );
-      below = λ f low. (s.from_node (slice_index homes f) (slice_index labels f) (s.known f (omega arith))).0;
+      below = λ f low. (s.from_node (slice_index component_of f) (slice_index labels f) (s.known f (omega arith))).0;
       used = λ l under. let old = s.used l under in (old.0, omega (arith, old.1), old.2);
       by_least = λ f l low most. s.by_least f l (omega arith) most;
     }

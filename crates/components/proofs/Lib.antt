@@ -1,16 +1,16 @@
-pub mod Parts
-pub mod Walks
-pub mod Opened
-pub mod Merged
-pub mod Settled
-pub mod Shut
-pub mod Steps
-pub mod Graphs
-pub mod Sets
-pub mod Given
-pub mod Placed
-pub mod Orders
-pub mod Labelled
-pub mod Condense
-pub mod Numbered
-pub mod Finished
+mod Appended
+mod Walks
+mod Opened
+mod Merged
+mod Settled
+mod Shut
+mod Steps
+mod Graphs
+mod Sets
+mod Given
+mod Placed
+mod Orders
+mod Labelled
+mod ComponentLists
+mod Numbered
+mod Finished

@@ -5,17 +5,17 @@ use Rattle.std.specs.Prelude.{All, slice_index, slice_index_or}
 use Rattle.std.proofs.lemmas.List.{length_push}
 use Rattle.std.proofs.lemmas.List.Elements.{All-push}
 use Rattle.std.proofs.lemmas.Bool.{cases_lt}
-use Rattle.components.specs.declared.search.Mark.{Mark}
-use Rattle.components.specs.declared.search.Mark.TheVariants.{Open}
+use Rattle.components.specs.declared.search.NodeState.{NodeState}
+use Rattle.components.specs.declared.search.NodeState.TheVariants.{Open}
 use Rattle.components.specs.declared.search.Block.{Block}
 use Rattle.components.specs.Graph.{Leads}
-use Rattle.components.specs.Search.{mark_of, Walk, FromBlock, Settled, Awaits, HasSource, Before, bottom, Sound}
-use Rattle.components.proofs.Parts.{All-front, All-end, push_cases}
+use Rattle.components.specs.steps.Search.{state_of, Walk, FromBlock, Settled, Awaits, HasSource, Before, bottom, Sound}
+use Rattle.components.proofs.Appended.{All-front, All-end, push_cases}
 use Rattle.components.proofs.Walks.{walk_on, walk_pair, before_end, front_ascending}
 
-module _ (graph : List (List ℕ)) (marks : List Mark) (path pending : List ℕ) (rest : List Block) (t : Block) (cursor count p : ℕ)
-    (s : Sound graph marks path pending (rest ++ t ∷ []) cursor count) (busy : t.below < length pending)
-    (here : mark_of marks (slice_index pending (length pending - 1)) ≡ Open p) (low : p < t.first) where
+module _ (graph : List (List ℕ)) (states : List NodeState) (path pending : List ℕ) (rest : List Block) (t : Block) (cursor count p : ℕ)
+    (s : Sound graph states path pending (rest ++ t ∷ []) cursor count) (busy : t.below < length pending)
+    (here : state_of states (slice_index pending (length pending - 1)) ≡ Open p) (low : p < t.first) where
   earlier : All (λ b. Before b t) rest
   earlier = before_end rest t path pending s.cut
 
@@ -48,7 +48,7 @@ module _ (graph : List (List ℕ)) (marks : List Mark) (path pending : List ℕ)
         | inr high ↦ down i j under_i under_j high from
       ]
 
-  open_leads' : (i g : ℕ) → i < length path → Leads graph (slice_index path i) g → Settled marks rest i g ⊎ Awaits pending rest i g
+  open_leads' : (i g : ℕ) → i < length path → Leads graph (slice_index path i) g → Settled states rest i g ⊎ Awaits pending rest i g
   open_leads' i g under leads =
       elim (s.open_leads i g under leads) [
         | inl settled ↦ inl (elim settled [
@@ -71,7 +71,7 @@ module _ (graph : List (List ℕ)) (marks : List Mark) (path pending : List ℕ)
         | inr end ↦ absurd (let zero_first : t.first ≡ 0 = ap (λ (b : Block). b.first) (sym end.1) ∙ old.2 in omega arith)
       ]
 
-  pub merged : Sound graph marks path pending rest cursor count
+  pub merged : Sound graph states path pending rest cursor count
   merged = record {
     sizes = s.sizes;
     on_path = s.on_path;

@@ -6,42 +6,42 @@ use Rattle.std.proofs.lemmas.List.{length-append, length_push, length-set, get_o
 use Rattle.std.proofs.lemmas.List.Elements.{All-push}
 use Rattle.std.proofs.lemmas.List.Sums.{sum_by-set}
 use Rattle.std.proofs.lemmas.Bool.{cases_lt}
-use Rattle.components.specs.declared.search.Mark.{Mark}
-use Rattle.components.specs.declared.search.Mark.TheVariants.{Unseen, Open, Closed}
+use Rattle.components.specs.declared.search.NodeState.{NodeState}
+use Rattle.components.specs.declared.search.NodeState.TheVariants.{Unseen, Open, Closed}
 use Rattle.components.specs.declared.search.Block.{Block}
 use Rattle.components.specs.Graph.{targets, Leads}
-use Rattle.components.specs.Search.{mark_of, fresh, Walk, FromBlock, Settled, Awaits, HasSource, Before, bottom, Cut, Sound}
-use Rattle.components.proofs.Parts.{All-front, All-end, push_cases, append_cases, mark_cases}
+use Rattle.components.specs.steps.Search.{state_of, fresh, Walk, FromBlock, Settled, Awaits, HasSource, Before, bottom, Cut, Sound}
+use Rattle.components.proofs.Appended.{All-front, All-end, push_cases, append_cases, state_cases}
 
 -- the block of the new node
 abbrev pub block_of : List ℕ → List ℕ → Block
 block_of path pending = record { first = length path; below = length pending }
 
-module _ (graph : List (List ℕ)) (marks : List Mark) (path pending : List ℕ) (blocks : List Block) (cursor count w : ℕ)
-    (s : Sound graph marks path pending blocks cursor count) (low : w < length graph) (new : mark_of marks w ≡ Unseen)
+module _ (graph : List (List ℕ)) (states : List NodeState) (path pending : List ℕ) (blocks : List Block) (cursor count w : ℕ)
+    (s : Sound graph states path pending blocks cursor count) (low : w < length graph) (new : state_of states w ≡ Unseen)
     (reached : (i : ℕ) → i < length path → Walk graph (slice_index path i) w) where
-  has_mark : w < length marks
+  has_mark : w < length states
   has_mark = omega (arith, s.sizes)
 
-  marked : (f : ℕ) → ((f ≡ w) × (mark_of (set marks w (Open (length path))) f ≡ Open (length path))) ⊎ ((f ≡ w → ⊥) × (mark_of (set marks w (Open (length path))) f ≡ mark_of marks f))
-  marked f = mark_cases marks w (Open (length path)) f has_mark
+  marked : (f : ℕ) → ((f ≡ w) × (state_of (set states w (Open (length path))) f ≡ Open (length path))) ⊎ ((f ≡ w → ⊥) × (state_of (set states w (Open (length path))) f ≡ state_of states f))
+  marked f = state_cases states w (Open (length path)) f has_mark
 
-  -- a mark that was made before stays
-  stays : (f : ℕ) (m : Mark) → (m ≡ Unseen → ⊥) → mark_of marks f ≡ m → mark_of (set marks w (Open (length path))) f ≡ m
+  -- a state that was made before stays
+  stays : (f : ℕ) (m : NodeState) → (m ≡ Unseen → ⊥) → state_of states f ≡ m → state_of (set states w (Open (length path))) f ≡ m
   stays f m seen e =
       elim (marked f) [
-        | inl here ↦ absurd (seen (sym e ∙ ap (mark_of marks) here.0 ∙ new))
+        | inl here ↦ absurd (seen (sym e ∙ ap (state_of states) here.0 ∙ new))
         | inr other ↦ other.1 ∙ e
       ]
 
   -- a closed node was closed before
-  was_closed : (f c : ℕ) → mark_of (set marks w (Open (length path))) f ≡ Closed c → mark_of marks f ≡ Closed c
+  was_closed : (f c : ℕ) → state_of (set states w (Open (length path))) f ≡ Closed c → state_of states f ≡ Closed c
   was_closed f c e = elim (marked f) [ inl here ↦ absurd (let no : Open (length path) ≡ Closed c = sym here.1 ∙ e in cc) | inr other ↦ sym other.1 ∙ e ]
 
-  sizes' : length (set marks w (Open (length path))) ≡ length graph
-  sizes' = length-set marks w _ ∙ s.sizes
+  sizes' : length (set states w (Open (length path))) ≡ length graph
+  sizes' = length-set states w _ ∙ s.sizes
 
-  on_path' : (p : ℕ) → p < length (path ++ w ∷ []) → mark_of (set marks w (Open (length path))) (slice_index (path ++ w ∷ []) p) ≡ Open p
+  on_path' : (p : ℕ) → p < length (path ++ w ∷ []) → state_of (set states w (Open (length path))) (slice_index (path ++ w ∷ []) p) ≡ Open p
   on_path' p under =
       elim (push_cases path w 0 p under) [
         | inl old ↦ rw old.1 (stays (slice_index path p) (Open p) (λ e. cc) (s.on_path p old.0))
@@ -52,7 +52,7 @@ module _ (graph : List (List ℕ)) (marks : List Mark) (path pending : List ℕ)
             ])
       ]
 
-  open_place' : (f p : ℕ) → mark_of (set marks w (Open (length path))) f ≡ Open p → (p < length (path ++ w ∷ [])) × (slice_index (path ++ w ∷ []) p ≡ f)
+  open_place' : (f p : ℕ) → state_of (set states w (Open (length path))) f ≡ Open p → (p < length (path ++ w ∷ [])) × (slice_index (path ++ w ∷ []) p ≡ f)
   open_place' f p e =
       elim (marked f) [
         | inl here ↦
@@ -64,12 +64,12 @@ module _ (graph : List (List ℕ)) (marks : List Mark) (path pending : List ℕ)
             (omega (arith, length_push path w), get_or_append_left path (w ∷ []) 0 p old.0 ∙ old.1)
       ]
 
-  closed_leads' : (f g c : ℕ) → mark_of (set marks w (Open (length path))) f ≡ Closed c → Leads graph f g → (d : ℕ) × (mark_of (set marks w (Open (length path))) g ≡ Closed d) × (d ≤ c)
+  closed_leads' : (f g c : ℕ) → state_of (set states w (Open (length path))) f ≡ Closed c → Leads graph f g → (d : ℕ) × (state_of (set states w (Open (length path))) g ≡ Closed d) × (d ≤ c)
   closed_leads' f g c e leads =
       let old = s.closed_leads f g c (was_closed f c e) leads in
       (old.0, stays g (Closed old.0) (λ e. cc) old.1, old.2)
 
-  closed_used' : (c : ℕ) → c < count → (f : ℕ) × (mark_of (set marks w (Open (length path))) f ≡ Closed c)
+  closed_used' : (c : ℕ) → c < count → (f : ℕ) × (state_of (set states w (Open (length path))) f ≡ Closed c)
   closed_used' c under =
       let old = s.closed_used c under in
       (old.0, stays old.0 (Closed c) (λ e. cc) old.1)
@@ -94,7 +94,7 @@ module _ (graph : List (List ℕ)) (marks : List Mark) (path pending : List ℕ)
         ]
       ]
 
-  settles : (i g : ℕ) → i < length path → Settled marks blocks i g → Settled (set marks w (Open (length path))) (blocks ++ block_of path pending ∷ []) i g
+  settles : (i g : ℕ) → i < length path → Settled states blocks i g → Settled (set states w (Open (length path))) (blocks ++ block_of path pending ∷ []) i g
   settles i g under old =
       elim old [
         | inl shut ↦ inl (shut.0, stays g (Closed shut.0) (λ e. cc) shut.1)
@@ -124,7 +124,7 @@ module _ (graph : List (List ℕ)) (marks : List Mark) (path pending : List ℕ)
   )
 
   open_leads' : (i g : ℕ) → i < length (path ++ w ∷ []) → Leads graph (slice_index (path ++ w ∷ []) i) g
-      → Settled (set marks w (Open (length path))) (blocks ++ block_of path pending ∷ []) i g ⊎ Awaits (pending ++ targets graph w) (blocks ++ block_of path pending ∷ []) i g
+      → Settled (set states w (Open (length path))) (blocks ++ block_of path pending ∷ []) i g ⊎ Awaits (pending ++ targets graph w) (blocks ++ block_of path pending ∷ []) i g
   open_leads' i g under leads =
       elim (push_cases path w 0 i under) [
         | inl old ↦ elim (s.open_leads i g old.0 (subst (λ v. Leads graph v g) old.1 leads)) [
@@ -199,20 +199,20 @@ module _ (graph : List (List ℕ)) (marks : List Mark) (path pending : List ℕ)
         ap (λ (b : Block). b.first) (get_or_push blocks (block_of path pending) bottom (length blocks) refl) ∙ omega arith,
       )
 
-  passed' : (f : ℕ) → f < cursor → mark_of (set marks w (Open (length path))) f ≡ Unseen → ⊥
+  passed' : (f : ℕ) → f < cursor → state_of (set states w (Open (length path))) f ≡ Unseen → ⊥
   passed' f under e =
       elim (marked f) [
         | inl here ↦ absurd (let no : Open (length path) ≡ Unseen = sym here.1 ∙ e in cc)
         | inr other ↦ s.passed f under (sym other.1 ∙ e)
       ]
 
-  pub fresh_falls : sum_by fresh (set marks w (Open (length path))) + 1 ≡ sum_by fresh marks
+  pub fresh_falls : sum_by fresh (set states w (Open (length path))) + 1 ≡ sum_by fresh states
   fresh_falls =
-      let sum : sum_by fresh (set marks w (Open (length path))) + fresh (mark_of marks w) ≡ sum_by fresh marks + 0 = sum_by-set fresh marks w (Open (length path)) Unseen has_mark in
-      let one : fresh (mark_of marks w) ≡ 1 = ap fresh new in
+      let sum : sum_by fresh (set states w (Open (length path))) + fresh (state_of states w) ≡ sum_by fresh states + 0 = sum_by-set fresh states w (Open (length path)) Unseen has_mark in
+      let one : fresh (state_of states w) ≡ 1 = ap fresh new in
       omega arith
 
-  pub opened : Sound graph (set marks w (Open (length path))) (path ++ w ∷ []) (pending ++ targets graph w) (blocks ++ block_of path pending ∷ []) cursor count
+  pub opened : Sound graph (set states w (Open (length path))) (path ++ w ∷ []) (pending ++ targets graph w) (blocks ++ block_of path pending ∷ []) cursor count
   opened = record {
     sizes = sizes';
     on_path = on_path';

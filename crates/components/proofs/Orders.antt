@@ -7,7 +7,7 @@ use Rattle.std.proofs.lemmas.Bool.{cases_lt}
 use Rattle.components.specs.declared.ready.Watcher.{Watcher}
 use Rattle.components.specs.Graph.{targets, Leads}
 use Rattle.components.specs.Lists.{Ascending}
-use Rattle.components.specs.Order.{rank_of, unranked, Ranked, nobody, watchers_of, PassedTo, WatchesAt, Ordered, AllParts, IsInside, IsAcyclic, AllRanked, RanksAre, InReadyOrder}
+use Rattle.components.specs.steps.Order.{rank_of, unranked, Ranked, nobody, watchers_of, PassedTo, WatchesAt, Ordered, FirstWatchers, IsInside, IsAcyclic, AllRanked, RanksAre, InReadyOrder}
 use Rattle.components.proofs.Given.{given, unranked_falls, leads_at}
 use Rattle.components.proofs.Placed.{made_ready, made_watching, all_ranked_at_end}
 
@@ -60,13 +60,13 @@ rank_room callees ranks ready ready' watchers again count c s first sorted none 
     omega (arith, s.fits, give_falls callees ranks ready ready' watchers again count c s first sorted none no_again)
 
 pub looking_passed : (callees : List (List ℕ)) (ranks : List (Option ℕ)) (ready : List ℕ) (watchers : List (List Watcher)) (again : List Watcher) (count : ℕ) (w : Watcher)
-    → Ordered callees ranks ready watchers (again ++ w ∷ []) count → PassedTo callees ranks w.part w.at
+    → Ordered callees ranks ready watchers (again ++ w ∷ []) count → PassedTo callees ranks w.component w.at
 looking_passed callees ranks ready watchers again count w s =
-    subst (λ (x : Watcher). PassedTo callees ranks x.part x.at) (get_or_push again w nobody (length again) refl) (s.passed (length again) (omega (arith, length_push again w)))
+    subst (λ (x : Watcher). PassedTo callees ranks x.component x.at) (get_or_push again w nobody (length again) refl) (s.passed (length again) (omega (arith, length_push again w)))
 
-pub passed_on : (callees : List (List ℕ)) (ranks : List (Option ℕ)) (own : List ℕ) (part at to : ℕ) → PassedTo callees ranks part at → own ≡ targets callees part
-    → ((k : ℕ) → at ≤ k → k < to → k < length own → Ranked ranks (slice_index own k)) → PassedTo callees ranks part to
-passed_on callees ranks own part at to before is more = (
+pub passed_on : (callees : List (List ℕ)) (ranks : List (Option ℕ)) (own : List ℕ) (component at to : ℕ) → PassedTo callees ranks component at → own ≡ targets callees component
+    → ((k : ℕ) → at ≤ k → k < to → k < length own → Ranked ranks (slice_index own k)) → PassedTo callees ranks component to
+passed_on callees ranks own component at to before is more = (
   before.0,
   λ q less inside. elim (cases_lt q at) [
     | inl low ↦ before.1 q low inside
@@ -74,25 +74,25 @@ passed_on callees ranks own part at to before is more = (
   ],
 )
 
-pub callee_at : (callees : List (List ℕ)) (own : List ℕ) (part k : ℕ) → own ≡ targets callees part → k < length own → WatchesAt callees part k (slice_index own k)
-callee_at callees own part k is under = (subst (λ xs. k < length xs) is under, ap (λ xs. slice_index xs k) (sym is))
+pub callee_at : (callees : List (List ℕ)) (own : List ℕ) (component k : ℕ) → own ≡ targets callees component → k < length own → WatchesAt callees component k (slice_index own k)
+callee_at callees own component k is under = (subst (λ xs. k < length xs) is under, ap (λ xs. slice_index xs k) (sym is))
 
-pub callee_low : (callees : List (List ℕ)) (own : List ℕ) (part k : ℕ) → IsInside callees → own ≡ targets callees part → k < length own → slice_index own k < length callees
-callee_low callees own part k inside is under =
-    inside part (slice_index own k) (leads_at callees part k (slice_index own k) (callee_at callees own part k is under))
+pub callee_low : (callees : List (List ℕ)) (own : List ℕ) (component k : ℕ) → IsInside callees → own ≡ targets callees component → k < length own → slice_index own k < length callees
+callee_low callees own component k inside is under =
+    inside component (slice_index own k) (leads_at callees component k (slice_index own k) (callee_at callees own component k is under))
 
 pub place_ready : {E : Type 0} (r : Result (Unit {0}) E) (callees : List (List ℕ)) (ranks : List (Option ℕ)) (ready ready' : List ℕ) (watchers : List (List Watcher)) (again : List Watcher) (count : ℕ) (w : Watcher) (to : ℕ)
-    → Ordered callees ranks ready watchers (again ++ w ∷ []) count → OnOk r ((x : ℕ) → Contains ready' x ↔ (Contains ready x ⊎ (x ≡ w.part)))
-    → PassedTo callees ranks w.part to → length (targets callees w.part) ≤ to → OnOk r (Ordered callees ranks ready' watchers again count)
-place_ready (Ok _) callees ranks ready ready' watchers again count w to s joins ahead all = made_ready callees ranks ready ready' watchers again count w.part w.at s joins to ahead all
+    → Ordered callees ranks ready watchers (again ++ w ∷ []) count → OnOk r ((x : ℕ) → Contains ready' x ↔ (Contains ready x ⊎ (x ≡ w.component)))
+    → PassedTo callees ranks w.component to → length (targets callees w.component) ≤ to → OnOk r (Ordered callees ranks ready' watchers again count)
+place_ready (Ok _) callees ranks ready ready' watchers again count w to s joins ahead all = made_ready callees ranks ready ready' watchers again count w.component w.at s joins to ahead all
 place_ready (Err _) callees ranks ready ready' watchers again count w to s joins ahead all = tt
 
 pub place_watching : (callees : List (List ℕ)) (ranks : List (Option ℕ)) (ready : List ℕ) (watchers : List (List Watcher)) (again old dest : List Watcher) (count : ℕ) (w : Watcher) (to e : ℕ)
-    → Ordered callees ranks ready watchers (again ++ w ∷ []) count → PassedTo callees ranks w.part to → WatchesAt callees w.part to e → rank_of ranks e ≡ None → e < length callees
-    → old ≡ watchers_of watchers e → dest ≡ old ++ record { part = w.part; at = to } ∷ [] → Ordered callees ranks ready (set watchers e dest) again count
+    → Ordered callees ranks ready watchers (again ++ w ∷ []) count → PassedTo callees ranks w.component to → WatchesAt callees w.component to e → rank_of ranks e ≡ None → e < length callees
+    → old ≡ watchers_of watchers e → dest ≡ old ++ record { component = w.component; at = to } ∷ [] → Ordered callees ranks ready (set watchers e dest) again count
 place_watching callees ranks ready watchers again old dest count w to e s ahead here none low is_old is_dest =
-    subst (λ ws. Ordered callees ranks ready (set watchers e ws) again count) (sym (is_dest ∙ ap (λ ws. ws ++ record { part = w.part; at = to } ∷ []) is_old))
-    (made_watching callees ranks ready watchers again count w.part w.at e s to ahead here none low)
+    subst (λ ws. Ordered callees ranks ready (set watchers e ws) again count) (sym (is_dest ∙ ap (λ ws. ws ++ record { component = w.component; at = to } ∷ []) is_old))
+    (made_watching callees ranks ready watchers again count w.component w.at e s to ahead here none low)
 
 none_at : (n c : ℕ) → rank_of (replicate n None) c ≡ None
 none_at n c =
@@ -108,7 +108,7 @@ no_watchers_at n e =
       | inr high ↦ get_or_past (replicate n []) e [] (omega (arith, length-replicate {A = List Watcher} n []))
     ]
 
-pub fresh_order : (callees : List (List ℕ)) (parts : List Watcher) → AllParts parts (length callees)
+pub fresh_order : (callees : List (List ℕ)) (parts : List Watcher) → FirstWatchers parts (length callees)
     → Ordered callees (replicate (length callees) None) [] (replicate (length callees) []) parts 0
 fresh_order callees parts all =
     record {
@@ -120,11 +120,11 @@ fresh_order callees parts all =
       used = λ r under. absurd (omega arith);
       least_first = λ r d c is under later ready. absurd (let bad : None ≡ Some r = sym (none_at (length callees) d) ∙ is in cc);
       is_ready = λ c has. absurd (omega (arith, has.1));
-      everyone = λ c under none. inr (inr (c, omega (arith, all.0), ap (λ (w : Watcher). w.part) (all.1 c under)));
+      everyone = λ c under none. inr (inr (c, omega (arith, all.0), ap (λ (w : Watcher). w.component) (all.1 c under)));
       watching = λ e k under. absurd (omega (arith, ap length (no_watchers_at (length callees) e)));
       passed = λ k under.
           let low : k < length callees = omega (arith, all.0) in
-          subst (λ (w : Watcher). PassedTo callees (replicate (length callees) None) w.part w.at) (sym (all.1 k low)) (low, λ q less inside. absurd (omega arith));
+          subst (λ (w : Watcher). PassedTo callees (replicate (length callees) None) w.component w.at) (sym (all.1 k low)) (low, λ q less inside. absurd (omega arith));
       fits = let sum : sum_by unranked (replicate (length callees) None) ≡ length callees * 1 = sum_by-replicate unranked (length callees) None in omega (arith, sum);
     }
 

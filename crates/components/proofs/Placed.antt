@@ -5,24 +5,24 @@ use Rattle.std.proofs.lemmas.List.{length_push, length-set, get_or_default, get_
 use Rattle.std.proofs.lemmas.Bool.{cases_eq}
 use Rattle.components.specs.declared.ready.Watcher.{Watcher}
 use Rattle.components.specs.Graph.{targets, Leads}
-use Rattle.components.specs.Order.{rank_of, Ranked, nobody, watchers_of, PassedTo, WatchesAt, Among, Waits, Ordered}
-use Rattle.components.proofs.Parts.{push_cases}
+use Rattle.components.specs.steps.Order.{rank_of, Ranked, nobody, watchers_of, PassedTo, WatchesAt, Among, Waits, Ordered}
+use Rattle.components.proofs.Appended.{push_cases}
 use Rattle.components.proofs.Given.{head_cases, leads_at}
 
 -- among the watchers before the last, or the last
-among_cases : (ws : List Watcher) (w : Watcher) (c : ℕ) → Among (ws ++ w ∷ []) c → Among ws c ⊎ (w.part ≡ c)
+among_cases : (ws : List Watcher) (w : Watcher) (c : ℕ) → Among (ws ++ w ∷ []) c → Among ws c ⊎ (w.component ≡ c)
 among_cases ws w c (k, under, is) =
     elim (push_cases ws w nobody k under) [
-      | inl front ↦ inl (k, front.0, ap (λ (x : Watcher). x.part) (sym front.1) ∙ is)
-      | inr end ↦ inr (ap (λ (x : Watcher). x.part) (sym end.1) ∙ is)
+      | inl front ↦ inl (k, front.0, ap (λ (x : Watcher). x.component) (sym front.1) ∙ is)
+      | inr end ↦ inr (ap (λ (x : Watcher). x.component) (sym end.1) ∙ is)
     ]
 
 among_front : (ws : List Watcher) (w : Watcher) (c : ℕ) → Among ws c → Among (ws ++ w ∷ []) c
 among_front ws w c (k, under, is) =
-    (k, omega (arith, length_push ws w), ap (λ (x : Watcher). x.part) (get_or_append_left ws (w ∷ []) nobody k under) ∙ is)
+    (k, omega (arith, length_push ws w), ap (λ (x : Watcher). x.component) (get_or_append_left ws (w ∷ []) nobody k under) ∙ is)
 
-among_end : (ws : List Watcher) (w : Watcher) → Among (ws ++ w ∷ []) w.part
-among_end ws w = (length ws, omega (arith, length_push ws w), ap (λ (x : Watcher). x.part) (get_or_push ws w nobody (length ws) refl))
+among_end : (ws : List Watcher) (w : Watcher) → Among (ws ++ w ∷ []) w.component
+among_end ws w = (length ws, omega (arith, length_push ws w), ap (λ (x : Watcher). x.component) (get_or_push ws w nobody (length ws) refl))
 
 -- a component that has its number or whose number comes later is taken from the ready ones
 module _ (callees : List (List ℕ)) (ranks : List (Option ℕ)) (ready ready' : List ℕ) (watchers : List (List Watcher)) (again : List Watcher) (count c : ℕ)
@@ -57,17 +57,17 @@ module _ (callees : List (List ℕ)) (ranks : List (Option ℕ)) (ready ready' :
   }
 
 -- all callees have numbers
-module _ (callees : List (List ℕ)) (ranks : List (Option ℕ)) (ready ready' : List ℕ) (watchers : List (List Watcher)) (again : List Watcher) (count part at : ℕ)
-    (s : Ordered callees ranks ready watchers (again ++ record { part = part; at = at } ∷ []) count)
-    (joins : (x : ℕ) → Contains ready' x ↔ (Contains ready x ⊎ (x ≡ part)))
-    (to : ℕ) (ahead : PassedTo callees ranks part to) (all : length (targets callees part) ≤ to) where
-  passed_front : (k : ℕ) → k < length again → PassedTo callees ranks (slice_index_or again k nobody).part (slice_index_or again k nobody).at
+module _ (callees : List (List ℕ)) (ranks : List (Option ℕ)) (ready ready' : List ℕ) (watchers : List (List Watcher)) (again : List Watcher) (count component at : ℕ)
+    (s : Ordered callees ranks ready watchers (again ++ record { component = component; at = at } ∷ []) count)
+    (joins : (x : ℕ) → Contains ready' x ↔ (Contains ready x ⊎ (x ≡ component)))
+    (to : ℕ) (ahead : PassedTo callees ranks component to) (all : length (targets callees component) ≤ to) where
+  passed_front : (k : ℕ) → k < length again → PassedTo callees ranks (slice_index_or again k nobody).component (slice_index_or again k nobody).at
   passed_front k under =
-      subst (λ (w : Watcher). PassedTo callees ranks w.part w.at) (get_or_append_left again (record { part = part; at = at } ∷ []) nobody k under)
-      (s.passed k (omega (arith, length_push {X = Watcher} again (record { part = part; at = at }))))
+      subst (λ (w : Watcher). PassedTo callees ranks w.component w.at) (get_or_append_left again (record { component = component; at = at } ∷ []) nobody k under)
+      (s.passed k (omega (arith, length_push {X = Watcher} again (record { component = component; at = at }))))
 
-  all_ranked : (e : ℕ) → Leads callees part e → Ranked ranks e
-  all_ranked e (k, under, is) = subst (Ranked ranks) (get_or_default (targets callees part) k 0 e under ∙ is) (ahead.1 k (omega (arith, all)) under)
+  all_ranked : (e : ℕ) → Leads callees component e → Ranked ranks e
+  all_ranked e (k, under, is) = subst (Ranked ranks) (get_or_default (targets callees component) k 0 e under ∙ is) (ahead.1 k (omega (arith, all)) under)
 
   is_ready' : (c : ℕ) → Contains ready' c → (c < length callees) × ((e : ℕ) → Leads callees c e → Ranked ranks e)
   is_ready' c has =
@@ -82,7 +82,7 @@ module _ (callees : List (List ℕ)) (ranks : List (Option ℕ)) (ready ready' :
         | inl in_ready ↦ inl ((joins c).1 (inl in_ready))
         | inr later ↦ elim later [
           | inl waits ↦ inr (inl waits)
-          | inr looks ↦ elim (among_cases again (record { part = part; at = at }) c looks) [
+          | inr looks ↦ elim (among_cases again (record { component = component; at = at }) c looks) [
             | inl front ↦ inr (inr front)
             | inr is ↦ inl ((joins c).1 (inr (sym is)))
           ]
@@ -106,72 +106,72 @@ module _ (callees : List (List ℕ)) (ranks : List (Option ℕ)) (ready ready' :
   }
 
 -- the callee e has no number
-module _ (callees : List (List ℕ)) (ranks : List (Option ℕ)) (ready : List ℕ) (watchers : List (List Watcher)) (again : List Watcher) (count part at e : ℕ)
-    (s : Ordered callees ranks ready watchers (again ++ record { part = part; at = at } ∷ []) count)
-    (to : ℕ) (ahead : PassedTo callees ranks part to) (here : WatchesAt callees part to e) (none_e : rank_of ranks e ≡ None) (low : e < length callees) where
-  passed_before : (k : ℕ) → k < length again → PassedTo callees ranks (slice_index_or again k nobody).part (slice_index_or again k nobody).at
+module _ (callees : List (List ℕ)) (ranks : List (Option ℕ)) (ready : List ℕ) (watchers : List (List Watcher)) (again : List Watcher) (count component at e : ℕ)
+    (s : Ordered callees ranks ready watchers (again ++ record { component = component; at = at } ∷ []) count)
+    (to : ℕ) (ahead : PassedTo callees ranks component to) (here : WatchesAt callees component to e) (none_e : rank_of ranks e ≡ None) (low : e < length callees) where
+  passed_before : (k : ℕ) → k < length again → PassedTo callees ranks (slice_index_or again k nobody).component (slice_index_or again k nobody).at
   passed_before k under =
-      subst (λ (w : Watcher). PassedTo callees ranks w.part w.at) (get_or_append_left again (record { part = part; at = at } ∷ []) nobody k under)
-      (s.passed k (omega (arith, length_push {X = Watcher} again (record { part = part; at = at }))))
+      subst (λ (w : Watcher). PassedTo callees ranks w.component w.at) (get_or_append_left again (record { component = component; at = at } ∷ []) nobody k under)
+      (s.passed k (omega (arith, length_push {X = Watcher} again (record { component = component; at = at }))))
 
-  more : watchers_of (set watchers e (watchers_of watchers e ++ record { part = part; at = to } ∷ [])) e ≡ watchers_of watchers e ++ record { part = part; at = to } ∷ []
-  more = get_or-set_same watchers e (watchers_of watchers e ++ record { part = part; at = to } ∷ []) [] (omega (arith, s.tables))
+  more : watchers_of (set watchers e (watchers_of watchers e ++ record { component = component; at = to } ∷ [])) e ≡ watchers_of watchers e ++ record { component = component; at = to } ∷ []
+  more = get_or-set_same watchers e (watchers_of watchers e ++ record { component = component; at = to } ∷ []) [] (omega (arith, s.tables))
 
-  same : (f : ℕ) → (f ≡ e → ⊥) → watchers_of (set watchers e (watchers_of watchers e ++ record { part = part; at = to } ∷ [])) f ≡ watchers_of watchers f
-  same f ne = get_or-set_other watchers e f (watchers_of watchers e ++ record { part = part; at = to } ∷ []) [] ne
+  same : (f : ℕ) → (f ≡ e → ⊥) → watchers_of (set watchers e (watchers_of watchers e ++ record { component = component; at = to } ∷ [])) f ≡ watchers_of watchers f
+  same f ne = get_or-set_other watchers e f (watchers_of watchers e ++ record { component = component; at = to } ∷ []) [] ne
 
-  waits_still : (c : ℕ) → Waits ranks watchers c → Waits ranks (set watchers e (watchers_of watchers e ++ record { part = part; at = to } ∷ [])) c
+  waits_still : (c : ℕ) → Waits ranks watchers c → Waits ranks (set watchers e (watchers_of watchers e ++ record { component = component; at = to } ∷ [])) c
   waits_still c (f, none, among) =
       elim (cases_eq f e) [
         | inl is ↦
-            (e, none_e, subst (λ ws. Among ws c) (sym more) (among_front (watchers_of watchers e) (record { part = part; at = to }) c (subst (λ v. Among (watchers_of watchers v) c) is among)))
+            (e, none_e, subst (λ ws. Among ws c) (sym more) (among_front (watchers_of watchers e) (record { component = component; at = to }) c (subst (λ v. Among (watchers_of watchers v) c) is among)))
         | inr ne ↦ (f, none, subst (λ ws. Among ws c) (sym (same f ne)) among)
       ]
 
   everyone_waits : (c : ℕ) → c < length callees → rank_of ranks c ≡ None
-      → Contains ready c ⊎ (Waits ranks (set watchers e (watchers_of watchers e ++ record { part = part; at = to } ∷ [])) c ⊎ Among again c)
+      → Contains ready c ⊎ (Waits ranks (set watchers e (watchers_of watchers e ++ record { component = component; at = to } ∷ [])) c ⊎ Among again c)
   everyone_waits c under none =
       elim (s.everyone c under none) [
         | inl in_ready ↦ inl in_ready
         | inr later ↦ inr (elim later [
           | inl waits ↦ inl (waits_still c waits)
-          | inr looks ↦ elim (among_cases again (record { part = part; at = at }) c looks) [
+          | inr looks ↦ elim (among_cases again (record { component = component; at = at }) c looks) [
             | inl front ↦ inr front
-            | inr is ↦ inl (e, none_e, subst (λ ws. Among ws c) (sym more) (subst (λ v. Among (watchers_of watchers e ++ record { part = part; at = to } ∷ []) v) is (among_end (watchers_of watchers e) (record { part = part; at = to }))))
+            | inr is ↦ inl (e, none_e, subst (λ ws. Among ws c) (sym more) (subst (λ v. Among (watchers_of watchers e ++ record { component = component; at = to } ∷ []) v) is (among_end (watchers_of watchers e) (record { component = component; at = to }))))
           ]
         ])
       ]
 
-  fine_more : (k : ℕ) → k < length (watchers_of watchers e ++ record { part = part; at = to } ∷ [])
-      → PassedTo callees ranks (slice_index_or (watchers_of watchers e ++ record { part = part; at = to } ∷ []) k nobody).part (slice_index_or (watchers_of watchers e ++ record { part = part; at = to } ∷ []) k nobody).at
-      × WatchesAt callees (slice_index_or (watchers_of watchers e ++ record { part = part; at = to } ∷ []) k nobody).part (slice_index_or (watchers_of watchers e ++ record { part = part; at = to } ∷ []) k nobody).at e
+  fine_more : (k : ℕ) → k < length (watchers_of watchers e ++ record { component = component; at = to } ∷ [])
+      → PassedTo callees ranks (slice_index_or (watchers_of watchers e ++ record { component = component; at = to } ∷ []) k nobody).component (slice_index_or (watchers_of watchers e ++ record { component = component; at = to } ∷ []) k nobody).at
+      × WatchesAt callees (slice_index_or (watchers_of watchers e ++ record { component = component; at = to } ∷ []) k nobody).component (slice_index_or (watchers_of watchers e ++ record { component = component; at = to } ∷ []) k nobody).at e
   fine_more k under =
-      elim (push_cases (watchers_of watchers e) (record { part = part; at = to }) nobody k under) [
+      elim (push_cases (watchers_of watchers e) (record { component = component; at = to }) nobody k under) [
         | inl front ↦
-            subst (λ (w : Watcher). PassedTo callees ranks w.part w.at × WatchesAt callees w.part w.at e) (sym front.1) (s.watching e k front.0)
+            subst (λ (w : Watcher). PassedTo callees ranks w.component w.at × WatchesAt callees w.component w.at e) (sym front.1) (s.watching e k front.0)
         | inr end ↦
-            subst (λ (w : Watcher). PassedTo callees ranks w.part w.at × WatchesAt callees w.part w.at e) (sym end.1) (ahead, here)
+            subst (λ (w : Watcher). PassedTo callees ranks w.component w.at × WatchesAt callees w.component w.at e) (sym end.1) (ahead, here)
       ]
 
-  watching_more : (f k : ℕ) → k < length (watchers_of (set watchers e (watchers_of watchers e ++ record { part = part; at = to } ∷ [])) f)
-      → PassedTo callees ranks (slice_index_or (watchers_of (set watchers e (watchers_of watchers e ++ record { part = part; at = to } ∷ [])) f) k nobody).part (slice_index_or (watchers_of (set watchers e (watchers_of watchers e ++ record { part = part; at = to } ∷ [])) f) k nobody).at
-      × WatchesAt callees (slice_index_or (watchers_of (set watchers e (watchers_of watchers e ++ record { part = part; at = to } ∷ [])) f) k nobody).part (slice_index_or (watchers_of (set watchers e (watchers_of watchers e ++ record { part = part; at = to } ∷ [])) f) k nobody).at f
+  watching_more : (f k : ℕ) → k < length (watchers_of (set watchers e (watchers_of watchers e ++ record { component = component; at = to } ∷ [])) f)
+      → PassedTo callees ranks (slice_index_or (watchers_of (set watchers e (watchers_of watchers e ++ record { component = component; at = to } ∷ [])) f) k nobody).component (slice_index_or (watchers_of (set watchers e (watchers_of watchers e ++ record { component = component; at = to } ∷ [])) f) k nobody).at
+      × WatchesAt callees (slice_index_or (watchers_of (set watchers e (watchers_of watchers e ++ record { component = component; at = to } ∷ [])) f) k nobody).component (slice_index_or (watchers_of (set watchers e (watchers_of watchers e ++ record { component = component; at = to } ∷ [])) f) k nobody).at f
   watching_more f k under =
       elim (cases_eq f e) [
         | inl is ↦
-            let ws : watchers_of (set watchers e (watchers_of watchers e ++ record { part = part; at = to } ∷ [])) f ≡ watchers_of watchers e ++ record { part = part; at = to } ∷ [] =
-            ap (watchers_of (set watchers e (watchers_of watchers e ++ record { part = part; at = to } ∷ []))) is ∙ more in
-            subst (λ (v : ℕ). PassedTo callees ranks (get_or (watchers_of (set watchers e (watchers_of watchers e ++ record { part = part; at = to } ∷ [])) f) k nobody).part (get_or (watchers_of (set watchers e (watchers_of watchers e ++ record { part = part; at = to } ∷ [])) f) k nobody).at
-            × WatchesAt callees (get_or (watchers_of (set watchers e (watchers_of watchers e ++ record { part = part; at = to } ∷ [])) f) k nobody).part (get_or (watchers_of (set watchers e (watchers_of watchers e ++ record { part = part; at = to } ∷ [])) f) k nobody).at v) (sym is)
-            (subst (λ (xs : List Watcher). PassedTo callees ranks (get_or xs k nobody).part (get_or xs k nobody).at × WatchesAt callees (get_or xs k nobody).part (get_or xs k nobody).at e) (sym ws)
+            let ws : watchers_of (set watchers e (watchers_of watchers e ++ record { component = component; at = to } ∷ [])) f ≡ watchers_of watchers e ++ record { component = component; at = to } ∷ [] =
+            ap (watchers_of (set watchers e (watchers_of watchers e ++ record { component = component; at = to } ∷ []))) is ∙ more in
+            subst (λ (v : ℕ). PassedTo callees ranks (get_or (watchers_of (set watchers e (watchers_of watchers e ++ record { component = component; at = to } ∷ [])) f) k nobody).component (get_or (watchers_of (set watchers e (watchers_of watchers e ++ record { component = component; at = to } ∷ [])) f) k nobody).at
+            × WatchesAt callees (get_or (watchers_of (set watchers e (watchers_of watchers e ++ record { component = component; at = to } ∷ [])) f) k nobody).component (get_or (watchers_of (set watchers e (watchers_of watchers e ++ record { component = component; at = to } ∷ [])) f) k nobody).at v) (sym is)
+            (subst (λ (xs : List Watcher). PassedTo callees ranks (get_or xs k nobody).component (get_or xs k nobody).at × WatchesAt callees (get_or xs k nobody).component (get_or xs k nobody).at e) (sym ws)
             (fine_more k (subst (λ xs. k < length xs) ws under)))
         | inr ne ↦
             let ws = same f ne in
-            subst (λ (xs : List Watcher). PassedTo callees ranks (get_or xs k nobody).part (get_or xs k nobody).at × WatchesAt callees (get_or xs k nobody).part (get_or xs k nobody).at f) (sym ws)
+            subst (λ (xs : List Watcher). PassedTo callees ranks (get_or xs k nobody).component (get_or xs k nobody).at × WatchesAt callees (get_or xs k nobody).component (get_or xs k nobody).at f) (sym ws)
             (s.watching f k (subst (λ xs. k < length xs) ws under))
       ]
 
-  pub made_watching : Ordered callees ranks ready (set watchers e (watchers_of watchers e ++ record { part = part; at = to } ∷ [])) again count
+  pub made_watching : Ordered callees ranks ready (set watchers e (watchers_of watchers e ++ record { component = component; at = to } ∷ [])) again count
   made_watching = record {
     sizes = s.sizes;
     tables = length-set watchers e _ ∙ s.tables;

@@ -3,21 +3,21 @@ use Rattle.std.proofs.Common.{◌≡◌, ℕ, ◌<◌, ◌≤◌, ◌⊎◌, inl
 use Rattle.std.specs.Prelude.{All, slice_index}
 use Rattle.std.proofs.lemmas.List.{length_push, get_or_append_left}
 use Rattle.std.proofs.lemmas.List.Elements.{All-push}
-use Rattle.components.specs.declared.search.Mark.{Mark}
-use Rattle.components.specs.declared.search.Mark.TheVariants.{Open, Closed}
+use Rattle.components.specs.declared.search.NodeState.{NodeState}
+use Rattle.components.specs.declared.search.NodeState.TheVariants.{Open, Closed}
 use Rattle.components.specs.declared.search.Block.{Block}
 use Rattle.components.specs.Graph.{Leads}
-use Rattle.components.specs.Search.{mark_of, Settled, Awaits, HasSource, Before, Sound}
-use Rattle.components.proofs.Parts.{push_cases}
+use Rattle.components.specs.steps.Search.{state_of, Settled, Awaits, HasSource, Before, Sound}
+use Rattle.components.proofs.Appended.{push_cases}
 use Rattle.components.proofs.Walks.{before_end}
 
-module _ (graph : List (List ℕ)) (marks : List Mark) (path pending : List ℕ) (w : ℕ) (rest : List Block) (t : Block) (cursor count : ℕ)
-    (s : Sound graph marks path (pending ++ w ∷ []) (rest ++ t ∷ []) cursor count) (enough : t.below ≤ length pending)
-    (known : ((c : ℕ) × (mark_of marks w ≡ Closed c)) ⊎ ((p : ℕ) × (mark_of marks w ≡ Open p) × (t.first ≤ p))) where
+module _ (graph : List (List ℕ)) (states : List NodeState) (path pending : List ℕ) (w : ℕ) (rest : List Block) (t : Block) (cursor count : ℕ)
+    (s : Sound graph states path (pending ++ w ∷ []) (rest ++ t ∷ []) cursor count) (enough : t.below ≤ length pending)
+    (known : ((c : ℕ) × (state_of states w ≡ Closed c)) ⊎ ((p : ℕ) × (state_of states w ≡ Open p) × (t.first ≤ p))) where
   earlier : All (λ b. Before b t) rest
   earlier = before_end rest t path (pending ++ w ∷ []) s.cut
 
-  settles : (i : ℕ) → Settled marks (rest ++ t ∷ []) i w
+  settles : (i : ℕ) → Settled states (rest ++ t ∷ []) i w
   settles i =
       elim known [
         | inl shut ↦ inl shut
@@ -30,13 +30,13 @@ module _ (graph : List (List ℕ)) (marks : List Mark) (path pending : List ℕ)
         )
       ]
 
-  open_leads' : (i g : ℕ) → i < length path → Leads graph (slice_index path i) g → Settled marks (rest ++ t ∷ []) i g ⊎ Awaits pending (rest ++ t ∷ []) i g
+  open_leads' : (i g : ℕ) → i < length path → Leads graph (slice_index path i) g → Settled states (rest ++ t ∷ []) i g ⊎ Awaits pending (rest ++ t ∷ []) i g
   open_leads' i g under leads =
       elim (s.open_leads i g under leads) [
         | inl settled ↦ inl settled
         | inr pends ↦ elim (push_cases pending w 0 pends.0 pends.1) [
           | inl front ↦ inr (pends.0, front.0, sym front.1 ∙ pends.2, pends.3)
-          | inr end ↦ inl (subst (λ v. Settled marks (rest ++ t ∷ []) i v) (sym end.1 ∙ pends.2) (settles i))
+          | inr end ↦ inl (subst (λ v. Settled states (rest ++ t ∷ []) i v) (sym end.1 ∙ pends.2) (settles i))
         ]
       ]
 
@@ -55,7 +55,7 @@ module _ (graph : List (List ℕ)) (marks : List Mark) (path pending : List ℕ)
           (λ q e low. let old : ((get_or rest q e).first < t.first) × ((get_or rest q e).below ≤ t.below) = earlier q e low in omega arith)
           enough
 
-  pub settled : Sound graph marks path pending (rest ++ t ∷ []) cursor count
+  pub settled : Sound graph states path pending (rest ++ t ∷ []) cursor count
   settled = record {
     sizes = s.sizes;
     on_path = s.on_path;

@@ -4,17 +4,17 @@ use Rattle.std.specs.Prelude.{All, slice_index, slice_index_or}
 use Rattle.std.proofs.lemmas.List.{length_push, length-take-le, get_or-take}
 use Rattle.std.proofs.lemmas.List.Elements.{All-push}
 use Rattle.std.proofs.lemmas.Bool.{cases_lt}
-use Rattle.components.specs.declared.search.Mark.{Mark}
-use Rattle.components.specs.declared.search.Mark.TheVariants.{Unseen, Open, Closed}
+use Rattle.components.specs.declared.search.NodeState.{NodeState}
+use Rattle.components.specs.declared.search.NodeState.TheVariants.{Unseen, Open, Closed}
 use Rattle.components.specs.declared.search.Block.{Block}
 use Rattle.components.specs.Graph.{Leads, Together}
-use Rattle.components.specs.Search.{mark_of, Walk, FromBlock, Settled, Awaits, HasSource, Before, bottom, Sound, Closes}
-use Rattle.components.proofs.Parts.{All-front, All-end, push_cases}
+use Rattle.components.specs.steps.Search.{state_of, Walk, FromBlock, Settled, Awaits, HasSource, Before, bottom, Sound, Closes}
+use Rattle.components.proofs.Appended.{All-front, All-end, push_cases}
 use Rattle.components.proofs.Walks.{both_walk, before_end, front_ascending}
 
-module _ (graph : List (List ℕ)) (marks marks' : List Mark) (path pending : List ℕ) (rest : List Block) (t : Block) (cursor count : ℕ)
-    (s : Sound graph marks path pending (rest ++ t ∷ []) cursor count) (idle : length pending ≤ t.below)
-    (c : Closes marks marks' path t.first (length path) count) where
+module _ (graph : List (List ℕ)) (states states' : List NodeState) (path pending : List ℕ) (rest : List Block) (t : Block) (cursor count : ℕ)
+    (s : Sound graph states path pending (rest ++ t ∷ []) cursor count) (idle : length pending ≤ t.below)
+    (c : Closes states states' path t.first (length path) count) where
   earlier : All (λ b. Before b t) rest
   earlier = before_end rest t path pending s.cut
 
@@ -27,16 +27,16 @@ module _ (graph : List (List ℕ)) (marks marks' : List Mark) (path pending : Li
   kept_at : (p : ℕ) → p < t.first → slice_index (take t.first path) p ≡ slice_index path p
   kept_at p under = get_or-take t.first path p 0 under
 
-  -- a node is of the block that is closed, or its mark stays
-  cases : (f : ℕ) → ((p : ℕ) × (mark_of marks f ≡ Open p) × (t.first ≤ p) × (mark_of marks' f ≡ Closed count))
-      ⊎ ((mark_of marks' f ≡ mark_of marks f) × ((p : ℕ) → mark_of marks f ≡ Open p → p < t.first))
-  cases f = go (mark_of marks f) refl
+  -- a node is of the block that is closed, or its state stays
+  cases : (f : ℕ) → ((p : ℕ) × (state_of states f ≡ Open p) × (t.first ≤ p) × (state_of states' f ≡ Closed count))
+      ⊎ ((state_of states' f ≡ state_of states f) × ((p : ℕ) → state_of states f ≡ Open p → p < t.first))
+  cases f = go (state_of states f) refl
     where
-      apart : (m : Mark) → mark_of marks f ≡ m → ((p : ℕ) → t.first ≤ p → m ≡ Open p → ⊥) → mark_of marks' f ≡ mark_of marks f
-      apart m e never = c.others f (λ p high under is. never p high (sym e ∙ ap (mark_of marks) (sym is) ∙ s.on_path p under))
+      apart : (m : NodeState) → state_of states f ≡ m → ((p : ℕ) → t.first ≤ p → m ≡ Open p → ⊥) → state_of states' f ≡ state_of states f
+      apart m e never = c.others f (λ p high under is. never p high (sym e ∙ ap (state_of states) (sym is) ∙ s.on_path p under))
 
-      go : (m : Mark) → mark_of marks f ≡ m → ((p : ℕ) × (mark_of marks f ≡ Open p) × (t.first ≤ p) × (mark_of marks' f ≡ Closed count))
-          ⊎ ((mark_of marks' f ≡ mark_of marks f) × ((p : ℕ) → mark_of marks f ≡ Open p → p < t.first))
+      go : (m : NodeState) → state_of states f ≡ m → ((p : ℕ) × (state_of states f ≡ Open p) × (t.first ≤ p) × (state_of states' f ≡ Closed count))
+          ⊎ ((state_of states' f ≡ state_of states f) × ((p : ℕ) → state_of states f ≡ Open p → p < t.first))
       go Unseen e = inr (apart Unseen e (λ p high no. cc), λ p no. absurd (let bad : Unseen ≡ Open p = sym e ∙ no in cc))
       go (Closed d) e = inr (apart (Closed d) e (λ p high no. cc), λ p no. absurd (let bad : Closed d ≡ Open p = sym e ∙ no in cc))
       go (Open q) e =
@@ -47,52 +47,52 @@ module _ (graph : List (List ℕ)) (marks marks' : List Mark) (path pending : Li
             )
             | inr high ↦
                 let place = s.open_place f q e in
-                inl (q, e, high, ap (mark_of marks') (sym place.1) ∙ c.shut q high place.0)
+                inl (q, e, high, ap (state_of states') (sym place.1) ∙ c.shut q high place.0)
           ]
 
-  stays : (f d : ℕ) → mark_of marks f ≡ Closed d → mark_of marks' f ≡ Closed d
+  stays : (f d : ℕ) → state_of states f ≡ Closed d → state_of states' f ≡ Closed d
   stays f d e =
       elim (cases f) [
         | inl block ↦ absurd (let bad : Open block.0 ≡ Closed d = sym block.1 ∙ e in cc)
         | inr other ↦ other.0 ∙ e
       ]
 
-  on_path' : (p : ℕ) → p < length (take t.first path) → mark_of marks' (slice_index (take t.first path) p) ≡ Open p
+  on_path' : (p : ℕ) → p < length (take t.first path) → state_of states' (slice_index (take t.first path) p) ≡ Open p
   on_path' p under =
       let low : p < t.first = omega (arith, kept_length) in
-      let old : mark_of marks (slice_index path p) ≡ Open p = s.on_path p (omega (arith, on_start)) in
-      ap (mark_of marks') (kept_at p low) ∙ elim (cases (slice_index path p)) [
+      let old : state_of states (slice_index path p) ≡ Open p = s.on_path p (omega (arith, on_start)) in
+      ap (state_of states') (kept_at p low) ∙ elim (cases (slice_index path p)) [
         | inl block ↦ absurd (let bad : Open block.0 ≡ Open p = sym block.1 ∙ old in let same : block.0 ≡ p = cc in omega (arith, block.2))
         | inr other ↦ other.0 ∙ old
       ]
 
-  open_place' : (f p : ℕ) → mark_of marks' f ≡ Open p → (p < length (take t.first path)) × (slice_index (take t.first path) p ≡ f)
+  open_place' : (f p : ℕ) → state_of states' f ≡ Open p → (p < length (take t.first path)) × (slice_index (take t.first path) p ≡ f)
   open_place' f p e =
       elim (cases f) [
         | inl block ↦ absurd (let bad : Closed count ≡ Open p = sym block.3 ∙ e in cc)
         | inr other ↦
-            let was : mark_of marks f ≡ Open p = sym other.0 ∙ e in
+            let was : state_of states f ≡ Open p = sym other.0 ∙ e in
             let old = s.open_place f p was in
             let low : p < t.first = other.1 p was in
             (omega (arith, kept_length), kept_at p low ∙ old.1)
       ]
 
   -- a closed node is of the block, with the new number, or was closed before
-  closed_cases : (f d : ℕ) → mark_of marks' f ≡ Closed d → ((p : ℕ) × (mark_of marks f ≡ Open p) × (t.first ≤ p) × (d ≡ count)) ⊎ (mark_of marks f ≡ Closed d)
+  closed_cases : (f d : ℕ) → state_of states' f ≡ Closed d → ((p : ℕ) × (state_of states f ≡ Open p) × (t.first ≤ p) × (d ≡ count)) ⊎ (state_of states f ≡ Closed d)
   closed_cases f d e =
       elim (cases f) [
         | inl block ↦ inl (block.0, block.1, block.2, let both : Closed d ≡ Closed count = sym e ∙ block.3 in cc)
         | inr other ↦ inr (sym other.0 ∙ e)
       ]
 
-  closed_below' : (f d : ℕ) → mark_of marks' f ≡ Closed d → d < count + 1
+  closed_below' : (f d : ℕ) → state_of states' f ≡ Closed d → d < count + 1
   closed_below' f d e =
       elim (closed_cases f d e) [
         | inl block ↦ omega (arith, block.3)
         | inr old ↦ omega (arith, s.closed_below f d old)
       ]
 
-  closed_leads' : (f g d : ℕ) → mark_of marks' f ≡ Closed d → Leads graph f g → (n : ℕ) × (mark_of marks' g ≡ Closed n) × (n ≤ d)
+  closed_leads' : (f g d : ℕ) → state_of states' f ≡ Closed d → Leads graph f g → (n : ℕ) × (state_of states' g ≡ Closed n) × (n ≤ d)
   closed_leads' f g d e leads =
       elim (closed_cases f d e) [
         | inl block ↦
@@ -103,7 +103,7 @@ module _ (graph : List (List ℕ)) (marks marks' : List Mark) (path pending : Li
                 | inr up ↦
                     let to = s.open_place g up.0 up.1 in
                     let high : t.first ≤ up.0 = All-end (λ b. b.first ≤ block.0 → b.first ≤ up.0) rest t up.2 block.2 in
-                    (count, ap (mark_of marks') (sym to.1) ∙ c.shut up.0 high to.0, omega (arith, block.3))
+                    (count, ap (state_of states') (sym to.1) ∙ c.shut up.0 high to.0, omega (arith, block.3))
               ]
               | inr pends ↦ absurd (let at : t.below ≤ pends.0 = All-end (λ b. b.first ≤ block.0 → b.below ≤ pends.0) rest t pends.3 block.2 in omega (arith, pends.1))
             ]
@@ -117,7 +117,7 @@ module _ (graph : List (List ℕ)) (marks marks' : List Mark) (path pending : Li
       (λ k d under _. let old : ((get_or rest k d).first < t.first) × ((get_or rest k d).below ≤ t.below) = earlier k d under in omega arith)
       (λ _. high))
 
-  together_in : (f g p q : ℕ) → mark_of marks f ≡ Open p → mark_of marks g ≡ Open q → t.first ≤ p → t.first ≤ q → Together graph f g
+  together_in : (f g p q : ℕ) → state_of states f ≡ Open p → state_of states g ≡ Open q → t.first ≤ p → t.first ≤ q → Together graph f g
   together_in f g p q at_f at_g high_p high_q =
       let from = s.open_place f p at_f in
       let to = s.open_place g q at_g in
@@ -125,7 +125,7 @@ module _ (graph : List (List ℕ)) (marks marks' : List Mark) (path pending : Li
       let back : Walk graph g f = subst (λ v. Walk graph v f) to.1 (subst (λ v. Walk graph (slice_index path q) v) from.1 (walk_in q p to.0 from.0 high_p)) in
       both_walk graph f g there back
 
-  closed_together' : (f g d : ℕ) → mark_of marks' f ≡ Closed d → mark_of marks' g ≡ Closed d → Together graph f g
+  closed_together' : (f g d : ℕ) → state_of states' f ≡ Closed d → state_of states' g ≡ Closed d → Together graph f g
   closed_together' f g d e_f e_g =
       elim (closed_cases f d e_f) [
         | inl block_f ↦ elim (closed_cases g d e_g) [
@@ -138,7 +138,7 @@ module _ (graph : List (List ℕ)) (marks marks' : List Mark) (path pending : Li
         ]
       ]
 
-  closed_used' : (d : ℕ) → d < count + 1 → (f : ℕ) × (mark_of marks' f ≡ Closed d)
+  closed_used' : (d : ℕ) → d < count + 1 → (f : ℕ) × (state_of states' f ≡ Closed d)
   closed_used' d under =
       elim (cases_lt d count) [
         | inl low ↦ let old = s.closed_used d low in (old.0, stays old.0 d old.1)
@@ -155,7 +155,7 @@ module _ (graph : List (List ℕ)) (marks marks' : List Mark) (path pending : Li
       rw (kept_at i low_i, kept_at j low_j) (s.joined i j (omega (arith, on_start)) (omega (arith, on_start))
       (All-push (λ b. b.first ≤ i → b.first ≤ j) rest t from (λ no. absurd (omega arith))))
 
-  open_leads' : (i g : ℕ) → i < length (take t.first path) → Leads graph (slice_index (take t.first path) i) g → Settled marks' rest i g ⊎ Awaits pending rest i g
+  open_leads' : (i g : ℕ) → i < length (take t.first path) → Leads graph (slice_index (take t.first path) i) g → Settled states' rest i g ⊎ Awaits pending rest i g
   open_leads' i g under leads =
       let low : i < t.first = omega (arith, kept_length) in
       elim (s.open_leads i g (omega (arith, on_start)) (subst (λ v. Leads graph v g) (kept_at i low) leads)) [
@@ -194,14 +194,14 @@ module _ (graph : List (List ℕ)) (marks marks' : List Mark) (path pending : Li
         | inr end ↦ absurd (let zero_first : t.first ≡ 0 = ap (λ (b : Block). b.first) (sym end.1) ∙ old.2 in omega (arith, kept_length))
       ]
 
-  passed' : (f : ℕ) → f < cursor → mark_of marks' f ≡ Unseen → ⊥
+  passed' : (f : ℕ) → f < cursor → state_of states' f ≡ Unseen → ⊥
   passed' f under e =
       elim (cases f) [
         | inl block ↦ let bad : Closed count ≡ Unseen = sym block.3 ∙ e in cc
         | inr other ↦ s.passed f under (sym other.0 ∙ e)
       ]
 
-  pub shut : Sound graph marks' (take t.first path) pending rest cursor (count + 1)
+  pub shut : Sound graph states' (take t.first path) pending rest cursor (count + 1)
   shut = record {
     sizes = c.same_length ∙ s.sizes;
     on_path = on_path';

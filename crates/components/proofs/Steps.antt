@@ -5,13 +5,13 @@ use Rattle.std.proofs.lemmas.List.{length_push, length-set, get_or_push, get_or_
 use Rattle.std.proofs.lemmas.List.Elements.{All-push}
 use Rattle.std.proofs.lemmas.List.Sums.{sum_by-set}
 use Rattle.std.proofs.lemmas.Bool.{cases_lt}
-use Rattle.components.specs.declared.search.Mark.{Mark}
-use Rattle.components.specs.declared.search.Mark.TheVariants.{Unseen, Open, Closed}
+use Rattle.components.specs.declared.search.NodeState.{NodeState}
+use Rattle.components.specs.declared.search.NodeState.TheVariants.{Unseen, Open, Closed}
 use Rattle.components.specs.declared.search.Block.{Block}
 use Rattle.components.specs.Graph.{IsGraph, targets}
-use Rattle.components.specs.Search.{mark_of, fresh, Walk, Sound, Closes}
-use Rattle.components.specs.State.{TopIs}
-use Rattle.components.proofs.Parts.{All-end, mark_cases}
+use Rattle.components.specs.steps.Search.{state_of, fresh, Walk, Sound, Closes}
+use Rattle.components.specs.steps.State.{TopIs}
+use Rattle.components.proofs.Appended.{All-end, state_cases}
 use Rattle.components.proofs.Walks.{walk_on, walk_pair, before_end}
 use Rattle.components.proofs.Opened.{opened}
 use Rattle.components.proofs.Merged.{merged}
@@ -35,43 +35,43 @@ pub last_is : (xs rest : List ℕ) (w : ℕ) → xs ≡ rest ++ w ∷ [] → sli
 last_is xs rest w e =
     ap (λ ys. slice_index ys (length ys - 1)) e ∙ get_or_push rest w 0 (length (rest ++ w ∷ []) - 1) (omega (arith, length_push rest w))
 
-pub merge_step : (graph : List (List ℕ)) (marks : List Mark) (path pending : List ℕ) (blocks blocks' : List Block) (t u : Block) (cursor count : ℕ)
-    → Sound graph marks path pending blocks cursor count → TopIs blocks t → t.below < length pending
-    → ((p : ℕ) × (mark_of marks (slice_index pending (length pending - 1)) ≡ Open p) × (p < t.first))
-    → blocks ≡ blocks' ++ u ∷ [] → Sound graph marks path pending blocks' cursor count
-merge_step graph marks path pending blocks blocks' t u cursor count s top busy (p, here, low) e =
-    merged graph marks path pending blocks' t cursor count p
-    (subst (λ b. Sound graph marks path pending b cursor count) (front_is blocks blocks' t u top e) s) busy here low
+pub merge_step : (graph : List (List ℕ)) (states : List NodeState) (path pending : List ℕ) (blocks blocks' : List Block) (t u : Block) (cursor count : ℕ)
+    → Sound graph states path pending blocks cursor count → TopIs blocks t → t.below < length pending
+    → ((p : ℕ) × (state_of states (slice_index pending (length pending - 1)) ≡ Open p) × (p < t.first))
+    → blocks ≡ blocks' ++ u ∷ [] → Sound graph states path pending blocks' cursor count
+merge_step graph states path pending blocks blocks' t u cursor count s top busy (p, here, low) e =
+    merged graph states path pending blocks' t cursor count p
+    (subst (λ b. Sound graph states path pending b cursor count) (front_is blocks blocks' t u top e) s) busy here low
 
-pub settle_step : (graph : List (List ℕ)) (marks : List Mark) (path pending pending' : List ℕ) (w : ℕ) (blocks : List Block) (t : Block) (cursor count : ℕ)
-    → Sound graph marks path pending blocks cursor count → TopIs blocks t → t.below < length pending
-    → ((c : ℕ) × (mark_of marks (slice_index pending (length pending - 1)) ≡ Closed c)) ⊎ ((p : ℕ) × (mark_of marks (slice_index pending (length pending - 1)) ≡ Open p) × (t.first ≤ p))
-    → pending ≡ pending' ++ w ∷ [] → Sound graph marks path pending' blocks cursor count
-settle_step graph marks path pending pending' w blocks t cursor count s top busy known e =
-    let s' = subst (λ b. Sound graph marks path pending b cursor count) top.1 s in
-    let s'' = subst (λ q. Sound graph marks path q (top.0 ++ t ∷ []) cursor count) e s' in
+pub settle_step : (graph : List (List ℕ)) (states : List NodeState) (path pending pending' : List ℕ) (w : ℕ) (blocks : List Block) (t : Block) (cursor count : ℕ)
+    → Sound graph states path pending blocks cursor count → TopIs blocks t → t.below < length pending
+    → ((c : ℕ) × (state_of states (slice_index pending (length pending - 1)) ≡ Closed c)) ⊎ ((p : ℕ) × (state_of states (slice_index pending (length pending - 1)) ≡ Open p) × (t.first ≤ p))
+    → pending ≡ pending' ++ w ∷ [] → Sound graph states path pending' blocks cursor count
+settle_step graph states path pending pending' w blocks t cursor count s top busy known e =
+    let s' = subst (λ b. Sound graph states path pending b cursor count) top.1 s in
+    let s'' = subst (λ q. Sound graph states path q (top.0 ++ t ∷ []) cursor count) e s' in
     let is : slice_index pending (length pending - 1) ≡ w = last_is pending pending' w e in
-    let known' : ((c : ℕ) × (mark_of marks w ≡ Closed c)) ⊎ ((p : ℕ) × (mark_of marks w ≡ Open p) × (t.first ≤ p)) =
-    subst (λ v. ((c : ℕ) × (mark_of marks v ≡ Closed c)) ⊎ ((p : ℕ) × (mark_of marks v ≡ Open p) × (t.first ≤ p))) is known in
+    let known' : ((c : ℕ) × (state_of states w ≡ Closed c)) ⊎ ((p : ℕ) × (state_of states w ≡ Open p) × (t.first ≤ p)) =
+    subst (λ v. ((c : ℕ) × (state_of states v ≡ Closed c)) ⊎ ((p : ℕ) × (state_of states v ≡ Open p) × (t.first ≤ p))) is known in
     let enough : t.below ≤ length pending' = omega (arith, ap length e, length_push pending' w) in
-    subst (λ b. Sound graph marks path pending' b cursor count) (sym top.1)
-    (settled graph marks path pending' w top.0 t cursor count s'' enough known')
+    subst (λ b. Sound graph states path pending' b cursor count) (sym top.1)
+    (settled graph states path pending' w top.0 t cursor count s'' enough known')
 
-pub close_step : (graph : List (List ℕ)) (marks marks' : List Mark) (path path' pending : List ℕ) (blocks blocks' : List Block) (t u : Block) (cursor count : ℕ)
-    → Sound graph marks path pending blocks cursor count → TopIs blocks t → length pending ≤ t.below
-    → Closes marks marks' path t.first (length path) count → path' ≡ take t.first path
-    → blocks ≡ blocks' ++ u ∷ [] → Sound graph marks' path' pending blocks' cursor (count + 1)
-close_step graph marks marks' path path' pending blocks blocks' t u cursor count s top idle c is e =
-    subst (λ p. Sound graph marks' p pending blocks' cursor (count + 1)) (sym is)
-    (shut graph marks marks' path pending blocks' t cursor count
-    (subst (λ b. Sound graph marks path pending b cursor count) (front_is blocks blocks' t u top e) s) idle c)
+pub close_step : (graph : List (List ℕ)) (states states' : List NodeState) (path path' pending : List ℕ) (blocks blocks' : List Block) (t u : Block) (cursor count : ℕ)
+    → Sound graph states path pending blocks cursor count → TopIs blocks t → length pending ≤ t.below
+    → Closes states states' path t.first (length path) count → path' ≡ take t.first path
+    → blocks ≡ blocks' ++ u ∷ [] → Sound graph states' path' pending blocks' cursor (count + 1)
+close_step graph states states' path path' pending blocks blocks' t u cursor count s top idle c is e =
+    subst (λ p. Sound graph states' p pending blocks' cursor (count + 1)) (sym is)
+    (shut graph states states' path pending blocks' t cursor count
+    (subst (λ b. Sound graph states path pending b cursor count) (front_is blocks blocks' t u top e) s) idle c)
 
 -- every open node reaches the last pending target, which is of the last block
-pub reaches_pending : (graph : List (List ℕ)) (marks : List Mark) (path pending : List ℕ) (blocks : List Block) (t : Block) (cursor count : ℕ)
-    → Sound graph marks path pending blocks cursor count → TopIs blocks t → t.below < length pending
+pub reaches_pending : (graph : List (List ℕ)) (states : List NodeState) (path pending : List ℕ) (blocks : List Block) (t : Block) (cursor count : ℕ)
+    → Sound graph states path pending blocks cursor count → TopIs blocks t → t.below < length pending
     → (i : ℕ) → i < length path → Walk graph (slice_index path i) (slice_index pending (length pending - 1))
-reaches_pending graph marks path pending blocks t cursor count s0 (rest, e) busy i under =
-    let s : Sound graph marks path pending (rest ++ t ∷ []) cursor count = subst (λ b. Sound graph marks path pending b cursor count) e s0 in
+reaches_pending graph states path pending blocks t cursor count s0 (rest, e) busy i under =
+    let s : Sound graph states path pending (rest ++ t ∷ []) cursor count = subst (λ b. Sound graph states path pending b cursor count) e s0 in
     let source = s.sources (length pending - 1) (omega arith) in
     let high : t.first ≤ source.0 = (All-end (λ b. (b.first ≤ source.0 → b.below ≤ length pending - 1) × (b.below ≤ length pending - 1 → b.first ≤ source.0)) rest t source.3).1 (omega arith) in
     walk_on graph (slice_index path i) (slice_index path source.0) (slice_index pending (length pending - 1))
@@ -81,52 +81,52 @@ reaches_pending graph marks path pending blocks t cursor count s0 (rest, e) busy
     (λ _. high)))
     (walk_pair graph (slice_index path source.0) (slice_index pending (length pending - 1)) source.2)
 
-pub pending_low : (graph : List (List ℕ)) (marks : List Mark) (path pending : List ℕ) (blocks : List Block) (cursor count : ℕ)
-    → IsGraph graph → Sound graph marks path pending blocks cursor count → (k : ℕ) → k < length pending → slice_index pending k < length graph
-pending_low graph marks path pending blocks cursor count g s k under =
+pub pending_low : (graph : List (List ℕ)) (states : List NodeState) (path pending : List ℕ) (blocks : List Block) (cursor count : ℕ)
+    → IsGraph graph → Sound graph states path pending blocks cursor count → (k : ℕ) → k < length pending → slice_index pending k < length graph
+pending_low graph states path pending blocks cursor count g s k under =
     let source = s.sources k under in
     g.inside (slice_index path source.0) (slice_index pending k) source.2
 
-pub target_low : (graph : List (List ℕ)) (marks : List Mark) (path pending : List ℕ) (blocks : List Block) (cursor count x : ℕ)
-    → IsGraph graph → Sound graph marks path pending blocks cursor count → 0 < length pending → x ≡ slice_index pending (length pending - 1) → x < length marks
-target_low graph marks path pending blocks cursor count x g s some is =
-    omega (arith, s.sizes, pending_low graph marks path pending blocks cursor count g s (length pending - 1) (omega arith))
+pub target_low : (graph : List (List ℕ)) (states : List NodeState) (path pending : List ℕ) (blocks : List Block) (cursor count x : ℕ)
+    → IsGraph graph → Sound graph states path pending blocks cursor count → 0 < length pending → x ≡ slice_index pending (length pending - 1) → x < length states
+target_low graph states path pending blocks cursor count x g s some is =
+    omega (arith, s.sizes, pending_low graph states path pending blocks cursor count g s (length pending - 1) (omega arith))
 
 pub at_last : (xs : List ℕ) (n x : ℕ) → x ≡ get_or xs (n - 1) x → n ≡ length xs → 0 < length xs → x ≡ slice_index xs (length xs - 1)
 at_last xs n x e is some =
     let low : n - 1 < length xs = omega arith in
     e ∙ get_or_default xs (n - 1) x 0 low ∙ ap (λ k. slice_index xs (k - 1)) is
 
-pub mark_at : (marks : List Mark) (x y : ℕ) (m v : Mark) → m ≡ get_or marks x m → x < length marks → x ≡ y → m ≡ v → mark_of marks y ≡ v
-mark_at marks x y m v e low is found = sym (e ∙ get_or_default marks x m Unseen low ∙ ap (mark_of marks) is) ∙ found
+pub state_at : (states : List NodeState) (x y : ℕ) (m v : NodeState) → m ≡ get_or states x m → x < length states → x ≡ y → m ≡ v → state_of states y ≡ v
+state_at states x y m v e low is found = sym (e ∙ get_or_default states x m Unseen low ∙ ap (state_of states) is) ∙ found
 
-pub no_path : (graph : List (List ℕ)) (marks : List Mark) (path pending : List ℕ) (blocks : List Block) (cursor count : ℕ)
-    → Sound graph marks path pending blocks cursor count → blocks ≡ [] → path ≡ []
-no_path graph marks path pending blocks cursor count s none =
+pub no_path : (graph : List (List ℕ)) (states : List NodeState) (path pending : List ℕ) (blocks : List Block) (cursor count : ℕ)
+    → Sound graph states path pending blocks cursor count → blocks ≡ [] → path ≡ []
+no_path graph states path pending blocks cursor count s none =
     elim (cases_lt 0 (length path)) [
       | inl some ↦ absurd (let old = s.cut.whole some in omega (arith, old.1, ap length none))
       | inr empty ↦ nil_from_length path (omega arith)
     ]
 
 -- one more node of the path is closed
-pub shut_more : (marks marks' : List Mark) (path : List ℕ) (first place number : ℕ)
-    → Closes marks marks' path first place number → first ≤ place → place < length path
-    → ((p : ℕ) → p < length path → mark_of marks (slice_index path p) ≡ Open p)
-    → ((p : ℕ) → p < length path → slice_index path p < length marks)
-    → Closes marks (set marks' (slice_index path place) (Closed number)) path first (place + 1) number
-shut_more marks marks' path first place number c high under on_path nodes =
-    record { same_length = length-set marks' node (Closed number) ∙ c.same_length; shut = shut'; others = others'; same_fresh = same_fresh' }
+pub shut_more : (states states' : List NodeState) (path : List ℕ) (first place number : ℕ)
+    → Closes states states' path first place number → first ≤ place → place < length path
+    → ((p : ℕ) → p < length path → state_of states (slice_index path p) ≡ Open p)
+    → ((p : ℕ) → p < length path → slice_index path p < length states)
+    → Closes states (set states' (slice_index path place) (Closed number)) path first (place + 1) number
+shut_more states states' path first place number c high under on_path nodes =
+    record { same_length = length-set states' node (Closed number) ∙ c.same_length; shut = shut'; others = others'; same_fresh = same_fresh' }
   where
     node : ℕ
     node = slice_index path place
 
-    low : slice_index path place < length marks'
+    low : slice_index path place < length states'
     low = omega (arith, nodes place under, c.same_length)
 
-    now : (f : ℕ) → ((f ≡ slice_index path place) × (mark_of (set marks' (slice_index path place) (Closed number)) f ≡ Closed number)) ⊎ ((f ≡ slice_index path place → ⊥) × (mark_of (set marks' (slice_index path place) (Closed number)) f ≡ mark_of marks' f))
-    now f = mark_cases marks' (slice_index path place) (Closed number) f low
+    now : (f : ℕ) → ((f ≡ slice_index path place) × (state_of (set states' (slice_index path place) (Closed number)) f ≡ Closed number)) ⊎ ((f ≡ slice_index path place → ⊥) × (state_of (set states' (slice_index path place) (Closed number)) f ≡ state_of states' f))
+    now f = state_cases states' (slice_index path place) (Closed number) f low
 
-    shut' : (p : ℕ) → first ≤ p → p < place + 1 → mark_of (set marks' (slice_index path place) (Closed number)) (slice_index path p) ≡ Closed number
+    shut' : (p : ℕ) → first ≤ p → p < place + 1 → state_of (set states' (slice_index path place) (Closed number)) (slice_index path p) ≡ Closed number
     shut' p from to =
         elim (now (slice_index path p)) [
           | inl here ↦ here.1
@@ -137,7 +137,7 @@ shut_more marks marks' path first place number c high under on_path nodes =
               ]
         ]
 
-    others' : (f : ℕ) → ((p : ℕ) → first ≤ p → p < place + 1 → slice_index path p ≡ f → ⊥) → mark_of (set marks' (slice_index path place) (Closed number)) f ≡ mark_of marks f
+    others' : (f : ℕ) → ((p : ℕ) → first ≤ p → p < place + 1 → slice_index path p ≡ f → ⊥) → state_of (set states' (slice_index path place) (Closed number)) f ≡ state_of states f
     others' f never =
         elim (now f) [
           | inl here ↦ absurd (never place high (omega arith) (sym here.0))
@@ -145,32 +145,32 @@ shut_more marks marks' path first place number c high under on_path nodes =
         ]
 
     -- the node is still as it was
-    was_open : mark_of marks' (slice_index path place) ≡ Open place
+    was_open : state_of states' (slice_index path place) ≡ Open place
     was_open =
         c.others (slice_index path place) (λ p from to is.
-        let bad : Open p ≡ Open place = sym (on_path p (omega arith)) ∙ ap (mark_of marks) is ∙ on_path place under in
+        let bad : Open p ≡ Open place = sym (on_path p (omega arith)) ∙ ap (state_of states) is ∙ on_path place under in
         let same : p ≡ place = cc in
         omega arith)
         ∙ on_path place under
 
-    same_fresh' : sum_by fresh (set marks' (slice_index path place) (Closed number)) ≡ sum_by fresh marks
+    same_fresh' : sum_by fresh (set states' (slice_index path place) (Closed number)) ≡ sum_by fresh states
     same_fresh' =
-        let sum : sum_by fresh (set marks' (slice_index path place) (Closed number)) + fresh (mark_of marks' (slice_index path place)) ≡ sum_by fresh marks' + 0 = sum_by-set fresh marks' (slice_index path place) (Closed number) Unseen low in
-        let none : fresh (mark_of marks' (slice_index path place)) ≡ 0 = ap fresh was_open in
+        let sum : sum_by fresh (set states' (slice_index path place) (Closed number)) + fresh (state_of states' (slice_index path place)) ≡ sum_by fresh states' + 0 = sum_by-set fresh states' (slice_index path place) (Closed number) Unseen low in
+        let none : fresh (state_of states' (slice_index path place)) ≡ 0 = ap fresh was_open in
         omega (arith, c.same_fresh)
 
-pub open_step : (graph : List (List ℕ)) (marks : List Mark) (path path' pending pending' ts : List ℕ) (blocks blocks' : List Block) (cursor count w a b : ℕ)
-    → Sound graph marks path pending blocks cursor count → w < length graph → mark_of marks w ≡ Unseen
+pub open_step : (graph : List (List ℕ)) (states : List NodeState) (path path' pending pending' ts : List ℕ) (blocks blocks' : List Block) (cursor count w a b : ℕ)
+    → Sound graph states path pending blocks cursor count → w < length graph → state_of states w ≡ Unseen
     → ((i : ℕ) → i < length path → Walk graph (slice_index path i) w)
     → a ≡ length path → b ≡ length pending → blocks' ≡ blocks ++ record { first = a; below = b } ∷ [] → path' ≡ path ++ w ∷ []
-    → pending' ≡ pending ++ ts → ts ≡ targets graph w → Sound graph (set marks w (Open a)) path' pending' blocks' cursor count
-open_step graph marks path path' pending pending' ts blocks blocks' cursor count w a b s low new reached is_a is_b is_blocks is_path is_pending is_ts =
-    let s1 : Sound graph (set marks w (Open (length path))) (path ++ w ∷ []) (pending ++ targets graph w) (blocks ++ record { first = length path; below = length pending } ∷ []) cursor count = opened graph marks path pending blocks cursor count w s low new reached in
-    let s2 : Sound graph (set marks w (Open a)) (path ++ w ∷ []) (pending ++ targets graph w) (blocks ++ record { first = a; below = length pending } ∷ []) cursor count =
-    subst (λ n. Sound graph (set marks w (Open n)) (path ++ w ∷ []) (pending ++ targets graph w) (blocks ++ record { first = n; below = length pending } ∷ []) cursor count) (sym is_a) s1 in
-    let s3 : Sound graph (set marks w (Open a)) (path ++ w ∷ []) (pending ++ targets graph w) (blocks ++ record { first = a; below = b } ∷ []) cursor count =
-    subst (λ n. Sound graph (set marks w (Open a)) (path ++ w ∷ []) (pending ++ targets graph w) (blocks ++ record { first = a; below = n } ∷ []) cursor count) (sym is_b) s2 in
-    let s4 = subst (λ q. Sound graph (set marks w (Open a)) (path ++ w ∷ []) (pending ++ q) (blocks ++ record { first = a; below = b } ∷ []) cursor count) (sym is_ts) s3 in
-    let s5 = subst (λ q. Sound graph (set marks w (Open a)) (path ++ w ∷ []) q (blocks ++ record { first = a; below = b } ∷ []) cursor count) (sym is_pending) s4 in
-    let s6 = subst (λ q. Sound graph (set marks w (Open a)) q pending' (blocks ++ record { first = a; below = b } ∷ []) cursor count) (sym is_path) s5 in
-    subst (λ q. Sound graph (set marks w (Open a)) path' pending' q cursor count) (sym is_blocks) s6
+    → pending' ≡ pending ++ ts → ts ≡ targets graph w → Sound graph (set states w (Open a)) path' pending' blocks' cursor count
+open_step graph states path path' pending pending' ts blocks blocks' cursor count w a b s low new reached is_a is_b is_blocks is_path is_pending is_ts =
+    let s1 : Sound graph (set states w (Open (length path))) (path ++ w ∷ []) (pending ++ targets graph w) (blocks ++ record { first = length path; below = length pending } ∷ []) cursor count = opened graph states path pending blocks cursor count w s low new reached in
+    let s2 : Sound graph (set states w (Open a)) (path ++ w ∷ []) (pending ++ targets graph w) (blocks ++ record { first = a; below = length pending } ∷ []) cursor count =
+    subst (λ n. Sound graph (set states w (Open n)) (path ++ w ∷ []) (pending ++ targets graph w) (blocks ++ record { first = n; below = length pending } ∷ []) cursor count) (sym is_a) s1 in
+    let s3 : Sound graph (set states w (Open a)) (path ++ w ∷ []) (pending ++ targets graph w) (blocks ++ record { first = a; below = b } ∷ []) cursor count =
+    subst (λ n. Sound graph (set states w (Open a)) (path ++ w ∷ []) (pending ++ targets graph w) (blocks ++ record { first = a; below = n } ∷ []) cursor count) (sym is_b) s2 in
+    let s4 = subst (λ q. Sound graph (set states w (Open a)) (path ++ w ∷ []) (pending ++ q) (blocks ++ record { first = a; below = b } ∷ []) cursor count) (sym is_ts) s3 in
+    let s5 = subst (λ q. Sound graph (set states w (Open a)) (path ++ w ∷ []) q (blocks ++ record { first = a; below = b } ∷ []) cursor count) (sym is_pending) s4 in
+    let s6 = subst (λ q. Sound graph (set states w (Open a)) q pending' (blocks ++ record { first = a; below = b } ∷ []) cursor count) (sym is_path) s5 in
+    subst (λ q. Sound graph (set states w (Open a)) path' pending' q cursor count) (sym is_blocks) s6

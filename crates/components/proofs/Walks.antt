@@ -4,7 +4,7 @@ use Rattle.std.specs.Prelude.{All, slice_index_or}
 use Rattle.std.proofs.lemmas.List.{length_push, get_or_append_left, get_or_push, get_or_default}
 use Rattle.components.specs.declared.search.Block.{Block}
 use Rattle.components.specs.Graph.{Leads, Reaches, by_pair, by_pairs, Together}
-use Rattle.components.specs.Search.{Walk, Before, bottom, Cut}
+use Rattle.components.specs.steps.Search.{Walk, Before, bottom, Cut}
 
 pub reaches_on : (graph : List (List ℕ)) (f g h : ℕ) → Reaches graph f g → Reaches graph g h → Reaches graph f h
 reaches_on graph f g h (by_pair _ _ leads) rest = by_pairs f g h leads rest

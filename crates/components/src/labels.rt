@@ -1,16 +1,20 @@
 ghost use Rattle.std.specs.Prelude.{◌≡◌, ℕ, ◌+◌, ◌<◌, ◌^◌, length, slice_index, IfOk};
-ghost use Rattle.components.specs.Labels.{IsLabelled, NextLabel};
+ghost use Rattle.components.specs.steps.Labels.{IsLabelled, NextLabel};
 
 use crate::tools::push;
 use std::alloc::Global;
 use type_kinds::{List, Memory};
 
-/// Labels for homes, in the order in which the nodes first have them. Gives the label of each node, and how
-/// many labels there are.
-pub fn first_labels(alloc: Global, homes: &[u32], count: u32) -> Result<(List<u32>, u32), Memory>
-    requires short { length homes.now < 2 ^ 32 }
-    requires below { (f : ℕ) → f < length homes.now → slice_index homes.now f < count }
-    ensures { IfOk result (λ given. IsLabelled homes.now given.0 given.1) }
+/// Labels for components, in the order of their least nodes. Gives the label of each node's
+/// component, and how many labels there are.
+pub fn first_labels(
+    alloc: Global,
+    component_of: &[u32],
+    count: u32,
+) -> Result<(List<u32>, u32), Memory>
+    requires short { length component_of.now < 2 ^ 32 }
+    requires below { (f : ℕ) → f < length component_of.now → slice_index component_of.now f < count }
+    ensures { IfOk result (λ given. IsLabelled component_of.now given.0 given.1) }
 {
     let mut table: Vec<Option<u32>> = Vec::new(alloc);
     match table.resize(count as usize, None) {
@@ -19,24 +23,24 @@ pub fn first_labels(alloc: Global, homes: &[u32], count: u32) -> Result<(List<u3
     }
     let mut labels = Vec::new(alloc);
     let mut given: u32 = 0;
-    for home in homes {
-        let label = label_for(&mut table, &mut given, *home);
+    for component in component_of {
+        let label = label_for(&mut table, &mut given, *component);
         push(&mut labels, label)?;
     }
     Ok((List::from_vec(labels), given))
 }
 
-// The label of a home, which is the next label where the home hasn't been met.
-fn label_for(table: &mut Vec<Option<u32>>, given: &mut u32, home: u32) -> u32
-    requires home { home < length table.old.items }
+// The label of a component, which is the next label where the component hasn't been met.
+fn label_for(table: &mut Vec<Option<u32>>, given: &mut u32, component: u32) -> u32
+    requires component { component < length table.old.items }
     requires room { given.old + 1 < 2 ^ 32 }
-    ensures { NextLabel table.old.items given.old home result table.new.items given.new }
+    ensures { NextLabel table.old.items given.old component result table.new.items given.new }
 {
-    if let Some(label) = table[home as usize] {
+    if let Some(label) = table[component as usize] {
         return label;
     }
     let label = *given;
-    table[home as usize] = Some(label);
+    table[component as usize] = Some(label);
     *given = label + 1;
     label
 }

@@ -1,7 +1,7 @@
 //! The strong components of a graph: which nodes reach each other.
 #![tactic(auto)]
 
-mod condensed;
+mod component_lists;
 mod graph;
 mod labels;
 mod node_set;

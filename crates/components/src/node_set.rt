@@ -7,7 +7,7 @@ use std::collections::BTreeSet;
 use std::marker::Model;
 use type_kinds::{List, Memory};
 
-/// A set of numbers. Contracts see them as a list, the least first.
+/// A set of numbers. Contracts see them as a list, ascending.
 #[derive(Drop)]
 pub struct NodeSet {
     nodes: BTreeSet<u32>,
@@ -35,7 +35,7 @@ impl NodeSet {
         }
     }
 
-    /// Adds a number, which stays once where it is there.
+    /// Adds a number; one that is there already changes nothing.
     pub fn insert(&mut self, node: u32) -> Result<(), Memory>
         ensures { OnOk result ((x : ℕ) → Contains self.new x ↔ (Contains self.old x ⊎ (x ≡ node))) }
     {
@@ -45,7 +45,7 @@ impl NodeSet {
         }
     }
 
-    /// Takes the least number out.
+    /// Takes the least number out: `None` exactly where the set is empty.
     pub fn take_least(&mut self) -> Option<u32>
         ensures least { MatchOption result ((self.old ≡ []) × (self.new ≡ [])) (λ least. self.old ≡ least ∷ self.new) }
         ensures sorted { Ascending self.old }
@@ -53,7 +53,7 @@ impl NodeSet {
         self.nodes.pop_first()
     }
 
-    /// The numbers, the least first.
+    /// The numbers, ascending.
     pub fn into_list(self, alloc: Global) -> Result<List<u32>, Memory>
         ensures items { IfOk result (λ list. list ≡ self) }
         ensures sorted { IfOk result (λ list. Ascending list) }

@@ -1,14 +1,15 @@
 ghost use Rattle.std.specs.Prelude.{◌≡◌, ℕ, ◌+◌, ◌<◌, ◌^◌, length, Contains, slice_index, IfOk};
 ghost use Rattle.components.specs.Graph.{IsGraph};
 ghost use Rattle.components.specs.Lists.{Ascending};
-ghost use Rattle.components.specs.Numbers.{home_of, members_of, callees_of, NumbersNodes, NumbersTogether, NumbersDownward, NumbersUsed, NumbersReady, NumbersMembers, NumbersCallees, StrongHomes, ReadyHomes};
-ghost use Rattle.components.specs.State.{IsSound, Idle, AllClosed, HomesAre};
+ghost use Rattle.components.specs.Numbering.{component_of_node, members_of, callees_of, NumberingNodes, NumberingTogether, NumberingDownward, NumberingUsed, NumberingReady, NumberingMembers, NumberingCallees};
+ghost use Rattle.components.specs.steps.Phases.{StrongComponents, ReadyComponents};
+ghost use Rattle.components.specs.steps.State.{IsSound, Idle, AllClosed, ComponentsAre};
 
-use crate::condensed;
+use crate::component_lists;
 use crate::graph::Graph;
 use crate::labels::first_labels;
 use crate::ready::ready_order;
-use crate::search::{Mark, Search};
+use crate::search::{NodeState, Search};
 use crate::tools::push;
 use std::alloc::Global;
 use std::marker::Model;
@@ -17,22 +18,22 @@ use type_kinds::{Filling, List, Memory};
 /// The strong components of a graph, with numbers from 0.
 #[derive(Drop)]
 pub struct Comps {
-    homes: List<u32>,
+    component_of: List<u32>,
     count: u32,
     members: Vec<List<u32>>,
     callees: Vec<List<u32>>,
 }
 
 impl Model for Comps {
-    ghost use Rattle.components.specs.Numbers.{Numbers, numbers_code, IsNumbers};
+    ghost use Rattle.components.specs.Numbering.{Numbering, numbering_code, IsNumbering};
 
-    ghost Value = { Numbers };
+    ghost Value = { Numbering };
 
-    ghost coded = { numbers_code };
+    ghost coded = { numbering_code };
 
-    ghost view = { λ comps. record { homes = comps.homes; count = comps.count; members = comps.members.items; callees = comps.callees.items } };
+    ghost view = { λ comps. record { component_of = comps.component_of; count = comps.count; members = comps.members.items; callees = comps.callees.items } };
 
-    ghost invariant = { λ comps. IsNumbers (record { homes = comps.homes; count = comps.count; members = comps.members.items; callees = comps.callees.items }) };
+    ghost invariant = { λ comps. IsNumbering (record { component_of = comps.component_of; count = comps.count; members = comps.members.items; callees = comps.callees.items }) };
 }
 
 impl Comps {
@@ -45,29 +46,29 @@ impl Comps {
 
     /// The component of a node.
     pub fn home(&self, node: u32) -> u32
-        requires { node < length self.now.homes }
-        ensures { result ≡ home_of self.now node }
+        requires { node < length self.now.component_of }
+        ensures { result ≡ component_of_node self.now node }
     {
-        *self.homes.at(node as usize)
+        *self.component_of.at(node as usize)
     }
 
     /// The members of a component, ascending.
-    pub fn members(&self, part: u32) -> &List<u32>
-        requires { part < self.now.count }
-        ensures members { result.now ≡ members_of self.now part }
+    pub fn members(&self, component: u32) -> &List<u32>
+        requires { component < self.now.count }
+        ensures members { result.now ≡ members_of self.now component }
         ensures ascending { Ascending result.now }
     {
-        &self.members[part as usize]
+        &self.members[component as usize]
     }
 
     /// The other components that the members of a component lead to, ascending. All are below it.
-    pub fn callees(&self, part: u32) -> &List<u32>
-        requires { part < self.now.count }
-        ensures callees { result.now ≡ callees_of self.now part }
+    pub fn callees(&self, component: u32) -> &List<u32>
+        requires { component < self.now.count }
+        ensures callees { result.now ≡ callees_of self.now component }
         ensures ascending { Ascending result.now }
-        ensures below { (callee : ℕ) → Contains result.now callee → callee < part }
+        ensures below { (callee : ℕ) → Contains result.now callee → callee < component }
     {
-        &self.callees[part as usize]
+        &self.callees[component as usize]
     }
 }
 
@@ -76,21 +77,26 @@ impl Comps {
 /// other component that its members lead to has a number, and each next number goes to the ready
 /// component whose least member is least.
 pub fn components(alloc: Global, graph: &Graph) -> Result<Comps, Memory>
-    ensures nodes { IfOk result (λ comps. NumbersNodes graph.now comps) }
-    ensures together { IfOk result (λ comps. NumbersTogether graph.now comps) }
-    ensures downward { IfOk result (λ comps. NumbersDownward graph.now comps) }
-    ensures used { IfOk result (λ comps. NumbersUsed graph.now comps) }
-    ensures ready { IfOk result (λ comps. NumbersReady graph.now comps) }
-    ensures members { IfOk result (λ comps. NumbersMembers graph.now comps) }
-    ensures callees { IfOk result (λ comps. NumbersCallees graph.now comps) }
+    ensures nodes { IfOk result (λ comps. NumberingNodes graph.now comps) }
+    ensures together { IfOk result (λ comps. NumberingTogether graph.now comps) }
+    ensures downward { IfOk result (λ comps. NumberingDownward graph.now comps) }
+    ensures used { IfOk result (λ comps. NumberingUsed graph.now comps) }
+    ensures ready { IfOk result (λ comps. NumberingReady graph.now comps) }
+    ensures members { IfOk result (λ comps. NumberingMembers graph.now comps) }
+    ensures callees { IfOk result (λ comps. NumberingCallees graph.now comps) }
 {
     let _ = graph.count();
-    let (found, found_count) = strong_homes(alloc, graph)?;
-    let (homes, count) = ready_homes(alloc, graph, found.as_slice(), found_count)?;
-    let members = condensed::members_of(alloc, homes.as_slice(), count)?;
-    let callees = condensed::callees_of(alloc, graph, homes.as_slice(), members.as_slice())?;
+    let (found, found_count) = strong_components(alloc, graph)?;
+    let (component_of, count) = ready_components(alloc, graph, found.as_slice(), found_count)?;
+    let members = component_lists::members_of(alloc, component_of.as_slice(), count)?;
+    let callees = component_lists::callees_of(
+        alloc,
+        graph,
+        component_of.as_slice(),
+        members.as_slice(),
+    )?;
     Ok(Comps {
-        homes,
+        component_of,
         count,
         members,
         callees,
@@ -98,45 +104,45 @@ pub fn components(alloc: Global, graph: &Graph) -> Result<Comps, Memory>
 }
 
 // The strong components in the order in which the search closes them.
-fn strong_homes(alloc: Global, graph: &Graph) -> Result<(List<u32>, u32), Memory>
+fn strong_components(alloc: Global, graph: &Graph) -> Result<(List<u32>, u32), Memory>
     requires { IsGraph graph.now }
-    ensures { IfOk result (λ found. StrongHomes graph.now found.0 found.1) }
+    ensures { IfOk result (λ found. StrongComponents graph.now found.0 found.1) }
 {
     let search = run(alloc, graph)?;
-    let homes = homes_of(alloc, search.marks.as_slice())?;
-    Ok((homes, search.count))
+    let component_of = closed_components(alloc, search.states.as_slice())?;
+    Ok((component_of, search.count))
 }
 
 // The same components in ready order.
-fn ready_homes(
+fn ready_components(
     alloc: Global,
     graph: &Graph,
     found: &[u32],
     found_count: u32,
 ) -> Result<(List<u32>, u32), Memory>
     requires graph { IsGraph graph.now }
-    requires strong { StrongHomes graph.now found.now found_count }
-    ensures { IfOk result (λ given. ReadyHomes graph.now given.0 given.1) }
+    requires strong { StrongComponents graph.now found.now found_count }
+    ensures { IfOk result (λ given. ReadyComponents graph.now given.0 given.1) }
 {
-    let (labels, parts) = first_labels(alloc, found, found_count)?;
-    let members = condensed::members_of(alloc, labels.as_slice(), parts)?;
-    let callees = condensed::callees_of(alloc, graph, labels.as_slice(), members.as_slice())?;
+    let (labels, label_count) = first_labels(alloc, found, found_count)?;
+    let members = component_lists::members_of(alloc, labels.as_slice(), label_count)?;
+    let callees = component_lists::callees_of(alloc, graph, labels.as_slice(), members.as_slice())?;
     let (numbers, count) = ready_order(alloc, callees.as_slice())?;
-    let homes = renumbered(alloc, labels.as_slice(), numbers.as_slice())?;
-    Ok((homes, count))
+    let component_of = renumbered(alloc, labels.as_slice(), numbers.as_slice())?;
+    Ok((component_of, count))
 }
 
-// The number of each node's label.
+// The component of each node, which is the number of its label.
 fn renumbered(alloc: Global, labels: &[u32], numbers: &[u32]) -> Result<List<u32>, Memory>
     requires { (f : ℕ) → f < length labels.now → slice_index labels.now f < length numbers.now }
-    ensures sizes { IfOk result (λ homes. length homes ≡ length labels.now) }
-    ensures homes { IfOk result (λ homes. (f : ℕ) → f < length labels.now → slice_index homes f ≡ slice_index numbers.now (slice_index labels.now f)) }
+    ensures sizes { IfOk result (λ component_of. length component_of ≡ length labels.now) }
+    ensures numbers { IfOk result (λ component_of. (f : ℕ) → f < length labels.now → slice_index component_of f ≡ slice_index numbers.now (slice_index labels.now f)) }
 {
-    let mut homes = Vec::new(alloc);
+    let mut component_of = Vec::new(alloc);
     for label in labels {
-        push(&mut homes, numbers[*label as usize])?;
+        push(&mut component_of, numbers[*label as usize])?;
     }
-    Ok(List::from_vec(homes))
+    Ok(List::from_vec(component_of))
 }
 
 // The search, run to its end.
@@ -151,20 +157,20 @@ fn run(alloc: Global, graph: &Graph) -> Result<Search, Memory>
     Ok(search)
 }
 
-// The numbers of the marks, where each is closed.
-fn homes_of(alloc: Global, marks: &[Mark]) -> Result<List<u32>, Memory>
-    requires { AllClosed marks.now }
-    ensures { IfOk result (λ homes. HomesAre marks.now homes) }
+// The component of each node, where every node is closed.
+fn closed_components(alloc: Global, states: &[NodeState]) -> Result<List<u32>, Memory>
+    requires { AllClosed states.now }
+    ensures { IfOk result (λ component_of. ComponentsAre states.now component_of) }
 {
-    let mut homes = Filling::new(alloc);
-    for mark in marks {
-        let Mark::Closed(number) = *mark else {
+    let mut component_of = Filling::new(alloc);
+    for state in states {
+        let NodeState::Closed(number) = *state else {
             unreachable!();
         };
-        match homes.push(number) {
+        match component_of.push(number) {
             Ok(()) => {}
             Err(_) => return Err(Memory),
         }
     }
-    Ok(homes.into_list())
+    Ok(component_of.into_list())
 }

@@ -1,6 +1,6 @@
 ghost use Rattle.std.specs.Prelude.{◌≡◌, ℕ, ◌+◌, ◌<◌, ◌≤◌, ◌^◌, ◌⊎◌, [], ◌∷◌, ◌++◌, length, replicate, sum_by, slice_index, IfOk, OnOk, IfSome, IfNone};
 ghost use Rattle.components.specs.Graph.{Leads};
-ghost use Rattle.components.specs.Order.{IsOrdered, Ordered, unranked, rank_of, Ranked, TakenFrom, AllParts, IsAcyclic, IsInside, InReadyOrder, AllRanked, RanksAre};
+ghost use Rattle.components.specs.steps.Order.{IsOrdered, Ordered, unranked, rank_of, Ranked, TakenFrom, FirstWatchers, IsAcyclic, IsInside, InReadyOrder, AllRanked, RanksAre};
 
 use crate::node_set::NodeSet;
 use crate::tools::push;
@@ -11,7 +11,7 @@ use type_kinds::{Filling, List, Memory};
 #[derive(Clone, Copy)]
 pub struct Watcher {
     /// The component.
-    pub part: u32,
+    pub component: u32,
     /// The place of the callee in the list of its callees.
     pub at: usize,
 }
@@ -47,7 +47,7 @@ impl Order {
             ranks,
             ready: NodeSet::new(alloc),
             watchers: no_watchers(alloc, count)?,
-            again: all_parts(alloc, count)?,
+            again: first_watchers(alloc, count)?,
             count: 0,
         })
     }
@@ -66,7 +66,7 @@ impl Order {
         Ok(())
     }
 
-    // Lets a component watch its next callee without a number. Where there is none it is ready.
+    // Lets a component watch its next callee without a number. If there is none, it is ready.
     fn place(&mut self, callees: &[List<u32>], looking: Watcher) -> Result<(), Memory>
         requires inside { IsInside callees.now }
         requires ordered { Ordered callees.now self.old.ranks.items self.old.ready self.old.watchers.items (self.old.again ++ looking ∷ []) self.old.count }
@@ -74,16 +74,16 @@ impl Order {
         ensures ranks { self.new.ranks.items ≡ self.old.ranks.items }
         ensures again { self.new.again ≡ self.old.again }
     {
-        let Watcher { part, at } = looking;
-        let own = &callees[part as usize];
+        let Watcher { component, at } = looking;
+        let own = &callees[component as usize];
         let own = own.as_slice();
         let to = self.advance(own, at);
         if to >= own.len() {
-            return self.ready.insert(part);
+            return self.ready.insert(component);
         }
         let callee = own[to];
         let list = &mut self.watchers[callee as usize];
-        match list.push(Watcher { part, at: to }) {
+        match list.push(Watcher { component, at: to }) {
             Ok(()) => Ok(()),
             Err(_) => Err(Memory),
         }
@@ -109,30 +109,30 @@ impl Order {
     // Takes the least ready component without a number, if there is one.
     fn take_ready(&mut self, callees: &[List<u32>]) -> Option<u32>
         requires ordered { IsOrdered callees.now self.old }
-        ensures some { IfSome result (λ part. TakenFrom callees.now self.new part) }
+        ensures some { IfSome result (λ component. TakenFrom callees.now self.new component) }
         ensures none { IfNone result (IsOrdered callees.now self.new × (self.new.ready ≡ [])) }
         ensures again { self.new.again ≡ self.old.again }
         ensures ranks { self.new.ranks.items ≡ self.old.ranks.items }
     {
-        while let Some(part) = self.ready.take_least() {
-            if let None = self.ranks[part as usize] {
-                return Some(part);
+        while let Some(component) = self.ready.take_least() {
+            if let None = self.ranks[component as usize] {
+                return Some(component);
             }
         }
         None
     }
 
     // Gives the next number to a component. Those that wait for it have to look again.
-    fn give(&mut self, alloc: Global, callees: &[List<u32>], part: u32)
+    fn give(&mut self, alloc: Global, callees: &[List<u32>], component: u32)
         requires short { length callees.now < 2 ^ 32 }
         requires none { self.old.again ≡ [] }
-        requires taken { TakenFrom callees.now self.old part }
+        requires taken { TakenFrom callees.now self.old component }
         ensures ordered { IsOrdered callees.now self.new }
         ensures unranked { sum_by unranked self.new.ranks.items + 1 ≡ sum_by unranked self.old.ranks.items }
     {
-        self.ranks[part as usize] = Some(self.count);
+        self.ranks[component as usize] = Some(self.count);
         self.count += 1;
-        let waiting = &mut self.watchers[part as usize];
+        let waiting = &mut self.watchers[component as usize];
         self.again = std::mem::replace(waiting, List::new(alloc));
     }
 }
@@ -148,8 +148,8 @@ pub fn ready_order(alloc: Global, callees: &[List<u32>]) -> Result<(List<u32>, u
 {
     let mut order = Order::new(alloc, callees)?;
     order.place_all(callees)?;
-    while let Some(part) = order.take_ready(callees) {
-        order.give(alloc, callees, part);
+    while let Some(component) = order.take_ready(callees) {
+        order.give(alloc, callees, component);
         order.place_all(callees)?;
     }
     let numbers = numbers(alloc, order.ranks.as_slice())?;
@@ -174,7 +174,7 @@ fn numbers(alloc: Global, ranks: &[Option<u32>]) -> Result<List<u32>, Memory>
     Ok(numbers.into_list())
 }
 
-// So many empty lists of watchers.
+// A list of watchers for each component, all empty.
 fn no_watchers(alloc: Global, count: u32) -> Result<Vec<List<Watcher>>, Memory>
     ensures { IfOk result (λ lists. lists.items ≡ replicate count []) }
 {
@@ -185,13 +185,13 @@ fn no_watchers(alloc: Global, count: u32) -> Result<Vec<List<Watcher>>, Memory>
     Ok(lists)
 }
 
-// Every component, before its first callee.
-fn all_parts(alloc: Global, count: u32) -> Result<List<Watcher>, Memory>
-    ensures { IfOk result (λ parts. AllParts parts count) }
+// Every component, at the place of its first callee.
+fn first_watchers(alloc: Global, count: u32) -> Result<List<Watcher>, Memory>
+    ensures { IfOk result (λ watchers. FirstWatchers watchers count) }
 {
-    let mut parts = Vec::new(alloc);
-    for part in 0..count {
-        push(&mut parts, Watcher { part, at: 0 })?;
+    let mut watchers = Vec::new(alloc);
+    for component in 0..count {
+        push(&mut watchers, Watcher { component, at: 0 })?;
     }
-    Ok(List::from_vec(parts))
+    Ok(List::from_vec(watchers))
 }

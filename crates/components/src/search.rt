@@ -1,7 +1,7 @@
 ghost use Rattle.std.specs.Prelude.{◌≡◌, ℕ, ◌+◌, ◌-◌, ◌<◌, ◌≤◌, [], ◌∷◌, ◌++◌, length, take, sum_by, slice_index, slice_index_or, IfOk, OnOk, IfSome, IfNone, MatchOption, vec_len};
 ghost use Rattle.components.specs.Graph.{IsGraph};
-ghost use Rattle.components.specs.Search.{mark_of, fresh, Closes};
-ghost use Rattle.components.specs.State.{IsSound, Enterable, Idle, IsLook, TopIs, LeadsBack, IsKnown};
+ghost use Rattle.components.specs.steps.Search.{state_of, fresh, Closes};
+ghost use Rattle.components.specs.steps.State.{IsSound, Enterable, Idle, IsLook, TopIs, LeadsBack, IsKnown};
 
 use crate::graph::Graph;
 use crate::tools::{pop_last, push};
@@ -10,7 +10,7 @@ use type_kinds::Memory;
 
 /// How far the search is with a node.
 #[derive(Clone, Copy)]
-pub enum Mark {
+pub enum NodeState {
     /// The search hasn't seen it.
     Unseen,
     /// It stands on the path, at this place.
@@ -32,7 +32,7 @@ pub struct Block {
 #[derive(Drop)]
 pub struct Search {
     /// How far it is with each node.
-    pub marks: Vec<Mark>,
+    pub states: Vec<NodeState>,
     /// The open nodes: each reaches those that come after it.
     pub path: Vec<u32>,
     /// Targets of open nodes that have to be looked at.
@@ -63,10 +63,10 @@ impl Search {
         ensures { IfOk result (λ search. IsSound graph.now search) }
     {
         let count = graph.count() as usize;
-        let mut marks = Vec::new(alloc);
-        match marks.resize(count, Mark::Unseen) {
+        let mut states = Vec::new(alloc);
+        match states.resize(count, NodeState::Unseen) {
             Ok(()) => Ok(Search {
-                marks,
+                states,
                 path: Vec::new(alloc),
                 pending: Vec::new(alloc),
                 blocks: Vec::new(alloc),
@@ -82,7 +82,7 @@ impl Search {
         requires graph { IsGraph graph.now }
         requires sound { IsSound graph.now self.old }
         ensures sound { IsSound graph.now self.new }
-        ensures fresh { sum_by fresh self.new.marks.items ≡ sum_by fresh self.old.marks.items }
+        ensures fresh { sum_by fresh self.new.states.items ≡ sum_by fresh self.old.states.items }
         ensures node { IfSome result (λ node. Enterable graph.now self.new node) }
         ensures end { IfNone result (Idle graph.now self.new) }
     {
@@ -104,13 +104,13 @@ impl Search {
         requires sound { IsSound graph.now self.old }
         requires empty { self.old.blocks.items ≡ [] }
         ensures sound { IsSound graph.now self.new }
-        ensures marks { self.new.marks.items ≡ self.old.marks.items }
+        ensures states { self.new.states.items ≡ self.old.states.items }
         ensures node { IfSome result (λ node. Enterable graph.now self.new node) }
         ensures end { IfNone result (Idle graph.now self.new) }
     {
         let count = graph.count();
         while self.cursor < count {
-            if let Mark::Unseen = self.marks[self.cursor as usize] {
+            if let NodeState::Unseen = self.states[self.cursor as usize] {
                 return Some(self.cursor);
             }
             self.cursor += 1;
@@ -129,10 +129,10 @@ impl Search {
             return Look::Close;
         }
         let target = self.pending[self.pending.len() - 1];
-        match self.marks[target as usize] {
-            Mark::Unseen => Look::Enter(target),
-            Mark::Closed(_) => Look::Settled,
-            Mark::Open(place) => {
+        match self.states[target as usize] {
+            NodeState::Unseen => Look::Enter(target),
+            NodeState::Closed(_) => Look::Settled,
+            NodeState::Open(place) => {
                 if place < top.first {
                     Look::Merge
                 } else {
@@ -148,7 +148,7 @@ impl Search {
         requires top { TopIs self.old.blocks.items top }
         requires back { LeadsBack self.old top }
         ensures sound { IsSound graph.now self.new }
-        ensures marks { self.new.marks.items ≡ self.old.marks.items }
+        ensures states { self.new.states.items ≡ self.old.states.items }
         ensures pending { self.new.pending.items ≡ self.old.pending.items }
         ensures blocks { length self.new.blocks.items + 1 ≡ length self.old.blocks.items }
     {
@@ -161,7 +161,7 @@ impl Search {
         requires top { TopIs self.old.blocks.items top }
         requires known { IsKnown self.old top }
         ensures sound { IsSound graph.now self.new }
-        ensures marks { self.new.marks.items ≡ self.old.marks.items }
+        ensures states { self.new.states.items ≡ self.old.states.items }
         ensures pending { length self.new.pending.items + 1 ≡ length self.old.pending.items }
         ensures blocks { self.new.blocks.items ≡ self.old.blocks.items }
     {
@@ -175,22 +175,27 @@ impl Search {
         requires top { TopIs self.old.blocks.items top }
         requires idle { length self.old.pending.items ≤ top.below }
         ensures sound { IsSound graph.now self.new }
-        ensures fresh { sum_by fresh self.new.marks.items ≡ sum_by fresh self.old.marks.items }
+        ensures fresh { sum_by fresh self.new.states.items ≡ sum_by fresh self.old.states.items }
         ensures pending { self.new.pending.items ≡ self.old.pending.items }
         ensures blocks { length self.new.blocks.items + 1 ≡ length self.old.blocks.items }
     {
-        shut(&mut self.marks, self.path.as_slice(), top.first, self.count);
+        shut(
+            &mut self.states,
+            self.path.as_slice(),
+            top.first,
+            self.count,
+        );
         self.path.truncate(top.first);
         let _ = pop_last(&mut self.blocks);
         self.count += 1;
     }
 
-    /// Opens a node. Where memory is wanting the search can't go on.
+    /// Opens a node. If allocation fails, the search can't go on.
     pub fn open(&mut self, graph: &Graph, node: u32) -> Result<(), Memory>
         requires sound { IsSound graph.now self.old }
         requires node { Enterable graph.now self.old node }
         ensures sound { OnOk result (IsSound graph.now self.new) }
-        ensures fresh { OnOk result (sum_by fresh self.new.marks.items + 1 ≡ sum_by fresh self.old.marks.items) }
+        ensures fresh { OnOk result (sum_by fresh self.new.states.items + 1 ≡ sum_by fresh self.old.states.items) }
     {
         let block = Block {
             first: self.path.len(),
@@ -202,21 +207,21 @@ impl Search {
             Ok(()) => {}
             Err(_) => return Err(Memory),
         }
-        self.marks[node as usize] = Mark::Open(block.first);
+        self.states[node as usize] = NodeState::Open(block.first);
         Ok(())
     }
 }
 
 // Closes the nodes from a place of the path on, with one number.
-fn shut(marks: &mut Vec<Mark>, path: &[u32], first: usize, number: u32)
+fn shut(states: &mut Vec<NodeState>, path: &[u32], first: usize, number: u32)
     requires first { first ≤ length path.now }
-    requires on_path { (p : ℕ) → p < length path.now → mark_of marks.old.items (slice_index path.now p) ≡ Mark.Open p }
-    requires nodes { (p : ℕ) → p < length path.now → slice_index path.now p < length marks.old.items }
-    ensures { Closes marks.old.items marks.new.items path.now first (length path.now) number }
+    requires on_path { (p : ℕ) → p < length path.now → state_of states.old.items (slice_index path.now p) ≡ NodeState.Open p }
+    requires nodes { (p : ℕ) → p < length path.now → slice_index path.now p < length states.old.items }
+    ensures { Closes states.old.items states.new.items path.now first (length path.now) number }
 {
     for place in first..path.len() {
         let node = path[place];
-        marks[node as usize] = Mark::Closed(number);
+        states[node as usize] = NodeState::Closed(number);
     }
 }
 

@@ -16,19 +16,19 @@ fn graph_of(alloc: Global, count: u32, pairs: &[(u32, u32)]) -> Result<Graph, Me
 }
 
 // The component of each node is as expected.
-fn expect_homes(
+fn expect_components(
     rt: &impl Abort,
     alloc: Global,
     count: u32,
     pairs: &[(u32, u32)],
-    homes: &[u32],
+    component_of: &[u32],
 ) -> Result<(), Memory> {
     let graph = graph_of(alloc, count, pairs)?;
     let comps = components(alloc, &graph)?;
     for node in 0..graph.count() {
         assert_eq!(rt;
             Some(&comps.home(node)),
-            homes.get(node as usize),
+            component_of.get(node as usize),
             "node {node}"
         );
     }
@@ -36,18 +36,18 @@ fn expect_homes(
 }
 
 #[test]
-fn homes(rt: HostRuntime) -> Result<(), Fail> {
+fn component_of_each_node(rt: HostRuntime) -> Result<(), Fail> {
     let alloc = rt.alloc();
     // no node
-    expect_homes(&rt, alloc, 0, &[], &[])?;
+    expect_components(&rt, alloc, 0, &[], &[])?;
     // no pair: the least node first
-    expect_homes(&rt, alloc, 3, &[], &[0, 1, 2])?;
+    expect_components(&rt, alloc, 3, &[], &[0, 1, 2])?;
     // a chain
-    expect_homes(&rt, alloc, 3, &[(0, 1), (1, 2)], &[2, 1, 0])?;
+    expect_components(&rt, alloc, 3, &[(0, 1), (1, 2)], &[2, 1, 0])?;
     // a cycle
-    expect_homes(&rt, alloc, 3, &[(0, 1), (1, 2), (2, 0)], &[0, 0, 0])?;
+    expect_components(&rt, alloc, 3, &[(0, 1), (1, 2), (2, 0)], &[0, 0, 0])?;
     // two cycles with a bridge
-    expect_homes(
+    expect_components(
         &rt,
         alloc,
         4,
@@ -55,9 +55,9 @@ fn homes(rt: HostRuntime) -> Result<(), Fail> {
         &[1, 1, 0, 0],
     )?;
     // nodes that lead to themselves
-    expect_homes(&rt, alloc, 2, &[(0, 0), (1, 1)], &[0, 1])?;
+    expect_components(&rt, alloc, 2, &[(0, 0), (1, 1)], &[0, 1])?;
     // two cycles that share a node
-    expect_homes(
+    expect_components(
         &rt,
         alloc,
         5,
@@ -65,9 +65,9 @@ fn homes(rt: HostRuntime) -> Result<(), Fail> {
         &[1, 1, 1, 2, 0],
     )?;
     // 2 is ready as soon as 1 has its number, before 3 and 4
-    expect_homes(&rt, alloc, 5, &[(0, 4), (2, 1)], &[4, 0, 1, 2, 3])?;
+    expect_components(&rt, alloc, 5, &[(0, 4), (2, 1)], &[4, 0, 1, 2, 3])?;
     // 3 comes after 2, and then lets 0 and 1 be ready
-    expect_homes(&rt, alloc, 4, &[(1, 3), (0, 3)], &[2, 3, 0, 1])?;
+    expect_components(&rt, alloc, 4, &[(1, 3), (0, 3)], &[2, 3, 0, 1])?;
     Ok(())
 }
 

@@ -1,7 +1,7 @@
 -- What the search for dead functions keeps: numbers of components, their members, and flags.
 use Rattle.std.specs.Prelude.{◌≡◌, ◌≢◌, ℕ, ◌<◌, ◌≤◌, ◌⊎◌, ◌↔◌, Bool, true, List, length, slice_get, Contains, Some}
 use Rattle.core_ast.specs.Model as m
-use Rattle.components.specs.Numbers.{Numbers, home_of, members_of}
+use Rattle.components.specs.Numbering.{Numbering, component_of_node, members_of}
 use Rattle.dialyze.specs.declared.sites.Site.{Site}
 use Rattle.dialyze.specs.declared.sites.Callee.{Callee}
 use Rattle.dialyze.specs.Scope.{names}
@@ -13,27 +13,27 @@ SomeNames x sites j = (s : Site) × Contains sites s × Names x s.callee j
 
 -- The numbers are those of the components of the module's functions, with their members, and calls lead to
 -- no higher one.
-pub record NumbersFunctions (x : m.Module) (c : Numbers) : Type 0 where
-  pub counted : length c.homes ≡ length (names x.defs)
-  pub below : (i : ℕ) → i < length (names x.defs) → home_of c i < c.count
-  pub together : (i j : ℕ) → i < length (names x.defs) → j < length (names x.defs) → (home_of c i ≡ home_of c j) ↔ Together x i j
-  pub downward : (i j : ℕ) → Calls x i j → home_of c j ≤ home_of c i
-  pub members : (k i : ℕ) → Contains (members_of c k) i ↔ ((i < length (names x.defs)) × (home_of c i ≡ k))
+pub record NumbersFunctions (x : m.Module) (c : Numbering) : Type 0 where
+  pub counted : length c.component_of ≡ length (names x.defs)
+  pub below : (i : ℕ) → i < length (names x.defs) → component_of_node c i < c.count
+  pub together : (i j : ℕ) → i < length (names x.defs) → j < length (names x.defs) → (component_of_node c i ≡ component_of_node c j) ↔ Together x i j
+  pub downward : (i j : ℕ) → Calls x i j → component_of_node c j ≤ component_of_node c i
+  pub members : (k i : ℕ) → Contains (members_of c k) i ↔ ((i < length (names x.defs)) × (component_of_node c i ≡ k))
 
 -- The flag of i says whether i is dead.
 abbrev pub IsRight : m.Module → List Bool → ℕ → Type 0
 IsRight x flags i = (slice_get flags i ≡ Some true) ↔ Dead x i
 
 -- Each function of a component with a number below k has its right flag.
-pub record SettledBelow (x : m.Module) (c : Numbers) (flags : List Bool) (k : ℕ) : Type 0 where
+pub record SettledBelow (x : m.Module) (c : Numbering) (flags : List Bool) (k : ℕ) : Type 0 where
   pub counted : length flags ≡ length (names x.defs)
-  pub right : (i : ℕ) → i < length (names x.defs) → home_of c i < k → IsRight x flags i
+  pub right : (i : ℕ) → i < length (names x.defs) → component_of_node c i < k → IsRight x flags i
 
 -- The call, from a function of component k, is bad as far as the flags say.
-abbrev pub IsBadBy : m.Module → Numbers → List Bool → ℕ → Callee → Type 0
+abbrev pub IsBadBy : m.Module → Numbering → List Bool → ℕ → Callee → Type 0
 IsBadBy x c flags k callee =
-    IsMistaken x callee ⊎ ((j : ℕ) × Names x callee j × (home_of c j ≢ k) × (slice_get flags j ≡ Some true))
+    IsMistaken x callee ⊎ ((j : ℕ) × Names x callee j × (component_of_node c j ≢ k) × (slice_get flags j ≡ Some true))
 
 -- A site of the list is a bad call, as far as the flags say.
-abbrev pub SomeBadBy : m.Module → Numbers → List Bool → ℕ → List Site → Type 0
+abbrev pub SomeBadBy : m.Module → Numbering → List Bool → ℕ → List Site → Type 0
 SomeBadBy x c flags k sites = (s : Site) × Contains sites s × IsBadBy x c flags k s.callee

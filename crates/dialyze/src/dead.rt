@@ -1,7 +1,7 @@
 ghost use Rattle.std.specs.Prelude.{◌≡◌, ℕ, ◌+◌, ◌<◌, ◌^◌, ◌⊎◌, ◌↔◌, true, List, length, slice_get, Some, IsTrue, IfOk, OnOk};
 ghost use Rattle.core_ast.specs.Tree.{all_defs, module_tree};
 ghost use Rattle.components.specs.Graph.{Leads};
-ghost use Rattle.components.specs.Numbers.{members_of};
+ghost use Rattle.components.specs.Numbering.{members_of};
 ghost use Rattle.dialyze.specs.Scope.{names as defined_names, IsAccepted};
 ghost use Rattle.dialyze.specs.Sites.{def_sites};
 ghost use Rattle.dialyze.specs.Dead as d;
@@ -104,7 +104,7 @@ fn has_bad(
     requires accepted { IsAccepted (module_tree source.now) }
     requires names { names.now ≡ defined_names (all_defs source.now.defs) }
     requires few { length names.now < 2 ^ 32 }
-    requires homes { length comps.now.homes ≡ length names.now }
+    requires sizes { length comps.now.component_of ≡ length names.now }
     requires counted { length flags.now ≡ length names.now }
     ensures { IsTrue result ↔ SomeBadBy (module_tree source.now) comps.now flags.now component sites.now }
 {
@@ -128,7 +128,7 @@ fn is_bad(
     requires accepted { IsAccepted (module_tree source.now) }
     requires names { names.now ≡ defined_names (all_defs source.now.defs) }
     requires few { length names.now < 2 ^ 32 }
-    requires homes { length comps.now.homes ≡ length names.now }
+    requires sizes { length comps.now.component_of ≡ length names.now }
     requires counted { length flags.now ≡ length names.now }
     ensures { IsTrue result ↔ IsBadBy (module_tree source.now) comps.now flags.now component callee.now }
 {

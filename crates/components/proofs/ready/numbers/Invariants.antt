@@ -1,6 +1,6 @@
 use Rattle.std.proofs.Common.{◌≡◌, ℕ, ◌<◌, length}
 use Rattle.std.specs.Prelude.{slice_index, Some}
-use Rattle.components.specs.Order.{rank_of}
+use Rattle.components.specs.steps.Order.{rank_of}
 use Rattle.components.proofs.ready.numbers.Given as goal
 
 abbrev pub invariant-loop-rank : goal.invariant-loop-rank

@@ -1,12 +1,12 @@
 use Rattle.std.proofs.Common.{◌∙◌, subst, sym}
-use Rattle.components.specs.Order.{AllRanked, RanksAre}
+use Rattle.components.specs.steps.Order.{AllRanked, RanksAre}
 use Rattle.components.proofs.Orders.{ranked_at_end, in_order}
 use Rattle.components.proofs.ready.ready_order.Goals as goal
 
 pub numbers-requires : goal.numbers-requires
 numbers-requires c =
     subst AllRanked (sym c.as_slice.ensures.value)
-    (ranked_at_end _ _ _ _ _ _ c.in_default.ensures.none.0 c.in_default.ensures.none.1 (c.in_default.ensures.again ∙ c.loop-part.invariant.1) c.requires.acyclic c.requires.inside)
+    (ranked_at_end _ _ _ _ _ _ c.in_default.ensures.none.0 c.in_default.ensures.none.1 (c.in_default.ensures.again ∙ c.loop-component.invariant.1) c.requires.acyclic c.requires.inside)
 
 pub returns : goal.returns
 returns c =

@@ -1,6 +1,6 @@
 use Rattle.std.proofs.Common.{◌≡◌, refl, subst, arith}
 use Rattle.std.specs.Prelude.{length}
-use Rattle.components.specs.Search.{Closes}
+use Rattle.components.specs.steps.Search.{Closes}
 use Rattle.components.proofs.Steps.{shut_more}
 use Rattle.components.proofs.search.shut.Goals as goal
 
@@ -19,4 +19,4 @@ loop-place-preserved c =
 pub returns : goal.returns
 returns c =
     let is : c.loop-place.place ≡ length c.args.path.now = omega arith in
-    subst (λ n. Closes c.args.marks.now.items c.loop-place.marks.items c.args.path.now c.args.first n c.args.number) is c.loop-place.invariant
+    subst (λ n. Closes c.args.states.now.items c.loop-place.states.items c.args.path.now c.args.first n c.args.number) is c.loop-place.invariant

@@ -1,6 +1,6 @@
 use Rattle.std.proofs.Common.{ℕ, ◌<◌, ◌≤◌, ◌-◌, length}
 use Rattle.std.specs.Prelude.{slice_index}
-use Rattle.components.specs.Order.{Ranked}
+use Rattle.components.specs.steps.Order.{Ranked}
 use Rattle.components.proofs.ready.Order.advance.Given as goal
 
 abbrev pub invariant-loop-to : goal.invariant-loop-to

@@ -17,7 +17,7 @@ pub returns-clause-ordered : goal.returns-clause-ordered
 returns-clause-ordered c =
     give_step _ _ _ _ _ _ _ _ _ _ c.requires.taken.1 c.requires.taken.2 c.requires.taken.3 c.requires.taken.4 c.requires.none
     (c.replace.ensures.after ∙ c.new.ensures)
-    (c.replace.ensures.value ∙ c.index_mut-waiting.ensures.value ∙ get_or_default c.args.self.now.watchers.items c.args.part c.index_mut-waiting.result.now []
+    (c.replace.ensures.value ∙ c.index_mut-waiting.ensures.value ∙ get_or_default c.args.self.now.watchers.items c.args.component c.index_mut-waiting.result.now []
     (omega (arith, c.requires.taken.1.tables, first_low _ _ _ _ _ _ _ _ c.requires.taken.1 c.requires.taken.2)))
 
 pub returns-clause-unranked : goal.returns-clause-unranked

@@ -8,30 +8,30 @@ use Rattle.components.proofs.ready.Order.place.Goals as goal
 pub advance-to-requires : goal.advance-to-requires
 advance-to-requires c =
     let before = looking_passed _ _ _ _ _ _ _ c.requires.ordered in
-    let is : c.as_slice-own.result.now ≡ targets c.args.callees.now c.args.looking.part =
-    c.as_slice-own.ensures ∙ c.index-callees-part.is ∙ get_or_default c.args.callees.now c.args.looking.part c.index-callees-part.result [] before.0 in
+    let is : c.as_slice-own.result.now ≡ targets c.args.callees.now c.args.looking.component =
+    c.as_slice-own.ensures ∙ c.index-callees-component.is ∙ get_or_default c.args.callees.now c.args.looking.component c.index-callees-component.result [] before.0 in
     record { inside = λ k under. omega (arith, c.requires.ordered.sizes, callee_low _ _ _ k c.requires.inside is under) }
 
 pub returns-then-to-own-clause-ordered : goal.returns-then-to-own-clause-ordered
 returns-then-to-own-clause-ordered c =
     let before = looking_passed _ _ _ _ _ _ _ c.requires.ordered in
-    let is : c.as_slice-own.result.now ≡ targets c.args.callees.now c.args.looking.part =
-    c.as_slice-own.ensures ∙ c.index-callees-part.is ∙ get_or_default c.args.callees.now c.args.looking.part c.index-callees-part.result [] before.0 in
+    let is : c.as_slice-own.result.now ≡ targets c.args.callees.now c.args.looking.component =
+    c.as_slice-own.ensures ∙ c.index-callees-component.is ∙ get_or_default c.args.callees.now c.args.looking.component c.index-callees-component.result [] before.0 in
     let ahead = passed_on _ _ _ _ _ c.advance-to.result before is c.advance-to.ensures.passed in
     place_ready _ _ _ _ _ _ _ _ _ c.advance-to.result c.requires.ordered c.insert.ensures ahead (subst (λ xs. length xs ≤ c.advance-to.result) is c.if-to-own.true)
 
 pub index_mut-list-requires : goal.index_mut-list-requires
 index_mut-list-requires c =
     let before = looking_passed _ _ _ _ _ _ _ c.requires.ordered in
-    let is : c.as_slice-own.result.now ≡ targets c.args.callees.now c.args.looking.part =
-    c.as_slice-own.ensures ∙ c.index-callees-part.is ∙ get_or_default c.args.callees.now c.args.looking.part c.index-callees-part.result [] before.0 in
+    let is : c.as_slice-own.result.now ≡ targets c.args.callees.now c.args.looking.component =
+    c.as_slice-own.ensures ∙ c.index-callees-component.is ∙ get_or_default c.args.callees.now c.args.looking.component c.index-callees-component.result [] before.0 in
     omega (arith, c.requires.ordered.tables, callee_low _ _ _ c.advance-to.result c.requires.inside is c.if-to-own.false)
 
 pub returns-in-Ok-clause-ordered : goal.returns-in-Ok-clause-ordered
 returns-in-Ok-clause-ordered c =
     let before = looking_passed _ _ _ _ _ _ _ c.requires.ordered in
-    let is : c.as_slice-own.result.now ≡ targets c.args.callees.now c.args.looking.part =
-    c.as_slice-own.ensures ∙ c.index-callees-part.is ∙ get_or_default c.args.callees.now c.args.looking.part c.index-callees-part.result [] before.0 in
+    let is : c.as_slice-own.result.now ≡ targets c.args.callees.now c.args.looking.component =
+    c.as_slice-own.ensures ∙ c.index-callees-component.is ∙ get_or_default c.args.callees.now c.args.looking.component c.index-callees-component.result [] before.0 in
     let ahead = passed_on _ _ _ _ _ c.advance-to.result before is c.advance-to.ensures.passed in
     let callee = slice_index c.as_slice-own.result.now c.advance-to.result in
     let low = callee_low _ _ _ c.advance-to.result c.requires.inside is c.if-to-own.false in

@@ -1,5 +1,5 @@
 use Rattle.std.proofs.Common.{◌≡◌, length}
-use Rattle.components.specs.Order.{IsOrdered}
+use Rattle.components.specs.steps.Order.{IsOrdered}
 use Rattle.components.proofs.ready.Order.place_all.Given as goal
 
 abbrev pub invariant-loop-looking : goal.invariant-loop-looking

@@ -1,8 +1,8 @@
 use Rattle.std.proofs.Common.{◌≡◌, ◌<◌, inl, inr, length, refl, sym, subst, arith}
 use Rattle.std.specs.Prelude.{slice_index}
-use Rattle.components.specs.Search.{Walk}
-use Rattle.components.specs.State.{last_pending}
-use Rattle.components.proofs.Steps.{target_low, at_last, mark_at, reaches_pending}
+use Rattle.components.specs.steps.Search.{Walk}
+use Rattle.components.specs.steps.State.{last_pending}
+use Rattle.components.proofs.Steps.{target_low, at_last, state_at, reaches_pending}
 use Rattle.components.proofs.search.Search.look.Goals as goal
 
 pub index-requires : goal.index-requires
@@ -13,10 +13,10 @@ index-requires c =
 pub returns-in-Unseen : goal.returns-in-Unseen
 returns-in-Unseen c =
     let is : c.index-target.result.now ≡ last_pending c.args.self.now = at_last c.args.self.now.pending.items c.len-2.result _ c.index-target.ensures (omega arith) (omega arith) in
-    let low : c.index-target.result.now < length c.args.self.now.marks.items = target_low _ _ _ _ _ _ _ _ c.requires.graph c.requires.sound (omega arith) is in
+    let low : c.index-target.result.now < length c.args.self.now.states.items = target_low _ _ _ _ _ _ _ _ c.requires.graph c.requires.sound (omega arith) is in
     record {
       low = omega (arith, low, c.requires.sound.sizes);
-      unseen = mark_at _ _ _ _ _ c.index.ensures low refl c.in-Unseen.is;
+      unseen = state_at _ _ _ _ _ c.index.ensures low refl c.in-Unseen.is;
       reached = λ i under.
           subst (λ v. Walk c.args.graph.now (slice_index c.args.self.now.path.items i) v) (sym is)
           (reaches_pending _ _ _ _ _ _ _ _ c.requires.sound c.requires.top (omega arith) i under);
@@ -25,17 +25,17 @@ returns-in-Unseen c =
 pub returns-in-Closed : goal.returns-in-Closed
 returns-in-Closed c =
     let is : c.index-target.result.now ≡ last_pending c.args.self.now = at_last c.args.self.now.pending.items c.len-2.result _ c.index-target.ensures (omega arith) (omega arith) in
-    let low : c.index-target.result.now < length c.args.self.now.marks.items = target_low _ _ _ _ _ _ _ _ c.requires.graph c.requires.sound (omega arith) is in
-    (omega arith, inl (c.in-Closed.field-0, mark_at _ _ _ _ _ c.index.ensures low is c.in-Closed.is))
+    let low : c.index-target.result.now < length c.args.self.now.states.items = target_low _ _ _ _ _ _ _ _ c.requires.graph c.requires.sound (omega arith) is in
+    (omega arith, inl (c.in-Closed.field-0, state_at _ _ _ _ _ c.index.ensures low is c.in-Closed.is))
 
 pub returns-then-place-top : goal.returns-then-place-top
 returns-then-place-top c =
     let is : c.index-target.result.now ≡ last_pending c.args.self.now = at_last c.args.self.now.pending.items c.len-2.result _ c.index-target.ensures (omega arith) (omega arith) in
-    let low : c.index-target.result.now < length c.args.self.now.marks.items = target_low _ _ _ _ _ _ _ _ c.requires.graph c.requires.sound (omega arith) is in
-    (omega arith, (c.in-Open.place, mark_at _ _ _ _ _ c.index.ensures low is c.in-Open.is, c.if-place-top.true))
+    let low : c.index-target.result.now < length c.args.self.now.states.items = target_low _ _ _ _ _ _ _ _ c.requires.graph c.requires.sound (omega arith) is in
+    (omega arith, (c.in-Open.place, state_at _ _ _ _ _ c.index.ensures low is c.in-Open.is, c.if-place-top.true))
 
 pub returns-else-place-top : goal.returns-else-place-top
 returns-else-place-top c =
     let is : c.index-target.result.now ≡ last_pending c.args.self.now = at_last c.args.self.now.pending.items c.len-2.result _ c.index-target.ensures (omega arith) (omega arith) in
-    let low : c.index-target.result.now < length c.args.self.now.marks.items = target_low _ _ _ _ _ _ _ _ c.requires.graph c.requires.sound (omega arith) is in
-    (omega arith, inr (c.in-Open.place, mark_at _ _ _ _ _ c.index.ensures low is c.in-Open.is, c.if-place-top.false))
+    let low : c.index-target.result.now < length c.args.self.now.states.items = target_low _ _ _ _ _ _ _ _ c.requires.graph c.requires.sound (omega arith) is in
+    (omega arith, inr (c.in-Open.place, state_at _ _ _ _ _ c.index.ensures low is c.in-Open.is, c.if-place-top.false))

@@ -1,0 +1,6 @@
+pub mod ComponentLists
+pub mod Labels
+pub mod Order
+pub mod Phases
+pub mod Search
+pub mod State
