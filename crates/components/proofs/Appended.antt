@@ -1,6 +1,6 @@
--- Lemmas on lists with an item or a list added last, and on states after a write.
+-- Lemmas on lists with an item or a list added last, on the item that `pop` takes, and on states after a write.
 use Rattle.std.proofs.Common.{◌≡◌, ℕ, ◌<◌, ◌≤◌, ◌-◌, ◌⊎◌, inl, inr, List, [], ◌∷◌, ◌++◌, length, get_or, set, refl, sym, ◌∙◌, ap, subst, arith}
-use Rattle.std.specs.Prelude.{All}
+use Rattle.std.specs.Prelude.{All, Option, None, Some, MatchOption}
 use Rattle.std.proofs.lemmas.List.{length-append, length_push, get_or_append_left, get_or_push, get_or-append_right, get_or-set_same, get_or-set_other}
 use Rattle.std.proofs.lemmas.Bool.{cases_lt, cases_eq}
 use Rattle.components.specs.declared.search.NodeState.{NodeState}
@@ -39,3 +39,9 @@ state_cases states w m f low =
       | inl e ↦ inl (e, ap (λ k. state_of (set states w m) k) e ∙ get_or-set_same states w m _ low)
       | inr ne ↦ inr (ne, get_or-set_other states w f m _ ne)
     ]
+
+-- what `pop` takes from a list that isn't empty is its last item
+pub popped : {X : Type 0} (r : Option X) (before after : List X) → 0 < length before
+    → MatchOption r ((before ≡ []) × (after ≡ [])) (λ last. before ≡ after ++ last ∷ []) → (last : X) × (before ≡ after ++ last ∷ [])
+popped None before after some is = absurd (omega (arith, some, ap length is.0))
+popped (Some last) before after some is = (last, is)

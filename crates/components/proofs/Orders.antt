@@ -33,13 +33,13 @@ advance_more ranks own at to r m start before e low is = (
   ],
 )
 
-pub give_step : (callees : List (List ℕ)) (ranks : List (Option ℕ)) (ready ready' : List ℕ) (watchers : List (List Watcher)) (again old dest : List Watcher) (count c : ℕ)
-    → Ordered callees ranks ready watchers again count → ready ≡ c ∷ ready' → Ascending ready → rank_of ranks c ≡ None → again ≡ [] → dest ≡ []
-    → old ≡ watchers_of watchers c → Ordered callees (set ranks c (Some count)) ready' (set watchers c dest) old (count + 1)
-give_step callees ranks ready ready' watchers again old dest count c s first sorted none no_again is_dest is_old =
+pub give_step : (callees : List (List ℕ)) (ranks : List (Option ℕ)) (ready ready' : List ℕ) (watchers watchers' : List (List Watcher)) (again old dest : List Watcher) (count c : ℕ)
+    → Ordered callees ranks ready watchers again count → ready ≡ c ∷ ready' → Ascending ready → rank_of ranks c ≡ None → again ≡ []
+    → watchers' ≡ set watchers c dest → dest ≡ [] → old ≡ watchers_of watchers c → Ordered callees (set ranks c (Some count)) ready' watchers' old (count + 1)
+give_step callees ranks ready ready' watchers watchers' again old dest count c s first sorted none no_again is_set is_dest is_old =
     let s' = subst (λ ws. Ordered callees ranks ready watchers ws count) no_again s in
     let done = given callees ranks ready ready' watchers count c s' first sorted none in
-    subst (λ ws. Ordered callees (set ranks c (Some count)) ready' (set watchers c ws) old (count + 1)) (sym is_dest)
+    subst (λ ws. Ordered callees (set ranks c (Some count)) ready' ws old (count + 1)) (sym (is_set ∙ ap (set watchers c) is_dest))
     (subst (λ ws. Ordered callees (set ranks c (Some count)) ready' (set watchers c []) ws (count + 1)) (sym is_old) done)
 
 pub give_falls : (callees : List (List ℕ)) (ranks : List (Option ℕ)) (ready ready' : List ℕ) (watchers : List (List Watcher)) (again : List Watcher) (count c : ℕ)
@@ -87,12 +87,12 @@ pub place_ready : {E : Type 0} (r : Result (Unit {0}) E) (callees : List (List �
 place_ready (Ok _) callees ranks ready ready' watchers again count w to s joins ahead all = made_ready callees ranks ready ready' watchers again count w.component w.at s joins to ahead all
 place_ready (Err _) callees ranks ready ready' watchers again count w to s joins ahead all = tt
 
-pub place_watching : (callees : List (List ℕ)) (ranks : List (Option ℕ)) (ready : List ℕ) (watchers : List (List Watcher)) (again old dest : List Watcher) (count : ℕ) (w : Watcher) (to e : ℕ)
+pub place_watching : {E : Type 0} (r : Result (Unit {0}) E) (callees : List (List ℕ)) (ranks : List (Option ℕ)) (ready : List ℕ) (watchers watchers' : List (List Watcher)) (again : List Watcher) (count : ℕ) (w : Watcher) (to e : ℕ)
     → Ordered callees ranks ready watchers (again ++ w ∷ []) count → PassedTo callees ranks w.component to → WatchesAt callees w.component to e → rank_of ranks e ≡ None → e < length callees
-    → old ≡ watchers_of watchers e → dest ≡ old ++ record { component = w.component; at = to } ∷ [] → Ordered callees ranks ready (set watchers e dest) again count
-place_watching callees ranks ready watchers again old dest count w to e s ahead here none low is_old is_dest =
-    subst (λ ws. Ordered callees ranks ready (set watchers e ws) again count) (sym (is_dest ∙ ap (λ ws. ws ++ record { component = w.component; at = to } ∷ []) is_old))
-    (made_watching callees ranks ready watchers again count w.component w.at e s to ahead here none low)
+    → OnOk r (watchers' ≡ set watchers e (watchers_of watchers e ++ record { component = w.component; at = to } ∷ [])) → OnOk r (Ordered callees ranks ready watchers' again count)
+place_watching (Ok _) callees ranks ready watchers watchers' again count w to e s ahead here none low is =
+    subst (λ ws. Ordered callees ranks ready ws again count) (sym is) (made_watching callees ranks ready watchers again count w.component w.at e s to ahead here none low)
+place_watching (Err _) callees ranks ready watchers watchers' again count w to e s ahead here none low is = tt
 
 none_at : (n c : ℕ) → rank_of (replicate n None) c ≡ None
 none_at n c =
@@ -108,9 +108,9 @@ no_watchers_at n e =
       | inr high ↦ get_or_past (replicate n []) e [] (omega (arith, length-replicate {A = List Watcher} n []))
     ]
 
-pub fresh_order : (callees : List (List ℕ)) (parts : List Watcher) → FirstWatchers parts (length callees)
-    → Ordered callees (replicate (length callees) None) [] (replicate (length callees) []) parts 0
-fresh_order callees parts all =
+pub fresh_order : (callees : List (List ℕ)) (all : List Watcher) → FirstWatchers all (length callees)
+    → Ordered callees (replicate (length callees) None) [] (replicate (length callees) []) all 0
+fresh_order callees all first =
     record {
       sizes = length-replicate (length callees) None;
       tables = length-replicate (length callees) [];
@@ -120,11 +120,11 @@ fresh_order callees parts all =
       used = λ r under. absurd (omega arith);
       least_first = λ r d c is under later ready. absurd (let bad : None ≡ Some r = sym (none_at (length callees) d) ∙ is in cc);
       is_ready = λ c has. absurd (omega (arith, has.1));
-      everyone = λ c under none. inr (inr (c, omega (arith, all.0), ap (λ (w : Watcher). w.component) (all.1 c under)));
+      everyone = λ c under none. inr (inr (c, omega (arith, first.0), ap (λ (w : Watcher). w.component) (first.1 c under)));
       watching = λ e k under. absurd (omega (arith, ap length (no_watchers_at (length callees) e)));
       passed = λ k under.
-          let low : k < length callees = omega (arith, all.0) in
-          subst (λ (w : Watcher). PassedTo callees (replicate (length callees) None) w.component w.at) (sym (all.1 k low)) (low, λ q less inside. absurd (omega arith));
+          let low : k < length callees = omega (arith, first.0) in
+          subst (λ (w : Watcher). PassedTo callees (replicate (length callees) None) w.component w.at) (sym (first.1 k low)) (low, λ q less inside. absurd (omega arith));
       fits = let sum : sum_by unranked (replicate (length callees) None) ≡ length callees * 1 = sum_by-replicate unranked (length callees) None in omega (arith, sum);
     }
 

@@ -26,6 +26,9 @@ ends xs t some e =
     let more : take (n + 1) xs ≡ take n xs ++ get_or xs n t ∷ [] = take_more xs n t (omega arith) in
     (take n xs, sym whole ∙ more ∙ ap (λ y. take n xs ++ y ∷ []) (sym e))
 
+pub top_some : (blocks : List Block) (t : Block) → TopIs blocks t → 0 < length blocks
+top_some blocks t top = omega (arith, ap length top.1, length_push top.0 t)
+
 pub front_is : (blocks rest : List Block) (t u : Block) → TopIs blocks t → blocks ≡ rest ++ u ∷ [] → blocks ≡ rest ++ t ∷ []
 front_is blocks rest t u top e =
     let same = same_from_push top.0 rest t u (sym top.1 ∙ e) in

@@ -5,19 +5,22 @@ ghost use Rattle.components.specs.Lists.{Ascending};
 
 use crate::graph::Graph;
 use crate::node_set::NodeSet;
-use crate::tools::{empty_lists, push, push_at};
 use std::alloc::Global;
 use type_kinds::{List, Memory};
 
 /// The members of each component, ascending.
-pub fn members_of(alloc: Global, component_of: &[u32], count: u32) -> Result<Vec<List<u32>>, Memory>
+pub fn members_of(
+    alloc: Global,
+    component_of: &[u32],
+    count: u32,
+) -> Result<List<List<u32>>, Memory>
     requires short { length component_of.now < 2 ^ 32 }
     requires below { (f : ℕ) → f < length component_of.now → slice_index component_of.now f < count }
-    ensures { IfOk result (λ lists. IsMembers component_of.now lists.items count) }
+    ensures { IfOk result (λ lists. IsMembers component_of.now lists count) }
 {
-    let mut lists = empty_lists(alloc, count)?;
+    let mut lists = List::empty_lists(alloc, count as usize)?;
     for (node, component) in component_of.iter().enumerate() {
-        push_at(&mut lists, *component, node as u32)?;
+        lists.add_at(*component as usize, node as u32)?;
     }
     Ok(lists)
 }
@@ -28,17 +31,17 @@ pub fn callees_of(
     graph: &Graph,
     component_of: &[u32],
     members: &[List<u32>],
-) -> Result<Vec<List<u32>>, Memory>
+) -> Result<List<List<u32>>, Memory>
     requires graph { IsGraph graph.now }
     requires sizes { length component_of.now ≡ length graph.now }
     requires short { length members.now < 2 ^ 32 }
     requires members { IsMembers component_of.now members.now (length members.now) }
-    ensures { IfOk result (λ lists. CalleesTo graph.now component_of.now lists.items (length members.now)) }
+    ensures { IfOk result (λ lists. CalleesTo graph.now component_of.now lists (length members.now)) }
 {
-    let mut lists = Vec::new(alloc);
+    let mut lists = List::new(alloc);
     for (own, nodes) in members.iter().enumerate() {
         let found = component_callees(alloc, graph, component_of, own as u32, nodes.as_slice())?;
-        push(&mut lists, found)?;
+        lists.add(found)?;
     }
     Ok(lists)
 }

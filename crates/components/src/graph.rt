@@ -2,10 +2,9 @@ ghost use Rattle.std.specs.Prelude.{◌≡◌, ℕ, ◌<◌, ◌↔◌, ◌⊎�
 ghost use Rattle.components.specs.Graph.{targets, Leads, IsGraph, with_pair};
 
 use crate::targets::Targets;
-use crate::tools::push;
 use std::alloc::Global;
 use std::marker::Model;
-use type_kinds::Memory;
+use type_kinds::{List, Memory};
 
 /// A graph whose nodes are numbers from 0. Contracts see, for each node, the list of the nodes that it
 /// leads to.
@@ -33,11 +32,13 @@ impl Graph {
         ensures count { IfOk result (λ graph. length graph ≡ count) }
         ensures none { IfOk result (λ graph. (f g : ℕ) → Leads graph f g → ⊥) }
     {
-        let mut leads = Vec::new(alloc);
+        let mut leads = List::new(alloc);
         for _ in 0..count {
-            push(&mut leads, Targets::new(alloc))?;
+            leads.add(Targets::new(alloc))?;
         }
-        Ok(Graph { leads })
+        Ok(Graph {
+            leads: leads.into_vec(),
+        })
     }
 
     /// How many nodes there are.

@@ -1,7 +1,6 @@
 ghost use Rattle.std.specs.Prelude.{◌≡◌, ℕ, ◌+◌, ◌<◌, ◌^◌, length, slice_index, IfOk};
 ghost use Rattle.components.specs.steps.Labels.{IsLabelled, NextLabel};
 
-use crate::tools::push;
 use std::alloc::Global;
 use type_kinds::{List, Memory};
 
@@ -21,13 +20,13 @@ pub fn first_labels(
         Ok(()) => {}
         Err(_) => return Err(Memory),
     }
-    let mut labels = Vec::new(alloc);
+    let mut labels = List::new(alloc);
     let mut given: u32 = 0;
     for component in component_of {
         let label = label_for(&mut table, &mut given, *component);
-        push(&mut labels, label)?;
+        labels.add(label)?;
     }
-    Ok((List::from_vec(labels), given))
+    Ok((labels, given))
 }
 
 // The label of a component, which is the next label where the component hasn't been met.

@@ -11,7 +11,6 @@ mod search;
 mod targets;
 #[cfg(test)]
 mod tests;
-mod tools;
 
 pub use graph::Graph;
 pub use numbering::{Comps, components};

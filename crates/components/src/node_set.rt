@@ -1,7 +1,6 @@
 ghost use Rattle.std.specs.Prelude.{◌≡◌, ℕ, ◌<◌, ◌↔◌, ◌⊎◌, [], ◌∷◌, ◌++◌, Contains, IfOk, OnOk, MatchOption};
 ghost use Rattle.components.specs.Lists.{Ascending};
 
-use crate::tools::push;
 use std::alloc::Global;
 use std::collections::BTreeSet;
 use std::marker::Model;
@@ -59,10 +58,10 @@ impl NodeSet {
         ensures sorted { IfOk result (λ list. Ascending list) }
     {
         let NodeSet { mut nodes } = self;
-        let mut list = Vec::new(alloc);
+        let mut list = List::new(alloc);
         while let Some(least) = nodes.pop_first() {
-            push(&mut list, least)?;
+            list.add(least)?;
         }
-        Ok(List::from_vec(list))
+        Ok(list)
     }
 }

@@ -10,18 +10,17 @@ use crate::graph::Graph;
 use crate::labels::first_labels;
 use crate::ready::ready_order;
 use crate::search::{NodeState, Search};
-use crate::tools::push;
 use std::alloc::Global;
 use std::marker::Model;
-use type_kinds::{Filling, List, Memory};
+use type_kinds::{List, Memory};
 
 /// The strong components of a graph, with numbers from 0.
 #[derive(Drop)]
 pub struct Comps {
     component_of: List<u32>,
     count: u32,
-    members: Vec<List<u32>>,
-    callees: Vec<List<u32>>,
+    members: List<List<u32>>,
+    callees: List<List<u32>>,
 }
 
 impl Model for Comps {
@@ -31,9 +30,9 @@ impl Model for Comps {
 
     ghost coded = { numbering_code };
 
-    ghost view = { λ comps. record { component_of = comps.component_of; count = comps.count; members = comps.members.items; callees = comps.callees.items } };
+    ghost view = { λ comps. record { component_of = comps.component_of; count = comps.count; members = comps.members; callees = comps.callees } };
 
-    ghost invariant = { λ comps. IsNumbering (record { component_of = comps.component_of; count = comps.count; members = comps.members.items; callees = comps.callees.items }) };
+    ghost invariant = { λ comps. IsNumbering (record { component_of = comps.component_of; count = comps.count; members = comps.members; callees = comps.callees }) };
 }
 
 impl Comps {
@@ -58,7 +57,7 @@ impl Comps {
         ensures members { result.now ≡ members_of self.now component }
         ensures ascending { Ascending result.now }
     {
-        &self.members[component as usize]
+        self.members.at(component as usize)
     }
 
     /// The other components that the members of a component lead to, ascending. All are below it.
@@ -68,7 +67,7 @@ impl Comps {
         ensures ascending { Ascending result.now }
         ensures below { (callee : ℕ) → Contains result.now callee → callee < component }
     {
-        &self.callees[component as usize]
+        self.callees.at(component as usize)
     }
 }
 
@@ -138,11 +137,11 @@ fn renumbered(alloc: Global, labels: &[u32], numbers: &[u32]) -> Result<List<u32
     ensures sizes { IfOk result (λ component_of. length component_of ≡ length labels.now) }
     ensures numbers { IfOk result (λ component_of. (f : ℕ) → f < length labels.now → slice_index component_of f ≡ slice_index numbers.now (slice_index labels.now f)) }
 {
-    let mut component_of = Vec::new(alloc);
+    let mut component_of = List::new(alloc);
     for label in labels {
-        push(&mut component_of, numbers[*label as usize])?;
+        component_of.add(numbers[*label as usize])?;
     }
-    Ok(List::from_vec(component_of))
+    Ok(component_of)
 }
 
 // The search, run to its end.
@@ -162,15 +161,12 @@ fn closed_components(alloc: Global, states: &[NodeState]) -> Result<List<u32>, M
     requires { AllClosed states.now }
     ensures { IfOk result (λ component_of. ComponentsAre states.now component_of) }
 {
-    let mut component_of = Filling::new(alloc);
+    let mut component_of = List::new(alloc);
     for state in states {
         let NodeState::Closed(number) = *state else {
             unreachable!();
         };
-        match component_of.push(number) {
-            Ok(()) => {}
-            Err(_) => return Err(Memory),
-        }
+        component_of.add(number)?;
     }
-    Ok(component_of.into_list())
+    Ok(component_of)
 }

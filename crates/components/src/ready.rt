@@ -3,9 +3,8 @@ ghost use Rattle.components.specs.Graph.{Leads};
 ghost use Rattle.components.specs.steps.Order.{IsOrdered, Ordered, unranked, rank_of, Ranked, TakenFrom, FirstWatchers, IsAcyclic, IsInside, InReadyOrder, AllRanked, RanksAre};
 
 use crate::node_set::NodeSet;
-use crate::tools::push;
 use std::alloc::Global;
-use type_kinds::{Filling, List, Memory};
+use type_kinds::{List, Memory};
 
 /// A component that waits for the number of one of its callees.
 #[derive(Clone, Copy)]
@@ -24,7 +23,7 @@ pub struct Order {
     /// The components whose callees have numbers.
     pub ready: NodeSet,
     /// For each component the components that wait for its number.
-    pub watchers: Vec<List<Watcher>>,
+    pub watchers: List<List<Watcher>>,
     /// Components that have to look for the next callee without a number.
     pub again: List<Watcher>,
     /// How many numbers are given.
@@ -46,7 +45,7 @@ impl Order {
         Ok(Order {
             ranks,
             ready: NodeSet::new(alloc),
-            watchers: no_watchers(alloc, count)?,
+            watchers: List::empty_lists(alloc, callees.len())?,
             again: first_watchers(alloc, count)?,
             count: 0,
         })
@@ -69,7 +68,7 @@ impl Order {
     // Lets a component watch its next callee without a number. If there is none, it is ready.
     fn place(&mut self, callees: &[List<u32>], looking: Watcher) -> Result<(), Memory>
         requires inside { IsInside callees.now }
-        requires ordered { Ordered callees.now self.old.ranks.items self.old.ready self.old.watchers.items (self.old.again ++ looking ∷ []) self.old.count }
+        requires ordered { Ordered callees.now self.old.ranks.items self.old.ready self.old.watchers (self.old.again ++ looking ∷ []) self.old.count }
         ensures ordered { OnOk result (IsOrdered callees.now self.new) }
         ensures ranks { self.new.ranks.items ≡ self.old.ranks.items }
         ensures again { self.new.again ≡ self.old.again }
@@ -82,11 +81,8 @@ impl Order {
             return self.ready.insert(component);
         }
         let callee = own[to];
-        let list = &mut self.watchers[callee as usize];
-        match list.push(Watcher { component, at: to }) {
-            Ok(()) => Ok(()),
-            Err(_) => Err(Memory),
-        }
+        self.watchers
+            .add_at(callee as usize, Watcher { component, at: to })
     }
 
     // The first place from here on whose callee has no number, or the end.
@@ -132,8 +128,7 @@ impl Order {
     {
         self.ranks[component as usize] = Some(self.count);
         self.count += 1;
-        let waiting = &mut self.watchers[component as usize];
-        self.again = std::mem::replace(waiting, List::new(alloc));
+        self.again = self.watchers.replace(component as usize, List::new(alloc));
     }
 }
 
@@ -161,37 +156,23 @@ fn numbers(alloc: Global, ranks: &[Option<u32>]) -> Result<List<u32>, Memory>
     requires { AllRanked ranks.now }
     ensures { IfOk result (λ numbers. RanksAre ranks.now numbers) }
 {
-    let mut numbers = Filling::new(alloc);
+    let mut numbers = List::new(alloc);
     for rank in ranks {
         let Some(number) = *rank else {
             unreachable!();
         };
-        match numbers.push(number) {
-            Ok(()) => {}
-            Err(_) => return Err(Memory),
-        }
+        numbers.add(number)?;
     }
-    Ok(numbers.into_list())
-}
-
-// A list of watchers for each component, all empty.
-fn no_watchers(alloc: Global, count: u32) -> Result<Vec<List<Watcher>>, Memory>
-    ensures { IfOk result (λ lists. lists.items ≡ replicate count []) }
-{
-    let mut lists = Vec::new(alloc);
-    for _ in 0..count {
-        push(&mut lists, List::new(alloc))?;
-    }
-    Ok(lists)
+    Ok(numbers)
 }
 
 // Every component, at the place of its first callee.
 fn first_watchers(alloc: Global, count: u32) -> Result<List<Watcher>, Memory>
     ensures { IfOk result (λ watchers. FirstWatchers watchers count) }
 {
-    let mut watchers = Vec::new(alloc);
+    let mut watchers = List::new(alloc);
     for component in 0..count {
-        push(&mut watchers, Watcher { component, at: 0 })?;
+        watchers.add(Watcher { component, at: 0 })?;
     }
-    Ok(List::from_vec(watchers))
+    Ok(watchers)
 }

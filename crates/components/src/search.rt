@@ -4,9 +4,8 @@ ghost use Rattle.components.specs.steps.Search.{state_of, fresh, Closes};
 ghost use Rattle.components.specs.steps.State.{IsSound, Enterable, Idle, IsLook, TopIs, LeadsBack, IsKnown};
 
 use crate::graph::Graph;
-use crate::tools::{pop_last, push};
 use std::alloc::Global;
-use type_kinds::Memory;
+use type_kinds::{List, Memory};
 
 /// How far the search is with a node.
 #[derive(Clone, Copy)]
@@ -34,11 +33,11 @@ pub struct Search {
     /// How far it is with each node.
     pub states: Vec<NodeState>,
     /// The open nodes: each reaches those that come after it.
-    pub path: Vec<u32>,
+    pub path: List<u32>,
     /// Targets of open nodes that have to be looked at.
     pub pending: Vec<u32>,
     /// The parts of the path.
-    pub blocks: Vec<Block>,
+    pub blocks: List<Block>,
     /// All nodes below this one have been seen.
     pub cursor: u32,
     /// How many components are closed.
@@ -67,9 +66,9 @@ impl Search {
         match states.resize(count, NodeState::Unseen) {
             Ok(()) => Ok(Search {
                 states,
-                path: Vec::new(alloc),
+                path: List::new(alloc),
                 pending: Vec::new(alloc),
-                blocks: Vec::new(alloc),
+                blocks: List::new(alloc),
                 cursor: 0,
                 count: 0,
             }),
@@ -102,7 +101,7 @@ impl Search {
     // Goes on to the next node that hasn't been seen, where no node is open.
     fn next_root(&mut self, graph: &Graph) -> Option<u32>
         requires sound { IsSound graph.now self.old }
-        requires empty { self.old.blocks.items ≡ [] }
+        requires empty { self.old.blocks ≡ [] }
         ensures sound { IsSound graph.now self.new }
         ensures states { self.new.states.items ≡ self.old.states.items }
         ensures node { IfSome result (λ node. Enterable graph.now self.new node) }
@@ -122,7 +121,7 @@ impl Search {
     fn look(&self, graph: &Graph, top: Block) -> Look
         requires graph { IsGraph graph.now }
         requires sound { IsSound graph.now self.now }
-        requires top { TopIs self.now.blocks.items top }
+        requires top { TopIs self.now.blocks top }
         ensures { IsLook graph.now self.now top result }
     {
         if self.pending.len() <= top.below {
@@ -145,39 +144,39 @@ impl Search {
     // Lets the last block and the block before it be one.
     fn merge(&mut self, graph: &Graph, top: Block)
         requires sound { IsSound graph.now self.old }
-        requires top { TopIs self.old.blocks.items top }
+        requires top { TopIs self.old.blocks top }
         requires back { LeadsBack self.old top }
         ensures sound { IsSound graph.now self.new }
         ensures states { self.new.states.items ≡ self.old.states.items }
         ensures pending { self.new.pending.items ≡ self.old.pending.items }
-        ensures blocks { length self.new.blocks.items + 1 ≡ length self.old.blocks.items }
+        ensures blocks { length self.new.blocks + 1 ≡ length self.old.blocks }
     {
-        let _ = pop_last(&mut self.blocks);
+        let _ = self.blocks.pop();
     }
 
     // Passes the last pending target.
     fn settle(&mut self, graph: &Graph, top: Block)
         requires sound { IsSound graph.now self.old }
-        requires top { TopIs self.old.blocks.items top }
+        requires top { TopIs self.old.blocks top }
         requires known { IsKnown self.old top }
         ensures sound { IsSound graph.now self.new }
         ensures states { self.new.states.items ≡ self.old.states.items }
         ensures pending { length self.new.pending.items + 1 ≡ length self.old.pending.items }
-        ensures blocks { self.new.blocks.items ≡ self.old.blocks.items }
+        ensures blocks { self.new.blocks ≡ self.old.blocks }
     {
-        let _ = pop_last(&mut self.pending);
+        let _ = self.pending.pop();
     }
 
     // Gives the nodes of the last block the next number.
     fn close(&mut self, graph: &Graph, top: Block)
         requires graph { IsGraph graph.now }
         requires sound { IsSound graph.now self.old }
-        requires top { TopIs self.old.blocks.items top }
+        requires top { TopIs self.old.blocks top }
         requires idle { length self.old.pending.items ≤ top.below }
         ensures sound { IsSound graph.now self.new }
         ensures fresh { sum_by fresh self.new.states.items ≡ sum_by fresh self.old.states.items }
         ensures pending { self.new.pending.items ≡ self.old.pending.items }
-        ensures blocks { length self.new.blocks.items + 1 ≡ length self.old.blocks.items }
+        ensures blocks { length self.new.blocks + 1 ≡ length self.old.blocks }
     {
         shut(
             &mut self.states,
@@ -186,7 +185,7 @@ impl Search {
             self.count,
         );
         self.path.truncate(top.first);
-        let _ = pop_last(&mut self.blocks);
+        let _ = self.blocks.pop();
         self.count += 1;
     }
 
@@ -201,8 +200,8 @@ impl Search {
             first: self.path.len(),
             below: self.pending.len(),
         };
-        push(&mut self.blocks, block)?;
-        push(&mut self.path, node)?;
+        self.blocks.add(block)?;
+        self.path.add(node)?;
         match self.pending.extend_from_slice(graph.targets(node)) {
             Ok(()) => {}
             Err(_) => return Err(Memory),
@@ -226,11 +225,11 @@ fn shut(states: &mut Vec<NodeState>, path: &[u32], first: usize, number: u32)
 }
 
 // The last block.
-fn last_of(blocks: &Vec<Block>) -> Option<Block>
-    ensures { MatchOption result (blocks.now.items ≡ []) (λ top. TopIs blocks.now.items top) }
+fn last_of(blocks: &List<Block>) -> Option<Block>
+    ensures { MatchOption result (blocks.now ≡ []) (λ top. TopIs blocks.now top) }
 {
-    if blocks.len() == 0 {
+    if blocks.is_empty() {
         return None;
     }
-    Some(blocks[blocks.len() - 1])
+    Some(*blocks.at(blocks.len() - 1))
 }

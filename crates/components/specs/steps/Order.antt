@@ -70,12 +70,12 @@ pub record Ordered (callees : List (List ℕ)) (ranks : List (Option ℕ)) (read
 
 -- The same of the state that the code keeps.
 abbrev pub IsOrdered : List (List ℕ) → Order → Type 0
-IsOrdered callees s = Ordered callees s.ranks.items s.ready s.watchers.items s.again s.count
+IsOrdered callees s = Ordered callees s.ranks.items s.ready s.watchers s.again s.count
 
 -- The component was the least ready one and has no number: it has been taken from the ready ones.
 abbrev pub TakenFrom : List (List ℕ) → Order → ℕ → Type 0
 TakenFrom callees s component =
-    (ready : List ℕ) × Ordered callees s.ranks.items ready s.watchers.items s.again s.count × (ready ≡ component ∷ s.ready) × Ascending ready
+    (ready : List ℕ) × Ordered callees s.ranks.items ready s.watchers s.again s.count × (ready ≡ component ∷ s.ready) × Ascending ready
     × (rank_of s.ranks.items component ≡ None)
 
 -- Every component once, before its first callee.

@@ -10,17 +10,17 @@ use Rattle.components.specs.steps.Search.{state_of, Walk, Sound}
 
 -- What is true at each step, of the state that the code keeps.
 abbrev pub IsSound : List (List ℕ) → Search → Type 0
-IsSound graph s = Sound graph s.states.items s.path.items s.pending.items s.blocks.items s.cursor s.count
+IsSound graph s = Sound graph s.states.items s.path s.pending.items s.blocks s.cursor s.count
 
 -- A node of the graph that the search hasn't seen, and that every open node reaches.
 pub record Enterable (graph : List (List ℕ)) (s : Search) (node : ℕ) : Type 0 where
   pub low : node < length graph
   pub unseen : state_of s.states.items node ≡ Unseen
-  pub reached : (i : ℕ) → i < length s.path.items → Walk graph (slice_index s.path.items i) node
+  pub reached : (i : ℕ) → i < length s.path → Walk graph (slice_index s.path i) node
 
 -- All nodes have been seen, and none is open.
 abbrev pub Idle : List (List ℕ) → Search → Type 0
-Idle graph s = (s.path.items ≡ []) × (length graph ≤ s.cursor)
+Idle graph s = (s.path ≡ []) × (length graph ≤ s.cursor)
 
 -- The last of the blocks.
 abbrev pub TopIs : List Block → Block → Type 0

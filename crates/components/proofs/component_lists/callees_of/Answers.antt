@@ -18,4 +18,4 @@ pub loop-own-preserved : goal.loop-own-preserved
 loop-own-preserved c =
     let is : c.as_slice.result.now ≡ list_of c.args.members.now c.loop-own.own =
     c.as_slice.ensures ∙ c.index-members-own.is ∙ get_or_default c.args.members.now c.loop-own.own c.index-members-own.result [] c.loop-own-test.true in
-    callees_more _ _ c.args.members.now _ _ _ _ _ _ c.loop-own.invariant c.requires.members c.requires.sizes is c.in_ok-found.ensures.sorted c.in_ok-found.ensures.exact c.in_ok-push.ensures
+    callees_more _ _ c.args.members.now _ _ _ _ _ _ c.loop-own.invariant c.requires.members c.requires.sizes is c.in_ok-found.ensures.sorted c.in_ok-found.ensures.exact c.in_ok-add.ensures.ok

@@ -1,19 +1,16 @@
-use Rattle.std.proofs.Common.{◌+◌, ◌<◌, length, sym, ◌∙◌, ap, subst, arith}
+use Rattle.std.proofs.Common.{◌+◌, ◌<◌, length, sym, ◌∙◌, ap, arith}
 use Rattle.std.proofs.lemmas.List.{length_push}
 use Rattle.std.specs.Prelude.{slice_index}
-use Rattle.components.specs.steps.Labels.{IsLabelled}
 use Rattle.components.proofs.Labelled.{label_more, label_length, labelled}
 use Rattle.components.proofs.labels.first_labels.Goals as goal
 
 pub loop-component-preserved : goal.loop-component-preserved
 loop-component-preserved c =
     let low : slice_index c.args.component_of.now c.loop-component.component-index < length c.loop-component.table.items = omega (arith, c.requires.below c.loop-component.component-index c.loop-component-test.true, c.loop-component.invariant.2) in (
-      label_more c.args.component_of.now _ _ c.loop-component.labels.items _ _ _ c.loop-component.component-index _ c.loop-component.invariant.0 (sym c.loop-component.invariant.1) low c.label_for-label.ensures c.in_ok-push.ensures,
-      ap length c.in_ok-push.ensures ∙ length_push c.loop-component.labels.items c.label_for-label.result ∙ ap (λ n. n + 1) c.loop-component.invariant.1,
+      label_more c.args.component_of.now _ _ c.loop-component.labels _ _ _ c.loop-component.component-index _ c.loop-component.invariant.0 (sym c.loop-component.invariant.1) low c.label_for-label.ensures c.in_ok-add.ensures.ok,
+      ap length c.in_ok-add.ensures.ok ∙ length_push c.loop-component.labels c.label_for-label.result ∙ ap (λ n. n + 1) c.loop-component.invariant.1,
       label_length _ _ _ _ _ _ c.label_for-label.ensures ∙ c.loop-component.invariant.2,
     )
 
 pub returns : goal.returns
-returns c =
-    subst (λ labels. IsLabelled c.args.component_of.now labels c.loop-component.given) (sym c.from_vec.ensures)
-    (labelled _ _ _ _ c.loop-component.invariant.0 (omega arith))
+returns c = labelled _ _ _ _ c.loop-component.invariant.0 (omega arith)

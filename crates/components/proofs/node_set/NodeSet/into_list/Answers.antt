@@ -6,5 +6,5 @@ use Rattle.components.proofs.node_set.NodeSet.into_list.Goals as goal
 
 pub returns-clause-sorted : goal.returns-clause-sorted
 returns-clause-sorted c =
-    let is : c.from_vec.result ≡ c.self.inside.nodes.keys = grind (arith, common_steps) in
+    let is : c.loop-least.list ≡ c.self.inside.nodes.keys = grind (arith, common_steps) in
     subst Ascending (sym is) (sorted_is c.self.inside.nodes.keys c.self.invariant)

@@ -1,5 +1,5 @@
-use Rattle.std.proofs.Common.{◌<◌, [], ◌∙◌, subst, sym, arith}
-use Rattle.std.proofs.lemmas.List.{get_or_default}
+use Rattle.std.proofs.Common.{◌<◌, [], subst, sym}
+use Rattle.std.proofs.lemmas.Option.{get_or_from_slice_get}
 use Rattle.components.specs.Lists.{Ascending}
 use Rattle.components.specs.Numbering.{Numbering}
 use Rattle.components.proofs.numbering.Comps.members.Goals as goal
@@ -7,5 +7,5 @@ use Rattle.components.proofs.numbering.Comps.members.Goals as goal
 pub returns-clause-ascending : goal.returns-clause-ascending
 returns-clause-ascending c =
     let low : c.args.component < c.self.inside.count = subst (λ (n : Numbering). c.args.component < n.count) (sym c.self.view_is) c.requires in
-    let is = c.index.ensures ∙ get_or_default c.self.inside.members.items c.args.component c.index.result.now [] (omega (arith, c.self.invariant.members_sizes)) in
+    let is = sym (get_or_from_slice_get c.self.inside.members c.args.component c.at.result.now [] c.at.ensures) in
     subst Ascending (sym is) (c.self.invariant.members_sorted c.args.component low)

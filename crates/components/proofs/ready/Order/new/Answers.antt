@@ -9,8 +9,8 @@ pub returns : goal.returns
 returns c =
     let ranks : c.resize.new.self.items ≡ replicate (length c.args.callees.now) None = grind (arith, common_steps) in
     let ready : c.new.result ≡ [] = c.new.ensures in
-    let watchers : c.in_ok-no_watchers.field-0.items ≡ replicate (length c.args.callees.now) [] = grind (arith, common_steps) in
-    subst (λ xs. Ordered c.args.callees.now xs c.new.result c.in_ok-no_watchers.field-0.items c.in_ok-first_watchers.field-0 0) (sym ranks)
-    (subst (λ xs. Ordered c.args.callees.now (replicate (length c.args.callees.now) None) xs c.in_ok-no_watchers.field-0.items c.in_ok-first_watchers.field-0 0) (sym ready)
+    let watchers : c.in_ok-empty_lists.field-0 ≡ replicate (length c.args.callees.now) [] = grind (arith, common_steps) in
+    subst (λ xs. Ordered c.args.callees.now xs c.new.result c.in_ok-empty_lists.field-0 c.in_ok-first_watchers.field-0 0) (sym ranks)
+    (subst (λ xs. Ordered c.args.callees.now (replicate (length c.args.callees.now) None) xs c.in_ok-empty_lists.field-0 c.in_ok-first_watchers.field-0 0) (sym ready)
     (subst (λ xs. Ordered c.args.callees.now (replicate (length c.args.callees.now) None) [] xs c.in_ok-first_watchers.field-0 0) (sym watchers)
     (fresh_order c.args.callees.now c.in_ok-first_watchers.field-0 c.in_ok-first_watchers.ensures)))

@@ -20,21 +20,20 @@ returns-then-to-own-clause-ordered c =
     let ahead = passed_on _ _ _ _ _ c.advance-to.result before is c.advance-to.ensures.passed in
     place_ready _ _ _ _ _ _ _ _ _ c.advance-to.result c.requires.ordered c.insert.ensures ahead (subst (λ xs. length xs ≤ c.advance-to.result) is c.if-to-own.true)
 
-pub index_mut-list-requires : goal.index_mut-list-requires
-index_mut-list-requires c =
+pub add_at-requires : goal.add_at-requires
+add_at-requires c =
     let before = looking_passed _ _ _ _ _ _ _ c.requires.ordered in
     let is : c.as_slice-own.result.now ≡ targets c.args.callees.now c.args.looking.component =
     c.as_slice-own.ensures ∙ c.index-callees-component.is ∙ get_or_default c.args.callees.now c.args.looking.component c.index-callees-component.result [] before.0 in
     omega (arith, c.requires.ordered.tables, callee_low _ _ _ c.advance-to.result c.requires.inside is c.if-to-own.false)
 
-pub returns-in-Ok-clause-ordered : goal.returns-in-Ok-clause-ordered
-returns-in-Ok-clause-ordered c =
+pub returns-clause-ordered : goal.returns-clause-ordered
+returns-clause-ordered c =
     let before = looking_passed _ _ _ _ _ _ _ c.requires.ordered in
     let is : c.as_slice-own.result.now ≡ targets c.args.callees.now c.args.looking.component =
     c.as_slice-own.ensures ∙ c.index-callees-component.is ∙ get_or_default c.args.callees.now c.args.looking.component c.index-callees-component.result [] before.0 in
     let ahead = passed_on _ _ _ _ _ c.advance-to.result before is c.advance-to.ensures.passed in
     let callee = slice_index c.as_slice-own.result.now c.advance-to.result in
     let low = callee_low _ _ _ c.advance-to.result c.requires.inside is c.if-to-own.false in
-    place_watching _ _ _ _ _ c.index_mut-list.result.now _ _ c.args.looking c.advance-to.result callee c.requires.ordered ahead
-    (callee_at c.args.callees.now _ _ _ is c.if-to-own.false) (c.advance-to.ensures.stop c.if-to-own.false) low
-    (c.index_mut-list.ensures.value ∙ get_or_default c.args.self.now.watchers.items callee c.index_mut-list.result.now [] (omega (arith, c.requires.ordered.tables, low))) c.in-Ok.ensures.ok
+    place_watching _ _ _ _ _ _ _ _ c.args.looking c.advance-to.result callee c.requires.ordered ahead
+    (callee_at c.args.callees.now _ _ _ is c.if-to-own.false) (c.advance-to.ensures.stop c.if-to-own.false) low c.add_at.ensures.ok

@@ -20,4 +20,4 @@ loop-component-preserved c =
 pub returns-clause-none : goal.returns-clause-none
 returns-clause-none c =
     let both = c.in_default.ensures.least in
-    (subst (λ xs. Ordered c.args.callees.now c.loop-component.self.ranks.items xs c.loop-component.self.watchers.items c.loop-component.self.again c.loop-component.self.count) (both.0 ∙ sym both.1) c.loop-component.invariant.0, both.1)
+    (subst (λ xs. Ordered c.args.callees.now c.loop-component.self.ranks.items xs c.loop-component.self.watchers c.loop-component.self.again c.loop-component.self.count) (both.0 ∙ sym both.1) c.loop-component.invariant.0, both.1)

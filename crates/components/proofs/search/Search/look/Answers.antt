@@ -18,7 +18,7 @@ returns-in-Unseen c =
       low = omega (arith, low, c.requires.sound.sizes);
       unseen = state_at _ _ _ _ _ c.index.ensures low refl c.in-Unseen.is;
       reached = λ i under.
-          subst (λ v. Walk c.args.graph.now (slice_index c.args.self.now.path.items i) v) (sym is)
+          subst (λ v. Walk c.args.graph.now (slice_index c.args.self.now.path i) v) (sym is)
           (reaches_pending _ _ _ _ _ _ _ _ c.requires.sound c.requires.top (omega arith) i under);
     }
 

@@ -8,4 +8,4 @@ abbrev pub invariant-loop-top : goal.invariant-loop-top
 invariant-loop-top l = IsSound l.graph l.self × (sum_by fresh l.self.states.items ≡ sum_by fresh l.initial.self.states.items)
 
 abbrev pub decreases-loop-top : goal.decreases-loop-top
-decreases-loop-top l = length l.self.pending.items + length l.self.blocks.items
+decreases-loop-top l = length l.self.pending.items + length l.self.blocks
