@@ -18,7 +18,7 @@ pub record ShelfState : Type 0 where
   -- the replaces that fail, by number from 1 on
   pub fail_replaces : List ℕ
 
--- how a proof tells two apart: by their parts
+-- equality of two states is that of their parts
 abbrev pub shelf_code : Coded ShelfState
 shelf_code =
     code_by (Files × (ℕ × (ℕ × (List ℕ × List ℕ)))) (coded× (code (coded_list coded_ℕ) (coded_list coded_ℕ)) (coded× coded_ℕ (coded× coded_ℕ (coded× (coded_list coded_ℕ) (coded_list coded_ℕ)))))

@@ -18,7 +18,7 @@ pub record SinkState : Type 0 where
   -- the writes that fail, by number from 1 on
   pub fail_writes : List ℕ
 
--- how a proof tells two apart: by their parts
+-- equality of two states is that of their parts
 abbrev pub sink_code : Coded SinkState
 sink_code =
     code_by (List ℕ × (ℕ × (ℕ × (ℕ × (ℕ × List ℕ))))) (coded× (coded_list coded_ℕ) (coded× coded_ℕ (coded× coded_ℕ (coded× coded_ℕ (coded× coded_ℕ (coded_list coded_ℕ))))))

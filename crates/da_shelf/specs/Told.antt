@@ -1,4 +1,5 @@
--- What a shelf and a sink tell of themselves. A fake in memory tells all, and a file system nothing.
+-- What contracts see of a shelf and of a sink: everything of a fake in memory, and nothing of files and the standard
+-- output (`None`).
 use Rattle.std.specs.Prelude.{◌≡◌, ℕ, ◌≤◌, List, ◌++◌, length, take, Option, Some, None, IfSome, option_map}
 use Rattle.std.specs.Ordering.{nat_cmp}
 use Rattle.std.specs.Cmp.Lexicographic.{slice_cmp}
@@ -8,15 +9,15 @@ use Rattle.std.specs.FinMap.{FinMap, get}
 abbrev pub Files : Type 0
 Files = FinMap (slice_cmp nat_cmp) (List ℕ)
 
--- These bytes are held under the name, where the shelf tells what it holds.
+-- These bytes are held under the name, where contracts see what is held.
 abbrev pub Holds : Option Files → List ℕ → List ℕ → Type 0
 Holds told name bytes = IfSome told (λ files. get files name ≡ Some bytes)
 
--- Nothing is held under the name, where the shelf tells what it holds.
+-- Nothing is held under the name, where contracts see what is held.
 abbrev pub Lacks : Option Files → List ℕ → Type 0
 Lacks told name = IfSome told (λ files. get files name ≡ None)
 
--- what was written, with more behind it, where the sink tells what was written
+-- what was written, with more behind it, where contracts see what was written
 abbrev pub appended : Option (List ℕ) → List ℕ → Option (List ℕ)
 appended told more = option_map (λ all. all ++ more) told
 

@@ -9,11 +9,11 @@ use std::rt::Files;
 use std::{fs, io};
 use type_kinds::Memory;
 
-// A file longer than this, 1 GiB, counts as failed.
+// A file longer than this, 1 GiB, is a failed read.
 const LONGEST_FILE: usize = 1 << 30;
 
-/// The files of the host, of which a name is a path. What they hold isn't told: contracts see the
-/// count of failed reads alone. It keeps the runtime and the allocator that it is made with.
+/// The files of the host, where a name is a path. Contracts see the count of failed reads, and not
+/// what the files hold. It keeps the runtime and the allocator that it is made with.
 #[derive(Drop)]
 pub struct FileShelf<R> {
     rt: R,
@@ -73,7 +73,7 @@ fn read_file<R: Files>(rt: &R, alloc: Global, name: &str) -> Result<Vec<u8>, She
         Err(error) => return Err(fault_of_open(&error)),
     };
     let mut bytes = Vec::new(alloc);
-    // one byte more than may be, to see that there is more
+    // one byte past the limit, to see whether there is more
     if let Err(error) = file.take(LONGEST_FILE as u64 + 1).read_to_end(&mut bytes) {
         return Err(fault_of_read(&error));
     }

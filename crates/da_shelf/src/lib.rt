@@ -1,6 +1,6 @@
 //! The outside of the analyser, as traits: a shelf that files are read from, a sink that output goes
-//! to, and a gate that workers pass. With each come a fake in memory, whose every answer is known, and
-//! the one that the program runs on.
+//! to, and a gate that workers pass. The shelf and the sink have a fake in memory, whose every answer
+//! contracts know, and an implementation on the host.
 #![tactic(auto)]
 
 mod file_shelf;

@@ -42,7 +42,7 @@ impl Model for MemShelf {
 
 impl MemShelf {
     /// A shelf that holds nothing. Its reads are numbered from 1, and exactly the listed ones fail,
-    /// whatever is held. Its replaces are numbered for themselves, by the second list. Takes no
+    /// whatever is held. Its replaces are numbered apart from these, for the second list. Takes no
     /// memory.
     pub fn new(alloc: Global, fail_reads: List<u32>, fail_replaces: List<u32>) -> MemShelf
         ensures { result ≡ empty_shelf fail_reads fail_replaces }
@@ -58,14 +58,14 @@ impl MemShelf {
     }
 
     /// Puts bytes under a name, in place of what was there. It is no replace and counts nothing.
-    /// Where memory is wanting the shelf stays as it was.
+    /// If allocation fails the shelf is as before.
     pub fn put(&mut self, name: &str, bytes: &[u8]) -> Result<(), Memory>
         ensures ok { OnOk result (self.new ≡ holding self.old name.now bytes.now) }
         ensures err { OnErr result (self.new ≡ self.old) }
     {
         let file = (
-            copied(self.alloc, name.as_bytes())?,
-            copied(self.alloc, bytes)?,
+            List::from_slice(self.alloc, name.as_bytes())?,
+            List::from_slice(self.alloc, bytes)?,
         );
         match self.files.push_front(file) {
             Ok(()) => Ok(()),
@@ -119,14 +119,5 @@ fn answer(alloc: Global, held: Option<&[u8]>) -> Result<Vec<u8>, ShelfFault>
             Ok(copy) => Ok(copy),
             Err(_) => Err(ShelfFault::Memory),
         },
-    }
-}
-
-fn copied(alloc: Global, bytes: &[u8]) -> Result<Bytes, Memory>
-    ensures { IfOk result (λ copy. copy ≡ bytes.now) }
-{
-    match Vec::from_slice(alloc, bytes) {
-        Ok(items) => Ok(List::from_vec(items)),
-        Err(_) => Err(Memory),
     }
 }

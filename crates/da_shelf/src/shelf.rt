@@ -4,7 +4,7 @@ ghost use Rattle.da_shelf.specs.Told.{Files, Holds, Lacks};
 
 /// A place that files are read from, by name.
 pub trait Shelf {
-    /// What is held under each name, where that is told.
+    /// What is held under each name, or `None` where contracts don't see it.
     ghost held: { Self → Option Files };
 
     /// How many reads failed. It never falls.

@@ -4,7 +4,7 @@ ghost use Rattle.da_shelf.specs.Told.{appended, IsFrontAppended};
 
 /// A place that output is written to.
 pub trait Sink {
-    /// All that was written, where that is told.
+    /// All that was written, or `None` where contracts don't see it.
     ghost written: { Self → Option (List ℕ) };
 
     /// How many writes failed. It never falls.

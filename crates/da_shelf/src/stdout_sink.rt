@@ -6,11 +6,11 @@ use std::io::ErrorKind;
 use std::marker::Model;
 use type_kinds::Memory;
 
-// How often a write that a signal interrupts is tried.
+// How often a write is tried that a signal interrupts.
 const TRIES: u32 = 64;
 
-/// The standard output. What was written isn't told: contracts see the count of failed writes alone.
-/// It keeps the runtime that it is made with.
+/// The standard output. Contracts see the count of failed writes, and not what was written. It keeps
+/// the runtime that it is made with.
 #[derive(Drop)]
 pub struct StdoutSink<R> {
     rt: R,

@@ -1,14 +1,14 @@
 use super::*;
-use std::alloc::{AllocError, Global};
-use std::cell::Cell;
+use std::alloc::Global;
+use std::cell::{Cell, RefCell};
 use std::fmt::Display;
 use std::io::ErrorKind;
 use std::test::Fail;
 use std::{env, fs, io};
-use type_kinds::List;
+use type_kinds::{Bytes, List, Memory};
 
-fn numbers(alloc: Global, these: &[u32]) -> Result<List<u32>, AllocError> {
-    Ok(List::from_vec(Vec::from_slice(alloc, these)?))
+fn numbers(alloc: Global, these: &[u32]) -> Result<List<u32>, Memory> {
+    List::from_slice(alloc, these)
 }
 
 fn read_by_bound<F: Shelf>(shelf: &mut F, name: &str) -> Result<Vec<u8>, ShelfFault> {
@@ -98,10 +98,32 @@ fn files_are_read_whole_or_missing(rt: HostRuntime) -> Result<(), Fail> {
     Ok(())
 }
 
-// A standard output that is interrupted, then takes three bytes, then none, and then is closed.
+// A standard output that is interrupted, then takes at most three bytes a call, and after four such
+// calls takes none, and then is closed. It records the bytes that it takes.
 #[derive(Drop)]
 struct Worn {
     calls: Cell<u8>,
+    taken: RefCell<Bytes>,
+}
+
+impl Worn {
+    fn new(alloc: Global) -> Worn {
+        Worn {
+            calls: Cell::new(0),
+            taken: RefCell::new(List::new(alloc)),
+        }
+    }
+
+    fn take(&self, bytes: &[u8]) -> io::Result<usize> {
+        let front = &bytes[..bytes.len().min(3)];
+        let Ok(mut taken) = self.taken.try_borrow_mut() else {
+            return Err(io::Error::from(ErrorKind::Other));
+        };
+        match taken.append(front) {
+            Ok(()) => Ok(front.len()),
+            Err(Memory) => Err(io::Error::from(ErrorKind::OutOfMemory)),
+        }
+    }
 }
 
 impl Print for Worn {
@@ -122,24 +144,26 @@ impl Print for Worn {
         self.calls.set(call.wrapping_add(1));
         match call {
             0 => Err(io::Error::from(ErrorKind::Interrupted)),
-            1 => Ok(bytes.len().min(3)),
-            2 => Ok(0),
+            1..=4 => self.take(bytes),
+            5 => Ok(0),
             _ => Err(io::Error::from(ErrorKind::BrokenPipe)),
         }
     }
 }
 
 #[test]
-fn a_worn_output_is_tried_again_and_then_fails(rt: HostRuntime) -> Result<(), Fail> {
-    let worn = Worn {
-        calls: Cell::new(0),
-    };
+fn the_output_takes_the_bytes_that_are_written_until_it_fails(rt: HostRuntime) -> Result<(), Fail> {
+    let worn = Worn::new(rt.alloc());
     let mut sink = StdoutSink::new(&worn)?;
     assert!(rt; sink.write(b"abcde") == Ok(3));
     assert!(rt; worn.calls.get() == 2);
-    assert!(rt; sink.write(b"de") == Err(SinkFault::Failed));
-    assert!(rt; give(&mut sink, b"de") == Err(SinkFault::Failed));
-    assert!(rt; worn.calls.get() == 4);
+    assert!(rt; give(&mut sink, b"defgh\xff\x00") == Ok(()));
+    assert!(rt; worn.calls.get() == 5);
+    assert!(rt; sink.write(b"more") == Err(SinkFault::Failed));
+    assert!(rt; give(&mut sink, b"more") == Err(SinkFault::Failed));
+    assert!(rt; worn.calls.get() == 7);
+    let taken = worn.taken.try_borrow()?;
+    assert!(rt; taken.as_slice() == b"abcdefgh\xff\x00".as_slice());
     Ok(())
 }
 

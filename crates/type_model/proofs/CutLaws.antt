@@ -2,12 +2,13 @@
 -- isn't below it no value is added.
 use Rattle.std.proofs.Common.{◌≡◌, ℕ, zero, suc, ◌≤◌, ◌<◌, Bool, true, false, cond, inl, inr, List, [], ◌∷◌, map, length, Option, Some, None, refl, sym, ap, ◌∙◌, arith, subst, true≢false}
 use Rattle.std.specs.Prelude.{not, nat_lt, is_some, option_map}
-use borrow.Author.Tests.{ltb-true}
 use Rattle.std.specs.Ordering.{nat_cmp, eq_by_cmp}
 use Rattle.std.specs.Cmp.{nat_cmp_total}
 use Rattle.std.specs.FinSet.{nat_cmp-IsAntisymmetric}
 use Rattle.type_sets.specs.Ascending.{is_ascending}
 use Rattle.type_sets.specs.Names.{Name, name_cmp}
+use Rattle.type_sets.specs.declared.limits.TheConstants.{MAX_MEMBERS}
+use Rattle.type_sets.proofs.FewLaws.{few-is}
 use Rattle.type_sets.proofs.NameLaws.{name_total, name_same, listed-from}
 use Rattle.type_sets.proofs.AscendingLaws.{is_it}
 use Rattle.type_sets.proofs.Truths.{is_false}
@@ -171,7 +172,7 @@ module _ {F E : Type 0} {HasF : Value → F → Type 0} {NormalF : F → Type 0}
   not_tags (suc n) [] m j k p = p no_value tt
   not_tags (suc n) (t ∷ ts) m j k p =
       let w = values_of high ts j.0.1.1 in
-      let few : length (keys m) < 14 = subst (λ i. i < 14) (sym (length-keys name_total name_same m)) (ltb-true (length m) 14 k.1) in
+      let few : length (keys m) ≤ MAX_MEMBERS = subst (λ i. i ≤ MAX_MEMBERS) (sym (length-keys name_total name_same m)) (few-is m k.1) in
       high.naming.only_found t j.0.1.0.0 j.0.1.0.1 (keys m) (listed-from (keys m) k.0.0 few) (λ v h.
       let a = tagged low (and_value v w.0) m (p (and_value v w.0) (h, w.1)) in (
         a.0,

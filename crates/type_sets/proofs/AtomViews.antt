@@ -1,15 +1,17 @@
 -- What the code's set of atoms stands for, by its kinds.
-use Rattle.std.proofs.Common.{◌≡◌, ◌↔◌, IsTrue, Result, IfOk, ℕ, ◌≤◌, ◌<◌, ◌+◌, Bool, true, false, ◌&&◌, ◌||◌, List, [], ◌∷◌, length, filter, take, get_or, refl, sym, ap, ◌∙◌, subst, arith, true≢false}
+use Rattle.std.proofs.Common.{◌≡◌, ◌↔◌, IsTrue, Result, IfOk, ℕ, ◌≤◌, ◌<◌, ◌+◌, Bool, true, false, not, Less, Equal, Greater, ◌&&◌, ◌||◌, List, [], ◌∷◌, length, filter, take, get_or, refl, sym, ap, ◌∙◌, subst, arith, true≢false}
 use Rattle.std.proofs.lemmas.Result.{IfOk-weaker}
 use Rattle.std.proofs.lemmas.List.{take_all}
 use Rattle.std.proofs.lemmas.List.Folds.{list_any_at, list_any_more}
-use Rattle.std.specs.Ordering.{eq_by_cmp}
+use Rattle.std.specs.declared.cmp.Ordering.{Ordering}
+use Rattle.std.specs.Ordering.{is_lt, is_ge, eq_by_cmp}
 use Rattle.std.specs.List.{list_all}
 use Rattle.type_sets.specs.declared.atom_set.Kind.{Kind}
 use Rattle.type_sets.specs.declared.atom_set.Kind.TheVariants.{Nothing, Listed, Every}
+use Rattle.type_sets.specs.declared.limits.TheConstants.{MAX_MEMBERS}
 use Rattle.type_sets.specs.Ascending.{has_item, merged}
 use Rattle.type_sets.specs.Names.{Name, Names, name_cmp, some, every, are_listed, has, Below, none, or_else, listed, meet, join, is_none, or_else-yes}
-use Rattle.type_sets.specs.AtomKinds.{names_of, IsKept}
+use Rattle.type_sets.specs.steps.AtomKinds.{names_of, IsKept}
 use Rattle.type_sets.proofs.Truths.{is_false}
 use Rattle.type_sets.proofs.AscendingLaws as ascending
 use Rattle.type_sets.proofs.NameLaws.{name_total, name_same, not_listed, listed-filter, listed-few, listed-merged, or_else-no, has-meet, join-left, join-right, join-least, is_none-is, same_by, same_names}
@@ -103,16 +105,16 @@ unfolding join
 join_listed s t xs ys e f r is it h = h ∙ sym (λ i. join (is i) (it i))
 
 -- what is too long before its end isn't listed at its end
-pub join_long : (xs ys : List Name) (i : ℕ) → 13 < length (merged name_cmp xs (take i ys)) → or_else (merged name_cmp xs ys) every ≡ every
+pub join_long : (xs ys : List Name) (i : ℕ) → MAX_MEMBERS < length (merged name_cmp xs (take i ys)) → or_else (merged name_cmp xs ys) every ≡ every
 join_long xs ys i long =
     let longer = ascending.merged-longer name_total name_same xs ys i in
     or_else-no (merged name_cmp xs ys) every (is_false (are_listed (merged name_cmp xs ys)) (λ e. let few = listed-few (merged name_cmp xs ys) e in absurd (omega arith)))
 
 -- what is short at its end is listed
-pub join_short : (xs ys : List Name) → are_listed xs ≡ true → (i : ℕ) → length ys ≤ i → (zs : List Name) → zs ≡ merged name_cmp xs (take i ys) → length zs < 14 → (are_listed zs ≡ true) × (listed zs ≡ or_else (merged name_cmp xs ys) every)
+pub join_short : (xs ys : List Name) → are_listed xs ≡ true → (i : ℕ) → length ys ≤ i → (zs : List Name) → zs ≡ merged name_cmp xs (take i ys) → length zs ≤ MAX_MEMBERS → (are_listed zs ≡ true) × (listed zs ≡ or_else (merged name_cmp xs ys) every)
 join_short xs ys e i le zs is few =
     let whole : zs ≡ merged name_cmp xs ys = is ∙ ap (merged name_cmp xs) (take_all i ys le) in
-    let short : length (merged name_cmp xs ys) < 14 = omega (arith, ap length whole) in
+    let short : length (merged name_cmp xs ys) ≤ MAX_MEMBERS = omega (arith, ap length whole) in
     let d : are_listed (merged name_cmp xs ys) ≡ true = listed-merged xs ys e short in
     (ap are_listed whole ∙ d, ap listed whole ∙ or_else-yes (merged name_cmp xs ys) none d ∙ sym (or_else-yes (merged name_cmp xs ys) every d))
 
@@ -145,3 +147,10 @@ join_none_right s t r is h = h ∙ same_names s (join s t) (join-left s t) (join
 -- what follows from what is known of the value
 pub ok_then : {X E : Type 0} (r : Result X E) {P Q : X → Type 0} → IfOk r P → ((x : X) → P x → Q x) → IfOk r Q
 ok_then r {P} {Q} h f = IfOk-weaker r P Q f h
+
+-- ---- the order of two atoms
+
+pub not_under : (r : Ordering) (b : Bool) → is_ge r ≡ b → is_lt r ≡ not b
+not_under Less b h = ap not h
+not_under Equal b h = ap not h
+not_under Greater b h = ap not h

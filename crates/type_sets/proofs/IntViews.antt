@@ -7,6 +7,7 @@ use Rattle.std.specs.Cmp.{int_cmp_total, eq_by_cmp_equiv}
 use Rattle.std.specs.List.{list_any, list_all}
 use Rattle.type_sets.specs.declared.int_set.Kind.{Kind}
 use Rattle.type_sets.specs.declared.int_set.Kind.TheVariants.{Listed, Between}
+use Rattle.type_sets.specs.declared.limits.TheConstants.{MAX_MEMBERS}
 use Rattle.type_sets.specs.Ascending.{has_item, merged}
 use Rattle.std.proofs.lemmas.List.{take_more, take_all}
 use Rattle.std.proofs.lemmas.Bool.Decides.{nat_tests}
@@ -19,7 +20,7 @@ use Rattle.type_sets.proofs.Truths.{both, first, second, is_false}
 use Rattle.type_sets.proofs.AscendingLaws as ascending
 use Rattle.std.specs.FinSet.{int_cmp-IsAntisymmetric}
 use Rattle.type_sets.specs.Numbers.{Numbers, some, between, are_listed, has, Below, none, listed, range, meet, join, hull, lowest, highest, is_none, or_else-yes, range-yes}
-use Rattle.type_sets.specs.IntKinds.{numbers_of, IsKept}
+use Rattle.type_sets.specs.steps.IntKinds.{numbers_of, IsKept}
 
 pub listed_kind : (k : Kind) (v : _) (s : Numbers) → numbers_of k ≡ s → IsKept k → k ≡ Listed v → (e : are_listed v.items ≡ true) × (s ≡ some v.items e)
 listed_kind k v s view kept is =
@@ -125,16 +126,16 @@ has_meet s t r is n = ap (λ u. has u n) is ∙ has-meet s t n
 
 -- ---- the join, by the kinds
 
-pub join_listed : (s t : Numbers) (xs ys zs : List ℤ) (e : are_listed xs ≡ true) (f : are_listed ys ≡ true) → s ≡ some xs e → t ≡ some ys f → zs ≡ merged int_cmp xs ys → length zs < 14 → (are_listed zs ≡ true) × (join s t ≡ listed zs)
+pub join_listed : (s t : Numbers) (xs ys zs : List ℤ) (e : are_listed xs ≡ true) (f : are_listed ys ≡ true) → s ≡ some xs e → t ≡ some ys f → zs ≡ merged int_cmp xs ys → length zs ≤ MAX_MEMBERS → (are_listed zs ≡ true) × (join s t ≡ listed zs)
 unfolding join
 join_listed s t xs ys zs e f is it list few =
-    let long : length (merged int_cmp xs ys) < 14 = omega (arith, ap length list) in
+    let long : length (merged int_cmp xs ys) ≤ MAX_MEMBERS = omega (arith, ap length list) in
     let d : are_listed (merged int_cmp xs ys) ≡ true = listed-merged xs ys e f long in (
       ap are_listed list ∙ d,
       (λ i. join (is i) (it i)) ∙ or_else-yes (merged int_cmp xs ys) (hull (some xs e) (some ys f)) d ∙ sym (or_else-yes (merged int_cmp xs ys) none d) ∙ sym (ap listed list),
     )
 
-pub join_long : (s t : Numbers) (xs ys : List ℤ) (e : are_listed xs ≡ true) (f : are_listed ys ≡ true) → s ≡ some xs e → t ≡ some ys f → 13 < length (merged int_cmp xs ys) → join s t ≡ hull s t
+pub join_long : (s t : Numbers) (xs ys : List ℤ) (e : are_listed xs ≡ true) (f : are_listed ys ≡ true) → s ≡ some xs e → t ≡ some ys f → MAX_MEMBERS < length (merged int_cmp xs ys) → join s t ≡ hull s t
 unfolding join
 join_long s t xs ys e f is it long =
     let wide : are_listed (merged int_cmp xs ys) ≡ false = is_false (are_listed (merged int_cmp xs ys)) (λ d. let few = listed-few (merged int_cmp xs ys) d in absurd (omega arith)) in

@@ -2,8 +2,9 @@ pub mod AscendingLaws
 mod AtomViews
 pub mod BitHeights
 pub mod BitLaws
-pub mod EndLaws
-pub mod HeightLaws
+mod EndLaws
+pub mod FewLaws
+mod HeightLaws
 mod IntViews
 pub mod NameHeights
 pub mod NameLaws

@@ -1,6 +1,7 @@
 -- How far one can go down from a set of atoms.
-use Rattle.std.proofs.Common.{◌≡◌, ℕ, ◌≤◌, ◌<◌, true, List, [], ◌∷◌, length, refl, ap, arith}
+use Rattle.std.proofs.Common.{◌≡◌, ℕ, ◌+◌, ◌≤◌, ◌<◌, true, List, [], ◌∷◌, length, refl, ap, arith}
 use Rattle.std.specs.Ordering.{eq_by_cmp}
+use Rattle.type_sets.specs.declared.limits.TheConstants.{MAX_MEMBERS}
 use Rattle.type_sets.specs.Ascending.{is_ascending, is_below_all, has_item}
 use Rattle.type_sets.specs.Names.{Name, name_cmp, Names, some, every, are_listed, Below, height}
 use Rattle.type_sets.specs.Heights.{Falls}
@@ -12,7 +13,7 @@ use Rattle.type_sets.proofs.HeightLaws.{falls-bound, down, stay}
 -- a smaller set has a lower height
 pub height-lower : (s t : Names) → Below s t → (s ≡ t → ⊥) → height s < height t
 height-lower (some xs e) (some ys f) p n = ascending.shorter-part name_total name_same ys xs (listed-ascending xs e) (listed-ascending ys f) p (λ q. n (some-same xs ys e f q))
-height-lower (some xs e) every p n = listed-few xs e
+height-lower (some xs e) every p n = let few = listed-few xs e in omega arith
 height-lower every (some ys f) p n = absurd (not_listed ys f (λ q. p q refl))
 height-lower every every p n = absurd (n refl)
 
@@ -46,6 +47,6 @@ height-reached (some xs e) = listed-falls xs e
 height-reached every =
     down Below 13 every (some thirteen thirteen-listed) (λ q m. refl) (λ p. let q = ap height p in absurd (omega arith)) (listed-falls thirteen thirteen-listed)
 
-pub height-most : (s : Names) → height s ≤ 14
+pub height-most : (s : Names) → height s ≤ MAX_MEMBERS + 1
 height-most (some xs e) = let few = listed-few xs e in omega arith
 height-most every = omega arith

@@ -1,15 +1,16 @@
 -- The laws of sets of atoms.
 use Rattle.std.proofs.Common.{◌≡◌, ◌≤◌, ◌||◌, ◌↔◌, IsTrue, ◌<◌, Bool, true, false, ◌&&◌, inl, inr, List, [], ◌∷◌, length, filter, refl, sym, ap, ◌∙◌, arith, true≢false}
-use borrow.Author.Tests.{ltb-true, lt-ltb}
 use mathlib.Core.HLevel.{is_prop→PathP}
-use Rattle.std.specs.Prelude.{nat_lt}
 use Rattle.std.specs.Coded.{Coded-set, coded_bool}
 use Rattle.std.specs.Ordering.{eq_by_cmp}
 use Rattle.std.specs.Cmp.{IsTotalOrder}
 use Rattle.std.specs.Cmp.Lexicographic.{nat_list_cmp_total}
 use Rattle.std.specs.FinSet.{IsAntisymmetric, nat_cmp-IsAntisymmetric, slice_cmp-IsAntisymmetric}
+use Rattle.type_sets.specs.declared.limits.TheConstants.{MAX_MEMBERS}
+use Rattle.type_sets.specs.Few.{are_few}
 use Rattle.type_sets.specs.Ascending.{is_ascending, has_item, merged}
 use Rattle.type_sets.specs.Names.{Name, name_cmp, Names, some, every, are_listed, has, Below, none, or_else, listed, meet, join, is_none, or_else-yes}
+use Rattle.type_sets.proofs.FewLaws.{few-is, is-few}
 use Rattle.type_sets.proofs.Truths.{both, first, second, in_first, in_second, either, decided, is_false}
 use Rattle.type_sets.proofs.AscendingLaws as ascending
 
@@ -22,13 +23,13 @@ name_same = slice_cmp-IsAntisymmetric nat_cmp-IsAntisymmetric
 -- ---- what may be listed
 
 pub listed-ascending : (xs : List Name) → are_listed xs ≡ true → is_ascending name_cmp xs ≡ true
-listed-ascending xs e = first (is_ascending name_cmp xs) (nat_lt (length xs) 14) e
+listed-ascending xs e = first (is_ascending name_cmp xs) (are_few xs) e
 
-pub listed-few : (xs : List Name) → are_listed xs ≡ true → length xs < 14
-listed-few xs e = ltb-true (length xs) 14 (second (is_ascending name_cmp xs) (nat_lt (length xs) 14) e)
+pub listed-few : (xs : List Name) → are_listed xs ≡ true → length xs ≤ MAX_MEMBERS
+listed-few xs e = few-is xs (second (is_ascending name_cmp xs) (are_few xs) e)
 
-pub listed-from : (xs : List Name) → is_ascending name_cmp xs ≡ true → length xs < 14 → are_listed xs ≡ true
-listed-from xs a k = both (is_ascending name_cmp xs) (nat_lt (length xs) 14) a (lt-ltb (length xs) 14 k)
+pub listed-from : (xs : List Name) → is_ascending name_cmp xs ≡ true → length xs ≤ MAX_MEMBERS → are_listed xs ≡ true
+listed-from xs a k = both (is_ascending name_cmp xs) (are_few xs) a (is-few xs k)
 
 pub listed-filter : (p : Name → Bool) (xs : List Name) → are_listed xs ≡ true → are_listed (filter p xs) ≡ true
 listed-filter p xs e =
@@ -37,7 +38,7 @@ listed-filter p xs e =
     listed-from (filter p xs) (ascending.ascending-filter name_total name_same p xs (listed-ascending xs e)) (omega arith)
 
 -- two lists together may be listed where they are few enough
-pub listed-merged : (xs ys : List Name) → are_listed xs ≡ true → length (merged name_cmp xs ys) < 14 → are_listed (merged name_cmp xs ys) ≡ true
+pub listed-merged : (xs ys : List Name) → are_listed xs ≡ true → length (merged name_cmp xs ys) ≤ MAX_MEMBERS → are_listed (merged name_cmp xs ys) ≡ true
 listed-merged xs ys e k = listed-from (merged name_cmp xs ys) (ascending.ascending-merged name_total name_same xs ys (listed-ascending xs e)) k
 
 pub or_else-no : (xs : List Name) (t : Names) → are_listed xs ≡ false → or_else xs t ≡ t
@@ -124,7 +125,7 @@ join-least (some xs e) every u g k q h = k q refl
 join-least every t u g k q h = g q refl
 
 -- the join of two lists has just their atoms, where these are few
-pub join-few : (xs ys : List Name) → are_listed xs ≡ true → are_listed ys ≡ true → length (merged name_cmp xs ys) ≤ 13 → (q : Name) → has (join (listed xs) (listed ys)) q ≡ (has_item name_cmp xs q || has_item name_cmp ys q)
+pub join-few : (xs ys : List Name) → are_listed xs ≡ true → are_listed ys ≡ true → length (merged name_cmp xs ys) ≤ MAX_MEMBERS → (q : Name) → has (join (listed xs) (listed ys)) q ≡ (has_item name_cmp xs q || has_item name_cmp ys q)
 unfolding join
 join-few xs ys e f few q =
     ap (λ s. has s q) (λ i. join (or_else-yes xs none e i) (or_else-yes ys none f i))
@@ -132,7 +133,7 @@ join-few xs ys e f few q =
     ∙ ascending.has-merged name_total name_same xs ys q
 
 -- and is all where they are many
-pub join-many : (xs ys : List Name) → are_listed xs ≡ true → are_listed ys ≡ true → 13 < length (merged name_cmp xs ys) → join (listed xs) (listed ys) ≡ every
+pub join-many : (xs ys : List Name) → are_listed xs ≡ true → are_listed ys ≡ true → MAX_MEMBERS < length (merged name_cmp xs ys) → join (listed xs) (listed ys) ≡ every
 unfolding join
 join-many xs ys e f many =
     let wide : are_listed (merged name_cmp xs ys) ≡ false = is_false (are_listed (merged name_cmp xs ys)) (λ d. let few = listed-few (merged name_cmp xs ys) d in absurd (omega arith)) in

@@ -8,6 +8,7 @@ use Rattle.type_sets.specs.declared.ends.Low.{Low}
 use Rattle.type_sets.specs.declared.ends.Low.TheVariants.{Min, Zero, One}
 use Rattle.type_sets.specs.declared.ends.High.{High}
 use Rattle.type_sets.specs.declared.ends.High.TheVariants.{MinusOne, Byte, Unicode, Max}
+use Rattle.type_sets.specs.declared.limits.TheConstants.{MAX_MEMBERS}
 use Rattle.type_sets.specs.Ascending.{is_ascending, is_below_all, has_item}
 use Rattle.type_sets.specs.Ends.{at_least, at_most, in_range, is_range, bottom, top, rises, shrinks}
 use Rattle.type_sets.specs.Numbers.{Numbers, some, between, are_listed, Below, height, low_end, high_end}
@@ -148,7 +149,7 @@ zero_max e = to_interval 16 One Zero Max Max refl e refl refl (other_low One Zer
 min_max : (e : is_range Min Max ≡ true) → Falls Below 18 (between Min Max e)
 min_max e = to_interval 17 Zero Min Max Max refl e refl refl (other_low Zero Min Max Max (λ p. cc p)) (zero_max refl)
 
-between-falls : (l : Low) (h : High) (e : is_range l h ≡ true) → Falls Below (14 + shrinks l h) (between l h e)
+between-falls : (l : Low) (h : High) (e : is_range l h ≡ true) → Falls Below (MAX_MEMBERS + 1 + shrinks l h) (between l h e)
 between-falls Min MinusOne e = to_listed Min MinusOne e thirteen_negative refl refl
 between-falls Zero MinusOne e = cc
 between-falls One MinusOne e = cc
@@ -166,7 +167,7 @@ pub height-reached : (s : Numbers) → Falls Below (height s) s
 height-reached (some xs e) = listed-falls xs e
 height-reached (between l h e) = between-falls l h e
 
-pub height-most : (s : Numbers) → height s ≤ 18
+pub height-most : (s : Numbers) → height s ≤ MAX_MEMBERS + 5
 height-most (some xs e) = let few = listed-few xs e in omega arith
 height-most (between Min MinusOne e) = omega arith
 height-most (between Min Byte e) = omega arith

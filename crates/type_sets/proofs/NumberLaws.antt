@@ -1,13 +1,13 @@
 -- The laws of sets of integers.
 use Rattle.std.proofs.Common.{◌≡◌, ◌≤◌, ◌↔◌, IsTrue, ℤ, pos, negsuc, ◌<◌, Bool, true, false, ◌&&◌, ◌||◌, inl, inr, List, [], ◌∷◌, length, filter, refl, sym, ap, ◌∙◌, arith, true≢false}
-use borrow.Author.Tests.{ltb-true, lt-ltb}
 use mathlib.Core.HLevel.{is_prop→PathP}
-use Rattle.std.specs.Prelude.{nat_lt}
 use Rattle.std.specs.Coded.{Coded-set, coded_bool}
 use Rattle.std.specs.Ordering.{int_cmp, eq_by_cmp}
 use Rattle.std.specs.Cmp.{int_cmp_total}
 use Rattle.std.specs.FinSet.{int_cmp-IsAntisymmetric}
 use Rattle.std.specs.List.{list_all}
+use Rattle.type_sets.specs.declared.limits.TheConstants.{MAX_MEMBERS}
+use Rattle.type_sets.specs.Few.{are_few}
 use Rattle.type_sets.specs.Ascending.{is_ascending, has_item, merged}
 use Rattle.type_sets.specs.declared.ends.Low.{Low}
 use Rattle.type_sets.specs.declared.ends.Low.TheVariants.{Min, Zero, One}
@@ -15,6 +15,7 @@ use Rattle.type_sets.specs.declared.ends.High.{High}
 use Rattle.type_sets.specs.declared.ends.High.TheVariants.{MinusOne, Byte, Unicode, Max}
 use Rattle.type_sets.specs.Ends.{at_least, at_most, in_range, is_range, lower, raised, higher, lowered, low_of, high_of, bottom, top}
 use Rattle.type_sets.specs.Numbers.{Numbers, some, between, are_listed, is_narrow, has, Below, none, or_else, listed, range, meet, lowest, highest, low_end, high_end, hull, join, is_none, or_else-yes}
+use Rattle.type_sets.proofs.FewLaws.{few-is, is-few}
 use Rattle.type_sets.proofs.Truths.{both, first, second, in_first, in_second, either, decided, and_swap, and_cross, is_false}
 use Rattle.type_sets.proofs.EndLaws.{at_least-lower, at_least-raised, at_most-higher, at_most-lowered, at_least-low_of, at_most-high_of, low_of-least, high_of-least, bottom-least, top-least, same_low, same_high, bottom-in, top-in, not_in, one_least, minus_one_least}
 use Rattle.type_sets.proofs.AscendingLaws as ascending
@@ -22,18 +23,18 @@ use Rattle.type_sets.proofs.AscendingLaws as ascending
 -- ---- what may be listed
 
 pub listed-ascending : (xs : List ℤ) → are_listed xs ≡ true → is_ascending int_cmp xs ≡ true
-listed-ascending xs e = first (is_ascending int_cmp xs) (nat_lt (length xs) 14) (first (is_ascending int_cmp xs && nat_lt (length xs) 14) (list_all is_narrow xs) e)
+listed-ascending xs e = first (is_ascending int_cmp xs) (are_few xs) (first (is_ascending int_cmp xs && are_few xs) (list_all is_narrow xs) e)
 
-pub listed-few : (xs : List ℤ) → are_listed xs ≡ true → length xs < 14
-listed-few xs e = ltb-true (length xs) 14 (second (is_ascending int_cmp xs) (nat_lt (length xs) 14) (first (is_ascending int_cmp xs && nat_lt (length xs) 14) (list_all is_narrow xs) e))
+pub listed-few : (xs : List ℤ) → are_listed xs ≡ true → length xs ≤ MAX_MEMBERS
+listed-few xs e = few-is xs (second (is_ascending int_cmp xs) (are_few xs) (first (is_ascending int_cmp xs && are_few xs) (list_all is_narrow xs) e))
 
 pub listed-narrow : (xs : List ℤ) → are_listed xs ≡ true → (n : ℤ) → has_item int_cmp xs n ≡ true → is_narrow n ≡ true
 listed-narrow xs e n m =
-    ascending.all-item int_cmp_total int_cmp-IsAntisymmetric is_narrow xs n (second (is_ascending int_cmp xs && nat_lt (length xs) 14) (list_all is_narrow xs) e) m
+    ascending.all-item int_cmp_total int_cmp-IsAntisymmetric is_narrow xs n (second (is_ascending int_cmp xs && are_few xs) (list_all is_narrow xs) e) m
 
-pub listed-from : (xs : List ℤ) → is_ascending int_cmp xs ≡ true → length xs < 14 → ((n : ℤ) → has_item int_cmp xs n ≡ true → is_narrow n ≡ true) → are_listed xs ≡ true
+pub listed-from : (xs : List ℤ) → is_ascending int_cmp xs ≡ true → length xs ≤ MAX_MEMBERS → ((n : ℤ) → has_item int_cmp xs n ≡ true → is_narrow n ≡ true) → are_listed xs ≡ true
 listed-from xs a k f =
-    both (is_ascending int_cmp xs && nat_lt (length xs) 14) (list_all is_narrow xs) (both (is_ascending int_cmp xs) (nat_lt (length xs) 14) a (lt-ltb (length xs) 14 k)) (ascending.all-from_items int_cmp_total int_cmp-IsAntisymmetric is_narrow xs f)
+    both (is_ascending int_cmp xs && are_few xs) (list_all is_narrow xs) (both (is_ascending int_cmp xs) (are_few xs) a (is-few xs k)) (ascending.all-from_items int_cmp_total int_cmp-IsAntisymmetric is_narrow xs f)
 
 pub listed-filter : (p : ℤ → Bool) (xs : List ℤ) → are_listed xs ≡ true → are_listed (filter p xs) ≡ true
 listed-filter p xs e =
@@ -42,7 +43,7 @@ listed-filter p xs e =
     listed-from (filter p xs) (ascending.ascending-filter int_cmp_total int_cmp-IsAntisymmetric p xs (listed-ascending xs e)) (omega arith) (λ n m. listed-narrow xs e n (first (has_item int_cmp xs n) (p n) (sym (ascending.has-filter int_cmp_total int_cmp-IsAntisymmetric p xs n) ∙ m)))
 
 -- two lists together may be listed where they are few enough
-pub listed-merged : (xs ys : List ℤ) → are_listed xs ≡ true → are_listed ys ≡ true → length (merged int_cmp xs ys) < 14 → are_listed (merged int_cmp xs ys) ≡ true
+pub listed-merged : (xs ys : List ℤ) → are_listed xs ≡ true → are_listed ys ≡ true → length (merged int_cmp xs ys) ≤ MAX_MEMBERS → are_listed (merged int_cmp xs ys) ≡ true
 listed-merged xs ys e f k =
     listed-from (merged int_cmp xs ys) (ascending.ascending-merged int_cmp_total int_cmp-IsAntisymmetric xs ys (listed-ascending xs e)) k (λ n m. elim (either (has_item int_cmp xs n) (has_item int_cmp ys n) (sym (ascending.has-merged int_cmp_total int_cmp-IsAntisymmetric xs ys n) ∙ m)) [
       | inl h ↦ listed-narrow xs e n h
@@ -252,7 +253,7 @@ join-least (between m k f) t (some us d) p q n h = absurd (not_listed m k f us d
 join-least (between m k f) t (between l j d) p q n h = hull-least (between m k f) t l j d p q n h
 
 -- the join of two lists has just their numbers, where these are few
-pub join-few : (xs ys : List ℤ) → are_listed xs ≡ true → are_listed ys ≡ true → length (merged int_cmp xs ys) ≤ 13 → (n : ℤ) → has (join (listed xs) (listed ys)) n ≡ (has_item int_cmp xs n || has_item int_cmp ys n)
+pub join-few : (xs ys : List ℤ) → are_listed xs ≡ true → are_listed ys ≡ true → length (merged int_cmp xs ys) ≤ MAX_MEMBERS → (n : ℤ) → has (join (listed xs) (listed ys)) n ≡ (has_item int_cmp xs n || has_item int_cmp ys n)
 unfolding join
 join-few xs ys e f few n =
     ap (λ s. has s n) (λ i. join (or_else-yes xs none e i) (or_else-yes ys none f i))
@@ -260,7 +261,7 @@ join-few xs ys e f few n =
     ∙ ascending.has-merged int_cmp_total int_cmp-IsAntisymmetric xs ys n
 
 -- and is an interval where they are many
-pub join-many : (xs ys : List ℤ) → are_listed xs ≡ true → are_listed ys ≡ true → 13 < length (merged int_cmp xs ys) → join (listed xs) (listed ys) ≡ hull (listed xs) (listed ys)
+pub join-many : (xs ys : List ℤ) → are_listed xs ≡ true → are_listed ys ≡ true → MAX_MEMBERS < length (merged int_cmp xs ys) → join (listed xs) (listed ys) ≡ hull (listed xs) (listed ys)
 unfolding join
 join-many xs ys e f many =
     let wide : are_listed (merged int_cmp xs ys) ≡ false = is_false (are_listed (merged int_cmp xs ys)) (λ d. let few = listed-few (merged int_cmp xs ys) d in absurd (omega arith)) in

@@ -20,7 +20,7 @@ meet Whole No = No
 meet Whole t = Whole
 meet Any t = t
 
--- the least of the three sets round two of them
+-- the smallest of the three sets that contains both
 abbrev pub join : Bits → Bits → Bits
 join No t = t
 join Whole Any = Any

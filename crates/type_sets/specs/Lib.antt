@@ -1,8 +1,8 @@
 pub mod Ascending
-pub mod AtomKinds
 pub mod BitLengths
 pub mod Ends
+pub mod Few
 pub mod Heights
-pub mod IntKinds
 pub mod Names
 pub mod Numbers
+pub mod steps

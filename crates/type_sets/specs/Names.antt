@@ -1,11 +1,13 @@
--- Sets of atoms: at most thirteen that are listed, or all.
+-- Sets of atoms: at most `MAX_MEMBERS` that are listed, or all.
 use Rattle.std.proofs.Common.{sym, ap, ◌∙◌, true≢false}
 use Rattle.std.specs.Coded.{Coded, Coded-set, code_by, coded_option, coded_list, coded_ℕ, coded_bool}
-use Rattle.std.specs.Prelude.{◌≡◌, ℕ, Bool, true, false, ◌&&◌, List, [], ◌∷◌, Option, Some, None, length, filter, nat_lt, refl}
+use Rattle.std.specs.Prelude.{◌≡◌, ℕ, ◌+◌, Bool, true, false, ◌&&◌, List, [], ◌∷◌, Option, Some, None, length, filter, refl}
 use Rattle.std.specs.declared.cmp.Ordering.{Ordering}
 use Rattle.std.specs.Ordering.{nat_cmp}
 use Rattle.std.specs.Cmp.Lexicographic.{slice_cmp}
+use Rattle.type_sets.specs.declared.limits.TheConstants.{MAX_MEMBERS}
 use Rattle.type_sets.specs.Ascending.{is_ascending, has_item, merged}
+use Rattle.type_sets.specs.Few.{are_few}
 
 -- An atom, as its bytes. Atoms are ordered by them, as words are in a dictionary.
 abbrev pub Name : Type 0
@@ -14,9 +16,9 @@ Name = List ℕ
 abbrev pub name_cmp : Name → Name → Ordering
 name_cmp = slice_cmp nat_cmp
 
--- whether the atoms may be listed: strictly ascending, and at most thirteen
+-- whether the atoms may be listed: strictly ascending, and few
 abbrev pub are_listed : List Name → Bool
-are_listed xs = is_ascending name_cmp xs && nat_lt (length xs) 14
+are_listed xs = is_ascending name_cmp xs && are_few xs
 
 -- The family. Each set of atoms that it has is had in one way.
 pub data Names : Type 0 where
@@ -35,7 +37,7 @@ Below s t = (q : Name) → has s q ≡ true → has t q ≡ true
 abbrev pub none : Names
 none = some [] refl
 
--- the atoms that are told, where they may be listed, and else the other set
+-- the set of the listed atoms where they may be listed, and else the other set
 unfoldable pub or_else : List Name → Names → Names
 or_else xs t = elim (are_listed xs) as (λ b. are_listed xs ≡ b → Names) [ true ↦ λ e. some xs e | false ↦ λ _. t ] refl
 
@@ -47,7 +49,7 @@ unfoldable pub meet : Names → Names → Names
 meet (some xs e) t = listed (filter (has t) xs)
 meet every t = t
 
--- the least set of the family round two sets: their atoms where they are few enough to be listed, and else all
+-- the smallest set of the family that contains both: their atoms where they are few enough to be listed, and else all
 unfoldable pub join : Names → Names → Names
 join (some xs e) (some ys f) = or_else (merged name_cmp xs ys) every
 join (some xs e) every = every
@@ -67,7 +69,7 @@ members_of every = None
 -- how often one can go from the set to a smaller one
 abbrev pub height : Names → ℕ
 height (some xs _) = length xs
-height every = 14
+height every = MAX_MEMBERS + 1
 
 -- ---- how a set is stored: its list, if it has one
 

@@ -1,10 +1,13 @@
--- Sets of integers: at most thirteen that are listed, or those of an interval.
-use Rattle.std.specs.Prelude.{◌≡◌, ℕ, ◌+◌, ◌^◌, ℤ, pos, negsuc, Bool, true, false, ◌&&◌, ◌⊎◌, List, [], ◌∷◌, Option, Some, None, length, filter, nat_lt, refl}
+-- Sets of integers: at most `MAX_MEMBERS` that are listed, or those of an interval.
+use Rattle.std.specs.Prelude.{◌≡◌, ℕ, ◌+◌, ℤ, pos, negsuc, Bool, true, false, ◌&&◌, ◌⊎◌, List, [], ◌∷◌, Option, Some, None, length, filter, nat_lt, refl}
 use Rattle.std.specs.Coded.{Coded, Coded-set, code_by, coded×, coded⊎, coded_list, coded_ℤ, coded_bool}
 use Rattle.std.proofs.Common.{inl, inr, sym, ap, ◌∙◌, true≢false}
 use Rattle.std.specs.Ordering.{int_cmp}
 use Rattle.std.specs.List.{list_all}
+use Rattle.type_kinds.specs.declared.digits.TheConstants.{MAGNITUDE_LIMIT}
+use Rattle.type_sets.specs.declared.limits.TheConstants.{MAX_MEMBERS}
 use Rattle.type_sets.specs.Ascending.{is_ascending, has_item, merged}
+use Rattle.type_sets.specs.Few.{are_few}
 use Rattle.type_sets.specs.declared.ends.Low.{Low}
 use Rattle.type_sets.specs.declared.ends.Low.TheVariants.{Min, One}
 use Rattle.type_sets.specs.declared.ends.High.{High}
@@ -13,14 +16,14 @@ use Rattle.type_sets.specs.contracts.ends.Low as low
 use Rattle.type_sets.specs.contracts.ends.High as high
 use Rattle.type_sets.specs.Ends.{in_range, is_range, raised, lowered, lower, higher, low_of, high_of, shrinks}
 
--- whether the number's magnitude is below 2^127
+-- whether the number's magnitude is below the limit
 abbrev pub is_narrow : ℤ → Bool
-is_narrow (pos n) = nat_lt n (2 ^ 127)
-is_narrow (negsuc n) = nat_lt (n + 1) (2 ^ 127)
+is_narrow (pos n) = nat_lt n MAGNITUDE_LIMIT
+is_narrow (negsuc n) = nat_lt (n + 1) MAGNITUDE_LIMIT
 
--- whether the numbers may be listed: strictly ascending, at most thirteen, and none too wide
+-- whether the numbers may be listed: strictly ascending, few, and each below the limit
 abbrev pub are_listed : List ℤ → Bool
-are_listed xs = is_ascending int_cmp xs && nat_lt (length xs) 14 && list_all is_narrow xs
+are_listed xs = is_ascending int_cmp xs && are_few xs && list_all is_narrow xs
 
 -- The family. Each set of integers that it has is had in one way.
 pub data Numbers : Type 0 where
@@ -43,7 +46,7 @@ none = some [] refl
 abbrev pub all : Numbers
 all = between Min Max refl
 
--- the numbers that are told, where they may be listed, and else the other set
+-- the set of the listed numbers where they may be listed, and else the other set
 unfoldable pub or_else : List ℤ → Numbers → Numbers
 or_else xs t = elim (are_listed xs) as (λ b. are_listed xs ≡ b → Numbers) [ true ↦ λ e. some xs e | false ↦ λ _. t ] refl
 
@@ -60,7 +63,7 @@ meet (some xs e) t = listed (filter (has t) xs)
 meet (between l h e) (some ys f) = listed (filter (in_range l h) ys)
 meet (between l h e) (between m k f) = range (raised l m) (lowered h k)
 
--- the nearest ends round all numbers of a list
+-- the ends of the smallest interval that has all numbers of a list
 abbrev pub lowest : List ℤ → Low
 lowest [] = One
 lowest (x ∷ xs) = lower (low_of x) (lowest xs)
@@ -69,7 +72,7 @@ abbrev pub highest : List ℤ → High
 highest [] = MinusOne
 highest (x ∷ xs) = higher (high_of x) (highest xs)
 
--- the nearest ends round a set
+-- the ends of the smallest interval that contains a set
 abbrev pub low_end : Numbers → Low
 low_end (some xs _) = lowest xs
 low_end (between l h _) = l
@@ -78,11 +81,12 @@ abbrev pub high_end : Numbers → High
 high_end (some xs _) = highest xs
 high_end (between l h _) = h
 
--- the least interval round two sets
+-- the smallest interval that contains both sets
 unfoldable pub hull : Numbers → Numbers → Numbers
 hull s t = range (lower (low_end s) (low_end t)) (higher (high_end s) (high_end t))
 
--- the least set of the family round two sets: their numbers where they are few enough to be listed, and else an interval
+-- the smallest set of the family that contains both: their numbers where they are few enough to be listed, and else an
+-- interval
 unfoldable pub join : Numbers → Numbers → Numbers
 join (some xs e) (some ys f) = or_else (merged int_cmp xs ys) (hull (some xs e) (some ys f))
 join (some xs e) (between m k f) = hull (some xs e) (between m k f)
@@ -104,10 +108,10 @@ ends_of (some xs _) = None
 ends_of (between l h _) = Some (l, h)
 
 -- how often one can go from the set to a smaller one: a listed set loses a number at a time, and an interval that can't
--- shrink any more still has a listed set of thirteen below it
+-- shrink any more still has a listed set of `MAX_MEMBERS` below it
 abbrev pub height : Numbers → ℕ
 height (some xs _) = length xs
-height (between l h _) = 14 + shrinks l h
+height (between l h _) = MAX_MEMBERS + 1 + shrinks l h
 
 -- ---- how a set is stored: its list, or its ends
 

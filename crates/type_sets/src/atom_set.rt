@@ -1,10 +1,11 @@
-ghost use Rattle.std.specs.Prelude.{◌≡◌, ◌↔◌, ◌&&◌, ◌<◌, ◌≤◌, [], ◌∷◌, ◌++◌, IsTrue, IfOk, IfSome, IfNone, length, filter};
+ghost use Rattle.std.specs.Prelude.{◌≡◌, ◌↔◌, ◌&&◌, ◌<◌, ◌≤◌, [], ◌∷◌, ◌++◌, IsTrue, IfOk, OnOk, IfSome, IfNone, length, filter};
 ghost use Rattle.std.specs.List.{list_all, insert};
 ghost use Rattle.std.specs.Option.{option_copied};
 ghost use Rattle.std.specs.Ordering.{is_lt};
 ghost use Rattle.type_sets.specs.Ascending.{is_ascending, has_item, placed, merged};
 ghost use Rattle.type_sets.specs.Names.{Name, Names, every, name_cmp, are_listed, has, Below, none, or_else, listed, meet, join, is_none, members_of};
 
+use crate::limits::MAX_MEMBERS;
 use std::alloc::Global;
 use std::cmp::Ordering;
 use std::marker::Model;
@@ -18,7 +19,7 @@ enum Kind {
     Every,
 }
 
-/// A set of atoms: at most thirteen, or all.
+/// A set of atoms: at most `MAX_MEMBERS`, or all.
 #[derive(Debug, Drop)]
 pub struct AtomSet {
     kind: Kind,
@@ -26,7 +27,7 @@ pub struct AtomSet {
 
 impl Model for AtomSet {
     ghost use Rattle.type_sets.specs.Names.{Names, names_code};
-    ghost use Rattle.type_sets.specs.AtomKinds.{names_of, IsKept};
+    ghost use Rattle.type_sets.specs.steps.AtomKinds.{names_of, IsKept};
 
     ghost Value = { Names };
 
@@ -60,7 +61,7 @@ impl AtomSet {
         ensures only { IfOk result (λ set. (q : Name) → IsTrue (has set q) ↔ (q ≡ atom.now)) }
     {
         let mut atoms = List::new(alloc);
-        add(alloc, &mut atoms, atom)?;
+        atoms.add(atom.copy(alloc)?)?;
         Ok(AtomSet::listed(atoms))
     }
 
@@ -137,8 +138,8 @@ impl AtomSet {
         }
     }
 
-    /// The least set of the family that has the atoms of both: these alone where there are at most
-    /// thirteen, and else all.
+    /// The smallest set of this kind that contains both: their atoms alone where there are at most
+    /// `MAX_MEMBERS`, and else all.
     pub fn join(&self, alloc: Global, other: &AtomSet) -> Result<AtomSet, Memory>
         ensures value { IfOk result (λ set. set ≡ join self.now other.now) }
         ensures left { IfOk result (λ set. Below self.now set) }
@@ -156,11 +157,12 @@ impl AtomSet {
         }
     }
 
-    /// Whether a set can list the atoms: they ascend strictly, and are at most thirteen.
+    /// Whether a set can list the atoms: they ascend strictly, and are at most
+    /// `MAX_MEMBERS`.
     pub fn can_list(atoms: &[Atom]) -> bool
         ensures { result ≡ are_listed atoms.now }
     {
-        if atoms.len() > 13 {
+        if atoms.len() > MAX_MEMBERS {
             return false;
         }
         ascend(atoms)
@@ -199,18 +201,11 @@ fn ascend(atoms: &[Atom]) -> bool
     ensures { result ≡ is_ascending name_cmp atoms.now }
 {
     for at in 1..atoms.len() {
-        if !is_below(&atoms[at - 1], &atoms[at]) {
+        if atoms[at - 1] >= atoms[at] {
             return false;
         }
     }
     true
-}
-
-// Whether the atom comes before the other.
-fn is_below(atom: &Atom, other: &Atom) -> bool
-    ensures { result ≡ is_lt (name_cmp atom.now other.now) }
-{
-    atom.bytes().cmp(other.bytes()).is_lt()
 }
 
 // Whether each atom of the list is in the set.
@@ -225,23 +220,13 @@ fn all_in(atoms: &[Atom], set: &AtomSet) -> bool
     true
 }
 
-// Adds a copy of the atom at the end.
-fn add(alloc: Global, atoms: &mut List<Atom>, atom: &Atom) -> Result<(), Memory>
-    ensures { IfOk result (λ _. atoms.new ≡ atoms.old ++ atom.now ∷ []) }
-{
-    match atoms.push(atom.copy(alloc)?) {
-        Ok(()) => Ok(()),
-        Err(_) => Err(Memory),
-    }
-}
-
 // Copies of the atoms.
 fn copied(alloc: Global, atoms: &[Atom]) -> Result<List<Atom>, Memory>
     ensures { IfOk result (λ list. list ≡ atoms.now) }
 {
     let mut out = List::new(alloc);
     for atom in atoms {
-        add(alloc, &mut out, atom)?;
+        out.add(atom.copy(alloc)?)?;
     }
     Ok(out)
 }
@@ -254,7 +239,7 @@ fn kept(alloc: Global, atoms: &[Atom], set: &AtomSet) -> Result<AtomSet, Memory>
     let mut out = List::new(alloc);
     for atom in atoms {
         if set.contains(atom) {
-            add(alloc, &mut out, atom)?;
+            out.add(atom.copy(alloc)?)?;
         }
     }
     Ok(AtomSet::listed(out))
@@ -266,7 +251,7 @@ fn place_of(atoms: &[Atom], atom: &Atom) -> Option<usize>
     ensures none { IfNone result (placed name_cmp atom.now atoms.now ≡ atoms.now) }
 {
     for (at, other) in atoms.iter().enumerate() {
-        match atom.bytes().cmp(other.bytes()) {
+        match atom.cmp(other) {
             Ordering::Less => return Some(at),
             Ordering::Equal => return None,
             Ordering::Greater => {}
@@ -276,29 +261,27 @@ fn place_of(atoms: &[Atom], atom: &Atom) -> Option<usize>
 }
 
 // Puts a copy of the atom into an ascending list.
-fn put(alloc: Global, atoms: &mut Vec<Atom>, atom: &Atom) -> Result<(), Memory>
-    ensures { IfOk result (λ _. atoms.new.items ≡ placed name_cmp atom.now atoms.old.items) }
+fn put(alloc: Global, atoms: &mut List<Atom>, atom: &Atom) -> Result<(), Memory>
+    ensures { OnOk result (atoms.new ≡ placed name_cmp atom.now atoms.old) }
 {
     match place_of(atoms.as_slice(), atom) {
-        Some(at) => match atoms.insert(at, atom.copy(alloc)?) {
-            Ok(()) => Ok(()),
-            Err(_) => Err(Memory),
-        },
+        Some(at) => atoms.insert(at, atom.copy(alloc)?),
         None => Ok(()),
     }
 }
 
-// The set of the atoms of two ascending lists, and all atoms where they are more than thirteen.
+// The set of the atoms of two ascending lists, and all atoms where they are more than
+// `MAX_MEMBERS`.
 fn both(alloc: Global, atoms: &[Atom], others: &[Atom]) -> Result<AtomSet, Memory>
     requires { IsTrue (are_listed atoms.now) }
     ensures { IfOk result (λ set. set ≡ or_else (merged name_cmp atoms.now others.now) every) }
 {
-    let mut out = copied(alloc, atoms)?.into_vec();
+    let mut out = copied(alloc, atoms)?;
     for atom in others {
         put(alloc, &mut out, atom)?;
-        if out.len() > 13 {
+        if out.len() > MAX_MEMBERS {
             return Ok(AtomSet::all());
         }
     }
-    Ok(AtomSet::listed(List::from_vec(out)))
+    Ok(AtomSet::listed(out))
 }

@@ -7,18 +7,20 @@ ghost use Rattle.type_sets.specs.Ends.{in_range, is_range};
 ghost use Rattle.type_sets.specs.Numbers.{Numbers, has, Below, none, is_narrow, are_listed, listed, range, meet, join, hull, lowest, highest, low_end, high_end, is_none, members_of, ends_of};
 
 use crate::ends::{High, Low};
+use crate::limits::MAX_MEMBERS;
 use arrayvec::ArrayVec;
 use std::marker::Model;
+use type_kinds::MAGNITUDE_LIMIT;
 
 // The numbers, strictly ascending, or the ends of an interval that isn't empty.
 #[derive(Debug, Drop)]
 enum Kind {
-    Listed(ArrayVec<i128, 13>),
+    Listed(ArrayVec<i128, MAX_MEMBERS>),
     Between(Low, High),
 }
 
-/// A set of integers: at most thirteen, each of magnitude below 2^127, or an interval. None of its
-/// calls takes memory.
+/// A set of integers: at most `MAX_MEMBERS`, each of magnitude below `MAGNITUDE_LIMIT`, or an
+/// interval. None of its calls takes memory.
 #[derive(Debug, Drop)]
 pub struct IntSet {
     kind: Kind,
@@ -26,7 +28,7 @@ pub struct IntSet {
 
 impl Model for IntSet {
     ghost use Rattle.type_sets.specs.Numbers.{Numbers, numbers_code};
-    ghost use Rattle.type_sets.specs.IntKinds.{numbers_of, IsKept};
+    ghost use Rattle.type_sets.specs.steps.IntKinds.{numbers_of, IsKept};
 
     ghost Value = { Numbers };
 
@@ -60,19 +62,19 @@ impl IntSet {
         }
     }
 
-    /// Whether a set can list the integer: its magnitude is below 2^127.
+    /// Whether a set can list the integer: its magnitude is below `MAGNITUDE_LIMIT`.
     pub fn can_hold(n: i128) -> bool
         ensures { result ≡ is_narrow n }
     {
-        n > i128::MIN
+        n.unsigned_abs() < MAGNITUDE_LIMIT
     }
 
-    /// Whether a set can list the integers: they ascend strictly, are at most thirteen, and each is
-    /// of magnitude below 2^127.
+    /// Whether a set can list the integers: they ascend strictly, are at most `MAX_MEMBERS`, and
+    /// each is of magnitude below `MAGNITUDE_LIMIT`.
     pub fn can_list(numbers: &[i128]) -> bool
         ensures { result ≡ are_listed numbers.now }
     {
-        if numbers.len() > 13 {
+        if numbers.len() > MAX_MEMBERS {
             return false;
         }
         ascend(numbers) && all_narrow(numbers)
@@ -196,8 +198,8 @@ impl IntSet {
         }
     }
 
-    /// The least set of the family that has the integers of both: these alone where there are at
-    /// most thirteen and both sets list them, and else the least interval round them.
+    /// The smallest set of this kind that contains both: their integers alone where both sets list
+    /// them and there are at most `MAX_MEMBERS`, and else the smallest interval that contains both.
     pub fn join(&self, other: &IntSet) -> IntSet
         ensures value { result ≡ join self.now other.now }
         ensures left { Below self.now result }
@@ -213,7 +215,7 @@ impl IntSet {
     }
 
     // The numbers of two sets that list them, where they are few enough to be listed together.
-    fn together(&self, other: &IntSet) -> Option<ArrayVec<i128, 13>>
+    fn together(&self, other: &IntSet) -> Option<ArrayVec<i128, MAX_MEMBERS>>
         ensures some { IfSome result (λ v. IsTrue (are_listed v.items) × (join self.now other.now ≡ listed v.items)) }
         ensures none { IfNone result (join self.now other.now ≡ hull self.now other.now) }
     {
@@ -226,7 +228,7 @@ impl IntSet {
         }
     }
 
-    // The least interval round two sets, and no integer where both are empty.
+    // The smallest interval that contains both sets, and no integer where both are empty.
     fn hull(&self, other: &IntSet) -> IntSet
         ensures { result ≡ hull self.now other.now }
     {
@@ -286,7 +288,7 @@ fn ascend(numbers: &[i128]) -> bool
     true
 }
 
-// Whether each number is of magnitude below 2^127.
+// Whether each number is of magnitude below `MAGNITUDE_LIMIT`.
 fn all_narrow(numbers: &[i128]) -> bool
     ensures { result ≡ list_all is_narrow numbers.now }
 {
@@ -310,9 +312,9 @@ fn all_in(numbers: &[i128], set: &IntSet) -> bool
     true
 }
 
-// The numbers of a list of at most thirteen.
-fn copied(numbers: &[i128]) -> ArrayVec<i128, 13>
-    requires { length numbers.now < 14 }
+// The numbers of a list of at most `MAX_MEMBERS`.
+fn copied(numbers: &[i128]) -> ArrayVec<i128, MAX_MEMBERS>
+    requires { length numbers.now ≤ MAX_MEMBERS }
     ensures { result.items ≡ numbers.now }
 {
     let mut out = ArrayVec::new();
@@ -354,11 +356,11 @@ fn place_of(numbers: &[i128], n: i128) -> Option<usize>
     Some(numbers.len())
 }
 
-// Puts the number into an ascending list. `false` says that there are thirteen others.
-fn put(numbers: &mut ArrayVec<i128, 13>, n: i128) -> bool
+// Puts the number into an ascending list. `false` says that there are `MAX_MEMBERS` others.
+fn put(numbers: &mut ArrayVec<i128, MAX_MEMBERS>, n: i128) -> bool
     ensures done { IsTrue result → numbers.new.items ≡ placed int_cmp n numbers.old.items }
-    ensures fits { length numbers.new.items < 14 }
-    ensures full { (IsTrue result → ⊥) → 13 < length (placed int_cmp n numbers.old.items) }
+    ensures fits { length numbers.new.items ≤ MAX_MEMBERS }
+    ensures full { (IsTrue result → ⊥) → MAX_MEMBERS < length (placed int_cmp n numbers.old.items) }
 {
     match place_of(numbers.as_slice(), n) {
         Some(at) => {
@@ -372,11 +374,11 @@ fn put(numbers: &mut ArrayVec<i128, 13>, n: i128) -> bool
     }
 }
 
-// The numbers of two ascending lists in one, and `None` where they are more than thirteen.
-fn both(numbers: &[i128], others: &[i128]) -> Option<ArrayVec<i128, 13>>
-    requires { length numbers.now < 14 }
-    ensures some { IfSome result (λ v. (v.items ≡ merged int_cmp numbers.now others.now) × (length v.items < 14)) }
-    ensures none { IfNone result (13 < length (merged int_cmp numbers.now others.now)) }
+// The numbers of two ascending lists in one, and `None` where they are more than `MAX_MEMBERS`.
+fn both(numbers: &[i128], others: &[i128]) -> Option<ArrayVec<i128, MAX_MEMBERS>>
+    requires { length numbers.now ≤ MAX_MEMBERS }
+    ensures some { IfSome result (λ v. (v.items ≡ merged int_cmp numbers.now others.now) × (length v.items ≤ MAX_MEMBERS)) }
+    ensures none { IfNone result (MAX_MEMBERS < length (merged int_cmp numbers.now others.now)) }
 {
     let mut out = copied(numbers);
     for n in others {

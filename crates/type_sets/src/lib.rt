@@ -1,5 +1,6 @@
 //! Sets of atoms, of integers and of bit strings, of which every type is made. Each set of values has
-//! one form. A meet has exactly the values of both sets, a join is the least set round both.
+//! one form. A meet has exactly the values of both sets, a join is the smallest set of its kind that
+//! contains both.
 #![tactic(auto)]
 
 mod atom_set;
@@ -7,6 +8,7 @@ mod bits;
 mod ends;
 mod int_set;
 mod laws;
+mod limits;
 #[cfg(test)]
 mod tests;
 
@@ -17,3 +19,4 @@ pub use int_set::IntSet;
 pub use laws::{
     atom_set_heights, atom_set_laws, bits_heights, bits_laws, int_set_heights, int_set_laws,
 };
+pub use limits::MAX_MEMBERS;

@@ -1,20 +1,21 @@
-use Rattle.std.proofs.Common.{◌-◌, ◌+◌, sym, ◌∙◌, arith}
+use Rattle.std.proofs.Common.{true, false, ◌-◌, ◌+◌, sym, ◌∙◌, arith}
 use Rattle.std.specs.Ordering.{is_lt}
 use Rattle.type_sets.specs.Names.{name_cmp}
 use Rattle.type_sets.proofs.AscendingLaws.{ascending-more, not_ascending}
 use Rattle.type_sets.proofs.NameLaws.{name_total, name_same}
+use Rattle.type_sets.proofs.AtomViews.{not_under}
 use Rattle.type_sets.proofs.atom_set.ascend.Goals as goal
 
-pub returns-then-not-is_below : goal.returns-then-not-is_below
-returns-then-not-is_below c =
+pub returns-then-ge : goal.returns-then-ge
+returns-then-ge c =
     let a = c.index-atoms-at in
     let b = c.index-atoms-at-in-loop-at in
-    let falls = sym (λ i. is_lt (name_cmp (a.is i) (b.is i))) ∙ sym c.is_below.ensures ∙ c.if-not-is_below.true in
+    let falls = sym (λ i. is_lt (name_cmp (a.is i) (b.is i))) ∙ not_under _ true (sym c.ge.ensures ∙ c.if-ge.true) in
     sym (not_ascending name_total name_same c.args.atoms.now (c.loop-at.at - 1) c.loop-at.at a.result b.result (omega (arith, c.loop-at.auto.at)) c.loop-at-test.true falls)
 
 pub loop-at-preserved : goal.loop-at-preserved
 loop-at-preserved c =
     let a = c.index-atoms-at in
     let b = c.index-atoms-at-in-loop-at in
-    let up = sym (λ i. is_lt (name_cmp (a.is i) (b.is i))) ∙ sym c.is_below.ensures ∙ c.if-not-is_below.false in
+    let up = sym (λ i. is_lt (name_cmp (a.is i) (b.is i))) ∙ not_under _ false (sym c.ge.ensures ∙ c.if-ge.false) in
     ascending-more name_total name_same c.args.atoms.now (c.loop-at.at - 1) c.loop-at.at (c.loop-at.at + 1) a.result b.result (omega (arith, c.loop-at.auto.at)) (omega arith) c.loop-at-test.true c.loop-at.invariant up

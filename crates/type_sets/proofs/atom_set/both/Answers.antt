@@ -1,29 +1,30 @@
-use Rattle.std.proofs.Common.{◌<◌, ◌+◌, ap, sym, ◌∙◌, arith, length, take, subst}
+use Rattle.std.proofs.Common.{◌<◌, ◌+◌, ap, sym, ◌∙◌, arith, length, take}
+use Rattle.type_sets.specs.declared.limits.TheConstants.{MAX_MEMBERS}
 use Rattle.type_sets.specs.Ascending.{placed, merged}
 use Rattle.type_sets.specs.Names.{name_cmp}
 use Rattle.type_sets.proofs.AscendingLaws.{merged-more}
 use Rattle.type_sets.proofs.AtomViews.{join_long, join_short}
 use Rattle.type_sets.proofs.atom_set.both.Goals as goal
 
-pub returns-then-len-gt13 : goal.returns-then-len-gt13
-returns-then-len-gt13 c =
+pub returns-then-len-gt-MAX_MEMBERS : goal.returns-then-len-gt-MAX_MEMBERS
+returns-then-len-gt-MAX_MEMBERS c =
     let i = c.loop-atom.atom-index in
     let more = merged-more name_cmp c.args.atoms.now c.args.others.now i c.atom-item.result c.loop-atom-test.true in
     let step = c.in_ok-put.ensures ∙ (λ j. placed name_cmp (c.atom-item.is j) (c.loop-atom.invariant.merged j)) ∙ sym more in
-    let long : 13 < length (merged name_cmp c.args.atoms.now (take (i + 1) c.args.others.now)) = omega (arith, c.put.new.atoms.ok.0, ap length step, c.len.ensures) in
+    let long : MAX_MEMBERS < length (merged name_cmp c.args.atoms.now (take (i + 1) c.args.others.now)) = omega (arith, ap length step, c.len.ensures) in
     c.all.ensures ∙ sym (join_long c.args.atoms.now c.args.others.now (i + 1) long)
 
 pub loop-atom-preserved : goal.loop-atom-preserved
 loop-atom-preserved c =
     let more = merged-more name_cmp c.args.atoms.now c.args.others.now c.loop-atom.atom-index c.atom-item.result c.loop-atom-test.true in
     let step = c.in_ok-put.ensures ∙ (λ j. placed name_cmp (c.atom-item.is j) (c.loop-atom.invariant.merged j)) ∙ sym more in
-    record { merged = step; few = omega (arith, c.put.new.atoms.ok.0, c.len.ensures) }
+    record { merged = step; few = omega (arith, c.len.ensures) }
 
 pub listed-requires : goal.listed-requires
 listed-requires c =
-    (join_short c.args.atoms.now c.args.others.now c.requires c.loop-atom.atom-index c.loop-atom-test.false c.from_vec.result (c.from_vec.ensures ∙ c.loop-atom.invariant.merged) (subst (λ xs. length xs < 14) (sym c.from_vec.ensures) c.loop-atom.invariant.few)).0
+    (join_short c.args.atoms.now c.args.others.now c.requires c.loop-atom.atom-index c.loop-atom-test.false c.loop-atom.out c.loop-atom.invariant.merged c.loop-atom.invariant.few).0
 
 pub returns : goal.returns
 returns c =
     c.listed.ensures.value
-    ∙ (join_short c.args.atoms.now c.args.others.now c.requires c.loop-atom.atom-index c.loop-atom-test.false c.from_vec.result (c.from_vec.ensures ∙ c.loop-atom.invariant.merged) (subst (λ xs. length xs < 14) (sym c.from_vec.ensures) c.loop-atom.invariant.few)).1
+    ∙ (join_short c.args.atoms.now c.args.others.now c.requires c.loop-atom.atom-index c.loop-atom-test.false c.loop-atom.out c.loop-atom.invariant.merged c.loop-atom.invariant.few).1

@@ -5,5 +5,5 @@ use Rattle.type_sets.proofs.atom_set.AtomSet.one.Goals as goal
 
 pub returns-clause-only : goal.returns-clause-only
 returns-clause-only c q =
-    let value : c.listed.result ≡ listed (c.args.atom.now ∷ []) = c.listed.ensures.value ∙ ap listed (c.in_ok-add.ensures ∙ ap (λ xs. xs ++ c.args.atom.now ∷ []) c.new-atoms.ensures) in
+    let value : c.listed.result ≡ listed (c.args.atom.now ∷ []) = c.listed.ensures.value ∙ ap listed (c.in_ok-add.ensures.ok ∙ (λ i. c.new-atoms.ensures i ++ c.in_ok-copy.ensures i ∷ [])) in
     subst (λ s. IsTrue (has s q) ↔ (q ≡ c.args.atom.now)) (sym value) (has-one c.args.atom.now q)

@@ -1,0 +1,2 @@
+pub mod AtomKinds
+pub mod IntKinds
