@@ -11,13 +11,14 @@ use Rattle.core_scan.specs.declared.token.TokenKind.{TokenKind}
 use Rattle.core_scan.specs.declared.token.TokenKind.TheVariants.{Word, Variable, Integer, Float, Char, Atom, Text, Symbol}
 use Rattle.core_scan.specs.declared.token.ScanFault.{ScanFault}
 use Rattle.core_scan.specs.declared.token.ScanFault.TheVariants.{BadByte, OpenQuote, BadEscape, WideInteger}
-use Rattle.core_scan.specs.Bytes.{is_lower, is_digit, is_name_byte, is_blank, is_no_line_feed, past}
-use Rattle.core_scan.specs.Escapes.{number, Inside, nothing}
+use Rattle.type_kinds.specs.Digits.{is_digit, number}
+use Rattle.core_scan.specs.Bytes.{is_lower, is_name_byte, is_blank, is_no_line_feed, past}
+use Rattle.core_scan.specs.Escapes.{Inside, nothing}
 use Rattle.core_scan.specs.Spells.{is_variable_start}
 use Rattle.core_scan.specs.Vocabulary.{words, IsOneOf}
 use Rattle.core_scan.specs.Lexed.{here, Lexed, IsQuote, FaultAt, FirstFault}
-use Rattle.core_scan.specs.Fronts.{sign_len, exponent_len, fraction_len, is_single, is_pair, symbol_len, escape_of, IsStuck, is_cut_off}
-use Rattle.core_scan.specs.Found.{Begins, IsOther, GoesOn}
+use Rattle.core_scan.specs.steps.Fronts.{sign_len, exponent_len, fraction_len, is_single, is_pair, symbol_len, escape_of, IsStuck, is_cut_off}
+use Rattle.core_scan.specs.steps.Found.{Begins, IsOther, GoesOn}
 use Rattle.core_scan.proofs.RunLemmas.{take-add, eq_from_test}
 use Rattle.core_scan.proofs.Tables.{one_or_none}
 use Rattle.core_scan.proofs.EscapeLemmas.{escape_found, IsEscapeAt}
@@ -25,7 +26,7 @@ use Rattle.core_scan.proofs.InsideLemmas.{Inside-append, plain_step, escape_step
 use Rattle.core_scan.proofs.ShapeLemmas.{word_found, word_unknown, variable_found, float_found, integer_found, integer_wide, no_byte, no_escaped, escaped_found, plain_found, no_plain, left_open, stuck_fault, atom_found, text_found, symbol_found, symbol_none}
 use Rattle.core_scan.proofs.PassLemmas.{passes_append, blank_step, comment_step, token_step}
 
--- what stands at the front of the bytes
+-- what is at the front of the bytes
 Front : Place → List ℕ → Type 0
 Front place bytes = ((kind : TokenKind) × (len : ℕ) × Begins bytes kind len) ⊎ ((fault : ScanFault) × FaultAt place bytes fault)
 

@@ -7,8 +7,9 @@ use Rattle.std.proofs.lemmas.Bool.Decides.{nat_tests}
 use Rattle.std.proofs.lemmas.Bool.{cases_lt}
 use Rattle.core_scan.specs.declared.escapes.Escaped.{Escaped}
 use Rattle.core_scan.specs.Bytes.{is_octal}
-use Rattle.core_scan.specs.Escapes.{number, NoneAhead, lettered, Escape, octal, control, letter, NoEscape}
-use Rattle.core_scan.specs.Fronts.{octal_of, control_of, marked, escape_of}
+use Rattle.type_kinds.specs.Digits.{number}
+use Rattle.core_scan.specs.Escapes.{NoneAhead, lettered, Escape, octal, control, letter, NoEscape}
+use Rattle.core_scan.specs.steps.Fronts.{octal_of, control_of, marked, escape_of}
 use Rattle.core_scan.proofs.RunLemmas.{prefix_len-append, prefix_len-none, take-run, run_ends, cond_cases, eq_from_test}
 
 -- ---- each escape is what `escape_of` gives

@@ -1,10 +1,10 @@
--- What stands between quotes.
+-- What is written between quotes.
 use Rattle.std.proofs.Common.{◌≡◌, ◌≢◌, ℕ, suc, ◌+◌, ◌≤◌, List, [], ◌∷◌, ◌++◌, length, take, drop, refl, sym, ap, ◌∙◌, subst, inl, inr, arith, Some, None, append_assoc}
 use Rattle.std.proofs.lemmas.List.{take-append-drop, append_cancel_left, drop-drop, append-nil}
 use Rattle.core_scan.proofs.RunLemmas.{same_front, take-add}
 use Rattle.core_scan.specs.declared.escapes.Escaped.{Escaped}
 use Rattle.core_scan.specs.Escapes.{Escape, Inside, nothing, plain, escaped}
-use Rattle.core_scan.specs.Fronts.{IsStuck, escape_of}
+use Rattle.core_scan.specs.steps.Fronts.{IsStuck, escape_of}
 use Rattle.core_scan.proofs.EscapeLemmas.{escape_found, escape_once, no_escape}
 
 -- ---- one after another
@@ -40,7 +40,7 @@ stuck_backslash q b bytes rest whole is none = rw whole (inr (is, no_escape rest
 pub escape_within : (bytes rest : List ℕ) (b : ℕ) (e : Escaped) → bytes ≡ b ∷ rest → escape_of rest ≡ Some e → 1 + e.len ≤ length bytes
 escape_within bytes rest b e whole found = let k : e.len ≤ length rest = (escape_found rest e found).1 in rw whole (omega arith)
 
--- ---- nothing but one text stands between quotes
+-- ---- at most one text is between quotes
 
 stuck_plain : {A : Type 0} (q b : ℕ) (r rest : List ℕ) → IsStuck q r → r ≡ b ∷ rest → b ≢ q → b ≢ 92 → A
 stuck_plain q b [] rest stuck is apart no_backslash = cc

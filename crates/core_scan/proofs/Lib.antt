@@ -1,11 +1,11 @@
-pub mod RunLemmas
+mod RunLemmas
 mod Tables
 pub mod SortLaws
-pub mod EscapeLemmas
-pub mod NumberLemmas
-pub mod InsideLemmas
-pub mod Reach
-pub mod OnceLemmas
-pub mod ShapeLemmas
-pub mod PassLemmas
-pub mod AnswerLemmas
+mod EscapeLemmas
+mod InsideLemmas
+mod Reach
+mod OnceLemmas
+mod ShapeLemmas
+mod PassLemmas
+mod TokenSorts
+mod AnswerLemmas

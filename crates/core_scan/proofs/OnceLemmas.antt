@@ -6,8 +6,8 @@ use Rattle.std.proofs.lemmas.Bool.Decides.{nat_tests}
 use Rattle.std.proofs.lemmas.Bool.{false≢true}
 use Rattle.core_scan.specs.declared.token.TokenKind.{TokenKind}
 use Rattle.core_scan.specs.declared.token.TokenKind.TheVariants.{Word, Variable, Integer, Float, Char, Atom, Text, Symbol}
-use Rattle.core_scan.specs.Bytes.{is_digit}
-use Rattle.core_scan.specs.Escapes.{number, AllOf, Quoted}
+use Rattle.type_kinds.specs.Digits.{is_digit, number}
+use Rattle.core_scan.specs.Escapes.{AllOf, Quoted}
 use Rattle.core_scan.specs.Spells.{IsDigits, Sign, unsigned, plus, minus, sign_text, signed, is_bare, IsFloat, IsChar, Spells, Longest}
 use Rattle.core_scan.specs.Vocabulary.{symbols, IsOneOf}
 use Rattle.core_scan.proofs.RunLemmas.{same_front}

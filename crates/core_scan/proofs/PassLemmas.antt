@@ -13,10 +13,10 @@ use Rattle.core_scan.specs.declared.token.ScanFault.{ScanFault}
 use Rattle.core_scan.specs.declared.token.ScanFault.TheVariants.{BadEscape}
 use Rattle.core_scan.specs.Bytes.{is_blank, is_no_line_feed, is_line_feed, start, past}
 use Rattle.core_scan.specs.Escapes.{AllOf, NoneAhead, NoEscape, Inside, Quoted}
-use Rattle.core_scan.specs.Spells.{Longest, IsToken}
+use Rattle.core_scan.specs.Spells.{Spells, Longest, IsToken}
 use Rattle.core_scan.specs.Lexed.{Passes, here, blank, comment, token, Lexed, IsQuote, IsCutOff, FaultAt, unknown_word, wide, open_quote, bad_escape, no_token, FirstFault}
-use Rattle.core_scan.specs.Fronts.{IsStuck}
-use Rattle.core_scan.specs.Found.{Begins, GoesOn}
+use Rattle.core_scan.specs.steps.Fronts.{IsStuck}
+use Rattle.core_scan.specs.steps.Found.{Begins, GoesOn}
 use Rattle.core_scan.proofs.RunLemmas.{prefix_len-run, same_front, take-run, run_ends, eq_from_test}
 use Rattle.core_scan.proofs.EscapeLemmas.{no_escape}
 use Rattle.core_scan.proofs.InsideLemmas.{inside_once}
@@ -344,16 +344,17 @@ all_lexed text place (b ∷ bs) tokens so_far none = absurd (let size : suc (len
 pub first_fault : (text : List ℕ) (place : Place) (rest : List ℕ) (tokens : List Token) (fault : ScanFault) → OnTheWay text place rest tokens → FaultAt place rest fault → FirstFault start text fault
 first_fault text place rest tokens fault so_far at = (tokens, place, rest, so_far.passes, at)
 
--- each token is one
-pub passes_tokens : {end : Place} {left : List ℕ} {place : Place} {bytes : List ℕ} {ts : List Token} → Passes end left place bytes ts → (k : ℕ) (d : Token) → k < length ts → IsToken (get_or ts k d).kind
-passes_tokens {end} {left} {place} {bytes} {ts} (here is js none) k d within = absurd (let size : length ts ≡ 0 = ap length none in omega arith)
-passes_tokens (blank b rest whole is more) k d within = passes_tokens more k d within
-passes_tokens (comment line rest whole all ends more) k d within = passes_tokens more k d within
-passes_tokens {end} {left} {place} {bytes} {ts} (token kind piece rest others longest is adds more) k d within = subst (λ (l : List Token). IsToken (get_or l k d).kind) (sym adds) (at k (let size : length ts ≡ suc (length others) = ap length adds in omega arith) (λ i. passes_tokens more i d))
-  where
-    at : (i : ℕ) → i < suc (length others) → ((j : ℕ) → j < length others → IsToken (get_or others j d).kind) → IsToken (get_or (record { kind = kind; place = place } ∷ others) i d).kind
-    at zero below rest_are = is
-    at (suc i) below rest_are = rest_are i (omega arith)
+-- what holds of each kind that is spelled and a token holds of each token
+module _ (P : TokenKind → Type 0) (each : (kind : TokenKind) (piece rest : List ℕ) → Spells kind piece rest → IsToken kind → P kind) where
+  pub each_token : {end : Place} {left : List ℕ} {place : Place} {bytes : List ℕ} {ts : List Token} → Passes end left place bytes ts → (k : ℕ) (d : Token) → k < length ts → P (get_or ts k d).kind
+  each_token {end} {left} {place} {bytes} {ts} (here is js none) k d within = absurd (let size : length ts ≡ 0 = ap length none in omega arith)
+  each_token (blank b rest whole is more) k d within = each_token more k d within
+  each_token (comment line rest whole all ends more) k d within = each_token more k d within
+  each_token {end} {left} {place} {bytes} {ts} (token kind piece rest others longest is adds more) k d within = subst (λ (l : List Token). P (get_or l k d).kind) (sym adds) (at k (let size : length ts ≡ suc (length others) = ap length adds in omega arith) (λ i. each_token more i d))
+    where
+      at : (i : ℕ) → i < suc (length others) → ((j : ℕ) → j < length others → P (get_or others j d).kind) → P (get_or (record { kind = kind; place = place } ∷ others) i d).kind
+      at zero below rest_are = each kind piece rest longest.spells is
+      at (suc i) below rest_are = rest_are i (omega arith)
 
 pub all_tokens : (text : List ℕ) (place : Place) (rest : List ℕ) (tokens : List Token) → OnTheWay text place rest tokens → (k : ℕ) (d : Token) → k < length tokens → IsToken (get_or tokens k d).kind
-all_tokens text place rest tokens so_far = passes_tokens so_far.passes
+all_tokens text place rest tokens so_far = each_token IsToken (λ kind piece rest spells is. is) so_far.passes

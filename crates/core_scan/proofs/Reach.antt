@@ -6,11 +6,12 @@ use Rattle.std.proofs.lemmas.List.{drop-drop, drop_at}
 use Rattle.core_scan.specs.declared.escapes.Escaped.{Escaped}
 use Rattle.core_scan.specs.declared.token.TokenKind.{TokenKind}
 use Rattle.core_scan.specs.declared.token.TokenKind.TheVariants.{Word, Variable, Integer, Float, Char, Atom, Text, Symbol}
-use Rattle.core_scan.specs.Bytes.{is_lower, is_digit, is_name_byte, is_blank}
+use Rattle.type_kinds.specs.Digits.{is_digit}
+use Rattle.core_scan.specs.Bytes.{is_lower, is_name_byte, is_blank}
 use Rattle.core_scan.specs.Escapes.{AllOf, NoneAhead}
 use Rattle.core_scan.specs.Spells.{IsName, is_variable_start, IsDigits, Sign, unsigned, plus, minus, sign_text, IsExponent, IsFloat, IsChar, Spells}
 use Rattle.core_scan.specs.Vocabulary.{symbols}
-use Rattle.core_scan.specs.Fronts.{sign_len, exponent_len, fraction_len, is_symbol, is_single, is_pair, second_len, symbol_len, escape_of}
+use Rattle.core_scan.specs.steps.Fronts.{sign_len, exponent_len, fraction_len, is_symbol, is_single, is_pair, second_len, symbol_len, escape_of}
 use Rattle.core_scan.proofs.RunLemmas.{prefix_len-append, prefix_len-run}
 use Rattle.core_scan.proofs.Tables.{one_of_all}
 use Rattle.core_scan.proofs.EscapeLemmas.{escape_given}
@@ -254,7 +255,7 @@ unfoldable pub escape_size : Option Escaped → ℕ
 escape_size None = 0
 escape_size (Some e) = 2 + e.len
 
--- how long a character is, behind its `$`
+-- how long a character is, after its `$`
 unfoldable pub behind_dollar : List ℕ → ℕ
 behind_dollar [] = 0
 behind_dollar (c ∷ cs) = cond (c == 92) (escape_size (escape_of cs)) (cond (nat_lt c 32 || c == 127) 0 2)

@@ -1,5 +1,5 @@
 -- Runs of bytes of a kind.
-use Rattle.std.proofs.Common.{◌≡◌, ℕ, zero, suc, ◌+◌, ◌≤◌, List, [], ◌∷◌, ◌++◌, length, take, drop, refl, sym, ap, ◌∙◌, subst, Bool, true, false, cond, arith, ◌||◌, ◌==◌}
+use Rattle.std.proofs.Common.{◌≡◌, ℕ, zero, suc, ◌+◌, ◌≤◌, List, [], ◌∷◌, ◌++◌, length, take, drop, refl, sym, ap, ◌∙◌, Bool, true, false, cond, arith, ◌||◌, ◌==◌}
 use Rattle.std.specs.List.{prefix_len}
 use Rattle.std.proofs.lemmas.Bool.Decides.{Decides-eqb}
 use Rattle.std.proofs.lemmas.List.{take_at}
@@ -38,10 +38,6 @@ run_ends p (x ∷ xs) = go (p x) refl (run_ends p xs)
     go true e more = rw e (let q : 1 + prefix_len p xs ≡ suc (prefix_len p xs) = omega arith in rw q more)
     go false e more = rw e e
 
-pub AllOf-append : (p : ℕ → Bool) (xs ys : List ℕ) → AllOf p xs → AllOf p ys → AllOf p (xs ++ ys)
-AllOf-append p [] ys h k = k
-AllOf-append p (x ∷ xs) ys h k = (h.0, AllOf-append p xs ys h.1 k)
-
 -- ---- one test after another
 
 pub or_cases : (P : Type 0) (x y : Bool) → (x ≡ true → P) → (y ≡ true → P) → (x || y) ≡ true → P
@@ -50,10 +46,6 @@ or_cases P false y f g h = g h
 
 pub eq_from_test : (a b : ℕ) → (a == b) ≡ true → a ≡ b
 eq_from_test a b h = (Decides-eqb a b).0 h
-
--- the last of several tests on a number
-pub or_last : (P : ℕ → Type 0) (a k : ℕ) (x : Bool) → (x ≡ true → P a) → P k → (x || (a == k)) ≡ true → P a
-or_last P a k x f g = or_cases (P a) x (a == k) f (λ e. subst P (sym (eq_from_test a k e)) g)
 
 pub cond_cases : {A : Type 0} (P : Type 0) (b : Bool) (x y z : A) → (b ≡ true → x ≡ z → P) → (b ≡ false → y ≡ z → P) → cond b x y ≡ z → P
 cond_cases P true x y z f g e = f refl e

@@ -10,13 +10,14 @@ use Rattle.core_scan.specs.declared.escapes.Escaped.{Escaped}
 use Rattle.core_scan.specs.declared.token.TokenKind.{TokenKind}
 use Rattle.core_scan.specs.declared.token.TokenKind.TheVariants.{Word, Variable, Integer, Float, Char, Atom, Text, Symbol}
 use Rattle.core_scan.specs.declared.token.ScanFault.TheVariants.{BadByte, OpenQuote, BadEscape, WideInteger}
-use Rattle.core_scan.specs.Bytes.{is_lower, is_digit, is_name_byte, past}
-use Rattle.core_scan.specs.Escapes.{number, AllOf, NoEscape, Inside, Quoted}
+use Rattle.type_kinds.specs.Digits.{is_digit, number}
+use Rattle.core_scan.specs.Bytes.{is_lower, is_name_byte, past}
+use Rattle.core_scan.specs.Escapes.{AllOf, NoEscape, Inside, Quoted}
 use Rattle.core_scan.specs.Spells.{IsName, is_variable_start, IsDigits, Sign, unsigned, plus, minus, sign_text, signed, is_bare, IsExponent, Spells, Longest, IsToken}
 use Rattle.core_scan.specs.Vocabulary.{symbols, words, IsOneOf}
 use Rattle.core_scan.specs.Lexed.{IsQuote, IsCutOff, NoToken, FaultAt, unknown_word, wide, open_quote, bad_escape, no_token}
-use Rattle.core_scan.specs.Fronts.{sign_len, exponent_len, fraction_len, is_symbol, is_single, is_pair, second_len, symbol_len, escape_of, IsStuck, is_cut_off}
-use Rattle.core_scan.specs.Found.{Begins, IsOther}
+use Rattle.core_scan.specs.steps.Fronts.{sign_len, exponent_len, fraction_len, is_symbol, is_single, is_pair, second_len, symbol_len, escape_of, IsStuck, is_cut_off}
+use Rattle.core_scan.specs.steps.Found.{Begins, IsOther}
 use Rattle.core_scan.proofs.RunLemmas.{take-run, take-add, or_cases, eq_from_test}
 use Rattle.core_scan.proofs.Tables.{one_of_known}
 use Rattle.core_scan.proofs.EscapeLemmas.{escape_found, IsEscapeAt}
@@ -83,7 +84,7 @@ run_digits bytes some =
     let size : length (take (prefix_len is_digit bytes) bytes) ≡ prefix_len is_digit bytes = length-take-le (prefix_len is_digit bytes) bytes within in
     digits_of (take (prefix_len is_digit bytes) bytes) (take-run is_digit (prefix_len is_digit bytes) bytes (omega arith)) (omega arith)
 
--- the sign that stands in front
+-- the sign at the front
 record SignAt (bytes : List ℕ) : Type 0 where
   pub sign : Sign
   pub len : sign_len bytes ≡ length (sign_text sign)

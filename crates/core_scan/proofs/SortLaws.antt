@@ -1,4 +1,4 @@
--- Sorts are equal where their numbers are, and which sort stands for which.
+-- Sorts are equal if their numbers are, and which sort fits where which is expected.
 use Rattle.std.proofs.Common.{◌≡◌, List, [], ◌∷◌, ◌⊎◌, inl, inr, true, false, ◌==◌, refl, sym, ap, ◌∙◌, get_or}
 use Rattle.std.proofs.lemmas.Bool.{ne_eqb}
 use Rattle.std.proofs.lemmas.Bool.Decides.{Decides-eqb}
@@ -24,12 +24,12 @@ code_test p q e = one_code p q ((Decides-eqb (code p) (code q)).0 e)
 pub codes_differ : (p q : Sort) → (q ≡ p → ⊥) → (code p == code q) ≡ false
 codes_differ p q h = ne_eqb (code p) (code q) (λ e. h (sym (one_code p q e)))
 
--- each sort stands for itself
+-- each sort fits itself
 pub fits_itself : (p : Sort) → fits p p ≡ true
 fits_itself s.After = refl
 fits_itself _ = refl
 
--- no other stands for it, except a small integer for an integer
+-- no other sort fits it, except that a small integer fits an integer
 pub fits_no_other : (p q : Sort) → (p ≡ s.Integer → ⊥) → (q ≡ p → ⊥) → fits p q ≡ false
 fits_no_other s.Integer q e h = absurd (e refl)
 fits_no_other s.After q e h = codes_differ s.After q h

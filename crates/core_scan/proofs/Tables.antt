@@ -5,8 +5,8 @@ use Rattle.std.specs.Str.{bytes_eq}
 use Rattle.std.proofs.lemmas.Bool.{false≢true}
 use Rattle.std.proofs.lemmas.Slice.Eq.{bytes_eq-Decides}
 use Rattle.core_scan.specs.declared.sort.Sort.{Sort}
-use Rattle.core_scan.specs.Vocabulary.{words, sort_in, IsOneOf}
-use Rattle.core_scan.specs.Sorts.{is_known}
+use Rattle.core_scan.specs.Vocabulary.{words, symbols, sort_in, IsOneOf}
+use Rattle.core_scan.specs.steps.Fronts.{is_known}
 
 -- what each text of a table passes
 pub one_of_all : (test : List ℕ → Bool) (table : List (List ℕ × Sort)) (x : List ℕ) → list_all (λ entry. test entry.0) table ≡ true → IsOneOf table x → test x ≡ true
@@ -43,6 +43,9 @@ known_of_one (entry ∷ table) x h o = go (bytes_eq x entry.0) refl (is_known en
 
 pub words_known : knows words ≡ true
 words_known = refl
+
+pub symbols_known : knows symbols ≡ true
+symbols_known = refl
 
 -- a text is one of a table, or none
 pub one_or_none : (table : List (List ℕ × Sort)) (x : List ℕ) → IsOneOf table x ⊎ (IsOneOf table x → ⊥)

@@ -1,11 +1,8 @@
--- What a backslash and the bytes behind it stand for, and what stands between quotes (Core Erlang 1.0.3 language
+-- What a backslash and the bytes after it stand for, and what is written between quotes (Core Erlang 1.0.3 language
 -- specification, "Lexical definitions").
-use Rattle.std.specs.Prelude.{ℕ, ◌≡◌, ◌≢◌, ◌+◌, ◌-◌, ◌*◌, ◌≤◌, ◌⊎◌, List, [], ◌∷◌, ◌++◌, length, fold, cond, Bool, IsTrue, IsFalse, ◌==◌, Option, Some, None, ⊤}
+use Rattle.std.specs.Prelude.{ℕ, ◌≡◌, ◌≢◌, ◌+◌, ◌≤◌, ◌⊎◌, List, [], ◌∷◌, ◌++◌, length, cond, Bool, IsTrue, IsFalse, ◌==◌, Option, Some, None, ⊤}
+use Rattle.type_kinds.specs.Digits.{number}
 use Rattle.core_scan.specs.Bytes.{is_octal}
-
--- the number that digits spell in a base
-abbrev pub number : ℕ → List ℕ → ℕ
-number base digits = fold (λ n digit. n * base + (digit - 48)) 0 digits
 
 -- each byte passes the test
 abbrev pub AllOf : (ℕ → Bool) → List ℕ → Type 0
@@ -24,9 +21,9 @@ lettered b =
     (cond (b == 110) (Some 10) (cond (b == 114) (Some 13) (cond (b == 115) (Some 32) (cond (b == 116) (Some 9)
     (cond (b == 118) (Some 11) (cond (b == 34) (Some 34) (cond (b == 39) (Some 39) (cond (b == 92) (Some 92) None)))))))))))
 
--- `piece`, behind a backslash, stands for the byte `value` where `rest` follows
+-- `piece`, after a backslash, stands for the byte `value` where `rest` follows
 pub data Escape (piece : List ℕ) (value : ℕ) (rest : List ℕ) : Type 0 where
-  -- one to three octal digits, as many as stand there
+  -- one to three octal digits, as many as there are
   octal : piece ≢ [] → length piece ≤ 3 → AllOf is_octal piece → (length piece ≡ 3) ⊎ NoneAhead is_octal rest → value ≡ number 8 piece → value ≤ 255 → Escape piece value rest
   -- `^` and a byte from 64 to 95, for the byte 64 below it
   control : (b : ℕ) → piece ≡ 94 ∷ b ∷ [] → 64 ≤ b → b ≤ 95 → value + 64 ≡ b → Escape piece value rest

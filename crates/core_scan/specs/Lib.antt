@@ -4,5 +4,4 @@ pub mod Sorts
 pub mod Escapes
 pub mod Spells
 pub mod Lexed
-pub mod Fronts
-pub mod Found
+pub mod steps

@@ -1,5 +1,6 @@
 -- What syntax asks of a token.
-use Rattle.std.specs.Prelude.{ℕ, ℤ, pos, List, [], ◌∷◌, Bool, true, not, if◌then◌else◌, ◌==◌, nat_le}
+use Rattle.std.specs.Prelude.{ℕ, ℤ, pos, List, [], ◌∷◌, Bool, true, if◌then◌else◌, ◌==◌, nat_le}
+use Rattle.core_scan.specs.declared.sort.TheConstants.{LARGEST_ARITY}
 use Rattle.core_scan.specs.declared.sort.Sort.{Sort}
 use Rattle.core_scan.specs.declared.sort.Sort.TheVariants as s
 use Rattle.core_scan.specs.declared.token.Token.{Token}
@@ -7,13 +8,9 @@ use Rattle.core_scan.specs.declared.token.TokenKind.{TokenKind}
 use Rattle.core_scan.specs.declared.token.TokenKind.TheVariants as k
 use Rattle.core_scan.specs.Vocabulary.{words, symbols, sort_in}
 
--- the largest number of parameters that a function has
-abbrev pub largest_arity : ℕ
-largest_arity = 255
-
 -- an integer that may be an arity, which digits alone spell, and any other
 abbrev pub integer_sort : ℤ → Bool → Sort
-integer_sort (pos n) true = if nat_le n largest_arity then s.Small else s.Integer
+integer_sort (pos n) true = if nat_le n LARGEST_ARITY then s.Small else s.Integer
 integer_sort value bare = s.Integer
 
 -- the empty string, and any other
@@ -87,11 +84,7 @@ code s.EmptyText = 46
 code s.Text = 47
 code s.Other = 48
 
--- A token of the second sort stands where one of the first is wanted: a small integer is an integer.
+-- A token of the second sort may be where one of the first is expected: a small integer is an integer.
 abbrev pub fits : Sort → Sort → Bool
 fits s.Integer s.Small = true
 fits wanted found = code wanted == code found
-
--- a sort that tokens of the language have
-abbrev pub is_known : Sort → Bool
-is_known sort = not (code sort == code s.Other)

@@ -1,10 +1,12 @@
 -- How each kind of token is spelled (Core Erlang 1.0.3 language specification, "Lexical definitions"), and which
 -- spelling the bytes begin with.
-use Rattle.std.specs.Prelude.{ℕ, ◌≡◌, ◌≢◌, ◌≤◌, ◌<◌, ◌^◌, ◌⊎◌, List, [], ◌∷◌, ◌++◌, length, Bool, true, false, ◌||◌, ◌==◌, IsTrue, ℤ, pos, neg_ℤ, unsigned_abs, ⊤}
+use Rattle.std.specs.Prelude.{ℕ, ◌≡◌, ◌≢◌, ◌≤◌, ◌<◌, ◌⊎◌, List, [], ◌∷◌, ◌++◌, length, Bool, true, false, ◌||◌, ◌==◌, IsTrue, ℤ, pos, neg_ℤ, unsigned_abs, ⊤}
 use Rattle.core_scan.specs.declared.token.TokenKind.{TokenKind}
 use Rattle.core_scan.specs.declared.token.TokenKind.TheVariants.{Word, Variable, Integer, Float, Char, Atom, Text, Symbol}
-use Rattle.core_scan.specs.Bytes.{is_lower, is_upper, is_digit, is_name_byte}
-use Rattle.core_scan.specs.Escapes.{number, AllOf, Escape, Quoted}
+use Rattle.type_kinds.specs.Digits.{is_digit, number}
+use Rattle.type_kinds.specs.declared.digits.TheConstants.{MAGNITUDE_LIMIT}
+use Rattle.core_scan.specs.Bytes.{is_lower, is_upper, is_name_byte}
+use Rattle.core_scan.specs.Escapes.{AllOf, Escape, Quoted}
 use Rattle.core_scan.specs.Vocabulary.{words, symbols, IsOneOf}
 
 -- a first byte of this kind, and then name bytes
@@ -21,7 +23,7 @@ abbrev pub IsDigits : List ℕ → Type 0
 IsDigits [] = ⊥
 IsDigits (b ∷ bs) = IsTrue (is_digit b) × AllOf is_digit bs
 
--- what may stand before a number
+-- the sign of a number
 pub data Sign : Type 0 where
   unsigned plus minus : Sign
 
@@ -76,5 +78,5 @@ pub record Longest (bytes : List ℕ) (kind : TokenKind) (piece rest : List ℕ)
 -- what is spelled is a token: a word is reserved, and an integer's magnitude is below 2^127
 abbrev pub IsToken : TokenKind → Type 0
 IsToken (Word w) = IsOneOf words w
-IsToken (Integer n bare) = unsigned_abs n < 2 ^ 127
+IsToken (Integer n bare) = unsigned_abs n < MAGNITUDE_LIMIT
 IsToken _ = ⊤

@@ -1,6 +1,6 @@
-// What a byte is.
+// Classes of bytes.
 ghost use Rattle.std.specs.Prelude.{◌≡◌};
-ghost use Rattle.core_scan.specs.Bytes.{is_lower, is_upper, is_digit, is_octal, is_name_byte, is_blank};
+ghost use Rattle.core_scan.specs.Bytes.{is_lower, is_upper, is_octal, is_name_byte, is_blank};
 
 /// `a` to `z`.
 pub fn is_lower(byte: u8) -> bool
@@ -16,13 +16,6 @@ pub fn is_upper(byte: u8) -> bool
     byte >= b'A' && byte <= b'Z'
 }
 
-/// `0` to `9`.
-pub fn is_digit(byte: u8) -> bool
-    ensures { result ≡ is_digit byte }
-{
-    byte >= b'0' && byte <= b'9'
-}
-
 /// `0` to `7`.
 pub fn is_octal(byte: u8) -> bool
     ensures { result ≡ is_octal byte }
@@ -30,11 +23,11 @@ pub fn is_octal(byte: u8) -> bool
     byte >= b'0' && byte <= b'7'
 }
 
-/// What words and variables have behind their first byte: a letter, a digit, `_` or `@`.
+/// A letter, a digit, `_` or `@`: what words and variables have after their first byte.
 pub fn is_name_byte(byte: u8) -> bool
     ensures { result ≡ is_name_byte byte }
 {
-    is_lower(byte) || is_upper(byte) || is_digit(byte) || byte == b'_' || byte == b'@'
+    byte.is_ascii_alphanumeric() || byte == b'_' || byte == b'@'
 }
 
 /// 9 to 13, and the space.

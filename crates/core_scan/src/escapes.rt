@@ -1,18 +1,19 @@
 // The bytes that escapes stand for.
 ghost use Rattle.std.specs.Prelude.{◌≡◌, ◌≤◌, ◌<◌, length, take};
-ghost use Rattle.core_scan.specs.Escapes.{number, lettered};
-ghost use Rattle.core_scan.specs.Fronts.{octal_of, control_of, marked, escape_of};
+ghost use Rattle.type_kinds.specs.Digits.{number};
+ghost use Rattle.core_scan.specs.Escapes.{lettered};
+ghost use Rattle.core_scan.specs.steps.Fronts.{octal_of, control_of, marked, escape_of};
 
 use crate::runs::octals_len;
 
-/// The byte that an escape stands for, and how many bytes spell it behind the backslash.
+/// The byte that an escape stands for, and how many bytes spell it after the backslash.
 #[derive(Clone, Copy, Debug)]
 pub struct Escaped {
     pub value: u8,
     pub len: usize,
 }
 
-/// The escape that begins these bytes, which stand behind a backslash.
+/// The escape that bytes after a backslash begin with.
 pub fn escape(rest: &[u8]) -> Option<Escaped>
     ensures { result ≡ escape_of rest.now }
 {

@@ -1,7 +1,7 @@
-// What stands between quotes.
+// What is written between quotes.
 ghost use Rattle.std.specs.Prelude.{◌≡◌, ◌≢◌, ◌≤◌, ◌<◌, [], ◌∷◌, length, take, drop, IfSome, IfNone, IfOk, IfErr};
 ghost use Rattle.core_scan.specs.Escapes.{Inside};
-ghost use Rattle.core_scan.specs.Fronts.{IsStuck};
+ghost use Rattle.core_scan.specs.steps.Fronts.{IsStuck};
 
 use crate::escapes::{Escaped, escape};
 use crate::token::ScanFault;
@@ -15,7 +15,8 @@ pub struct Unquoted {
     pub len: usize,
 }
 
-/// Reads on behind an opening quote as long as bytes and escapes follow.
+/// Reads the bytes and escapes that follow an opening quote, up to the first of neither. The only
+/// error is `Memory`.
 pub fn read_unquoted(alloc: Global, quote: u8, rest: &[u8]) -> Result<Unquoted, ScanFault>
     requires { quote ≢ 92 }
     ensures within { IfOk result (λ found. found.len ≤ length rest.now) }
@@ -26,10 +27,7 @@ pub fn read_unquoted(alloc: Global, quote: u8, rest: &[u8]) -> Result<Unquoted, 
     let mut text = List::new(alloc);
     let mut len = 0;
     while let Some(next) = next_unquoted(quote, &rest[len..]) {
-        match text.push(next.value) {
-            Ok(()) => {}
-            Err(_) => return Err(ScanFault::Memory),
-        }
+        text.add(next.value)?;
         len += next.len;
     }
     Ok(Unquoted { text, len })

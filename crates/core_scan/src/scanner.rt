@@ -1,16 +1,16 @@
 // The tokens of a whole text.
-ghost use Rattle.std.specs.Prelude.{◌≡◌, ◌≢◌, ◌^◌, ◌<◌, ◌≤◌, List, [], ◌∷◌, ◌++◌, length, IfOk, IfErr, OnOk, All};
+ghost use Rattle.std.specs.Prelude.{◌≡◌, ◌≢◌, ◌^◌, ◌<◌, ◌≤◌, List, length, IfOk, IfErr, All};
 ghost use Rattle.core_scan.specs.declared.token.Token.{Token};
-ghost use Rattle.core_scan.specs.Bytes.{start, HasRoom};
+ghost use Rattle.core_scan.specs.Bytes.{start};
 ghost use Rattle.core_scan.specs.Spells.{IsToken};
 ghost use Rattle.core_scan.specs.Lexed.{Lexed, FaultAt, FirstFault};
-ghost use Rattle.core_scan.specs.Found.{GoesOn};
+ghost use Rattle.core_scan.specs.steps.Found.{GoesOn, HasRoom};
 
 use crate::classes::is_blank;
 use crate::places::past;
 use crate::runs::line_len;
 use crate::shapes::one_token;
-use crate::token::{ScanFault, Token, TokenKind};
+use crate::token::{ScanFault, Token};
 use std::alloc::Global;
 use type_kinds::{List, Place};
 
@@ -38,7 +38,7 @@ pub fn scan(alloc: Global, text: &[u8]) -> Result<List<Token>, ScanFault>
     Ok(tokens)
 }
 
-// Passes a blank, a comment or a token, which goes to the others, and says how many bytes it takes.
+// Passes a blank or a comment, or adds the next token to the others. Gives how many bytes it takes.
 fn step(
     alloc: Global,
     rest: &[u8],
@@ -59,17 +59,9 @@ fn step(
     }
     let found = one_token(alloc, rest, place)?;
     let len = found.len;
-    add(tokens, found.kind, place)?;
+    tokens.add(Token {
+        kind: found.kind,
+        place,
+    })?;
     Ok(len)
-}
-
-// Adds a token last.
-fn add(tokens: &mut List<Token>, kind: TokenKind, place: Place) -> Result<(), ScanFault>
-    ensures ok { OnOk result (tokens.new ≡ tokens.old ++ record { kind = kind; place = place } ∷ []) }
-    ensures err { IfErr result (λ fault. fault ≡ ScanFault.Memory) }
-{
-    match tokens.push(Token { kind, place }) {
-        Ok(()) => Ok(()),
-        Err(_) => Err(ScanFault::Memory),
-    }
 }

@@ -1,23 +1,24 @@
 // The one token that bytes begin with.
 ghost use Rattle.std.specs.Prelude.{◌≡◌, ◌≢◌, ◌+◌, ◌<◌, ◌≤◌, length, drop, slice_index, if◌then◌else◌, IsTrue, IsFalse, IfOk, IfErr};
 ghost use Rattle.std.specs.List.{prefix_len};
-ghost use Rattle.core_scan.specs.Bytes.{is_lower, is_digit, is_blank, past, HasRoom};
+ghost use Rattle.type_kinds.specs.Digits.{is_digit};
+ghost use Rattle.core_scan.specs.Bytes.{is_lower, is_blank, past};
 ghost use Rattle.core_scan.specs.Spells.{is_variable_start};
 ghost use Rattle.core_scan.specs.Lexed.{IsQuote, FaultAt};
-ghost use Rattle.core_scan.specs.Fronts.{sign_len, is_cut_off};
-ghost use Rattle.core_scan.specs.Found.{Begins, IsOther};
+ghost use Rattle.core_scan.specs.steps.Fronts.{sign_len, is_cut_off};
+ghost use Rattle.core_scan.specs.steps.Found.{Begins, HasRoom, IsOther};
 
 use crate::classes::{is_lower, is_upper};
 use crate::escapes::escape;
-use crate::numbers::{decimal, fraction_len, sign_len, signed};
+use crate::numbers::{fraction_len, sign_len, signed};
 use crate::places::past;
 use crate::quotes::read_unquoted;
-use crate::runs::{digits_len, name_len};
+use crate::runs::name_len;
 use crate::symbols::symbol_len;
 use crate::token::{ScanFault, TokenKind};
 use crate::vocabulary::is_reserved;
 use std::alloc::Global;
-use type_kinds::{Atom, Bytes, List, Place};
+use type_kinds::{Atom, List, Place, digits_len, parse_decimal};
 
 /// A token, and how many bytes spell it.
 #[derive(Debug, Drop)]
@@ -26,7 +27,7 @@ pub struct Found {
     pub len: usize,
 }
 
-/// The longest token that the bytes begin with, or the fault that stands there.
+/// The longest token that the bytes begin with, or the fault at their first byte.
 pub fn one_token(alloc: Global, rest: &[u8], place: Place) -> Result<Found, ScanFault>
     requires some { 0 < length rest.now }
     requires no_blank { IsFalse (is_blank (slice_index rest.now 0)) }
@@ -68,7 +69,7 @@ fn word(alloc: Global, rest: &[u8], place: Place) -> Result<Found, ScanFault>
         return Err(ScanFault::BadByte(place));
     }
     Ok(Found {
-        kind: TokenKind::Word(owned(alloc, word)?),
+        kind: TokenKind::Word(List::from_slice(alloc, word)?),
         len,
     })
 }
@@ -79,7 +80,7 @@ fn variable(alloc: Global, rest: &[u8]) -> Result<Found, ScanFault>
     ensures err { IfErr result (λ fault. fault ≡ ScanFault.Memory) }
 {
     let len = name_len(rest);
-    let name = owned(alloc, &rest[..len])?;
+    let name = List::from_slice(alloc, &rest[..len])?;
     Ok(Found {
         kind: TokenKind::Variable(Atom::from_bytes(name)),
         len,
@@ -104,11 +105,11 @@ fn number(
     let fraction = fraction_len(&rest[len..]);
     if fraction > 0 {
         return Ok(Found {
-            kind: TokenKind::Float(owned(alloc, &rest[..len + fraction])?),
+            kind: TokenKind::Float(List::from_slice(alloc, &rest[..len + fraction])?),
             len: len + fraction,
         });
     }
-    let Some(magnitude) = decimal(&rest[sign..len]) else {
+    let Some(magnitude) = parse_decimal(&rest[sign..len]) else {
         return Err(ScanFault::WideInteger(place));
     };
     Ok(Found {
@@ -181,7 +182,7 @@ fn escape_fault(place: Place, front: &[u8], after: &[u8]) -> ScanFault
     }
 }
 
-// Whether these bytes, behind a backslash, are what the end of the text leaves of an escape.
+// Whether the text ends inside the escape whose backslash these bytes follow.
 fn is_cut_off(after: &[u8]) -> bool
     ensures { result ≡ is_cut_off after.now }
 {
@@ -203,17 +204,7 @@ fn symbol(alloc: Global, rest: &[u8], place: Place) -> Result<Found, ScanFault>
         return Err(ScanFault::BadByte(place));
     }
     Ok(Found {
-        kind: TokenKind::Symbol(owned(alloc, &rest[..len])?),
+        kind: TokenKind::Symbol(List::from_slice(alloc, &rest[..len])?),
         len,
     })
-}
-
-fn owned(alloc: Global, bytes: &[u8]) -> Result<Bytes, ScanFault>
-    ensures ok { IfOk result (λ copy. copy ≡ bytes.now) }
-    ensures err { IfErr result (λ fault. fault ≡ ScanFault.Memory) }
-{
-    match Vec::from_slice(alloc, bytes) {
-        Ok(bytes) => Ok(List::from_vec(bytes)),
-        Err(_) => Err(ScanFault::Memory),
-    }
 }

@@ -1,11 +1,13 @@
+// The sorts of tokens.
 ghost use Rattle.std.specs.Prelude.{◌≡◌, ◌↔◌, IsTrue};
-ghost use Rattle.core_scan.specs.Sorts.{fits, integer_sort, is_known, sort, text_sort};
+ghost use Rattle.core_scan.specs.Sorts.{fits, integer_sort, sort, text_sort};
+ghost use Rattle.core_scan.specs.steps.Fronts.{is_known};
 
 use crate::token::{Token, TokenKind};
 use crate::vocabulary::{symbol_sort, word_sort};
 
 /// The largest number of parameters that a function has.
-const LARGEST_ARITY: i128 = 255;
+pub const LARGEST_ARITY: u32 = 255;
 
 /// What syntax asks of a token: which reserved word or symbol it is, or else its kind.
 #[derive(Clone, Copy, Debug, PartialEq, Eq)]
@@ -104,8 +106,8 @@ pub fn sort_of(token: &Token) -> Sort
     }
 }
 
-/// Whether a token of the sort `found` stands where one of the sort `wanted` is asked for: the two
-/// are equal, or an integer is asked for and a small one found.
+/// Whether a token of the sort `found` may be where one of the sort `wanted` is expected: the two
+/// are equal, or an integer is expected and a small one found.
 pub fn fits(wanted: Sort, found: Sort) -> bool
     ensures { result ≡ fits wanted found }
 {
@@ -119,7 +121,7 @@ pub fn same(one: Sort, other: Sort) -> bool
     one == other
 }
 
-// Whether tokens of the language have this sort.
+/// Whether tokens of the language have this sort: all but `Other`.
 pub fn is_known(sort: Sort) -> bool
     ensures { result ≡ is_known sort }
 {
@@ -129,7 +131,7 @@ pub fn is_known(sort: Sort) -> bool
 fn integer_sort(value: i128, bare: bool) -> Sort
     ensures { result ≡ integer_sort value bare }
 {
-    if bare && 0 <= value && value <= LARGEST_ARITY {
+    if bare && 0 <= value && value <= i128::from(LARGEST_ARITY) {
         Sort::Small
     } else {
         Sort::Integer

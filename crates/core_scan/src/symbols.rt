@@ -1,10 +1,10 @@
 // Symbols of one and of two bytes.
 ghost use Rattle.std.specs.Prelude.{◌≡◌, ◌≤◌, length};
-ghost use Rattle.core_scan.specs.Fronts.{symbol_len};
+ghost use Rattle.core_scan.specs.steps.Fronts.{symbol_len};
 
 use crate::vocabulary::{is_pair, is_single};
 
-/// How many bytes at the front are a symbol, the longest that stands there.
+/// How many bytes the longest symbol at the front has, and 0 if there is none.
 pub fn symbol_len(rest: &[u8]) -> usize
     ensures front { result ≡ symbol_len rest.now }
     ensures within { result ≤ length rest.now }

@@ -1,4 +1,4 @@
-use type_kinds::{Atom, Bytes, Place};
+use type_kinds::{Atom, Bytes, Memory, Place};
 
 /// What a token is, and the value that its spelling has.
 #[derive(Debug, Drop)]
@@ -21,12 +21,12 @@ pub enum TokenKind {
     Symbol(Bytes),
 }
 
-/// A token, and where its first byte stands.
+/// A token and its place.
 #[derive(Debug, Drop)]
 pub struct Token {
     /// What it is.
     pub kind: TokenKind,
-    /// Where its first byte stands.
+    /// The place of its first byte.
     pub place: Place,
 }
 
@@ -41,6 +41,17 @@ pub enum ScanFault {
     BadEscape(Place),
     /// The integer that begins here has a magnitude of 2^127 or more.
     WideInteger(Place),
-    /// There is no memory left.
+    /// Allocation failed. This says nothing of the text.
     Memory,
+}
+
+impl From<Memory> for ScanFault {
+    ghost use Rattle.std.specs.Prelude.{◌≡◌};
+    ghost use Rattle.core_scan.specs.declared.token.ScanFault.TheVariants as fault;
+
+    ghost from_gives = { λ _ made. made ≡ fault.Memory };
+
+    fn from(_: Memory) -> ScanFault {
+        ScanFault::Memory
+    }
 }

@@ -1,7 +1,7 @@
 // The reserved words and the symbols.
 ghost use Rattle.std.specs.Prelude.{◌≡◌, ◌∷◌, ◌↔◌, [], IsTrue};
 ghost use Rattle.core_scan.specs.Vocabulary.{words, symbols, sort_in, IsOneOf};
-ghost use Rattle.core_scan.specs.Fronts.{is_single, is_pair};
+ghost use Rattle.core_scan.specs.steps.Fronts.{is_single, is_pair};
 
 use crate::sort::{Sort, is_known};
 

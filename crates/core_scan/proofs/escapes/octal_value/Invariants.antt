@@ -1,5 +1,5 @@
 use Rattle.std.proofs.Common.{◌≡◌, ◌≤◌, take}
-use Rattle.core_scan.specs.Escapes.{number}
+use Rattle.type_kinds.specs.Digits.{number}
 use Rattle.core_scan.proofs.escapes.octal_value.Given as goal
 
 abbrev pub invariant-loop-digit : goal.invariant-loop-digit

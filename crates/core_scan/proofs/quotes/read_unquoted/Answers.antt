@@ -10,5 +10,5 @@ loop-next-init c = record { within = omega arith; inside = nothing refl c.new-te
 pub loop-next-preserved : goal.loop-next-preserved
 loop-next-preserved c = record {
   within = omega (arith, length-drop c.loop-next.len c.args.rest.now, c.in-Some.ensures.within.1);
-  inside = rw c.in-Ok.ensures.ok (inside_further c.args.quote c.args.rest.now c.loop-next.text c.loop-next.len c.in-Some.next.len c.in-Some.next.value c.loop-next.invariant.inside (simp take_rest at c.in-Some.ensures.inside));
+  inside = rw c.in_ok-add.ensures.ok (inside_further c.args.quote c.args.rest.now c.loop-next.text c.loop-next.len c.in-Some.next.len c.in-Some.next.value c.loop-next.invariant.inside (simp take_rest at c.in-Some.ensures.inside));
 }

@@ -17,4 +17,4 @@ pub returns-in_err-found-clause-err : goal.returns-in_err-found-clause-err
 returns-in_err-found-clause-err c = let p = err_from_is_err_and c.from_residual.result c.from_residual.ensures.1 in rw (p.1, p.2) c.in_err-found.ensures.err
 
 pub returns-clause-ok : goal.returns-clause-ok
-returns-clause-ok c = token_step c.args.place c.args.rest.now c.args.tokens.now c.add.new.tokens c.in_ok-found.found.kind c.in_ok-found.found.len c.in_ok-found.ensures.ok c.in_ok-add.ensures.ok
+returns-clause-ok c = token_step c.args.place c.args.rest.now c.args.tokens.now c.add.new.self c.in_ok-found.found.kind c.in_ok-found.found.len c.in_ok-found.ensures.ok c.in_ok-add.ensures.ok

@@ -8,4 +8,4 @@ returns-then-len-eq0-clause-err c =
 
 pub returns-clause-ok : goal.returns-clause-ok
 returns-clause-ok c =
-    symbol_found c.args.rest.now c.requires.other c.requires.no_number c.in_ok-owned.field-0 c.symbol_len-len.result c.symbol_len-len.ensures.front (omega arith) c.symbol_len-len.ensures.within c.in_ok-owned.ensures.ok
+    symbol_found c.args.rest.now c.requires.other c.requires.no_number c.in_ok-from_slice.field-0 c.symbol_len-len.result c.symbol_len-len.ensures.front (omega arith) c.symbol_len-len.ensures.within c.in_ok-from_slice.ensures

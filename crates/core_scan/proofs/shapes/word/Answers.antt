@@ -9,4 +9,4 @@ returns-then-not-is_reserved-clause-err c =
 
 pub returns-clause-ok : goal.returns-clause-ok
 returns-clause-ok c =
-    word_found c.args.rest.now c.name_len-len.result c.name_len-len.ensures.run c.in_ok-owned.field-0 c.requires c.in_ok-owned.ensures.ok (rw c.in_ok-owned.ensures.ok (c.is_reserved.ensures.0 c.if-not-is_reserved.false))
+    word_found c.args.rest.now c.name_len-len.result c.name_len-len.ensures.run c.in_ok-from_slice.field-0 c.requires c.in_ok-from_slice.ensures (rw c.in_ok-from_slice.ensures (c.is_reserved.ensures.0 c.if-not-is_reserved.false))

@@ -1,6 +1,5 @@
 use Rattle.std.proofs.Common.{ap, ◌∙◌}
-use Rattle.core_scan.specs.Sorts.{is_known}
-use Rattle.core_scan.specs.Fronts.{is_symbol}
+use Rattle.core_scan.specs.steps.Fronts.{is_known, is_symbol}
 use Rattle.core_scan.proofs.vocabulary.is_pair.Goals as goal
 
 pub returns : goal.returns

@@ -1,6 +1,6 @@
 use Rattle.std.proofs.Common.{◌≡◌, ap, sym, ◌∙◌}
 use Rattle.core_scan.specs.Vocabulary.{words, sort_in}
-use Rattle.core_scan.specs.Sorts.{is_known}
+use Rattle.core_scan.specs.steps.Fronts.{is_known}
 use Rattle.core_scan.proofs.Tables.{one_of_known, known_of_one, words_known}
 use Rattle.core_scan.proofs.vocabulary.is_reserved.Goals as goal
 

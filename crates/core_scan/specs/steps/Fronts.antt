@@ -1,11 +1,14 @@
 -- How far the parts of tokens reach from the front of the bytes: what the scanner's small functions give.
-use Rattle.std.specs.Prelude.{ℕ, ◌+◌, ◌-◌, List, [], ◌∷◌, take, drop, min, Bool, true, false, ◌&&◌, ◌||◌, ◌==◌, nat_lt, nat_le, cond, Option, Some, None, option_map, ◌≡◌, ◌⊎◌, ⊤}
+use Rattle.std.specs.Prelude.{ℕ, ◌+◌, ◌-◌, List, [], ◌∷◌, take, drop, min, Bool, true, false, ◌&&◌, ◌||◌, not, ◌==◌, nat_lt, nat_le, cond, Option, Some, None, option_map, ◌≡◌, ◌⊎◌, ⊤}
 use Rattle.std.specs.List.{prefix_len}
 use Rattle.core_scan.specs.declared.escapes.Escaped.{Escaped}
-use Rattle.core_scan.specs.Bytes.{is_digit, is_octal}
-use Rattle.core_scan.specs.Escapes.{number, lettered, NoEscape}
+use Rattle.type_kinds.specs.Digits.{is_digit, number}
+use Rattle.core_scan.specs.Bytes.{is_octal}
+use Rattle.core_scan.specs.Escapes.{lettered, NoEscape}
 use Rattle.core_scan.specs.Vocabulary.{symbols, sort_in}
-use Rattle.core_scan.specs.Sorts.{is_known}
+use Rattle.core_scan.specs.declared.sort.Sort.{Sort}
+use Rattle.core_scan.specs.declared.sort.Sort.TheVariants as s
+use Rattle.core_scan.specs.Sorts.{code}
 
 -- ---- escapes
 
@@ -23,7 +26,7 @@ abbrev pub marked : List ℕ → Option Escaped
 marked [] = None
 marked (b ∷ bs) = cond (b == 94) (control_of bs) (option_map (λ v. record { value = v; len = 1 }) (lettered b))
 
--- the escape that comes first, behind a backslash
+-- the escape that comes first, after a backslash
 abbrev pub escape_of : List ℕ → Option Escaped
 escape_of bytes = cond (prefix_len is_octal bytes == 0) (marked bytes) (octal_of (min (prefix_len is_octal bytes) 3) bytes)
 
@@ -48,6 +51,10 @@ fraction_len (b ∷ bs) =
 
 -- ---- symbols
 
+-- a sort that tokens of the language have
+abbrev pub is_known : Sort → Bool
+is_known sort = not (code sort == code s.Other)
+
 -- these bytes are a symbol
 unfoldable pub is_symbol : List ℕ → Bool
 is_symbol bytes = is_known (sort_in symbols bytes)
@@ -60,7 +67,7 @@ is_single b = is_symbol (b ∷ [])
 abbrev pub is_pair : ℕ → ℕ → Bool
 is_pair a b = is_symbol (a ∷ b ∷ [])
 
--- how many bytes are a symbol, of this byte and those behind it
+-- how many bytes are a symbol, of this byte and those after it
 abbrev pub second_len : ℕ → List ℕ → ℕ
 second_len a [] = cond (is_single a) 1 0
 second_len a (b ∷ bs) = cond (is_pair a b) 2 (cond (is_single a) 1 0)
@@ -72,12 +79,12 @@ symbol_len (a ∷ bs) = second_len a bs
 
 -- ---- quotes
 
--- nothing goes on between quotes: the text ends, or the quote stands there, or a backslash that begins no escape
+-- no byte or escape follows between quotes: the text ends, or the quote comes, or a backslash that begins no escape
 abbrev pub IsStuck : ℕ → List ℕ → Type 0
 IsStuck q [] = ⊤
 IsStuck q (b ∷ bs) = (b ≡ q) ⊎ ((b ≡ 92) × NoEscape bs)
 
--- what the end of the text leaves of an escape, behind the backslash
+-- the text ends inside the escape whose backslash these bytes follow
 abbrev pub is_cut_off : List ℕ → Bool
 is_cut_off [] = true
 is_cut_off (b ∷ []) = b == 94
