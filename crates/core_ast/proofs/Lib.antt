@@ -1,2 +1,5 @@
 pub mod Trees
 pub mod Forms
+pub mod Names
+pub mod Items
+mod NotedTrees

@@ -12,7 +12,8 @@ use Rattle.core_ast.specs.declared.syntax.Expr.{Expr}
 use Rattle.core_ast.specs.declared.syntax.FunDefOf.{FunDefOf}
 use Rattle.core_ast.specs.Tree.{all_defs}
 use Rattle.dialyze.specs.Outcome.{longest_source}
-use Rattle.dialyze.specs.Scope.{how_many, names}
+use Rattle.core_ast.specs.Lengths.{how_many}
+use Rattle.dialyze.specs.Scope.{names}
 use Rattle.dialyze.specs.Few.{IsFew, AreFew, FewInDefs, AllFew}
 use Rattle.dialyze.specs.Grammar.{Takes, takes, AtomAt, atom_at, NameAt, name_at, Simple, variable, integer, atom, Expression, simple, tuple, apply, call, Elements, none, some, More, closes, goes_on, MoreParameters, end_parameters, next_parameter, Parameters, no_parameter, first_parameter, MoreExports, end_exports, next_export, Exports, no_export, first_export, Definition, defined, Definitions, ended, one_more, EmptyAttributes, empty_attributes, Spells, spelled}
 

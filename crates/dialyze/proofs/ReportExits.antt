@@ -6,7 +6,7 @@ use Rattle.core_ast.specs.declared.syntax.FunDefOf.{FunDefOf}
 use Rattle.core_ast.specs.declared.syntax.Expr.{Expr}
 use Rattle.core_ast.specs.Model as m
 use Rattle.core_ast.specs.Tree.{tree, all_defs}
-use Rattle.core_ast.proofs.Trees.{all_defs-next}
+use Rattle.core_ast.proofs.Items.{all_defs-next}
 use Rattle.dialyze.specs.declared.sites.Site.{Site}
 use Rattle.dialyze.specs.Scope as scope
 use Rattle.dialyze.specs.Scope.{IsAccepted}

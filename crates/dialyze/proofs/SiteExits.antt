@@ -5,73 +5,20 @@ use Rattle.type_kinds.specs.declared.atom.Atom.{Atom}
 use Rattle.core_ast.specs.declared.syntax.Mark.{Mark}
 use Rattle.core_ast.specs.declared.syntax.FunName.{FunName}
 use Rattle.core_ast.specs.declared.syntax.FunDefOf.{FunDefOf}
-use Rattle.core_ast.specs.declared.syntax.Literal.{Literal}
 use Rattle.core_ast.specs.declared.syntax.Literal.TheVariants as l
 use Rattle.core_ast.specs.declared.syntax.Expr.{Expr}
-use Rattle.core_ast.specs.declared.syntax.Clause.{Clause}
-use Rattle.core_ast.specs.declared.syntax.Segment.{Segment}
-use Rattle.core_ast.specs.declared.syntax.PatSegment.{PatSegment}
-use Rattle.core_ast.specs.declared.syntax.Pattern.{Pattern}
-use Rattle.core_ast.specs.declared.syntax.PatForm.{PatForm}
-use Rattle.core_ast.specs.declared.syntax.Form.{Form, out-Form, roll-Form, roll-out-Form}
 use Rattle.core_ast.specs.declared.syntax.Form.TheVariants as f
-use Rattle.core_ast.specs.declared.syntax.Form.TheOpen.{Form-F}
-use Rattle.core_ast.specs.declared.syntax.Form.TheFolds.{map-Form}
 use Rattle.core_ast.specs.Model as m
-use Rattle.core_ast.specs.Tree.{Marked, MarkedPattern, ClauseParts, SegmentParts, PatSegmentParts, form_layer, form_tree, tree, pat_form_tree, pattern_tree, clause_parts, segment_parts, pat_segment_parts, all_trees, all_defs}
-use Rattle.core_ast.proofs.Trees.{tree-is, form_tree-out, tree-Tuple, tree-Apply, tree-Call, tree-Local, tree-Lit, all_trees-next, all_defs-next}
+use Rattle.core_ast.specs.Tree.{tree, all_trees, all_defs}
+use Rattle.core_ast.specs.Named.{local_name, literal_atom}
+use Rattle.core_ast.specs.Lengths.{how_many}
+use Rattle.core_ast.proofs.Forms.{tuple_tree, apply_tree, call_tree, opened}
+use Rattle.core_ast.proofs.Items.{all_trees-next, all_defs-next, how_many-length}
 use Rattle.dialyze.specs.declared.sites.Site.{Site}
 use Rattle.dialyze.specs.declared.sites.Callee.TheVariants.{Applied, Called}
-use Rattle.dialyze.specs.Scope.{how_many, function_name}
+use Rattle.dialyze.specs.Scope.{function_name}
 use Rattle.dialyze.specs.Sites.{site, sites, all_sites, def_sites}
 use Rattle.dialyze.specs.Few.{IsFew, AreFew, FewInDefs}
-use Rattle.dialyze.specs.Named.{local_name, literal_atom}
-
-abbrev Layer : Type 0
-Layer = Form-F Form PatForm Clause Expr PatSegment Pattern Segment
-
-abbrev modelled : Layer → Form-F Marked MarkedPattern ClauseParts m.Tree PatSegmentParts m.Pattern SegmentParts
-modelled = map-Form Form PatForm Clause Expr PatSegment Pattern Segment Marked MarkedPattern ClauseParts m.Tree PatSegmentParts m.Pattern SegmentParts form_tree pat_form_tree clause_parts tree pat_segment_parts pattern_tree segment_parts
-
--- an expression's tree, by its layer
-by_layer : (e : Expr) (y : Layer) → out-Form e.form ≡ y → tree e ≡ form_layer (modelled y) e.mark
-by_layer e y is = tree-is e ∙ ap (λ g. g e.mark) (form_tree-out e.form ∙ ap (λ x. form_layer (modelled x)) is)
-
-rolled : (x : Form) (y : Layer) → out-Form x ≡ y → x ≡ roll-Form y
-rolled x y is = sym (roll-out-Form x) ∙ ap roll-Form is
-
--- how many expressions a list has
-pub how_many-length : (es : List Expr) → how_many (all_trees es) ≡ length es
-how_many-length [] = refl
-how_many-length (e ∷ es) = let h = how_many-length es in omega arith
-
--- names
-pub name_it : (e : Expr) (g : FunName) → e.form ≡ f.Local g → local_name (tree e) ≡ Some g
-name_it e g is = ap local_name (tree-is e ∙ ap (λ x. form_tree x e.mark) is ∙ tree-Local g e.mark)
-
-pub no_name : (e : Expr) → ((g : FunName) → e.form ≡ f.Local g → ⊥) → local_name (tree e) ≡ None
-no_name e other = go (out-Form e.form) refl
-  where
-    go : (y : Layer) → out-Form e.form ≡ y → local_name (tree e) ≡ None
-    go (Form-F.Local g) is = absurd (other g (rolled e.form (Form-F.Local g) is ∙ f.rolls-Local g))
-    go y is = ap local_name (by_layer e y is)
-
-pub atom_it : (e : Expr) (x : Literal) (a : Atom) → e.form ≡ f.Lit x → x ≡ l.Atom a → literal_atom (tree e) ≡ Some a
-atom_it e x a is it = ap literal_atom (tree-is e ∙ ap (λ z. form_tree z e.mark) is ∙ tree-Lit x e.mark ∙ ap (λ z. m.literal e.mark z) it)
-
-pub no_atom : (e : Expr) → ((x : Literal) → e.form ≡ f.Lit x → ⊥) → literal_atom (tree e) ≡ None
-no_atom e other = go (out-Form e.form) refl
-  where
-    go : (y : Layer) → out-Form e.form ≡ y → literal_atom (tree e) ≡ None
-    go (Form-F.Form::Lit x) is = absurd (other x (rolled e.form (Form-F.Form::Lit x) is ∙ f.rolls-Lit x))
-    go y is = ap literal_atom (by_layer e y is)
-
-other_literal : (k : Mark) (x : Literal) → ((a : Atom) → x ≡ l.Atom a → ⊥) → literal_atom (m.literal k x) ≡ None
-other_literal k (l.Atom a) other = absurd (other a refl)
-other_literal k _ other = refl
-
-pub no_atom_literal : (e : Expr) (x : Literal) → e.form ≡ f.Lit x → ((a : Atom) → x ≡ l.Atom a → ⊥) → literal_atom (tree e) ≡ None
-no_atom_literal e x is other = ap literal_atom (tree-is e ∙ ap (λ z. form_tree z e.mark) is ∙ tree-Lit x e.mark) ∙ other_literal e.mark x other
 
 -- the sites of each form
 apply_named : (k : Mark) (x : m.Tree) (xs : m.Trees) (g : FunName) → local_name x ≡ Some g → sites (m.apply k x xs) ≡ site k (Applied g (how_many xs)) ∷ all_sites xs
@@ -103,16 +50,6 @@ call_second_other k i a _ xs e = refl
 call_no_name : (k : Mark) (x y : m.Tree) (xs : m.Trees) (a : Atom) → literal_atom x ≡ Some a → literal_atom y ≡ None → sites (m.call k x y xs) ≡ []
 call_no_name k (m.literal i (l.Atom b)) y xs a e h = call_second_other k i b y xs h
 call_no_name k _ y xs a e h = absurd cc
-
--- the tree of each form that has sites
-tuple_tree : (e : Expr) (es : List Expr) → e.form ≡ f.Tuple es → tree e ≡ m.tuple e.mark (all_trees es)
-tuple_tree e es is = tree-is e ∙ ap (λ z. form_tree z e.mark) is ∙ tree-Tuple es e.mark
-
-apply_tree : (e x : Expr) (es : List Expr) → e.form ≡ f.Apply x es → tree e ≡ m.apply e.mark (tree x) (all_trees es)
-apply_tree e x es is = tree-is e ∙ ap (λ z. form_tree z e.mark) is ∙ tree-Apply x es e.mark
-
-call_tree : (e x y : Expr) (es : List Expr) → e.form ≡ f.Call x y es → tree e ≡ m.call e.mark (tree x) (tree y) (all_trees es)
-call_tree e x y es is = tree-is e ∙ ap (λ z. form_tree z e.mark) is ∙ tree-Call x y es e.mark
 
 -- where arguments are few
 few_listed : (es ys : List Expr) → ys ≡ es → AreFew (all_trees es) → AreFew (all_trees ys)
@@ -198,13 +135,13 @@ call_without_name e x y es a old new is home named same =
 
 -- Each other form has none.
 no_sites : (e : Expr) → ((es : List Expr) → e.form ≡ f.Tuple es → ⊥) → ((x : Expr) (es : List Expr) → e.form ≡ f.Apply x es → ⊥) → ((x y : Expr) (es : List Expr) → e.form ≡ f.Call x y es → ⊥) → sites (tree e) ≡ []
-no_sites e no_tuple no_apply no_call = go (out-Form e.form) refl
+no_sites e no_tuple no_apply no_call = by (tree e) refl
   where
-    go : (y : Layer) → out-Form e.form ≡ y → sites (tree e) ≡ []
-    go (Form-F.Form::Tuple es) is = absurd (no_tuple es (rolled e.form (Form-F.Form::Tuple es) is ∙ f.rolls-Tuple es))
-    go (Form-F.Apply x es) is = absurd (no_apply x es (rolled e.form (Form-F.Apply x es) is ∙ f.rolls-Apply x es))
-    go (Form-F.Call x y es) is = absurd (no_call x y es (rolled e.form (Form-F.Call x y es) is ∙ f.rolls-Call x y es))
-    go y is = ap sites (by_layer e y is)
+    by : (t : m.Tree) → tree e ≡ t → sites t ≡ []
+    by (m.tuple k xs) is = let o = opened e (m.tuple k xs) is in absurd (no_tuple o.0 o.1)
+    by (m.apply k x xs) is = let o = opened e (m.apply k x xs) is in absurd (no_apply o.0 o.1 o.2)
+    by (m.call k x y xs) is = let o = opened e (m.call k x y xs) is in absurd (no_call o.0 o.1 o.2 o.3)
+    by t is = refl
 
 pub others_done : (e : Expr) (old new : List Site) → ((es : List Expr) → e.form ≡ f.Tuple es → ⊥) → ((x : Expr) (es : List Expr) → e.form ≡ f.Apply x es → ⊥) → ((x y : Expr) (es : List Expr) → e.form ≡ f.Call x y es → ⊥) → new ≡ old → new ≡ old ++ sites (tree e)
 others_done e old new no_tuple no_apply no_call same = same ∙ sym (ap (λ t. old ++ t) (no_sites e no_tuple no_apply no_call) ∙ append-nil old)
@@ -270,8 +207,6 @@ module_further ds now more found i x so_far within is read added =
 pub module_done : (ds : List (FunDefOf Expr)) (now : List (List Site)) (i : ℕ) → ModuleSoFar ds now i → length ds ≤ i → now ≡ def_sites (all_defs ds)
 module_done ds now i so_far end =
     sym (ap (λ t. now ++ def_sites (all_defs t)) (drop_all i ds end) ∙ append-nil now) ∙ so_far.whole
-
-pub ruleset named_exits = (name_it, no_name, atom_it, no_atom, no_atom_literal)
 
 pub ruleset site_exits = (fits_in_apply, fits_in_call, apply_skipped, call_without_home, others_done, listed_begun, next_few, listed_further, listed_done)
 

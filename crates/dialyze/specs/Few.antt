@@ -1,7 +1,7 @@
 -- How many arguments an application or a call has: few enough for a number of 32 bits.
 use Rattle.std.specs.Prelude.{◌<◌, ◌^◌}
 use Rattle.core_ast.specs.Model as m
-use Rattle.dialyze.specs.Scope.{how_many}
+use Rattle.core_ast.specs.Lengths.{how_many}
 
 abbrev mutual
   pub IsFew : m.Tree → Type 0

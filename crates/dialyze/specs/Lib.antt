@@ -1,7 +1,6 @@
 pub mod Sorts
 pub mod Grammar
 pub mod Scope
-pub mod Named
 pub mod Sites
 pub mod Numbered
 pub mod Few

@@ -1,16 +1,12 @@
 -- Which modules of the small language are accepted: the rules of scope (Core Erlang 1.0.3, "Static
 -- semantics"), and what the first analysis asks besides.
-use Rattle.std.specs.Prelude.{◌≡◌, ◌≢◌, ℕ, ◌+◌, ◌⊎◌, List, [], ◌∷◌, length, map, All, Contains, codes}
+use Rattle.std.specs.Prelude.{◌≡◌, ◌≢◌, ℕ, ◌⊎◌, List, [], ◌∷◌, length, map, All, Contains, codes}
 use Rattle.type_kinds.specs.declared.atom.Atom.{Atom}
 use Rattle.core_ast.specs.declared.syntax.VarName.{VarName}
 use Rattle.core_ast.specs.declared.syntax.FunName.{FunName}
 use Rattle.core_ast.specs.declared.syntax.Literal.TheVariants as l
 use Rattle.core_ast.specs.Model as m
-
--- how many expressions there are
-abbrev pub how_many : m.Trees → ℕ
-how_many m.no_tree = 0
-how_many (m.and_tree x xs) = how_many xs + 1
+use Rattle.core_ast.specs.Lengths.{how_many}
 
 -- the names of definitions, in the order of the text
 abbrev pub names : m.Defs → List FunName

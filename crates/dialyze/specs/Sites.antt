@@ -6,7 +6,8 @@ use Rattle.core_ast.specs.Model as m
 use Rattle.dialyze.specs.declared.sites.Site.{Site}
 use Rattle.dialyze.specs.declared.sites.Callee.{Callee}
 use Rattle.dialyze.specs.declared.sites.Callee.TheVariants.{Applied, Called}
-use Rattle.dialyze.specs.Scope.{how_many, function_name}
+use Rattle.core_ast.specs.Lengths.{how_many}
+use Rattle.dialyze.specs.Scope.{function_name}
 
 abbrev pub site : Mark → Callee → Site
 site k callee = record { label = k.label; line = k.place.line; callee = callee }

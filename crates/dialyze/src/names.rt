@@ -22,19 +22,6 @@ impl Model for Names {
     ghost view = { λ it. it.set.keys };
 }
 
-/// A second name, equal to the first.
-pub fn copied_name(alloc: Global, name: &FunName) -> Result<FunName, Memory>
-    ensures { IfOk result (λ copy. copy ≡ name.now) }
-{
-    match name.name.copy(alloc) {
-        Ok(text) => Ok(FunName {
-            name: text,
-            arity: name.arity,
-        }),
-        Err(Memory) => Err(Memory),
-    }
-}
-
 /// Gives names up.
 pub fn discard_names(_names: Names) {}
 

@@ -1,14 +1,12 @@
-ghost use Rattle.std.specs.Prelude.{◌≡◌, ◌≢◌, ◌^◌, ◌<◌, ◌↔◌, ◌⊎◌, [], All, Contains, codes, length, map, IsTrue, IfOk, IfSome, IfNone, MatchBool, MatchOption, OnOk};
+ghost use Rattle.std.specs.Prelude.{◌≡◌, ◌≢◌, ◌^◌, ◌<◌, ◌↔◌, ◌⊎◌, [], All, Contains, codes, length, Some, map, IsTrue, IfOk, IfSome, IfNone, MatchBool, MatchOption, OnOk};
 ghost use Rattle.type_kinds.specs.declared.atom.Atom.{Atom as TheAtom};
 ghost use Rattle.core_ast.specs.declared.syntax.FunName.{FunName as TheName};
-ghost use Rattle.core_ast.specs.declared.syntax.Mark.{Mark as TheMark};
-ghost use Rattle.core_ast.specs.declared.syntax.Literal.TheVariants as l;
-ghost use Rattle.core_ast.specs.Model as m;
 ghost use Rattle.core_ast.specs.Tree.{tree, all_trees, all_defs, module_tree};
+ghost use Rattle.core_ast.specs.Named.{literal_atom};
 ghost use Rattle.dialyze.specs.Scope.{names, Distinct, wildcard, variable_names, DistinctVariables, IsBound, erlang, function_name, never_returning, IsKnownCall, InScope, AllInScope, IsSound, AllSound, IsAccepted};
 
-use crate::names::{Names, copied_name, discard_names};
-use core_ast::{Expr, Form, FunDef, FunName, Literal, Module, VarName};
+use crate::names::{Names, discard_names};
+use core_ast::{Expr, Form, FunDef, FunName, Module, VarName};
 use std::alloc::Global;
 use type_kinds::{Atom, List, Memory, Shared};
 
@@ -79,21 +77,6 @@ fn is_known_call(home: &Atom, called: &Atom, name: &Atom, arity: usize) -> bool
     }
 }
 
-// The atom that an expression is.
-#[tactic(auto, using(core_ast::proofs::Trees::tree_equations))]
-fn atom_of(expr: &Expr) -> Option<&Atom>
-    ensures some { IfSome result (λ name. tree expr.now ≡ m.literal expr.now.mark (l.Atom name.now)) }
-    ensures none { IfNone result ((k : TheMark) (name : TheAtom) → tree expr.now ≡ m.literal k (l.Atom name) → ⊥) }
-{
-    match &expr.form {
-        Form::Lit(literal) => match literal {
-            Literal::Atom(name) => Some(name),
-            _ => None,
-        },
-        _ => None,
-    }
-}
-
 // Whether an expression is in scope: each variable is a parameter, each applied name is among the
 // functions and each call known.
 #[cycle(scope)]
@@ -134,12 +117,12 @@ fn all_in_scope(exprs: &List<Expr>, home: &Atom, functions: &Names, params: &[Va
 
 // Whether a call's module and name are atoms, and the call known.
 fn is_known(called: &Expr, name: &Expr, arity: usize, home: &Atom) -> bool
-    ensures { IsTrue result ↔ (i : TheMark) × (j : TheMark) × (x : TheAtom) × (f : TheAtom) × (tree called.now ≡ m.literal i (l.Atom x)) × (tree name.now ≡ m.literal j (l.Atom f)) × IsKnownCall home.now x (function_name f arity) }
+    ensures { IsTrue result ↔ (x : TheAtom) × (f : TheAtom) × (literal_atom (tree called.now) ≡ Some x) × (literal_atom (tree name.now) ≡ Some f) × IsKnownCall home.now x (function_name f arity) }
 {
-    let Some(called) = atom_of(called) else {
+    let Some(called) = called.atom() else {
         return false;
     };
-    match atom_of(name) {
+    match name.atom() {
         Some(name) => is_known_call(home, called, name, arity),
         None => false,
     }
@@ -199,7 +182,7 @@ fn insert_all(alloc: Global, found: &mut Names, list: &[FunName]) -> Result<(), 
     ensures { OnOk result ((name : TheName) → Contains found.new name ↔ Contains list.now name) }
 {
     for name in list {
-        let copy = copied_name(alloc, name)?;
+        let copy = name.copy(alloc)?;
         found.insert(copy)?;
     }
     Ok(())
@@ -230,7 +213,7 @@ fn insert_names(alloc: Global, found: &mut Names, defs: &[Shared<FunDef>]) -> Re
     ensures { IfOk result (λ all. MatchBool all ((found.new ≡ names (all_defs defs.now)) × Distinct (names (all_defs defs.now))) (Distinct (names (all_defs defs.now)) → ⊥)) }
 {
     for def in defs {
-        let name = copied_name(alloc, &def.get().name)?;
+        let name = def.get().name.copy(alloc)?;
         if !found.insert(name)? {
             return Ok(false);
         }

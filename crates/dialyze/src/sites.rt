@@ -1,13 +1,10 @@
-ghost use Rattle.std.specs.Prelude.{◌≡◌, [], ◌∷◌, ◌++◌, ◌<◌, ◌^◌, None, Some, IfOk, OnOk, MatchOption};
+ghost use Rattle.std.specs.Prelude.{◌≡◌, [], ◌∷◌, ◌++◌, ◌<◌, ◌^◌, IfOk, OnOk};
 ghost use Rattle.core_ast.specs.Tree.{tree, all_trees, all_defs, module_tree};
 ghost use Rattle.dialyze.specs.Scope.{function_name};
 ghost use Rattle.dialyze.specs.Sites.{site, sites, all_sites, def_sites};
 ghost use Rattle.dialyze.specs.Few.{IsFew, AreFew, AllFew};
-ghost use Rattle.dialyze.specs.Named.{local_name, literal_atom};
 
-use crate::leaves::pushed;
-use crate::names::copied_name;
-use core_ast::{Expr, Form, FunName, Literal, Mark, Module};
+use core_ast::{Expr, Form, FunName, Mark, Module};
 use std::alloc::Global;
 use type_kinds::{Atom, List, Memory};
 
@@ -39,9 +36,7 @@ pub fn sites_of_module(alloc: Global, source: &Module) -> Result<List<List<Site>
     for i in 0..defs.len() {
         let definition = defs[i].get();
         let found = sites_of_body(alloc, definition.fun.body.get())?;
-        if !pushed(&mut lists, found) {
-            return Err(Memory);
-        }
+        lists.add(found)?;
     }
     Ok(lists)
 }
@@ -66,7 +61,7 @@ fn add_sites(alloc: Global, expr: &Expr, found: &mut List<Site>) -> Result<(), M
     match &expr.form {
         Form::Tuple(elements) => add_all_sites(alloc, elements.as_slice(), found),
         Form::Apply(operator, args) => {
-            let Some(name) = name_of(operator.get()) else {
+            let Some(name) = operator.get().local_name() else {
                 return Ok(());
             };
             let count = args.len() as u32;
@@ -74,10 +69,10 @@ fn add_sites(alloc: Global, expr: &Expr, found: &mut List<Site>) -> Result<(), M
             add_all_sites(alloc, args.as_slice(), found)
         }
         Form::Call(home, name, args) => {
-            let Some(home) = atom_of(home.get()) else {
+            let Some(home) = home.get().atom() else {
                 return Ok(());
             };
-            let Some(name) = atom_of(name.get()) else {
+            let Some(name) = name.get().atom() else {
                 return Ok(());
             };
             let count = args.len() as u32;
@@ -101,31 +96,6 @@ fn add_all_sites(alloc: Global, exprs: &[Expr], found: &mut List<Site>) -> Resul
     Ok(())
 }
 
-// The name of a function of the module, where the expression is one.
-#[tactic(auto, using(crate::proofs::SiteExits::named_exits))]
-fn name_of(expr: &Expr) -> Option<&FunName>
-    ensures { MatchOption result (local_name (tree expr.now) ≡ None) (λ name. local_name (tree expr.now) ≡ Some name.now) }
-{
-    match &expr.form {
-        Form::Local(name) => Some(name),
-        _ => None,
-    }
-}
-
-// The atom, where the expression is one.
-#[tactic(auto, using(crate::proofs::SiteExits::named_exits))]
-fn atom_of(expr: &Expr) -> Option<&Atom>
-    ensures { MatchOption result (literal_atom (tree expr.now) ≡ None) (λ name. literal_atom (tree expr.now) ≡ Some name.now) }
-{
-    match &expr.form {
-        Form::Lit(value) => match value {
-            Literal::Atom(name) => Some(name),
-            _ => None,
-        },
-        _ => None,
-    }
-}
-
 // Adds an application.
 fn add_applied(
     alloc: Global,
@@ -136,7 +106,7 @@ fn add_applied(
 ) -> Result<(), Memory>
     ensures { OnOk result (found.new ≡ found.old ++ site mark.now (Callee.Applied name.now count) ∷ []) }
 {
-    let callee = copied_name(alloc, name)?;
+    let callee = name.copy(alloc)?;
     add_site(mark, Callee::Applied(callee, count), found)
 }
 
@@ -163,14 +133,9 @@ fn add_called(
 fn add_site(mark: &Mark, callee: Callee, found: &mut List<Site>) -> Result<(), Memory>
     ensures { OnOk result (found.new ≡ found.old ++ site mark.now callee ∷ []) }
 {
-    let added = Site {
+    found.add(Site {
         label: mark.label,
         line: mark.place.line,
         callee,
-    };
-    if pushed(found, added) {
-        Ok(())
-    } else {
-        Err(Memory)
-    }
+    })
 }

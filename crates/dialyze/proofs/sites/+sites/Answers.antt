@@ -28,9 +28,9 @@ add_sites-returns-in_ok-add_applied-in-Apply t c =
 
 pub add_sites-returns-in_ok-add_called-in-Call : goal.add_sites-returns-in_ok-add_called-in-Call
 add_sites-returns-in_ok-add_called-in-Call t c =
-    call_done c.args.expr.now c.in-Call.home c.in-Call.name c.in-Call.args c.as_slice-in-Call.result.now c.in-Some-atom_of.home.now c.in-Some-atom_of-2.name.now c.len-count-in-Call.result c.args.found.now c.add_called.new.found c.add_all_sites-in-Call.new.found c.add_all_sites-in-Call.result
-    c.in-Call.is c.as_slice-in-Call.ensures (atom_through _ _ _ c.get-in-Call.ensures c.in-Some-atom_of.ensures) (atom_through _ _ _ c.get-in-Call-2.ensures c.in-Some-atom_of-2.ensures) c.len-count-in-Call.ensures c.in_ok-add_called-in-Call.ensures c.add_all_sites-in-Call.ensures
+    call_done c.args.expr.now c.in-Call.home c.in-Call.name c.in-Call.args c.as_slice-in-Call.result.now c.in-Some-atom.home.now c.in-Some-atom-2.name.now c.len-count-in-Call.result c.args.found.now c.add_called.new.found c.add_all_sites-in-Call.new.found c.add_all_sites-in-Call.result
+    c.in-Call.is c.as_slice-in-Call.ensures (atom_through _ _ _ c.get-in-Call.ensures c.in-Some-atom.ensures) (atom_through _ _ _ c.get-in-Call-2.ensures c.in-Some-atom-2.ensures) c.len-count-in-Call.ensures c.in_ok-add_called-in-Call.ensures c.add_all_sites-in-Call.ensures
 
-pub add_sites-returns-in_default-atom_of-2 : goal.add_sites-returns-in_default-atom_of-2
-add_sites-returns-in_default-atom_of-2 t c =
-    call_without_name c.args.expr.now c.in-Call.home c.in-Call.name c.in-Call.args c.in-Some-atom_of.home.now c.args.found.now _ c.in-Call.is (atom_through _ _ _ c.get-in-Call.ensures c.in-Some-atom_of.ensures) (atom_through _ _ _ c.get-in-Call-2.ensures c.in_default-atom_of-2.ensures) refl
+pub add_sites-returns-in_default-atom-2 : goal.add_sites-returns-in_default-atom-2
+add_sites-returns-in_default-atom-2 t c =
+    call_without_name c.args.expr.now c.in-Call.home c.in-Call.name c.in-Call.args c.in-Some-atom.home.now c.args.found.now _ c.in-Call.is (atom_through _ _ _ c.get-in-Call.ensures c.in-Some-atom.ensures) (atom_through _ _ _ c.get-in-Call-2.ensures c.in_default-atom-2.ensures) refl
