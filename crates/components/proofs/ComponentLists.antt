@@ -1,4 +1,4 @@
--- Members and callees, one step further on.
+-- Members after one more node, and callees after one more component.
 use Rattle.std.proofs.Common.{◌≡◌, ℕ, ◌+◌, ◌<◌, ◌⊎◌, ◌↔◌, inl, inr, List, [], ◌∷◌, ◌++◌, length, get_or, set, sym, ◌∙◌, ap, subst, arith}
 use Rattle.std.specs.Prelude.{Contains, slice_index, Result, Ok, Err, OnOk, IfOk}
 use Rattle.std.proofs.lemmas.List.{length_push, length-set, get_or_default, get_or_append_left, get_or-set_same, get_or-set_other}

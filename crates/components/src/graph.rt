@@ -26,7 +26,7 @@ impl Model for Graph {
 }
 
 impl Graph {
-    /// A graph of this many nodes, without pairs.
+    /// A graph of this many nodes, without pairs. Fails only if allocation fails.
     pub fn new(alloc: Global, count: u32) -> Result<Graph, Memory>
         ensures value { IfOk result (λ graph. graph ≡ replicate count []) }
         ensures count { IfOk result (λ graph. length graph ≡ count) }
@@ -58,8 +58,9 @@ impl Graph {
         found.as_slice()
     }
 
-    /// Lets one node lead to another. A pair that is there already changes nothing. If allocation
-    /// fails, the graph stays as it was.
+    /// Adds a pair: the node `from` leads to the node `to`. A pair that is there already changes
+    /// nothing; it is found by its hash. The only error is that allocation fails, and then the graph
+    /// stays as it was.
     pub fn add(&mut self, from: u32, to: u32) -> Result<(), Memory>
         requires from { from < length self.old }
         requires to { to < length self.old }

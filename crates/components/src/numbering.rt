@@ -74,7 +74,7 @@ impl Comps {
 /// The strong components of a graph: two nodes are in one where they are equal or each reaches the
 /// other. They are numbered from 0 in ready order: a component without a number is ready when every
 /// other component that its members lead to has a number, and each next number goes to the ready
-/// component whose least member is least.
+/// component whose least member is least. Fails only if allocation fails.
 pub fn components(alloc: Global, graph: &Graph) -> Result<Comps, Memory>
     ensures nodes { IfOk result (λ comps. NumberingNodes graph.now comps) }
     ensures together { IfOk result (λ comps. NumberingTogether graph.now comps) }

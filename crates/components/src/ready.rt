@@ -51,7 +51,7 @@ impl Order {
         })
     }
 
-    // Lets every component that has to look do so.
+    // Lets each component that has to look find its next callee without a number.
     fn place_all(&mut self, callees: &[List<u32>]) -> Result<(), Memory>
         requires inside { IsInside callees.now }
         requires ordered { IsOrdered callees.now self.old }

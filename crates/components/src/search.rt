@@ -12,9 +12,9 @@ use type_kinds::{List, Memory};
 pub enum NodeState {
     /// The search hasn't seen it.
     Unseen,
-    /// It stands on the path, at this place.
+    /// It is on the path, at this place.
     Open(usize),
-    /// It has this component.
+    /// It is of this component.
     Closed(u32),
 }
 
@@ -36,7 +36,7 @@ pub struct Search {
     pub path: List<u32>,
     /// Targets of open nodes that have to be looked at.
     pub pending: Vec<u32>,
-    /// The parts of the path.
+    /// The blocks that the path is cut into.
     pub blocks: List<Block>,
     /// All nodes below this one have been seen.
     pub cursor: u32,
@@ -76,7 +76,8 @@ impl Search {
         }
     }
 
-    /// Goes on until there is a node to be opened, and gives it; `None` where the search is at its end.
+    /// Goes on until there is a node to be opened, and gives it. Gives `None` exactly where the
+    /// search is at its end.
     pub fn next(&mut self, graph: &Graph) -> Option<u32>
         requires graph { IsGraph graph.now }
         requires sound { IsSound graph.now self.old }
@@ -141,7 +142,7 @@ impl Search {
         }
     }
 
-    // Lets the last block and the block before it be one.
+    // Joins the last block to the block before it.
     fn merge(&mut self, graph: &Graph, top: Block)
         requires sound { IsSound graph.now self.old }
         requires top { TopIs self.old.blocks top }
@@ -154,7 +155,7 @@ impl Search {
         let _ = self.blocks.pop();
     }
 
-    // Passes the last pending target.
+    // Drops the last pending target.
     fn settle(&mut self, graph: &Graph, top: Block)
         requires sound { IsSound graph.now self.old }
         requires top { TopIs self.old.blocks top }
@@ -211,7 +212,7 @@ impl Search {
     }
 }
 
-// Closes the nodes from a place of the path on, with one number.
+// Closes the nodes of the path from a place on, with one number.
 fn shut(states: &mut Vec<NodeState>, path: &[u32], first: usize, number: u32)
     requires first { first ≤ length path.now }
     requires on_path { (p : ℕ) → p < length path.now → state_of states.old.items (slice_index path.now p) ≡ NodeState.Open p }

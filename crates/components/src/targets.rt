@@ -38,8 +38,8 @@ impl Targets {
         self.nodes.as_slice()
     }
 
-    /// Adds a node last; one that is there already changes nothing. It is found by its hash. If
-    /// allocation fails, the nodes stay as they were.
+    /// Adds a node last; one that is there already changes nothing. If allocation fails, the nodes
+    /// stay as they were.
     pub fn insert(&mut self, node: u32) -> Result<(), Memory>
         ensures ok { OnOk result (self.new ≡ with_target self.old node) }
         ensures err { OnErr result (self.new ≡ self.old) }

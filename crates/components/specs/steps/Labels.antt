@@ -13,7 +13,7 @@ pub record IsLabelled (component_of labels : List ℕ) (count : ℕ) : Type 0 wh
 abbrev pub label_of : List (Option ℕ) → ℕ → Option ℕ
 label_of table h = slice_index_or table h None
 
--- The same as far as the labels go.
+-- What holds after some nodes: the table has the label of each component that has been met, and the labels are as above.
 pub record Labelling (component_of : List ℕ) (table : List (Option ℕ)) (labels : List ℕ) (count : ℕ) : Type 0 where
   pub known : (f : ℕ) → f < length labels → label_of table (slice_index component_of f) ≡ Some (slice_index labels f)
   pub from_node : (h l : ℕ) → label_of table h ≡ Some l → (l < count) × ((f : ℕ) × (f < length labels) × (slice_index component_of f ≡ h) × (slice_index labels f ≡ l))

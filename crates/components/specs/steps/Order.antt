@@ -23,7 +23,7 @@ Ranked ranks c = (r : ℕ) × (rank_of ranks c ≡ Some r)
 abbrev pub RankedBelow : List (Option ℕ) → ℕ → ℕ → Type 0
 RankedBelow ranks n c = (r : ℕ) × (rank_of ranks c ≡ Some r) × (r < n)
 
--- the watcher of no list
+-- what the places past the end of a list of watchers count as
 abbrev pub nobody : Watcher
 nobody = record { component = 0; at = 0 }
 
@@ -68,7 +68,7 @@ pub record Ordered (callees : List (List ℕ)) (ranks : List (Option ℕ)) (read
   pub passed : (k : ℕ) → k < length again → PassedTo callees ranks (slice_index_or again k nobody).component (slice_index_or again k nobody).at
   pub fits : count + sum_by unranked ranks ≤ length callees
 
--- The same of the state that the code keeps.
+-- The same, of the code's state.
 abbrev pub IsOrdered : List (List ℕ) → Order → Type 0
 IsOrdered callees s = Ordered callees s.ranks.items s.ready s.watchers s.again s.count
 
@@ -78,7 +78,7 @@ TakenFrom callees s component =
     (ready : List ℕ) × Ordered callees s.ranks.items ready s.watchers s.again s.count × (ready ≡ component ∷ s.ready) × Ascending ready
     × (rank_of s.ranks.items component ≡ None)
 
--- Every component once, before its first callee.
+-- Every component once, at the place of its first callee.
 abbrev pub FirstWatchers : List Watcher → ℕ → Type 0
 FirstWatchers ws count = (length ws ≡ count) × ((k : ℕ) → k < count → slice_index_or ws k nobody ≡ record { component = k; at = 0 })
 

@@ -8,7 +8,7 @@ use Rattle.components.specs.declared.search.Look.{Look}
 use Rattle.components.specs.declared.search.Look.TheVariants.{Enter, Close, Merge, Settled}
 use Rattle.components.specs.steps.Search.{state_of, Walk, Sound}
 
--- What is true at each step, of the state that the code keeps.
+-- What is true at each step, of the code's state.
 abbrev pub IsSound : List (List ℕ) → Search → Type 0
 IsSound graph s = Sound graph s.states.items s.path s.pending.items s.blocks s.cursor s.count
 
