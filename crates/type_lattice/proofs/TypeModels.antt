@@ -167,7 +167,7 @@ tail_some t r p c n e f h g =
 pub tuples_are : (t : Type4) (n : Node) (p : PartsOf Node) (x : TuplesOf Node) → n ≡ v.Of p → view 4 n ≡ t.ty → p.tuples ≡ x → t.ty.tuples ≡ tuples_view 3 x
 tuples_are t n p x e f g = ap (λ q. q.tuples) (parts_are t n p e f) ∙ ap (tuples_view 3) g
 
-tuples_of_fit : (n : Node) (p : PartsOf Node) (x : TuplesOf Node) → n ≡ v.Of p → Fits 4 n → p.tuples ≡ x → TuplesFit 3 x
+pub tuples_of_fit : (n : Node) (p : PartsOf Node) (x : TuplesOf Node) → n ≡ v.Of p → Fits 4 n → p.tuples ≡ x → TuplesFit 3 x
 tuples_of_fit n p x e k f =
     let q = below_fits n p e 4 k in
     subst (TuplesFit 3) f (record { normal = q.normal.2; each = q.each.1 })
@@ -192,7 +192,7 @@ is_lifted_none : (r : Type4) → r ≡ none → r.ty ≡ lifted 3 None
 unfolding none
 is_lifted_none r e = ap (λ t. t.ty) e
 
-any_tuples : (t : Type4) → t.ty ≡ (ops 4).any → t.ty.tuples ≡ all_tuples
+pub any_tuples : (t : Type4) → t.ty ≡ (ops 4).any → t.ty.tuples ≡ all_tuples
 unfolding ops
 any_tuples t e = ap (λ p. p.tuples) e
 

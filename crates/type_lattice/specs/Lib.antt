@@ -1,2 +1,5 @@
+pub mod Chains
+pub mod Elements
+pub mod Inclusion
 pub mod Kinds
 pub mod Types

@@ -6,6 +6,7 @@ ghost use Rattle.type_model.specs.Values.{Value, Values, count, tuple as tuple_v
 ghost use Rattle.type_model.proofs.NormalOnce.{normal_once};
 ghost use Rattle.type_lattice.specs.declared.kinds.Ends.TheVariants.{Proper};
 ghost use Rattle.type_lattice.specs.Types.{Type4, HasType, HasTypes, Below, IsOfLevel, none, any, is_none, meet, join, cut, tuple, cons, project, elem, tail, of_atoms, of_ints, every_tuple};
+ghost use Rattle.type_lattice.specs.Inclusion.{leq};
 ghost use Rattle.type_lattice.specs.Kinds.{HasAtom, HasInt, IsKind, of_kind, asks_proper};
 ghost use Rattle.type_trees.specs.View.{view, Fits};
 
@@ -146,7 +147,8 @@ impl Ty {
 
     /// Whether each value of this type is one of the other. Takes no memory.
     pub fn leq(&self, other: &Ty) -> bool
-        ensures { IsTrue result ↔ Below self.now other.now }
+        ensures value { result ≡ leq self.now other.now }
+        ensures below { IsTrue result ↔ Below self.now other.now }
     {
         leq(4, &self.kept.node, &other.kept.node)
     }

@@ -1,0 +1,16 @@
+use Rattle.std.proofs.Common.{◌+◌, ◌∙◌, sym, arith}
+use Rattle.type_trees.proofs.Inclusions.{size_fits}
+use Rattle.type_lattice.proofs.ElementTrees.{sizes_joined, no_sizes_left}
+use Rattle.type_lattice.proofs.elements.with_sizes.Goals as goal
+
+pub with_body-requires-clause-body : goal.with_body-requires-clause-body
+with_body-requires-clause-body c = (c.size-item.result.size, size_fits 3 c.args.sizes.now c.requires c.loop-size.size-index c.size-item.result c.loop-size-test.true c.size-item.is)
+
+pub loop-size-preserved : goal.loop-size-preserved
+loop-size-preserved c = record {
+  fits = c.in_ok-t.ensures.fits;
+  value = sizes_joined c.args.places.now c.args.sizes.now c.loop-size.size-index (c.loop-size.size-index + 1) c.size-item.result c.loop-size.t c.in_ok-t.t (omega arith) c.loop-size-test.true c.size-item.is c.in_ok-t.ensures.value ∙ c.loop-size.invariant.value;
+}
+
+pub returns-clause-value : goal.returns-clause-value
+returns-clause-value c = sym (no_sizes_left c.args.places.now c.args.sizes.now c.loop-size.size-index c.loop-size.t c.loop-size-test.false) ∙ c.loop-size.invariant.value
