@@ -1,6 +1,5 @@
 -- Canonical values tell types apart.
 use Rattle.type_model.specs.Values.{Value}
-use Rattle.type_model.specs.HasType.{HasAt}
 use Rattle.type_model.specs.Canonical.{IsCanonical}
 use Rattle.type_model.proofs.CanonicalLaws as levels
 use Rattle.type_lattice.specs.Types.{Type4, HasType, Below}

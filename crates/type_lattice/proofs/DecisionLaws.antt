@@ -1,7 +1,6 @@
 -- Equality and inclusion of types are functions.
 use Rattle.std.proofs.Common.{◌≡◌, Bool, true, false, refl, sym, ◌∙◌, subst, true≢false}
 use Rattle.std.specs.Prelude.{◌↔◌, IsTrue}
-use Rattle.type_model.specs.Values.{Value}
 use Rattle.type_lattice.specs.Types.{Type4, HasType, Below, meet}
 use Rattle.type_lattice.specs.Inclusion.{is_same, same-equal, leq}
 use Rattle.type_lattice.proofs.TypeLaws.{below_both, meet-both}

@@ -1,15 +1,14 @@
 -- The elements of a tree's tuples against the model.
-use Rattle.std.proofs.Common.{◌≡◌, ℕ, zero, suc, pos, ◌+◌, ◌<◌, ◌≤◌, Bool, true, false, cond, List, [], ◌∷◌, ◌++◌, map, length, drop, Some, None, refl, sym, ap, ◌∙◌, subst, arith}
-use Rattle.std.specs.Prelude.{◌↔◌, IsTrue, slice_get, slice_index_or}
+use Rattle.std.proofs.Common.{◌≡◌, ℕ, zero, suc, pos, ◌<◌, ◌≤◌, true, false, cond, List, [], ◌∷◌, ◌++◌, length, drop, None, refl, sym, ap, ◌∙◌, subst, arith}
+use Rattle.std.specs.Prelude.{slice_index_or}
 use Rattle.type_sets.specs.Numbers as numbers
 use Rattle.type_sets.specs.Numbers.{Numbers}
 use Rattle.type_sets.specs.declared.ends.Low.TheVariants.{Min}
 use Rattle.type_sets.specs.declared.ends.High.TheVariants.{Max}
-use Rattle.type_model.specs.Shapes.{Plain, Body, sizes, all_tuples, TypeAt}
+use Rattle.type_model.specs.Shapes.{PlainParts, sizes, all_tuples, TypeAt}
 use Rattle.type_model.specs.Operations.{ops, elements, plain_none}
 use Rattle.type_model.specs.Cut.{cut}
 use Rattle.type_model.specs.Elements.{at_places, sizes_at, with_elements, tuples_at}
-use Rattle.type_model.proofs.TableLaws.{same_some}
 use Rattle.type_trees.specs.declared.node.Node.{Node}
 use Rattle.type_trees.specs.declared.node.Node.TheVariants as v
 use Rattle.type_trees.specs.declared.node.PartsOf.{PartsOf}
@@ -115,6 +114,6 @@ unfolding ints_of
 ints_there t p e = sym e
 
 -- the tree of none
-pub none_tree : (p : Plain) (ss : List (SizeOf Node)) → p ≡ plain_none → ss ≡ [] → view 4 (v.Of (record { plain = p; cell = None; tuples = Sizes ss })) ≡ (ops 4).none
+pub none_tree : (p : PlainParts) (ss : List (SizeOf Node)) → p ≡ plain_none → ss ≡ [] → view 4 (v.Of (record { plain = p; cell = None; tuples = Sizes ss })) ≡ (ops 4).none
 unfolding ops
 none_tree p ss e f = plain_view p ss f ∙ ap (λ q. record { plain = q; cell = None; tuples = sizes [] }) e

@@ -1,17 +1,15 @@
 -- What types made of types have, and what is in their parts: tuples, lists, and the elements of both.
-use Rattle.std.proofs.Common.{◌≡◌, ℕ, ◌-◌, ◌<◌, ◌≤◌, suc, ℤ, pos, Bool, true, false, List, [], ◌∷◌, map, length, Some, refl, sym, ap, ◌∙◌, subst, arith}
+use Rattle.std.proofs.Common.{◌≡◌, ℕ, ◌-◌, ◌≤◌, suc, ℤ, pos, Bool, true, false, List, [], ◌∷◌, map, length, Some, arith}
 use Rattle.std.specs.Prelude.{◌↔◌, IsTrue, nat_lt}
 use borrow.Author.Tests.{lt-ltb}
 use Rattle.std.proofs.lemmas.List.{length-map}
 use Rattle.type_sets.specs.Numbers as numbers
 use Rattle.type_sets.specs.Numbers.{Numbers}
 use Rattle.type_model.specs.Values.{Value, int, nil, Values, no_value, and_value, count, heads, end_of, cons as cons_value, tuple as tuple_value}
-use Rattle.type_model.specs.Shapes.{TypeAt}
 use Rattle.type_model.specs.HasType.{HasAt, HasAll, HasEach}
 use Rattle.type_model.specs.Cut as levels
 use Rattle.type_model.specs.Parts.{value_at}
 use Rattle.type_model.proofs.CutLaws.{cut_lowering, cut_exact}
-use Rattle.type_model.proofs.MadeLaws.{tail-in}
 use Rattle.type_model.proofs.ProductLaws.{tuple-only, tuple-exact}
 use Rattle.type_model.proofs.ListLaws.{cons-only, cons-lists, cons-free, cons-parts, elem-least, tail-least}
 use Rattle.type_model.proofs.ElementLaws.{project-least, elements-have, elements-least, elements-more}

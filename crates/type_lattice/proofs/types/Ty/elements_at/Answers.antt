@@ -1,4 +1,4 @@
-use Rattle.std.proofs.Common.{◌≡◌, ap, sym, subst, ◌∙◌}
+use Rattle.std.proofs.Common.{◌≡◌, sym, subst}
 use Rattle.type_model.specs.Operations.{ops}
 use Rattle.type_model.specs.Elements.{sizes_at, with_elements}
 use Rattle.type_trees.specs.View.{view, sizes_view, SizesFit}
