@@ -62,7 +62,7 @@ proper_ends : (h t : Type4) → ((v : Value) → HasType v t → end_of v ≡ ni
 unfolding HasType cons
 proper_ends h t f v m = cons-lists 3 h.ty t.ty t.normal f v m
 
--- the ends are proper just where the tail has proper lists alone
+-- the ends are proper exactly where the tail has proper lists alone
 pub cons-ends : (h t : Type4) → (h ≡ none → ⊥) → ((v : Value) → HasType v (cons h t true) → end_of v ≡ nil) ↔ ((v : Value) → HasType v t → end_of v ≡ nil)
 cons-ends h t n =
     let w = filled h n in
@@ -89,7 +89,7 @@ parts_of_cons : (t : Type4) (x y : Value) → HasType x (elem t) → HasType y (
 unfolding HasType elem tail
 parts_of_cons t x y f g = cons-parts 3 t.ty t.normal x y f g
 
--- a cons is in a type just where its head and its tail are in the parts
+-- a cons is in a type exactly where its head and its tail are in the parts
 pub cons-by_parts : (t : Type4) (x y : Value) → HasType (cons_value x y) t ↔ (HasType x (elem t) × HasType y (tail t))
 cons-by_parts t x y = (λ h. (elem-holds t x y h, tail-holds t x y h), λ h. parts_of_cons t x y h.0 h.1)
 

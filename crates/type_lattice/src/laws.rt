@@ -74,7 +74,7 @@ pub fn cut_laws()
 {}
 
 /// The type of the tuples of some types is the smallest that has them, and has nothing but tuples. Up to
-/// 64 types it has just the tuples whose elements are in these types cut to level 3.
+/// 64 types it has exactly the tuples whose elements are in these types cut to level 3.
 pub fn tuple_laws()
     ensures above { (ts : List Type4) (vs : Values) → HasTypes vs ts → HasType (tuple_value vs) (tuple ts) }
     ensures least { (ts : List Type4) (u : Type4) → ((vs : Values) → HasTypes vs ts → HasType (tuple_value vs) u) → Below (tuple ts) u }

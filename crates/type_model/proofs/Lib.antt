@@ -4,9 +4,10 @@ pub mod CellLaws
 pub mod CutLaws
 pub mod ElementLaws
 pub mod LevelLaws
-pub mod LiftLaws
+mod LiftLaws
 pub mod ListLaws
 pub mod MadeLaws
+pub mod MoreLaws
 pub mod NormalOnce
 pub mod PartsLaws
 pub mod PlainLaws

@@ -139,7 +139,7 @@ heads_out d h t proper x m =
       | false ↦ λ y. (refl, elim ((ops (suc d)).is_none t) as (λ b. HasAt (suc d) x (elem_at d (cond b none (cell_type d h t proper))) → b ≡ false) [ true ↦ λ z. absurd (empty z) | false ↦ λ z. refl ] y)
     ] m
 
--- with free ends there is just each list whose heads are those of the lists with proper ends
+-- with free ends there is every list whose heads are those of the lists with proper ends
 pub cons-free : (d : ℕ) (h t : TypeAt (suc d)) → NormalAt (suc d) h → NormalAt (suc d) t → (x y : Value) → HasAt (suc d) (cons x y) (cons_at d h t false) ↔ HasAll (HasAt (suc d)) (and_value x (heads y)) (elem_at d (cons_at d h t true))
 unfolding NormalAt
 cons-free d h t j k x y =

@@ -1,5 +1,4 @@
--- The type of the tuples of some types has nothing but tuples, and, up to 64 elements, just those of the types cut to the level of
--- elements.
+-- The type of some types' tuples has only tuples: up to 64 elements exactly those of the types cut to the level of elements.
 use Rattle.std.proofs.Common.{◌≡◌, ℕ, zero, suc, Bool, true, false, ◌||◌, cond, List, [], ◌∷◌, map, length, Some, None, refl, sym, ap, ◌∙◌, subst, true≢false, arith}
 use Rattle.std.specs.Prelude.{◌↔◌, nat_lt, option_map}
 use Rattle.std.specs.Ordering.{nat_cmp, eq_by_cmp}

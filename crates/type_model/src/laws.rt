@@ -30,7 +30,7 @@ pub fn cut_laws()
 {}
 
 /// The type of a product is the least of its level that has the tuples, and has nothing but tuples: up
-/// to 64 elements just those of the types cut to the level below. The type of an element is above what
+/// to 64 elements exactly those of the types cut to the level below. The type of an element is above what
 /// stands there, and the least such type up to 64 elements.
 pub fn tuple_laws()
     ensures normal { (d : ℕ) (es : List (TypeAt d)) → AreNormal (NormalAt d) es → NormalAt d (tuple_at d es) }

@@ -1,12 +1,16 @@
 //! What the crates of types say together: facts for all types that are proved from the clauses of
-//! `type_lattice` alone, and tests: one table of types and values that tries the calls against one
+//! those crates alone, and tests: one table of types and values that tries the calls against one
 //! another, and worked types.
 #![tactic(auto)]
 
 mod facts;
+mod narrowing;
 
 pub use facts::{inclusion_is_transitive, join_is_above, meet_is_below};
+pub use narrowing::{cons_of_its_parts, narrowed, narrowed_list, narrowing_is_monotone, read_back};
 
+#[cfg(test)]
+mod elements;
 #[cfg(test)]
 mod table;
 #[cfg(test)]

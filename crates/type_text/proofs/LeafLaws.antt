@@ -81,7 +81,7 @@ pub record NumberLeft (value : ℕ) (left : List ℕ) (n : ℕ) (rest : List ℕ
   pub all : digits_value_after 10 value more ≡ n
   pub text : left ≡ more ++ rest
 
-no_stop : (left : List ℕ) (c : ℕ) (cs rest : List ℕ) → AllDigits 10 (c ∷ cs) → left ≡ (c ∷ cs) ++ rest → WordStop left → ⊥
+pub no_stop : (left : List ℕ) (c : ℕ) (cs rest : List ℕ) → AllDigits 10 (c ∷ cs) → left ≡ (c ∷ cs) ++ rest → WordStop left → ⊥
 no_stop left c cs rest digits text stops =
     let digit = digit_from_value c digits.0 in
     let stop : is_digit c ≡ false = subst WordStop text stops in grind (arith, nat_tests)

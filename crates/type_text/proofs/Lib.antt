@@ -1,6 +1,8 @@
 mod Adding
 mod LeafLaws
+mod LeafOnce
 mod Prints
+mod TextOnce
 mod TypeStarts
 mod WholeTexts
 mod WordLaws

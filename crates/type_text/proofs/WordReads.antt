@@ -151,10 +151,10 @@ pub record NextWord (d : ℕ) (t : Node) (next : List ℕ) (whole : TypeAt (suc 
   pub behind_is : behind ≡ after (codes " | ") (spelled later) ++ rest
   pub all : joined_with (ops (suc d)).join ((ops (suc d)).join (view (suc d) t) type) later ≡ whole
 
-no_bar : (rest next : List ℕ) → TypeStop rest → rest ≡ codes " | " ++ next → ⊥
+pub no_bar : (rest next : List ℕ) → TypeStop rest → rest ≡ codes " | " ++ next → ⊥
 no_bar rest next k e = true≢false (sym (subst TypeStop e k))
 
-words_stop : {T : Type 0} (ps : List (List ℕ × T)) (rest : List ℕ) → TypeStop rest → WordStop (after (codes " | ") (spelled ps) ++ rest)
+pub words_stop : {T : Type 0} (ps : List (List ℕ × T)) (rest : List ℕ) → TypeStop rest → WordStop (after (codes " | ") (spelled ps) ++ rest)
 words_stop [] rest k = word_stop rest k
 words_stop (p ∷ ps) rest k = refl
 
@@ -211,11 +211,11 @@ pub record NextElement (d : ℕ) (row : List Node) (next : List ℕ) (whole : Li
   pub behind_is : behind ≡ after (codes ",") (map (text_at d) later) ++ (codes "}" ++ rest)
   pub all : row_view d row ++ (type ∷ later) ≡ whole
 
-elements_stop : (d : ℕ) (es : List (TypeAt d)) (rest : List ℕ) → TypeStop (after (codes ",") (map (text_at d) es) ++ (codes "}" ++ rest))
+pub elements_stop : (d : ℕ) (es : List (TypeAt d)) (rest : List ℕ) → TypeStop (after (codes ",") (map (text_at d) es) ++ (codes "}" ++ rest))
 elements_stop d [] rest = refl
 elements_stop d (e ∷ es) rest = refl
 
-no_comma : (rest next : List ℕ) → 125 ∷ rest ≡ 44 ∷ next → ⊥
+pub no_comma : (rest next : List ℕ) → 125 ∷ rest ≡ 44 ∷ next → ⊥
 no_comma rest next e = omega (arith, first_is 125 44 rest next e)
   where
     first_is : (a b : ℕ) (x y : List ℕ) → a ∷ x ≡ b ∷ y → a ≡ b

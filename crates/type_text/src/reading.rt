@@ -26,10 +26,11 @@ impl From<Memory> for TextFault {
     }
 }
 
-/// The type whose text this is. Each type has one text, and what is read is printed as itself:
-/// `NotAType` comes exactly where the bytes are the text of no type.
+/// The type whose text this is. Each type has one text, and no two types have the same, so what was
+/// printed is read back as itself. `NotAType` comes exactly where the bytes are the text of no type.
 pub fn read(alloc: Global, text: &[u8]) -> Result<Ty, TextFault>
     ensures ok { IfOk result (λ t. text.now ≡ text_of t) }
+    ensures same { IfOk result (λ t. (s : Type4) → text.now ≡ text_of s → t ≡ s) }
     ensures not { result ≡ Err NotAType → (t : Type4) → text.now ≡ text_of t → ⊥ }
 {
     match whole(alloc, text) {

@@ -1,0 +1,93 @@
+//! The elements of tuples at some places, the integers of types, and their equality.
+use crate::narrowing::{narrowed, narrowed_list, read_back};
+use std::alloc::Global;
+use type_kinds::{List, Memory};
+use type_lattice::Ty;
+use type_sets::{High, IntSet, Low};
+use type_text::{TextFault, print, read};
+
+fn is(alloc: Global, t: &Ty, text: &[u8]) -> Result<bool, Memory> {
+    let mut out = List::new(alloc);
+    print(t, &mut out)?;
+    Ok(out.as_slice() == text)
+}
+
+// Whether these are the elements of the type at the places.
+fn elements_are(
+    alloc: Global,
+    t: &[u8],
+    places: &IntSet,
+    elements: &[u8],
+) -> Result<bool, TextFault> {
+    let t = read(alloc, t)?;
+    let joined = t.elements_at(alloc, places)?;
+    Ok(is(alloc, &joined, elements)?)
+}
+
+#[test]
+fn elements_at_places(rt: HostRuntime) -> Result<(), TextFault> {
+    let alloc = rt.alloc();
+    let two: &[u8] = b"{'a',1} | {2,'b',float()}";
+    assert!(rt; elements_are(alloc, two, &IntSet::one(1), b"'a' | 2")?);
+    assert!(rt; elements_are(alloc, two, &IntSet::one(2), b"'b' | 1")?);
+    assert!(rt; elements_are(alloc, two, &IntSet::one(3), b"float()")?);
+    assert!(rt; elements_are(alloc, two, &IntSet::one(4), b"none()")?);
+    assert!(rt; elements_are(alloc, two, &IntSet::one(0), b"none()")?);
+    let all = IntSet::range(Low::One, High::Max);
+    assert!(rt; elements_are(alloc, two, &all, b"'a' | 'b' | 1 | 2 | float()")?);
+    let tagged: &[u8] = b"{'error',integer()} | {'ok',any()}";
+    assert!(rt; elements_are(alloc, tagged, &IntSet::one(1), b"'error' | 'ok'")?);
+    assert!(rt; elements_are(alloc, b"tuple()", &IntSet::one(7), b"any()")?);
+    assert!(rt; elements_are(alloc, b"'a' | 1", &all, b"none()")?);
+    Ok(())
+}
+
+#[test]
+fn integers_of_a_type(rt: HostRuntime) -> Result<(), TextFault> {
+    let alloc = rt.alloc();
+    let t = read(alloc, b"'a' | 1 | 2 | float()")?;
+    assert!(rt; t.integers().contains(2));
+    assert!(rt; !t.integers().contains(3));
+    assert!(rt; Ty::any().integers().contains(-1));
+    Ok(())
+}
+
+#[test]
+fn types_are_equal_by_their_values(rt: HostRuntime) -> Result<(), TextFault> {
+    let alloc = rt.alloc();
+    let a = read(alloc, b"{'ok',1} | {'ok',2,3}")?;
+    let b = a.copy(alloc)?;
+    let c = read(alloc, b"{'ok',1}")?;
+    assert!(rt; a == b);
+    assert!(rt; a != c);
+    assert!(rt; c != a);
+    Ok(())
+}
+
+// A value that can be moved to another thread, and shared with one.
+fn crosses_threads<T: Send + Sync>(_: &T) -> bool {
+    true
+}
+
+#[test]
+fn types_cross_threads(rt: HostRuntime) {
+    assert!(rt; crosses_threads(&Ty::any()));
+}
+
+#[test]
+fn narrowing(rt: HostRuntime) -> Result<(), TextFault> {
+    let alloc = rt.alloc();
+    let t = read(alloc, b"'a' | 1 | cons_any(any())")?;
+    let by = read(alloc, b"atom() | cons(integer())")?;
+    let both = narrowed(alloc, &t, &by)?;
+    assert!(rt; is(alloc, &both, b"'a' | cons(integer())")?);
+    let head = read(alloc, b"'b' | 1")?;
+    let tail = read(alloc, b"[]")?;
+    let (list, first, rest) = narrowed_list(alloc, &by, &head, &tail)?;
+    assert!(rt; is(alloc, &list, b"cons(1)")?);
+    assert!(rt; is(alloc, &first, b"1")?);
+    assert!(rt; is(alloc, &rest, b"[]")?);
+    let again = read_back(alloc, &both)?;
+    assert!(rt; again == both);
+    Ok(())
+}
