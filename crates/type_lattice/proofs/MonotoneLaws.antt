@@ -1,6 +1,6 @@
 -- Each operation on types is monotone: of larger types it gives a larger type.
-use Rattle.std.proofs.Common.{◌≡◌, ℕ, Bool, true, false, List, [], ◌∷◌, sym, subst}
-use Rattle.type_model.specs.Values.{cons as cons_value, Value, Values, no_value, and_value, heads}
+use Rattle.std.proofs.Common.{ℕ, Bool, true, false, List, [], ◌∷◌, sym, subst}
+use Rattle.type_model.specs.Values.{cons as cons_value, Values, no_value, and_value, heads}
 use Rattle.type_model.specs.HasType.{HasAll}
 use Rattle.type_model.specs.Cut as levels
 use Rattle.type_model.proofs.CutLaws.{cut_lowering}

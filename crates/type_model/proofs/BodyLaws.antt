@@ -1,4 +1,4 @@
--- The tuples of one size are such a family of sets, as a product of element types or as tags.
+-- The laws of the tuples of one size, a product of element types or tags.
 use Rattle.std.specs.Prelude.{◌≡◌, ◌⊎◌, ℕ, zero, suc, ◌≤◌, Bool, true, false, cond, List, [], ◌∷◌, length, nat_lt, Option, Some, None, is_some, option_map, refl}
 use Rattle.std.proofs.Common.{sym, ap, ◌∙◌, inl, inr, true≢false, subst, arith}
 use borrow.Author.Tests.{ltb-true, lt-ltb, ltb-false}

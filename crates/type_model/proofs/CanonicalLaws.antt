@@ -1,5 +1,5 @@
 -- The laws of canonical values: a map is told by its pairs, and a type by the canonical values that it has.
-use Rattle.std.proofs.Common.{◌≡◌, ◌⊎◌, inl, inr, ℕ, zero, suc, Bool, true, false, List, [], ◌∷◌, Option, Some, None, refl, sym, ap, ap₂, ◌∙◌, subst, true≢false}
+use Rattle.std.proofs.Common.{◌≡◌, ◌⊎◌, inl, inr, ℕ, zero, suc, true, List, [], ◌∷◌, Option, Some, None, refl, sym, ap, ◌∙◌, subst}
 use Rattle.std.specs.Prelude.{◌↔◌}
 use Rattle.std.specs.Ordering.{is_lt, nat_cmp}
 use Rattle.type_sets.specs.Ascending.{is_below_all, is_ascending}
@@ -7,9 +7,9 @@ use Rattle.type_sets.specs.Names.{Name, name_cmp}
 use Rattle.type_sets.proofs.Truths.{first, second}
 use Rattle.type_sets.proofs.AscendingLaws as ascending
 use Rattle.type_sets.proofs.NameLaws.{name_total, name_same}
-use Rattle.type_model.specs.Values.{Value, int, atom, bits, float, pid, port, reference, nil, cons, tuple, map, closure, external, foreign, Values, no_value, and_value, Pairs, no_pair, and_pair, no_variable, count, heads, end_of}
+use Rattle.type_model.specs.Values.{Value, atom, nil, cons, tuple, map, closure, Values, no_value, and_value, Pairs, no_pair, and_pair, no_variable, count, heads, end_of}
 use Rattle.type_model.specs.Tables.{find}
-use Rattle.type_model.specs.Shapes.{Cell, Body, product, tags, Tuples, sizes, all_tuples, Parts, TypeAt}
+use Rattle.type_model.specs.Shapes.{Cell, Body, product, tags, Tuples, sizes, all_tuples, TypeAt}
 use Rattle.type_model.specs.HasType.{HasAll, HasEach, HasRow, HasCell, HasTag, HasBody, HasTuple, HasParts, HasAt}
 use Rattle.type_model.specs.Laws.{BelowBy}
 use Rattle.type_model.specs.Canonical.{spelled, spelled_keys, AreAscending, IsCanonical, AreCanonical, HoldsPair, PairsBelow}

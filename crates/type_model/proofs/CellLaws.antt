@@ -1,4 +1,4 @@
--- The lists of a type are such a family of sets, told by an element type and by how they end.
+-- The laws of the lists of a type, told by an element type and by how they end.
 use Rattle.std.specs.Prelude.{◌≡◌, ◌⊎◌, Bool, true, false, ◌||◌, [], Option, Some, None, refl}
 use Rattle.std.proofs.Common.{sym, ap, ◌∙◌, inl, inr, true≢false, subst}
 use Rattle.type_sets.proofs.Truths.{both, first, second, in_first, in_second, is_false}

@@ -1,5 +1,4 @@
--- Types made of types: the least type of the tuples of some types, of the lists of a head and a tail, and what is known of
--- the elements of a tuple, of the elements of a list and of its tail.
+-- The laws of types made of types: of tuples and of lists, and of the elements, heads and tails that these have.
 use Rattle.std.proofs.Common.{◌≡◌, ℕ, zero, suc, ◌-◌, Bool, true, false, cond, ◌&&◌, ◌||◌, inl, inr, List, [], ◌∷◌, length, Option, Some, None, refl, sym, ap, ◌∙◌, subst, true≢false}
 use Rattle.std.specs.Prelude.{nat_lt, slice_get}
 use Rattle.std.specs.Ordering.{nat_cmp, eq_by_cmp}

@@ -1,4 +1,4 @@
--- That a type is in normal form has one proof at most.
+-- That a type is in normal form has at most one proof.
 use Rattle.std.specs.Prelude.{◌≡◌, ℕ, zero, suc, Bool, List, [], ◌∷◌, Option, Some, None}
 use Rattle.std.specs.Coded.{Coded-set, coded_bool, coded_ℕ, coded_option, coded_list, Unit-prop}
 use Rattle.type_sets.specs.Names.{Name}

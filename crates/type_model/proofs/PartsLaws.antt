@@ -1,5 +1,4 @@
--- The laws of types made of parts, from those of their element types. A type is judged by the forms of values: leaves, pairs
--- and rows; what holds of forms is carried to the values.
+-- The laws of types made of parts, from those of their element types.
 use Rattle.std.proofs.Common.{◌≡◌, ◌⊎◌, inl, inr, true, false, ◌&&◌, List, [], ◌∷◌, Option, Some, None, refl, sym, ap, ◌∙◌, subst, arith, true≢false}
 use Rattle.std.specs.Prelude.{cond, is_some}
 use Rattle.type_sets.specs.Ascending.{is_ascending, has_item}

@@ -1,4 +1,4 @@
--- Products of element types, one for each place, are such a family of sets.
+-- The laws of products of element types, one for each place.
 use Rattle.std.specs.Prelude.{◌≡◌, ◌⊎◌, ℕ, zero, suc, Bool, true, false, ◌||◌, List, [], ◌∷◌, length, Option, Some, None, refl}
 use Rattle.std.proofs.Common.{sym, ap, ◌∙◌, inl, inr, true≢false, subst, arith}
 use Rattle.type_model.specs.Values.{Value, Values, no_value, and_value, count}

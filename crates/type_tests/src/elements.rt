@@ -1,5 +1,7 @@
 //! The elements of tuples at some places, the integers of types, and their equality.
-use crate::narrowing::{narrowed, narrowed_list, read_back};
+use crate::narrowing::{
+    cons_of_its_parts, narrowed, narrowed_list, narrowing_is_monotone, read_back,
+};
 use std::alloc::Global;
 use type_kinds::{List, Memory};
 use type_lattice::Ty;
@@ -89,5 +91,7 @@ fn narrowing(rt: HostRuntime) -> Result<(), TextFault> {
     assert!(rt; is(alloc, &rest, b"[]")?);
     let again = read_back(alloc, &both)?;
     assert!(rt; again == both);
+    narrowing_is_monotone();
+    cons_of_its_parts();
     Ok(())
 }

@@ -1,9 +1,11 @@
 //! Facts that are proved for all types from what the calls on types promise. Each `prove!` is the fact.
+ghost use Rattle.std.specs.Prelude.{◌≡◌, ◌↔◌, IsTrue};
+
 use std::alloc::Global;
 use type_kinds::Memory;
-use type_lattice::Ty;
+use type_lattice::{Ty, decision_laws};
 
-/// A meet is included in both types. `Memory` comes where there was none for the meet.
+/// A meet is included in both types. `Memory` comes if allocation fails.
 pub fn meet_is_below(alloc: Global, a: &Ty, b: &Ty) -> Result<(), Memory> {
     let met = a.meet(alloc, b)?;
     let below = met.leq(a) && met.leq(b);
@@ -11,7 +13,7 @@ pub fn meet_is_below(alloc: Global, a: &Ty, b: &Ty) -> Result<(), Memory> {
     Ok(())
 }
 
-/// Both types are included in their join. `Memory` comes where there was none for the join.
+/// Both types are included in their join. `Memory` comes if allocation fails.
 pub fn join_is_above(alloc: Global, a: &Ty, b: &Ty) -> Result<(), Memory> {
     let joined = a.join(alloc, b)?;
     let above = a.leq(&joined) && b.leq(&joined);
@@ -27,6 +29,14 @@ pub fn inclusion_is_transitive(a: &Ty, b: &Ty, c: &Ty) {
     }
 }
 
+/// Whether two types are one. Equality of types is that of their models.
+pub fn are_equal(a: &Ty, b: &Ty) -> bool
+    ensures { IsTrue result ↔ (a.now ≡ b.now) }
+{
+    decision_laws();
+    a == b
+}
+
 #[test]
 fn facts_hold(rt: HostRuntime) -> Result<(), Memory> {
     let alloc = rt.alloc();
@@ -35,5 +45,7 @@ fn facts_hold(rt: HostRuntime) -> Result<(), Memory> {
     meet_is_below(alloc, &a, &b)?;
     join_is_above(alloc, &a, &b)?;
     inclusion_is_transitive(&b, &b, &a);
+    assert!(rt; are_equal(&a, &a));
+    assert!(rt; !are_equal(&a, &b));
     Ok(())
 }

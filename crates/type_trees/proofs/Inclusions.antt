@@ -1,5 +1,4 @@
--- Inclusion of the values that trees stand for, part by part: what the inclusions of the parts make of the whole, and what it
--- owes them.
+-- The laws of inclusion between what trees stand for, part by part.
 use Rattle.std.proofs.Common.{◌≡◌, ℕ, zero, suc, ◌+◌, ◌-◌, ◌<◌, ◌≤◌, Bool, true, false, List, [], ◌∷◌, length, Option, Some, None, ◌↔◌, IsTrue, All, take, take_all, slice_index_or, refl, sym, ◌∙◌, subst, subst₂, inl, inr, true≢false, below_more, arith}
 use Rattle.std.proofs.lemmas.List.{get_or_default, length-map}
 use Rattle.std.proofs.lemmas.List.Elements.{All-more}

@@ -1,9 +1,9 @@
-pub mod CutTrees
+mod CutTrees
 pub mod Inclusions
 mod JoinLaws
 pub mod Lifts
 pub mod MeetViews
-pub mod Nodes
+mod Nodes
 mod PlaceLaws
 mod Plains
 pub mod Views
