@@ -1,3 +1,5 @@
+ghost use Rattle.std.specs.Prelude.{◌≤◌};
+
 use crate::{Chains, CountingGate, MeetingGate};
 use da_shelf::OpenGate;
 use std::alloc::Global;
@@ -65,6 +67,25 @@ fn a_board_step_by_step(rt: HostRuntime) {
     assert!(rt; board.journal().len() == 5);
 }
 
+// A plain search for the least ready component would take some 8,000,000 looks.
+#[test]
+fn few_looks_along_a_chain(rt: HostRuntime) {
+    let alloc = rt.alloc();
+    let work = Chains::new(alloc, 4096, 4096).expect(&rt, "memory");
+    let mut board = Board::new(alloc, &work).expect(&rt, "memory");
+    for component in 0..4096 {
+        let job = taken(&rt, &mut board, 0);
+        assert!(rt; job.component == component);
+        let done = solved(&rt, &work, job);
+        if !board.fits(0, &done) {
+            panic!(&rt; "component {component} doesn't fit");
+        }
+        board.finish(0, done);
+    }
+    assert!(rt; board.journal().len() == 8192);
+    assert!(rt; board.looks() < 100_000);
+}
+
 // How many components the journal finishes.
 fn finished(journal: &[Event]) -> usize {
     journal
@@ -73,25 +94,33 @@ fn finished(journal: &[Event]) -> usize {
         .count()
 }
 
+// Solves three chains of three by so many workers: each component is solved once, and not again by
+// `assemble`.
+fn solve_once<R: Threads + Wait + Abort + Sync>(rt: &R, alloc: Global, workers: u32)
+    requires least { 1 ≤ workers }
+    requires most { workers ≤ 64 }
+{
+    let work = Chains::new(alloc, 9, 3).expect(rt, "memory");
+    let board = Board::new(alloc, &work).expect(rt, "memory");
+    let gate = CountingGate::new();
+    let board = run_crew(rt, &work, board, workers, &gate).expect(rt, "memory");
+    assert!(rt; gate.entries() == 9);
+    assert!(rt; work.solves() == 9);
+    assert!(rt; finished(board.journal()) == 9);
+    let outputs = assemble(alloc, &work, &board).expect(rt, "memory");
+    let numbers = [0, 0, 0, 3, 3, 3, 6, 6, 6];
+    assert!(rt; outputs.len() == 9);
+    for (output, number) in outputs.as_slice().iter().zip(numbers) {
+        assert!(rt; *output.get() == number);
+    }
+    assert!(rt; work.solves() == 9);
+}
+
 #[test]
 fn each_solved_once(rt: HostRuntime) {
-    let alloc = rt.alloc();
-    for workers in [1, 2, 64] {
-        let work = Chains::new(alloc, 9, 3).expect(&rt, "memory");
-        let board = Board::new(alloc, &work).expect(&rt, "memory");
-        let gate = CountingGate::new();
-        let board = run_crew(&rt, &work, board, workers, &gate).expect(&rt, "memory");
-        assert!(rt; gate.entries() == 9);
-        assert!(rt; work.solves() == 9);
-        assert!(rt; finished(board.journal()) == 9);
-        let outputs = assemble(alloc, &work, &board).expect(&rt, "memory");
-        let numbers = [0, 0, 0, 3, 3, 3, 6, 6, 6];
-        assert!(rt; outputs.len() == 9);
-        for (output, number) in outputs.as_slice().iter().zip(numbers) {
-            assert!(rt; *output.get() == number);
-        }
-        assert!(rt; work.solves() == 9);
-    }
+    solve_once(&rt, rt.alloc(), 1);
+    solve_once(&rt, rt.alloc(), 2);
+    solve_once(&rt, rt.alloc(), 64);
 }
 
 #[test]

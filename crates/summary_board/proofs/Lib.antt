@@ -1,9 +1,13 @@
 mod Below
+mod BoardTracks
+mod Counts
+mod Lowering
 mod Once
 mod Outputs
 mod Picks
-mod Ready
+mod RowLemmas
 mod Runs
 mod Sets
 mod Sounds
+mod Tracking
 pub mod SolvedLaws

@@ -12,7 +12,7 @@ use Rattle.summary_board.specs.Machine.{waiting, out, done, State, May, step, re
 use Rattle.summary_board.specs.BoardValue.{BoardValue, mark_of, marks_of, outputs_of, state_of, IsSupported, AreSupported, IsSound}
 use Rattle.summary_board.specs.steps.Room.{left, left_in, left_of}
 use Rattle.summary_board.specs.Ascending.{AscendsBelow}
-use Rattle.summary_board.specs.Calls.{each_below, fresh, taken, finished, halted, Fits}
+use Rattle.summary_board.specs.Calls.{each_below, fresh, taken, finished, Fits}
 use Rattle.summary_board.specs.DoneValue.{DoneValue}
 use Rattle.summary_board.proofs.Below.{length_each_below, get_each_below, map_replicate, get_replicate}
 use Rattle.summary_board.proofs.Sets.{get_set_same, get_set_other, same_or_not}
@@ -57,7 +57,7 @@ module _ {O : Type 0} where
       let here : d ≢ c = other_than progress c d opened (All-head D d cs all) in
       rw (get_set_other progress c d at here, outputs_stay progress c at opened cs (All-tail D d cs all)) refl
 
-  mark_at : (progress : List (Progress O)) (c : ℕ) (at : Progress O) → slice_get progress c ≡ Some at → slice_get (marks_of progress) c ≡ Some (mark_of at)
+  pub mark_at : (progress : List (Progress O)) (c : ℕ) (at : Progress O) → slice_get progress c ≡ Some at → slice_get (marks_of progress) c ≡ Some (mark_of at)
   mark_at progress c at is = rw (slice_get-map mark_of progress c, is) refl
 
   module _ {P : Type 0} (written : P → List O → O) where
@@ -142,11 +142,6 @@ module _ {P O : Type 0} (written : P → List O → O) where
       mark
       (supported_set written old.parts old.callees old.progress c new opened within
       (λ part at. (ready, fits.2, is ∙ ap (λ p. written p it.inputs) (same_Some it.part part (sym fits.1 ∙ at)))) sound.supported)
-
-  pub sound_halted : (old : BoardValue P O) → IsSound written old → old.stopped ≡ false → IsSound written (halted old)
-  sound_halted old sound going =
-      let journal : (halted old).journal ≡ old.journal ++ Stopped ∷ [] = rw going refl in
-      sound_more old (halted old) Stopped sound refl refl refl journal refl going sound.supported
 
   -- the same, with the room that is left in the journal: what the calls of a board do to its fields
   pub kept_halted : (old : BoardValue P O) (spare spare' : ℕ) (journal : List Event) → IsSound written old × (left old.progress old.stopped ≤ spare) → old.stopped ≡ false

@@ -1,1 +1,3 @@
+pub mod Agenda
 pub mod Room
+pub mod Rows

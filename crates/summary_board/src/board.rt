@@ -1,11 +1,11 @@
 ghost use Rattle.std.specs.Prelude.{◌≡◌, ℕ, ◌<◌, ◌≤◌, ◌↔◌, IsTrue, IfOk, OnErr, IfSome, IfNone, length};
 
+use crate::agenda::Agenda;
 use crate::event::Event;
 use crate::fill::{all_waiting, callees_of, parts_of};
 use crate::job::{Done, Job, Take};
-use crate::progress::{
-    Progress, called_at, is_out_at, is_over, least_ready, outputs, set_progress,
-};
+use crate::looks::Looks;
+use crate::progress::{Progress, called_at, is_out_at, outputs, set_progress};
 use crate::same::{are_outputs, same_part, solved_from};
 use crate::work::Work;
 use std::alloc::Global;
@@ -22,6 +22,8 @@ pub struct Board<W: Work> {
     progress: List<Progress<W::Out>>,
     stopped: bool,
     journal: Filling<Event>,
+    agenda: Agenda,
+    looks: Looks,
 }
 
 impl<W: Work> Model for Board<W> {
@@ -30,12 +32,13 @@ impl<W: Work> Model for Board<W> {
 
     ghost Value = { BoardValue W.Part W.Out };
 
-    ghost use Rattle.summary_board.specs.BoardValue.{IsSound};
+    ghost use Rattle.summary_board.specs.BoardValue.{IsSound, marks_of};
+    ghost use Rattle.summary_board.specs.steps.Agenda.{Tracks};
     ghost use Rattle.summary_board.specs.steps.Room.{left};
 
     ghost view = { λ b. record { parts = b.parts; callees = b.callees; progress = b.progress; stopped = b.stopped; journal = b.journal.items } };
 
-    ghost invariant = { λ b. IsSound W.written (record { parts = b.parts; callees = b.callees; progress = b.progress; stopped = b.stopped; journal = b.journal.items }) × (left b.progress b.stopped ≤ b.journal.spare) };
+    ghost invariant = { λ b. IsSound W.written (record { parts = b.parts; callees = b.callees; progress = b.progress; stopped = b.stopped; journal = b.journal.items }) × (left b.progress b.stopped ≤ b.journal.spare) × Tracks b.callees (marks_of b.progress) b.agenda.callers b.agenda.counts b.agenda.unfinished b.agenda.ready };
 }
 
 impl<W: Work> Board<W> {
@@ -52,6 +55,7 @@ impl<W: Work> Board<W> {
         let parts = parts_of(alloc, work, count)?;
         let callees = callees_of(alloc, work, count)?;
         let progress = all_waiting::<W::Out>(alloc, count)?;
+        let agenda = Agenda::new(alloc, &callees)?;
         let mut journal: Filling<Event> = Filling::new(alloc);
         journal.reserve(2 * count as usize + 1)?;
         Ok(Board {
@@ -61,6 +65,8 @@ impl<W: Work> Board<W> {
             progress,
             stopped: false,
             journal,
+            agenda,
+            looks: Looks::new(),
         })
     }
 
@@ -82,16 +88,17 @@ impl<W: Work> Board<W> {
         if self.stopped {
             return Ok(Take::Stopped);
         }
-        if is_over(&self.progress) {
+        if self.agenda.is_over(&mut self.looks) {
             return Ok(Take::AllDone);
         }
-        let Some(c) = least_ready(&self.progress, &self.callees) else {
+        let Some(c) = self.agenda.least(&mut self.looks) else {
             return Ok(Take::NoneReady);
         };
         let inputs = outputs(self.alloc, &self.progress, called_at(&self.callees, c))?;
         let part = self.parts.at(c).share()?;
         let component = c as u32;
         set_progress(&mut self.progress, c, Progress::Out(seat));
+        self.agenda.take(c, &mut self.looks);
         self.journal.put(Event::Taken(seat, component));
         Ok(Take::Given(Job {
             component,
@@ -111,11 +118,9 @@ impl<W: Work> Board<W> {
             part: _part,
             inputs,
         } = job;
-        set_progress(
-            &mut self.progress,
-            component as usize,
-            Progress::Done(inputs, output),
-        );
+        let c = component as usize;
+        set_progress(&mut self.progress, c, Progress::Done(inputs, output));
+        self.agenda.finish(c, &mut self.looks);
         self.journal.put(Event::Finished(seat, component));
     }
 
@@ -165,5 +170,11 @@ impl<W: Work> Board<W> {
             self.stopped = true;
             self.journal.put(Event::Stopped);
         }
+    }
+
+    /// How many words and counts takes and finishes have read so far. The number stands still at its
+    /// type's end. Takes no memory.
+    pub fn looks(&self) -> u64 {
+        self.looks.count()
     }
 }

@@ -3,12 +3,15 @@
 //! workers share it under a lock.
 #![tactic(auto)]
 
+mod agenda;
 mod assembly;
 mod board;
 mod event;
 mod fill;
 mod job;
+mod looks;
 mod progress;
+mod rows;
 mod same;
 mod work;
 
