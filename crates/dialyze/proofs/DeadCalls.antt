@@ -11,8 +11,8 @@ use Rattle.dialyze.specs.declared.sites.Site.{Site}
 use Rattle.dialyze.specs.declared.sites.Callee.{Callee}
 use Rattle.dialyze.specs.Scope.{names, IsAccepted}
 use Rattle.dialyze.specs.Sites.{def_sites, sites_of}
-use Rattle.dialyze.specs.Dead.{Names, Calls, Reaches, by_call, by_calls, Together}
-use Rattle.dialyze.specs.Settled.{SomeNames}
+use Rattle.dialyze.specs.Dead.{NamesFunction, Calls, ReachesByCalls, by_call, by_calls, InOneComponent}
+use Rattle.dialyze.specs.steps.Settled.{SomeNames}
 use Rattle.dialyze.proofs.DeadNames.{named_once, as_many_sites}
 
 -- Some item of the list is such.
@@ -59,10 +59,10 @@ pub all_named : (x : m.Module) (before after : List (List ℕ)) (from : ℕ) (si
 all_named x before after from sites n high pairs f h = subst (λ ss. g.Leads after f h ↔ (g.Leads before f h ⊎ ((f ≡ from) × SomeNames x ss h))) (take_all n sites high) (pairs f h)
 
 -- one call more
-pub one_call : {E : Type 0} (r : Result (Unit {0}) E) (x : m.Module) (callee : Callee) (before after : List (List ℕ)) (from to : ℕ) → IsAccepted x → Names x callee to
-    → OnOk r ((f h : ℕ) → g.Leads after f h ↔ (g.Leads before f h ⊎ ((f ≡ from) × (h ≡ to)))) → OnOk r ((f h : ℕ) → g.Leads after f h ↔ (g.Leads before f h ⊎ ((f ≡ from) × Names x callee h)))
+pub one_call : {E : Type 0} (r : Result (Unit {0}) E) (x : m.Module) (callee : Callee) (before after : List (List ℕ)) (from to : ℕ) → IsAccepted x → NamesFunction x callee to
+    → OnOk r ((f h : ℕ) → g.Leads after f h ↔ (g.Leads before f h ⊎ ((f ≡ from) × (h ≡ to)))) → OnOk r ((f h : ℕ) → g.Leads after f h ↔ (g.Leads before f h ⊎ ((f ≡ from) × NamesFunction x callee h)))
 one_call (Ok _) x callee before after from to a named pairs = λ f h. (
-  (λ l. elim ((pairs f h).0 l) [ inl old ↦ inl old | inr (e, is) ↦ inr (e, subst (Names x callee) (sym is) named) ]),
+  (λ l. elim ((pairs f h).0 l) [ inl old ↦ inl old | inr (e, is) ↦ inr (e, subst (NamesFunction x callee) (sym is) named) ]),
   elim [ inl old ↦ (pairs f h).1 (inl old) | inr (e, other) ↦ (pairs f h).1 (inr (e, named_once x callee h to a other named)) ],
 )
 one_call (Err _) x callee before after from to a named pairs = tt
@@ -106,15 +106,15 @@ all_calls x n graph high old f h = (
 )
 
 -- The graph has the module's calls, so what reaches is what reaches.
-reaches_calls : (x : m.Module) (graph : List (List ℕ)) → ((f h : ℕ) → g.Leads graph f h ↔ Calls x f h) → (f h : ℕ) → g.Reaches graph f h → Reaches x f h
+reaches_calls : (x : m.Module) (graph : List (List ℕ)) → ((f h : ℕ) → g.Leads graph f h ↔ Calls x f h) → (f h : ℕ) → g.Reaches graph f h → ReachesByCalls x f h
 reaches_calls x graph same _ _ (g.by_pair f h l) = by_call f h ((same f h).0 l)
 reaches_calls x graph same _ _ (g.by_pairs f k h l r) = by_calls f k h ((same f k).0 l) (reaches_calls x graph same k h r)
 
-calls_reach : (x : m.Module) (graph : List (List ℕ)) → ((f h : ℕ) → g.Leads graph f h ↔ Calls x f h) → (f h : ℕ) → Reaches x f h → g.Reaches graph f h
+calls_reach : (x : m.Module) (graph : List (List ℕ)) → ((f h : ℕ) → g.Leads graph f h ↔ Calls x f h) → (f h : ℕ) → ReachesByCalls x f h → g.Reaches graph f h
 calls_reach x graph same _ _ (by_call f h l) = g.by_pair f h ((same f h).1 l)
 calls_reach x graph same _ _ (by_calls f k h l r) = g.by_pairs f k h ((same f k).1 l) (calls_reach x graph same k h r)
 
-pub same_together : (x : m.Module) (graph : List (List ℕ)) → ((f h : ℕ) → g.Leads graph f h ↔ Calls x f h) → (f h : ℕ) → g.Together graph f h ↔ Together x f h
+pub same_together : (x : m.Module) (graph : List (List ℕ)) → ((f h : ℕ) → g.Leads graph f h ↔ Calls x f h) → (f h : ℕ) → g.Together graph f h ↔ InOneComponent x f h
 same_together x graph same f h = (
   elim [ inl e ↦ inl e | inr (a, b) ↦ inr (reaches_calls x graph same f h a, reaches_calls x graph same h f b) ],
   elim [ inl e ↦ inl e | inr (a, b) ↦ inr (calls_reach x graph same f h a, calls_reach x graph same h f b) ],

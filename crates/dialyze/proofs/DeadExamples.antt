@@ -11,7 +11,7 @@ use Rattle.dialyze.specs.declared.sites.Callee.TheVariants.{Applied, Called}
 use Rattle.dialyze.specs.Scope.{erlang, function_name}
 use Rattle.dialyze.specs.Grammar.{at, no_note}
 use Rattle.dialyze.specs.Sites.{site}
-use Rattle.dialyze.specs.Dead.{Names, IsMistaken, Calls, Reaches, by_call, by_calls, Together, Dead, has_bad, mistaken, to_dead}
+use Rattle.dialyze.specs.Dead.{NamesFunction, IsMistaken, Calls, ReachesByCalls, by_call, by_calls, InOneComponent, Dead, has_bad, mistaken, to_dead}
 use Rattle.dialyze.proofs.DeadNames.{named_within, goes_named}
 use Rattle.dialyze.proofs.DeadFlags.{bad_site, bad_cases}
 
@@ -66,18 +66,18 @@ missing = site here (Called (codes "m") p)
 pub missing_callee_is_dead : Dead broken 0
 missing_callee_is_dead = has_bad 0 missing (0, lit< tt, refl) (mistaken 0 missing (refl, own_is_not_erlang, not_exported))
 
-first_call : (x : m.Module) (i j : ℕ) → Reaches x i j → (k : ℕ) × Calls x i k
+first_call : (x : m.Module) (i j : ℕ) → ReachesByCalls x i j → (k : ℕ) × Calls x i k
 first_call x _ _ (by_call i j c) = (j, c)
 first_call x _ _ (by_calls i j k c r) = (j, c)
 
-missing_reaches_nothing : (j : ℕ) → Reaches broken 0 j → ⊥
+missing_reaches_nothing : (j : ℕ) → ReachesByCalls broken 0 j → ⊥
 missing_reaches_nothing j r =
     let c = (first_call broken 0 j r).1 in
     let is = only_site missing c.0 c.1 in
-    let named : Names broken missing.callee (first_call broken 0 j r).0 = subst (λ (s : Site). Names broken s.callee (first_call broken 0 j r).0) (sym is) c.2 in
+    let named : NamesFunction broken missing.callee (first_call broken 0 j r).0 = subst (λ (s : Site). NamesFunction broken s.callee (first_call broken 0 j r).0) (sym is) c.2 in
     not_exported named.2
 
-apart : Together broken 1 0 → ⊥
+apart : InOneComponent broken 1 0 → ⊥
 apart (inl e) = absurd (omega (arith, e))
 apart (inr (a, b)) = missing_reaches_nothing 1 b
 
@@ -96,7 +96,7 @@ raising_is_not_dead dead =
     let is = only_site raises found.0 found.1 in
     elim (bad_cases broken 2 found.0 found.2) [
       | inl wrong ↦ erlang_is_not_own (subst (λ (s : Site). IsMistaken broken s.callee) (sym is) wrong).0
-      | inr (j, goes, _, _) ↦ erlang_is_not_own (subst (λ (s : Site). Names broken s.callee j) (sym is) (goes_named broken found.0.callee j goes)).0
+      | inr (j, goes, _, _) ↦ erlang_is_not_own (subst (λ (s : Site). NamesFunction broken s.callee j) (sym is) (goes_named broken found.0.callee j goes)).0
     ]
 
 -- 'f'/0 applies 'f'/0.

@@ -12,8 +12,8 @@ use Rattle.dialyze.specs.declared.sites.Site.{Site}
 use Rattle.dialyze.specs.declared.sites.Callee.{Callee}
 use Rattle.dialyze.specs.Scope.{names, IsAccepted}
 use Rattle.dialyze.specs.Sites.{sites_of}
-use Rattle.dialyze.specs.Dead.{Names, GoesTo, IsMistaken, Calls, Together, Dead, Bad, has_bad, mistaken, to_dead}
-use Rattle.dialyze.specs.Settled.{NumbersFunctions, IsRight, SettledBelow, IsBadBy, SomeBadBy}
+use Rattle.dialyze.specs.Dead.{NamesFunction, GoesTo, IsMistaken, Calls, InOneComponent, Dead, Bad, has_bad, mistaken, to_dead}
+use Rattle.dialyze.specs.steps.Settled.{NumbersFunctions, IsRight, SettledBelow, IsBadBy, SomeBadBy}
 use Rattle.dialyze.proofs.DeadNames.{named_once, named_within, named_cases, goes_named}
 use Rattle.dialyze.proofs.DeadCalls.{same_together, taken_further, contains_nothing}
 
@@ -37,12 +37,12 @@ numbers_functions x graph c n e d same nodes together downward members = record 
 pub bad_site : (x : m.Module) (i : ℕ) → Dead x i → (s : Site) × Contains (sites_of x i) s × Bad x i s
 bad_site x _ (has_bad i s h b) = (s, h, b)
 
-pub bad_cases : (x : m.Module) (i : ℕ) (s : Site) → Bad x i s → IsMistaken x s.callee ⊎ ((j : ℕ) × GoesTo x s.callee j × Dead x j × (Together x i j → ⊥))
+pub bad_cases : (x : m.Module) (i : ℕ) (s : Site) → Bad x i s → IsMistaken x s.callee ⊎ ((j : ℕ) × GoesTo x s.callee j × Dead x j × (InOneComponent x i j → ⊥))
 bad_cases x _ _ (mistaken i s h) = inl h
 bad_cases x _ _ (to_dead i j s goes dead apart) = inr (j, goes, dead, apart)
 
 -- What a lower component's flag says is so.
-lower_flag : (x : m.Module) (c : Numbering) (flags : List Bool) (i j : ℕ) (s : Site) → NumbersFunctions x c → SettledBelow x c flags (component_of_node c i) → Contains (sites_of x i) s → Names x s.callee j → component_of_node c j ≢ component_of_node c i → IsRight x flags j
+lower_flag : (x : m.Module) (c : Numbering) (flags : List Bool) (i j : ℕ) (s : Site) → NumbersFunctions x c → SettledBelow x c flags (component_of_node c i) → Contains (sites_of x i) s → NamesFunction x s.callee j → component_of_node c j ≢ component_of_node c i → IsRight x flags j
 lower_flag x c flags i j s numbers settled h named apart =
     let down : component_of_node c j ≤ component_of_node c i = numbers.downward i j (s, h, named) in
     settled.right j (named_within x s.callee j named) (omega (arith, down, apart))
@@ -79,7 +79,7 @@ same_flag b d e = cc
 tested_same : (a b : ℕ) → a ≡ b → not (nat_eq a b) ≡ true → ⊥
 tested_same a b e h = grind arith
 
-pub bad_by_flag : (x : m.Module) (c : Numbering) (flags : List Bool) (k j component : ℕ) (callee : Callee) (b mistake : Bool) → IsAccepted x → Names x callee j → (mistake ≡ true) ↔ IsMistaken x callee → mistake ≡ false
+pub bad_by_flag : (x : m.Module) (c : Numbering) (flags : List Bool) (k j component : ℕ) (callee : Callee) (b mistake : Bool) → IsAccepted x → NamesFunction x callee j → (mistake ≡ true) ↔ IsMistaken x callee → mistake ≡ false
     → component ≡ component_of_node c j → component ≢ k → slice_get flags j ≡ Some b → (b ≡ true) ↔ IsBadBy x c flags k callee
 bad_by_flag x c flags k j component callee b mistake a named is right e test flag = (
   (λ t. inr (j, named, (λ same. test (e ∙ same)), flag ∙ ap (λ v. Some v) t)),
@@ -89,7 +89,7 @@ bad_by_flag x c flags k j component callee b mistake a named is right e test fla
   ],
 )
 
-pub bad_by_none : (x : m.Module) (c : Numbering) (flags : List Bool) (k j component : ℕ) (callee : Callee) (mistake : Bool) → IsAccepted x → Names x callee j → (mistake ≡ true) ↔ IsMistaken x callee → mistake ≡ false
+pub bad_by_none : (x : m.Module) (c : Numbering) (flags : List Bool) (k j component : ℕ) (callee : Callee) (mistake : Bool) → IsAccepted x → NamesFunction x callee j → (mistake ≡ true) ↔ IsMistaken x callee → mistake ≡ false
     → component ≡ component_of_node c j → component ≡ k → (not (nat_eq component k) ≡ true) ↔ IsBadBy x c flags k callee
 bad_by_none x c flags k j component callee mistake a named is right e test = (
   (λ t. absurd (tested_same component k test t)),

@@ -12,7 +12,7 @@ use Rattle.dialyze.specs.declared.sites.Callee.{Callee}
 use Rattle.dialyze.specs.declared.sites.Callee.TheVariants.{Applied, Called}
 use Rattle.dialyze.specs.Scope.{names, erlang, Distinct, IsAccepted}
 use Rattle.dialyze.specs.Sites.{def_sites}
-use Rattle.dialyze.specs.Dead.{Names, GoesTo, IsMistaken}
+use Rattle.dialyze.specs.Dead.{NamesFunction, GoesTo, IsMistaken}
 
 pub contains_numbered : (fs : List FunName) (j : ℕ) (f : FunName) → slice_get fs j ≡ Some f → Contains fs f
 contains_numbered fs j f h = (j, slice_get_within fs j f h, get_or_from_slice_get fs j f f h)
@@ -34,26 +34,26 @@ index_once (g ∷ fs) (suc i) zero f d a b = absurd (d.0 (subst (Contains fs) (s
 index_once (g ∷ fs) (suc i) (suc j) f d a b = ap (λ n. suc n) (index_once fs i j f d.1 a b)
 
 -- a callee names at most one function
-pub named_once : (x : m.Module) (callee : Callee) (i j : ℕ) → IsAccepted x → Names x callee i → Names x callee j → i ≡ j
+pub named_once : (x : m.Module) (callee : Callee) (i j : ℕ) → IsAccepted x → NamesFunction x callee i → NamesFunction x callee j → i ≡ j
 named_once x (Applied f n) i j a h g = index_once (names x.defs) i j f a.distinct h g
 named_once x (Called home f) i j a h g = index_once (names x.defs) i j f a.distinct h.3 g.3
 
 -- what is named is a function of the module
-pub named_within : (x : m.Module) (callee : Callee) (j : ℕ) → Names x callee j → j < length (names x.defs)
+pub named_within : (x : m.Module) (callee : Callee) (j : ℕ) → NamesFunction x callee j → j < length (names x.defs)
 named_within x (Applied f n) j h = slice_get_within (names x.defs) j f h
 named_within x (Called home f) j h = slice_get_within (names x.defs) j f h.3
 
 -- what is named is gone to, or the callee is mistaken
-pub named_cases : (x : m.Module) (callee : Callee) (j : ℕ) → Names x callee j → IsMistaken x callee ⊎ GoesTo x callee j
+pub named_cases : (x : m.Module) (callee : Callee) (j : ℕ) → NamesFunction x callee j → IsMistaken x callee ⊎ GoesTo x callee j
 named_cases x (Applied f n) j h = elim (cases_eq n f.arity) [ inl e ↦ inr (e, h) | inr ne ↦ inl ne ]
 named_cases x (Called home f) j h = inr h
 
-pub goes_named : (x : m.Module) (callee : Callee) (j : ℕ) → GoesTo x callee j → Names x callee j
+pub goes_named : (x : m.Module) (callee : Callee) (j : ℕ) → GoesTo x callee j → NamesFunction x callee j
 goes_named x (Applied f n) j h = h.1
 goes_named x (Called home f) j h = h
 
 -- a call of this module that names none is mistaken
-mistaken_call : (x : m.Module) (home : Atom) (f : FunName) (own : Bool) → IsAccepted x → ((j : ℕ) → Names x (Called home f) j → ⊥) → ((own ≡ true) ↔ ((home ≡ x.name) × (home ≢ erlang)))
+mistaken_call : (x : m.Module) (home : Atom) (f : FunName) (own : Bool) → IsAccepted x → ((j : ℕ) → NamesFunction x (Called home f) j → ⊥) → ((own ≡ true) ↔ ((home ≡ x.name) × (home ≢ erlang)))
     → (own ≡ true) ↔ IsMistaken x (Called home f)
 mistaken_call x home f own a none is = (
   (λ t.
@@ -68,28 +68,28 @@ mistaken_call x home f own a none is = (
 )
 
 pub is_mistaken_call : (x : m.Module) (callee : Callee) (home : Atom) (f : FunName) (r : Option ℕ) (unnamed own : Bool) → IsAccepted x → callee ≡ Called home f → is_some r ≡ not unnamed → unnamed ≡ true
-    → IfNone r ((j : ℕ) → Names x callee j → ⊥) → ((own ≡ true) ↔ ((home ≡ x.name) × (home ≢ erlang))) → (own ≡ true) ↔ IsMistaken x callee
+    → IfNone r ((j : ℕ) → NamesFunction x callee j → ⊥) → ((own ≡ true) ↔ ((home ≡ x.name) × (home ≢ erlang))) → (own ≡ true) ↔ IsMistaken x callee
 is_mistaken_call x callee home f None unnamed own a e _ _ none is =
     let P : Callee → Type 0 = λ k. (own ≡ true) ↔ IsMistaken x k in
-    subst P (sym e) (mistaken_call x home f own a (λ j named. none j (subst (λ k. Names x k j) (sym e) named)) is)
+    subst P (sym e) (mistaken_call x home f own a (λ j named. none j (subst (λ k. NamesFunction x k j) (sym e) named)) is)
 is_mistaken_call x callee home f (Some j) unnamed own a e h t none is = let wrong = h ∙ ap not t in absurd cc
 
 -- what a call of this module names is what its name is found to be
-called_found : (x : m.Module) (home : Atom) (f : FunName) (fs : List FunName) (r : Option ℕ) → IsAccepted x → (home ≡ x.name) × (home ≢ erlang) → fs ≡ names x.defs → IfSome r (λ i. slice_get fs i ≡ Some f) → IfSome r (λ j. Names x (Called home f) j)
+called_found : (x : m.Module) (home : Atom) (f : FunName) (fs : List FunName) (r : Option ℕ) → IsAccepted x → (home ≡ x.name) × (home ≢ erlang) → fs ≡ names x.defs → IfSome r (λ i. slice_get fs i ≡ Some f) → IfSome r (λ j. NamesFunction x (Called home f) j)
 called_found x home f fs None a own e h = tt
 called_found x home f fs (Some j) a own e h =
     let numbered : slice_get (names x.defs) j ≡ Some f = subst (λ gs. slice_get gs j ≡ Some f) e h in
     (own.0, own.1, All-contains (Contains x.exports) (names x.defs) f a.exported (contains_numbered (names x.defs) j f numbered), numbered)
 
-called_unfound : (x : m.Module) (home : Atom) (f : FunName) (fs : List FunName) (r : Option ℕ) → fs ≡ names x.defs → IfNone r (Contains fs f → ⊥) → IfNone r ((j : ℕ) → Names x (Called home f) j → ⊥)
+called_unfound : (x : m.Module) (home : Atom) (f : FunName) (fs : List FunName) (r : Option ℕ) → fs ≡ names x.defs → IfNone r (Contains fs f → ⊥) → IfNone r ((j : ℕ) → NamesFunction x (Called home f) j → ⊥)
 called_unfound x home f fs (Some j) e h = tt
 called_unfound x home f fs None e h = λ j named. h (subst (λ gs. Contains gs f) (sym e) (contains_numbered (names x.defs) j f named.3))
 
-pub found_in_call : (x : m.Module) (callee : Callee) (home : Atom) (f : FunName) (fs : List FunName) (r : Option ℕ) → callee ≡ Called home f → IsAccepted x → (home ≡ x.name) × (home ≢ erlang) → fs ≡ names x.defs → IfSome r (λ i. slice_get fs i ≡ Some f) → IfSome r (λ j. Names x callee j)
-found_in_call x callee home f fs r is a own e h = let P : Callee → Type 0 = λ k. IfSome r (λ j. Names x k j) in subst P (sym is) (called_found x home f fs r a own e h)
+pub found_in_call : (x : m.Module) (callee : Callee) (home : Atom) (f : FunName) (fs : List FunName) (r : Option ℕ) → callee ≡ Called home f → IsAccepted x → (home ≡ x.name) × (home ≢ erlang) → fs ≡ names x.defs → IfSome r (λ i. slice_get fs i ≡ Some f) → IfSome r (λ j. NamesFunction x callee j)
+found_in_call x callee home f fs r is a own e h = let P : Callee → Type 0 = λ k. IfSome r (λ j. NamesFunction x k j) in subst P (sym is) (called_found x home f fs r a own e h)
 
-pub unfound_in_call : (x : m.Module) (callee : Callee) (home : Atom) (f : FunName) (fs : List FunName) (r : Option ℕ) → callee ≡ Called home f → fs ≡ names x.defs → IfNone r (Contains fs f → ⊥) → IfNone r ((j : ℕ) → Names x callee j → ⊥)
-unfound_in_call x callee home f fs r is e h = let P : Callee → Type 0 = λ k. IfNone r ((j : ℕ) → Names x k j → ⊥) in subst P (sym is) (called_unfound x home f fs r e h)
+pub unfound_in_call : (x : m.Module) (callee : Callee) (home : Atom) (f : FunName) (fs : List FunName) (r : Option ℕ) → callee ≡ Called home f → fs ≡ names x.defs → IfNone r (Contains fs f → ⊥) → IfNone r ((j : ℕ) → NamesFunction x callee j → ⊥)
+unfound_in_call x callee home f fs r is e h = let P : Callee → Type 0 = λ k. IfNone r ((j : ℕ) → NamesFunction x k j → ⊥) in subst P (sym is) (called_unfound x home f fs r e h)
 
 -- each definition has a name and a list of sites
 pub as_many_sites : (ds : m.Defs) → length (def_sites ds) ≡ length (names ds)

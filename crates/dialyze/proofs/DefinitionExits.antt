@@ -1,6 +1,7 @@
 -- A definition, and definitions one after another: what has been read so far, and each way out.
-use Rattle.std.proofs.Common.{◌≡◌, ℕ, ◌+◌, List, [], ◌∷◌, ◌++◌, refl, sym, ap, ◌∙◌, subst, Bool, true, false, length, arith, map, append_assoc}
+use Rattle.std.proofs.Common.{◌≡◌, ℕ, ◌+◌, List, [], ◌∷◌, ◌++◌, refl, sym, ap, ◌∙◌, subst, Bool, true, false, Result, Ok, Err, OnOk, length, arith, map, append_assoc}
 use Rattle.std.proofs.lemmas.List.{append-nil, map-append}
+use Rattle.std.specs.Result.{is_err}
 use Rattle.type_kinds.specs.declared.place.Place.{Place}
 use Rattle.core_ast.specs.declared.syntax.Mark.{Mark}
 use Rattle.core_ast.specs.declared.syntax.FunName.{FunName}
@@ -10,8 +11,8 @@ use Rattle.core_ast.specs.declared.syntax.FunDefOf.{FunDefOf}
 use Rattle.core_ast.specs.Model as m
 use Rattle.core_ast.specs.Tree.{tree, def_tree, defs, all_defs}
 use Rattle.core_scan.specs.declared.token.Token.{Token}
-use Rattle.dialyze.specs.declared.sort.Sort.{Sort}
-use Rattle.dialyze.specs.declared.sort.Sort.TheVariants as s
+use Rattle.dialyze.specs.declared.sort.SmallSort.{SmallSort}
+use Rattle.dialyze.specs.declared.sort.SmallSort.TheVariants as s
 use Rattle.dialyze.specs.Sorts.{sort}
 use Rattle.dialyze.specs.Grammar.{at, Takes, takes, NameAt, name_at, Parameters, Expression, Definition, defined, Definitions, ended, one_more, NoToken, NoName, NoParameters, NoExpression, NoDefinition, NoDefinitions}
 use Rattle.dialyze.proofs.Once.{once-Takes, once-NameAt, once-Expression, takes_from}
@@ -23,7 +24,7 @@ expression_at {q} {d} {n} {p} {ts} {us} {vs} {x} e h = let P : List Token → Ty
 parameters_at : {xs : List VarName} {ts us vs : List Token} → us ≡ ts → Parameters us xs vs → Parameters ts xs vs
 parameters_at {xs} {ts} {us} {vs} e h = let P : List Token → Type 0 = λ y. Parameters y xs vs in subst P e h
 
-taken_at : {c : Sort} {t : Token} {us vs ws : List Token} → Takes c us vs → vs ≡ t ∷ ws → Takes c us (t ∷ ws)
+taken_at : {c : SmallSort} {t : Token} {us vs ws : List Token} → Takes c us vs → vs ≡ t ∷ ws → Takes c us (t ∷ ws)
 taken_at {c} {us = us} h e = let P : List Token → Type 0 = λ y. Takes c us y in subst P e h
 
 -- a definition
@@ -200,3 +201,8 @@ once-Definitions (one_more d more) (one_more d' more') =
     record { defs_are = cc; rest_is = r.rest_is }
 
 pub ruleset definitions_exits = (definitions_begun, definitions_further, definitions_closed, definitions_stuck)
+
+-- What an answer without a fault says.
+pub not_failed : {E P : Type 0} (r : Result (Unit {0}) E) → is_err r ≡ false → OnOk r P → P
+not_failed (Ok x) is said = said
+not_failed (Err e) is said = absurd cc

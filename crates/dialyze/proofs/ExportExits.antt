@@ -4,7 +4,7 @@ use Rattle.std.proofs.lemmas.List.{append-nil}
 use Rattle.type_kinds.specs.declared.place.Place.{Place}
 use Rattle.core_ast.specs.declared.syntax.FunName.{FunName}
 use Rattle.core_scan.specs.declared.token.Token.{Token}
-use Rattle.dialyze.specs.declared.sort.Sort.TheVariants as s
+use Rattle.dialyze.specs.declared.sort.SmallSort.TheVariants as s
 use Rattle.dialyze.specs.Sorts.{sort}
 use Rattle.dialyze.specs.Grammar.{Takes, takes, NameAt, name_at, MoreExports, end_exports, next_export, Exports, no_export, first_export, NoToken, NoName, NoExports}
 use Rattle.dialyze.proofs.Once.{once-NameAt}

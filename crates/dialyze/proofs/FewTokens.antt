@@ -7,17 +7,17 @@ use Rattle.core_ast.specs.declared.syntax.VarName.{VarName}
 use Rattle.core_ast.specs.declared.syntax.Mark.{Mark}
 use Rattle.core_ast.specs.Model as m
 use Rattle.core_scan.specs.declared.token.Token.{Token}
-use Rattle.dialyze.specs.declared.sort.Sort.{Sort}
+use Rattle.dialyze.specs.declared.sort.SmallSort.{SmallSort}
 use Rattle.core_ast.specs.declared.syntax.Expr.{Expr}
 use Rattle.core_ast.specs.declared.syntax.FunDefOf.{FunDefOf}
 use Rattle.core_ast.specs.Tree.{all_defs}
-use Rattle.dialyze.specs.Outcome.{longest_source}
+use Rattle.dialyze.specs.declared.source.TheConstants.{LONGEST_SOURCE}
 use Rattle.core_ast.specs.Lengths.{how_many}
 use Rattle.dialyze.specs.Scope.{names}
-use Rattle.dialyze.specs.Few.{IsFew, AreFew, FewInDefs, AllFew}
+use Rattle.dialyze.specs.steps.Few.{IsFew, AreFew, FewInDefs, AllFew}
 use Rattle.dialyze.specs.Grammar.{Takes, takes, AtomAt, atom_at, NameAt, name_at, Simple, variable, integer, atom, Expression, simple, tuple, apply, call, Elements, none, some, More, closes, goes_on, MoreParameters, end_parameters, next_parameter, Parameters, no_parameter, first_parameter, MoreExports, end_exports, next_export, Exports, no_export, first_export, Definition, defined, Definitions, ended, one_more, EmptyAttributes, empty_attributes, Spells, spelled}
 
-taken_shorter : {c : Sort} {ts us : List Token} → Takes c ts us → length us < length ts
+taken_shorter : {c : SmallSort} {ts us : List Token} → Takes c ts us → length us < length ts
 taken_shorter (takes h) = omega arith
 
 atom_shorter : {x : Atom} {p : Place} {ts us : List Token} → AtomAt ts x p us → length us < length ts
@@ -33,11 +33,11 @@ mutual
   shorter (apply _ h f o es) = let a = name_shorter f in let b = taken_shorter o in let e = elements_shorter es in omega arith
   shorter (call _ h x c f o es) = let a = atom_shorter x in let b = taken_shorter c in let g = atom_shorter f in let i = taken_shorter o in let e = elements_shorter es in omega arith
 
-  pub elements_shorter : {c : Sort} {q : Bool} {d n p : ℕ} {ts us : List Token} {xs : m.Trees} → Elements c q d n ts xs us p → how_many xs + length us < length ts
+  pub elements_shorter : {c : SmallSort} {q : Bool} {d n p : ℕ} {ts us : List Token} {xs : m.Trees} → Elements c q d n ts xs us p → how_many xs + length us < length ts
   elements_shorter (none h) = omega arith
   elements_shorter (some e es) = let a = shorter e in let b = more_shorter es in omega arith
 
-  pub more_shorter : {c : Sort} {q : Bool} {d n p : ℕ} {ts us : List Token} {xs : m.Trees} → More c q d n ts xs us p → how_many xs + length us < length ts
+  pub more_shorter : {c : SmallSort} {q : Bool} {d n p : ℕ} {ts us : List Token} {xs : m.Trees} → More c q d n ts xs us p → how_many xs + length us < length ts
   more_shorter (closes h) = omega arith
   more_shorter (goes_on g e es) = let a = shorter e in let b = more_shorter es in omega arith
 
@@ -53,11 +53,11 @@ mutual
   few_in short (apply _ h f o es) = let a = name_shorter f in let b = taken_shorter o in let e = elements_shorter es in (omega arith, all_few_in (omega arith) es)
   few_in short (call _ h x c f o es) = let a = atom_shorter x in let b = taken_shorter c in let g = atom_shorter f in let i = taken_shorter o in let e = elements_shorter es in (omega arith, all_few_in (omega arith) es)
 
-  pub all_few_in : {c : Sort} {q : Bool} {d n p : ℕ} {ts us : List Token} {xs : m.Trees} → length ts < 4294967296 → Elements c q d n ts xs us p → AreFew xs
+  pub all_few_in : {c : SmallSort} {q : Bool} {d n p : ℕ} {ts us : List Token} {xs : m.Trees} → length ts < 4294967296 → Elements c q d n ts xs us p → AreFew xs
   all_few_in short (none h) = tt
   all_few_in short (some e es) = let a = shorter e in (few_in short e, more_few_in (omega arith) es)
 
-  pub more_few_in : {c : Sort} {q : Bool} {d n p : ℕ} {ts us : List Token} {xs : m.Trees} → length ts < 4294967296 → More c q d n ts xs us p → AreFew xs
+  pub more_few_in : {c : SmallSort} {q : Bool} {d n p : ℕ} {ts us : List Token} {xs : m.Trees} → length ts < 4294967296 → More c q d n ts xs us p → AreFew xs
   more_few_in short (closes h) = tt
   more_few_in short (goes_on g e es) = let a = shorter e in (few_in (omega arith) e, more_few_in (omega arith) es)
 
@@ -102,5 +102,5 @@ length-names [] = refl
 length-names (d ∷ ds) = ap suc (length-names ds)
 
 -- There are as many names as definitions, and these are few.
-pub few_names : (ds : List (FunDefOf Expr)) (ns : List FunName) → ns ≡ names (all_defs ds) → length ds ≤ longest_source → length ns < 4294967296
+pub few_names : (ds : List (FunDefOf Expr)) (ns : List FunName) → ns ≡ names (all_defs ds) → length ds ≤ LONGEST_SOURCE → length ns < 4294967296
 few_names ds ns is short = let e = ap length is ∙ length-names ds in omega arith

@@ -10,10 +10,10 @@ use Rattle.core_ast.specs.Model as m
 use Rattle.dialyze.specs.declared.sites.Site.{Site}
 use Rattle.dialyze.specs.Scope.{names}
 use Rattle.dialyze.specs.Sites.{sites, def_sites, def_marks}
-use Rattle.dialyze.specs.Numbered.{labels, IsNumbered}
+use Rattle.dialyze.specs.steps.Numbered.{labels, IsNumbered}
 use Rattle.dialyze.specs.Dead.{Dead, NeverReturns}
-use Rattle.dialyze.specs.Report.{Finding, no_return, never_returns, IsFinding, dead_function, lost_call, Before, AreFindings}
-use Rattle.dialyze.specs.Found.{SitesFound, no_site, lost_site, kept_site, FunctionFound, dead_function_found, live_function_found, DefsFound, no_def_found, next_def_found}
+use Rattle.dialyze.specs.Report.{Finding, no_return, never_returns, IsFinding, dead_function, lost_call, StandsBefore, AreFindings}
+use Rattle.dialyze.specs.steps.Found.{SitesFound, no_site, lost_site, kept_site, FunctionFound, dead_function_found, live_function_found, DefsFound, no_def_found, next_def_found}
 
 -- The findings have some of the labels, in their order.
 data Labelled : List Finding → List ℕ → Type 0 where
@@ -39,12 +39,12 @@ first_before n ns pairs k d within = pairs 0 (suc k) d (omega arith) (omega arit
 rest_ordered : (n : ℕ) (ns : List ℕ) → AllPairs (λ i j. i < j) (n ∷ ns) → AllPairs (λ i j. i < j) ns
 rest_ordered n ns pairs i j d before within = pairs (suc i) (suc j) d (omega arith) (omega arith)
 
-labelled_order : {fs : List Finding} {ns : List ℕ} → Labelled fs ns → AllPairs (λ i j. i < j) ns → AllPairs Before fs
+labelled_order : {fs : List Finding} {ns : List ℕ} → Labelled fs ns → AllPairs (λ i j. i < j) ns → AllPairs StandsBefore fs
 labelled_order unlabelled pairs = λ i j d before within. absurd (omega arith)
 labelled_order (kept {f} {n} {fs} {ns} e h) pairs =
     let P : ℕ → Type 0 = λ i. All (λ (g : Finding). i < g.label) fs in
     let above : All (λ (g : Finding). f.label < g.label) fs = subst P e (labelled_above n h (first_before n ns pairs)) in
-    AllPairs-cons Before f fs (All-weaker (λ (g : Finding). f.label < g.label) (Before f) (λ g b. inl b) fs above) (labelled_order h (rest_ordered n ns pairs))
+    AllPairs-cons StandsBefore f fs (All-weaker (λ (g : Finding). f.label < g.label) (StandsBefore f) (λ g b. inl b) fs above) (labelled_order h (rest_ordered n ns pairs))
 labelled_order (left_out {n} {fs} {ns} h) pairs = labelled_order h (rest_ordered n ns pairs)
 
 sites_labelled : {x : m.Module} {i : ℕ} {ss : List Site} {fs : List Finding} → SitesFound x i ss fs → Labelled fs (map (λ s. s.label) ss)

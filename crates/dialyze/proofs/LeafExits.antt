@@ -5,28 +5,28 @@ use Rattle.type_kinds.specs.declared.place.Place.{Place}
 use Rattle.type_kinds.specs.declared.atom.Atom.{Atom}
 use Rattle.core_ast.specs.declared.syntax.FunName.{FunName}
 use Rattle.core_scan.specs.declared.token.Token.{Token}
-use Rattle.dialyze.specs.declared.sort.Sort.{Sort}
-use Rattle.dialyze.specs.declared.sort.Sort.TheVariants as s
+use Rattle.dialyze.specs.declared.sort.SmallSort.{SmallSort}
+use Rattle.dialyze.specs.declared.sort.SmallSort.TheVariants as s
 use Rattle.dialyze.specs.Sorts.{sort}
 use Rattle.dialyze.specs.Grammar.{text, arity, Takes, takes, AtomAt, atom_at, NameAt, name_at, NoToken, NoAtom, NoName}
 
-same_sort : {t u : Token} {c : Sort} {ts us : List Token} → (u ∷ us) ≡ (t ∷ ts) → sort u ≡ c → sort t ≡ c
+same_sort : {t u : Token} {c : SmallSort} {ts us : List Token} → (u ∷ us) ≡ (t ∷ ts) → sort u ≡ c → sort t ≡ c
 same_sort {t} {u} {c} e h = let P : Token → Type 0 = λ x. sort x ≡ c in let f : u ≡ t = cc in subst P f h
 
 -- a token of a sort
-pub takes_it : (c : Sort) (t : Token) (ts us : List Token) → ts ≡ t ∷ us → sort t ≡ c → Takes c ts us
+pub takes_it : (c : SmallSort) (t : Token) (ts us : List Token) → ts ≡ t ∷ us → sort t ≡ c → Takes c ts us
 takes_it c t ts us e h = let P : List Token → Type 0 = λ x. Takes c x us in subst P (sym e) (takes h)
 
-nothing_to_take : {c : Sort} {ts rest : List Token} → Takes c ts rest → length ts ≡ 0 → ⊥
+nothing_to_take : {c : SmallSort} {ts rest : List Token} → Takes c ts rest → length ts ≡ 0 → ⊥
 nothing_to_take (takes h) e = absurd (omega arith)
 
-pub none_to_take : (c : Sort) (ts : List Token) → length ts ≡ 0 → NoToken c ts
+pub none_to_take : (c : SmallSort) (ts : List Token) → length ts ≡ 0 → NoToken c ts
 none_to_take c ts e = record { absent = λ rest h. nothing_to_take h e }
 
-not_first : {c : Sort} {t : Token} {ts us rest : List Token} → Takes c ts rest → ts ≡ t ∷ us → sort t ≡ c
+not_first : {c : SmallSort} {t : Token} {ts us rest : List Token} → Takes c ts rest → ts ≡ t ∷ us → sort t ≡ c
 not_first (takes h) e = same_sort e h
 
-pub other_to_take : (c : Sort) (t : Token) (ts us : List Token) (found : Bool) → ts ≡ t ∷ us → found ≡ false → (sort t ≡ c → found ≡ true) → NoToken c ts
+pub other_to_take : (c : SmallSort) (t : Token) (ts us : List Token) (found : Bool) → ts ≡ t ∷ us → found ≡ false → (sort t ≡ c → found ≡ true) → NoToken c ts
 other_to_take c t ts us found e not_found finds = record { absent = λ rest h. let k = finds (not_first h e) in absurd cc }
 
 -- an atom
@@ -85,7 +85,7 @@ other_for_name t ts us e differs = record { absent = λ x p rest h. differs (no_
 pub no_slash_for_name : (t : Token) (ts us : List Token) → ts ≡ t ∷ us → NoToken s.Slash us → NoName ts
 no_slash_for_name t ts us e none = record { absent = λ x p rest h. none.absent _ (behind_name h e).slash }
 
-same_taken : {c : Sort} {us vs ws : List Token} → Takes c us vs → Takes c us ws → vs ≡ ws
+same_taken : {c : SmallSort} {us vs ws : List Token} → Takes c us vs → Takes c us ws → vs ≡ ws
 same_taken (takes h) (takes g) = refl
 
 pub no_number_for_name : (t : Token) (ts us vs : List Token) → ts ≡ t ∷ us → Takes s.Slash us vs → length vs ≡ 0 → NoName ts

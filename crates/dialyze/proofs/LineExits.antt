@@ -8,7 +8,7 @@ use Rattle.core_ast.specs.Model as m
 use Rattle.dialyze.specs.declared.sites.Site.{Site}
 use Rattle.dialyze.specs.Dead.{Dead}
 use Rattle.dialyze.specs.Report.{Finding, no_return, never_returns, line_of, lines_of}
-use Rattle.dialyze.specs.Found.{AreJudged, IsLost, SitesFound, no_site, lost_site, kept_site, dead_function_found, live_function_found, AddsSites, AddsFunction}
+use Rattle.dialyze.specs.steps.Found.{AreJudged, IsLost, SitesFound, no_site, lost_site, kept_site, dead_function_found, live_function_found, AddsSites, AddsFunction}
 use Rattle.dialyze.proofs.LostExits.{lost_from, never_from, tested_false}
 
 pub lines-append : (home : Atom) (fs gs : List Finding) → lines_of home (fs ++ gs) ≡ lines_of home fs ++ lines_of home gs

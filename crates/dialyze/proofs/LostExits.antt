@@ -6,8 +6,8 @@ use Rattle.dialyze.specs.declared.sites.Site.{Site}
 use Rattle.dialyze.specs.declared.sites.Callee.{Callee}
 use Rattle.dialyze.specs.Scope as scope
 use Rattle.dialyze.specs.Scope.{IsAccepted}
-use Rattle.dialyze.specs.Dead.{Names, IsMistaken, Dead, Bad, mistaken, to_dead, NeverReturns}
-use Rattle.dialyze.specs.Found.{AreJudged, IsLost}
+use Rattle.dialyze.specs.Dead.{NamesFunction, IsMistaken, Dead, Bad, mistaken, to_dead, NeverReturns}
+use Rattle.dialyze.specs.steps.Found.{AreJudged, IsLost}
 use Rattle.dialyze.proofs.DeadNames.{named_once, named_within, named_cases, goes_named}
 
 -- A call is bad or goes to a dead function exactly where it is lost.
@@ -39,7 +39,7 @@ few_names x ns dead judged = judged.few
 pub ruleset lost_exits = (judged_accepted, judged_named, few_names)
 
 -- the named function has a flag
-pub named_judged : (x : m.Module) (ns : List FunName) (dead : List Bool) (callee : Callee) (j : ℕ) → AreJudged x ns dead → Names x callee j → j < length dead
+pub named_judged : (x : m.Module) (ns : List FunName) (dead : List Bool) (callee : Callee) (j : ℕ) → AreJudged x ns dead → NamesFunction x callee j → j < length dead
 named_judged x ns dead callee j judged named = omega (arith, named_within x callee j named, ap length judged.named, judged.as_many)
 
 -- a mistaken call
@@ -47,7 +47,7 @@ pub lost_mistaken : (x : m.Module) (callee : Callee) (mistake : Bool) → (IsTru
 lost_mistaken x callee mistake is test = (λ _. inl (is.0 test), λ _. refl)
 
 -- a call that isn't mistaken, by the flag of the function that it names
-pub lost_named : (x : m.Module) (ns : List FunName) (dead : List Bool) (callee : Callee) (j : ℕ) (b mistake : Bool) → AreJudged x ns dead → Names x callee j → (IsTrue mistake ↔ IsMistaken x callee) → mistake ≡ false → slice_get dead j ≡ Some b → IsTrue b ↔ IsLost x callee
+pub lost_named : (x : m.Module) (ns : List FunName) (dead : List Bool) (callee : Callee) (j : ℕ) (b mistake : Bool) → AreJudged x ns dead → NamesFunction x callee j → (IsTrue mistake ↔ IsMistaken x callee) → mistake ≡ false → slice_get dead j ≡ Some b → IsTrue b ↔ IsLost x callee
 lost_named x ns dead callee j b mistake judged named is test flag =
     let right = judged.right j (named_judged x ns dead callee j judged named) in (
       (λ holds. elim (named_cases x callee j named) [ inl wrong ↦ inl wrong | inr goes ↦ inr (j, goes, right.0 (flag ∙ ap (λ v. Some v) holds)) ]),
@@ -60,7 +60,7 @@ lost_named x ns dead callee j b mistake judged named is test flag =
     )
 
 -- and one that names none
-pub lost_nowhere : (x : m.Module) (callee : Callee) (mistake : Bool) → (IsTrue mistake ↔ IsMistaken x callee) → mistake ≡ false → ((j : ℕ) → Names x callee j → ⊥) → IsTrue false ↔ IsLost x callee
+pub lost_nowhere : (x : m.Module) (callee : Callee) (mistake : Bool) → (IsTrue mistake ↔ IsMistaken x callee) → mistake ≡ false → ((j : ℕ) → NamesFunction x callee j → ⊥) → IsTrue false ↔ IsLost x callee
 lost_nowhere x callee mistake is test none = (
   (λ no. absurd cc),
   elim [

@@ -7,7 +7,7 @@ use Rattle.type_kinds.specs.declared.place.Place.{Place}
 use Rattle.core_ast.specs.declared.syntax.FunName.{FunName}
 use Rattle.core_ast.specs.Model as m
 use Rattle.core_scan.specs.declared.token.Token.{Token}
-use Rattle.dialyze.specs.declared.sort.Sort.TheVariants as s
+use Rattle.dialyze.specs.declared.sort.SmallSort.TheVariants as s
 use Rattle.dialyze.specs.Grammar.{no_note, Takes, AtomAt, Exports, Definitions, EmptyAttributes, empty_attributes, Spells, spelled, NoToken, NoAtom, NoExports, NoAttributes, NoDefinitions, SpellNothing}
 use Rattle.dialyze.proofs.Once.{once-Takes, once-AtomAt, takes_from, atom_from}
 use Rattle.dialyze.proofs.ExportExits.{once-Exports}

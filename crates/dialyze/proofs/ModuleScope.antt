@@ -9,7 +9,7 @@ use Rattle.core_ast.specs.declared.syntax.FunDefOf.{FunDefOf}
 use Rattle.core_ast.specs.declared.syntax.Expr.{Expr}
 use Rattle.core_ast.specs.Model as m
 use Rattle.core_ast.specs.Tree.{tree, all_defs}
-use Rattle.dialyze.specs.Scope.{names, Distinct, variable_names, DistinctVariables, InScope, IsSound, AllSound, IsAccepted}
+use Rattle.dialyze.specs.Scope.{names, Distinct, variable_names, DistinctVariables, InScope, IsSoundDefinition, AllSound, IsAccepted}
 use Rattle.dialyze.proofs.ScopeExits.{next_item, either_first, first_in}
 
 -- What is left begins with a definition.
@@ -50,21 +50,21 @@ module _ (fs : List FunName) (ds : List (FunDefOf Expr)) (i : ℕ) (d e : FunDef
 
 -- sound definitions
 pub sound_tells : (home : Atom) (fs : List FunName) (f : FunName) (params ps : List VarName) (body b : m.Tree) (v r : Bool) → ps ≡ params → b ≡ body → length ps ≡ f.arity → (IsTrue v ↔ DistinctVariables (variable_names ps)) → v ≡ true → (IsTrue r ↔ InScope home fs ps b)
-    → IsTrue r ↔ IsSound home fs f params body
+    → IsTrue r ↔ IsSoundDefinition home fs f params body
 sound_tells home fs f params ps body b v r is_ps is_b arity distinct so tells =
-    let P : List VarName → Type 0 = λ l. IsTrue r ↔ IsSound home fs f l body in
-    let Q : m.Tree → Type 0 = λ t. IsTrue r ↔ IsSound home fs f ps t in
+    let P : List VarName → Type 0 = λ l. IsTrue r ↔ IsSoundDefinition home fs f l body in
+    let Q : m.Tree → Type 0 = λ t. IsTrue r ↔ IsSoundDefinition home fs f ps t in
     subst P is_ps (subst Q is_b (λ so_r. record { arity = arity; distinct = distinct.0 so; in_scope = tells.0 so_r }, λ h. tells.1 h.in_scope))
 
 module _ (home : Atom) (fs : List FunName) (ds : List (FunDefOf Expr)) (i : ℕ) (d e : FunDefOf Expr) (r : Bool) where
-  sound_def : e ≡ d → (IsTrue r ↔ IsSound home fs e.name e.fun.params (tree e.fun.body)) → IsTrue r ↔ IsSound home fs d.name d.fun.params (tree d.fun.body)
-  sound_def same tells = let P : FunDefOf Expr → Type 0 = λ d. IsTrue r ↔ IsSound home fs d.name d.fun.params (tree d.fun.body) in subst P same tells
+  sound_def : e ≡ d → (IsTrue r ↔ IsSoundDefinition home fs e.name e.fun.params (tree e.fun.body)) → IsTrue r ↔ IsSoundDefinition home fs d.name d.fun.params (tree d.fun.body)
+  sound_def same tells = let P : FunDefOf Expr → Type 0 = λ d. IsTrue r ↔ IsSoundDefinition home fs d.name d.fun.params (tree d.fun.body) in subst P same tells
 
-  pub unsound_def : i < length ds → d ≡ get_or ds i d → (AllSound home fs (all_defs ds) ↔ AllSound home fs (all_defs (drop i ds))) → e ≡ d → (IsTrue r ↔ IsSound home fs e.name e.fun.params (tree e.fun.body)) → r ≡ false → IsTrue false ↔ AllSound home fs (all_defs ds)
+  pub unsound_def : i < length ds → d ≡ get_or ds i d → (AllSound home fs (all_defs ds) ↔ AllSound home fs (all_defs (drop i ds))) → e ≡ d → (IsTrue r ↔ IsSoundDefinition home fs e.name e.fun.params (tree e.fun.body)) → r ≡ false → IsTrue false ↔ AllSound home fs (all_defs ds)
   unsound_def within is before same tells lacks =
       (λ so. absurd cc, λ w. let h = subst (AllSound home fs) (next_def ds i d within is) (before.0 w) in let so = (sound_def same tells).1 h.0 in absurd cc)
 
-  pub one_sound : i < length ds → d ≡ get_or ds i d → (AllSound home fs (all_defs ds) ↔ AllSound home fs (all_defs (drop i ds))) → e ≡ d → (IsTrue r ↔ IsSound home fs e.name e.fun.params (tree e.fun.body)) → r ≡ true
+  pub one_sound : i < length ds → d ≡ get_or ds i d → (AllSound home fs (all_defs ds) ↔ AllSound home fs (all_defs (drop i ds))) → e ≡ d → (IsTrue r ↔ IsSoundDefinition home fs e.name e.fun.params (tree e.fun.body)) → r ≡ true
       → AllSound home fs (all_defs ds) ↔ AllSound home fs (all_defs (drop (i + 1) ds))
   one_sound within is before same tells so = (
     λ w. (subst (AllSound home fs) (next_def ds i d within is) (before.0 w)).1,

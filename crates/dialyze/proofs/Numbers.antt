@@ -7,10 +7,10 @@ use Rattle.std.proofs.lemmas.List.Elements.{All-from_recursion}
 use Rattle.std.proofs.lemmas.List.Kept.{AllPairs-cons}
 use Rattle.core_ast.specs.Model as m
 use Rattle.core_scan.specs.declared.token.Token.{Token}
-use Rattle.dialyze.specs.declared.sort.Sort.{Sort}
+use Rattle.dialyze.specs.declared.sort.SmallSort.{SmallSort}
 use Rattle.dialyze.specs.declared.sites.Site.{Site}
 use Rattle.dialyze.specs.Sites.{sites, all_sites}
-use Rattle.dialyze.specs.Numbered.{labels, IsNumbered}
+use Rattle.dialyze.specs.steps.Numbered.{labels, IsNumbered}
 use Rattle.dialyze.specs.Grammar.{Simple, variable, integer, atom, Expression, simple, tuple, apply, call, Elements, none, some, More, closes, goes_on, Definition, defined, Definitions, ended, one_more, Spells, spelled}
 
 -- The numbers ascend, from one on and below another.
@@ -48,11 +48,11 @@ mutual
   risen {n = n} {p = p} (apply {xs = xs} _ h f o es) = (omega arith, lower (n + 1) (n + 2) p (map label_of (all_sites xs)) (omega arith) (all_risen es))
   risen {n = n} {p = p} (call {xs = xs} _ h a c f o es) = (omega arith, lower (n + 1) (n + 3) p (map label_of (all_sites xs)) (omega arith) (all_risen es))
 
-  pub all_risen : {c : Sort} {q : Bool} {d n p : ℕ} {ts us : List Token} {xs : m.Trees} → Elements c q d n ts xs us p → Rising n p (map label_of (all_sites xs))
+  pub all_risen : {c : SmallSort} {q : Bool} {d n p : ℕ} {ts us : List Token} {xs : m.Trees} → Elements c q d n ts xs us p → Rising n p (map label_of (all_sites xs))
   all_risen (none h) = omega arith
   all_risen {n = n} {p = p} (some {p = o} {x = x} {xs = xs} e es) = both n o p (sites x) (all_sites xs) (risen e) (more_risen es)
 
-  pub more_risen : {c : Sort} {q : Bool} {d n p : ℕ} {ts us : List Token} {xs : m.Trees} → More c q d n ts xs us p → Rising n p (map label_of (all_sites xs))
+  pub more_risen : {c : SmallSort} {q : Bool} {d n p : ℕ} {ts us : List Token} {xs : m.Trees} → More c q d n ts xs us p → Rising n p (map label_of (all_sites xs))
   more_risen (closes h) = omega arith
   more_risen {n = n} {p = p} (goes_on {p = o} {x = x} {xs = xs} g e es) = both n o p (sites x) (all_sites xs) (risen e) (more_risen es)
 

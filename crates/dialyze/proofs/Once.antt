@@ -6,12 +6,12 @@ use Rattle.core_ast.specs.declared.syntax.FunName.{FunName}
 use Rattle.core_ast.specs.declared.syntax.Literal.TheVariants as l
 use Rattle.core_ast.specs.Model as m
 use Rattle.core_scan.specs.declared.token.Token.{Token}
-use Rattle.dialyze.specs.declared.sort.Sort.{Sort}
-use Rattle.dialyze.specs.declared.sort.Sort.TheVariants as s
+use Rattle.dialyze.specs.declared.sort.SmallSort.{SmallSort}
+use Rattle.dialyze.specs.declared.sort.SmallSort.TheVariants as s
 use Rattle.dialyze.specs.Sorts.{sort}
 use Rattle.dialyze.specs.Grammar.{text, arity, at, Takes, takes, AtomAt, atom_at, NameAt, name_at, Simple, variable, integer, atom, Expression, simple, tuple, apply, call, Elements, none, some, More, closes, goes_on, closing}
 
-pub once-Takes : {c : Sort} {ts us vs : List Token} → Takes c ts us → Takes c ts vs → us ≡ vs
+pub once-Takes : {c : SmallSort} {ts us vs : List Token} → Takes c ts us → Takes c ts vs → us ≡ vs
 once-Takes (takes h) (takes g) = refl
 
 -- an atom in one way
@@ -55,16 +55,16 @@ pub record SameTrees (xs ys : m.Trees) (us vs : List Token) (p q : ℕ) : Type 0
   pub next_is : p ≡ q
 
 -- the same, from tokens that are told to be the same
-pub takes_from : {c : Sort} {ts us vs : List Token} → us ≡ ts → Takes c us vs → Takes c ts vs
+pub takes_from : {c : SmallSort} {ts us vs : List Token} → us ≡ ts → Takes c us vs → Takes c ts vs
 takes_from {c} {ts} {us} {vs} e h = let P : List Token → Type 0 = λ x. Takes c x vs in subst P e h
 
 pub atom_from : {x : Atom} {p : Place} {ts us vs : List Token} → us ≡ ts → AtomAt us x p vs → AtomAt ts x p vs
 atom_from {x} {p} {ts} {us} {vs} e h = let P : List Token → Type 0 = λ y. AtomAt y x p vs in subst P e h
 
-pub elements_from : {c : Sort} {q : Bool} {d n r : ℕ} {xs : m.Trees} {ts us vs : List Token} → us ≡ ts → Elements c q d n us xs vs r → Elements c q d n ts xs vs r
+pub elements_from : {c : SmallSort} {q : Bool} {d n r : ℕ} {xs : m.Trees} {ts us vs : List Token} → us ≡ ts → Elements c q d n us xs vs r → Elements c q d n ts xs vs r
 elements_from {c} {q} {d} {n} {r} {xs} {ts} {us} {vs} e h = let P : List Token → Type 0 = λ y. Elements c q d n y xs vs r in subst P e h
 
-pub more_from : {c : Sort} {q : Bool} {d n o r : ℕ} {xs : m.Trees} {ts us vs : List Token} → us ≡ ts → n ≡ o → More c q d n us xs vs r → More c q d o ts xs vs r
+pub more_from : {c : SmallSort} {q : Bool} {d n o r : ℕ} {xs : m.Trees} {ts us vs : List Token} → us ≡ ts → n ≡ o → More c q d n us xs vs r → More c q d o ts xs vs r
 more_from {c} {q} {d} {n} {o} {r} {xs} {ts} {us} {vs} e f h =
     let P : List Token → Type 0 = λ y. More c q d n y xs vs r in
     let Q : ℕ → Type 0 = λ i. More c q d i ts xs vs r in
@@ -86,7 +86,7 @@ simple_begins (integer h) = ap closing h
 simple_begins (atom h) = ap closing h
 
 -- the sorts of one token
-abbrev pub is_simple : Sort → Bool
+abbrev pub is_simple : SmallSort → Bool
 is_simple s.Variable = true
 is_simple s.Integer = true
 is_simple s.Atom = true
@@ -145,7 +145,7 @@ mutual
       let r = once-Elements refl xs (elements_from (sym i) xs') in
       record { tree_is = same_call (at n t.place) a.atom_is a.place_is e.atom_is e.place_is r.trees_are; rest_is = r.rest_is; next_is = r.next_is }
 
-  pub once-Elements : {c : Sort} {q : Bool} {d n p r : ℕ} {ts us vs : List Token} {xs ys : m.Trees} → closing c ≡ true → Elements c q d n ts xs us p → Elements c q d n ts ys vs r → SameTrees xs ys us vs p r
+  pub once-Elements : {c : SmallSort} {q : Bool} {d n p r : ℕ} {ts us vs : List Token} {xs ys : m.Trees} → closing c ≡ true → Elements c q d n ts xs us p → Elements c q d n ts ys vs r → SameTrees xs ys us vs p r
   once-Elements k (none h) (none g) = record { trees_are = refl; rest_is = refl; next_is = refl }
   once-Elements k (none h) (some x xs) = let e = ap closing h in let f = begins x in absurd cc
   once-Elements k (some x xs) (none h) = let e = ap closing h in let f = begins x in absurd cc
@@ -154,7 +154,7 @@ mutual
       let b = once-More k xs (more_from (sym a.rest_is) (sym a.next_is) ys) in
       record { trees_are = two_trees a.tree_is b.trees_are; rest_is = b.rest_is; next_is = b.next_is }
 
-  pub once-More : {c : Sort} {q : Bool} {d n p r : ℕ} {ts us vs : List Token} {xs ys : m.Trees} → closing c ≡ true → More c q d n ts xs us p → More c q d n ts ys vs r → SameTrees xs ys us vs p r
+  pub once-More : {c : SmallSort} {q : Bool} {d n p r : ℕ} {ts us vs : List Token} {xs ys : m.Trees} → closing c ≡ true → More c q d n ts xs us p → More c q d n ts ys vs r → SameTrees xs ys us vs p r
   once-More k (closes h) (closes g) = record { trees_are = refl; rest_is = refl; next_is = refl }
   once-More k (closes h) (goes_on g x xs) = let e = ap closing h in let f = ap closing g in absurd cc
   once-More k (goes_on g x xs) (closes h) = let e = ap closing h in let f = ap closing g in absurd cc

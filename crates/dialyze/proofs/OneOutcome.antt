@@ -11,43 +11,43 @@ use Rattle.da_shelf.specs.Told.{Files}
 use Rattle.dialyze.specs.declared.status.Status.{Status}
 use Rattle.dialyze.specs.Words.{IsCheck}
 use Rattle.dialyze.specs.Grammar.{Spells}
-use Rattle.dialyze.specs.Report.{Finding, Before, AreFindings, lines_of, IsReport}
+use Rattle.dialyze.specs.Report.{Finding, StandsBefore, AreFindings, lines_of, IsReport}
 use Rattle.dialyze.specs.Outcome.{IsBuilt, Judged, refused, clean, warned, Outcome, usage, lacking, judged, missing_line}
 use Rattle.dialyze.proofs.ModuleExits.{once-Spells}
 use Rattle.dialyze.proofs.FoundLemmas.{first_or_later, first_in, later_in, in_nothing}
 
 -- lists in one strict order with the same items are one
-irreflexive : (f : Finding) → Before f f → ⊥
+irreflexive : (f : Finding) → StandsBefore f f → ⊥
 irreflexive f (inl a) = omega arith
 irreflexive f (inr a) = let b : f.kind < f.kind = a.1 in omega arith
 
-not_both : (f g : Finding) → Before f g → Before g f → ⊥
+not_both : (f g : Finding) → StandsBefore f g → StandsBefore g f → ⊥
 not_both f g (inl a) (inl b) = omega arith
 not_both f g (inl a) (inr b) = let c : g.label ≡ f.label = b.0 in omega arith
 not_both f g (inr a) (inl b) = let c : f.label ≡ g.label = a.0 in omega arith
 not_both f g (inr a) (inr b) = let c : f.kind < g.kind = a.1 in let d : g.kind < f.kind = b.1 in omega arith
 
-before_all : (f : Finding) (fs : List Finding) → AllPairs Before (f ∷ fs) → (g : Finding) → Contains fs g → Before f g
-before_all f fs pairs g h = subst (Before f) h.2 (pairs 0 (suc h.0) g (omega arith) (let within : h.0 < length fs = h.1 in omega arith))
+before_all : (f : Finding) (fs : List Finding) → AllPairs StandsBefore (f ∷ fs) → (g : Finding) → Contains fs g → StandsBefore f g
+before_all f fs pairs g h = subst (StandsBefore f) h.2 (pairs 0 (suc h.0) g (omega arith) (let within : h.0 < length fs = h.1 in omega arith))
 
-others : (f : Finding) (fs : List Finding) → AllPairs Before (f ∷ fs) → AllPairs Before fs
+others : (f : Finding) (fs : List Finding) → AllPairs StandsBefore (f ∷ fs) → AllPairs StandsBefore fs
 others f fs pairs i j d before within = pairs (suc i) (suc j) d (omega arith) (omega arith)
 
-first_of : (f g : Finding) (fs gs : List Finding) → AllPairs Before (f ∷ fs) → AllPairs Before (g ∷ gs) → (g ≡ f) ⊎ Contains gs f → (f ≡ g) ⊎ Contains fs g → f ≡ g
+first_of : (f g : Finding) (fs gs : List Finding) → AllPairs StandsBefore (f ∷ fs) → AllPairs StandsBefore (g ∷ gs) → (g ≡ f) ⊎ Contains gs f → (f ≡ g) ⊎ Contains fs g → f ≡ g
 first_of f g fs gs p q (inl same) other = sym same
 first_of f g fs gs p q (inr later) (inl same) = same
 first_of f g fs gs p q (inr later) (inr other) = absurd (not_both f g (before_all f fs p g other) (before_all g gs q f later))
 
-in_others : (f g h : Finding) (fs gs : List Finding) → AllPairs Before (f ∷ fs) → f ≡ g → Contains fs h → (g ≡ h) ⊎ Contains gs h → Contains gs h
+in_others : (f g h : Finding) (fs gs : List Finding) → AllPairs StandsBefore (f ∷ fs) → f ≡ g → Contains fs h → (g ≡ h) ⊎ Contains gs h → Contains gs h
 in_others f g h fs gs p same one (inr later) = later
 in_others f g h fs gs p same one (inl first) =
-    let P : Finding → Type 0 = λ z. Before f z in
+    let P : Finding → Type 0 = λ z. StandsBefore f z in
     absurd (irreflexive f (subst P (sym (same ∙ first)) (before_all f fs p h one)))
 
 two : {f g : Finding} {fs gs : List Finding} → f ≡ g → fs ≡ gs → (f ∷ fs) ≡ (g ∷ gs)
 two e h = cc
 
-pub one_order : (fs gs : List Finding) → AllPairs Before fs → AllPairs Before gs → ((f : Finding) → Contains fs f → Contains gs f) → ((f : Finding) → Contains gs f → Contains fs f) → fs ≡ gs
+pub one_order : (fs gs : List Finding) → AllPairs StandsBefore fs → AllPairs StandsBefore gs → ((f : Finding) → Contains fs f → Contains gs f) → ((f : Finding) → Contains gs f → Contains fs f) → fs ≡ gs
 one_order [] [] p q to from = refl
 one_order [] (g ∷ gs) p q to from = absurd (in_nothing g (from g (first_in g g gs refl)))
 one_order (f ∷ fs) [] p q to from = absurd (in_nothing f (to f (first_in f f fs refl)))

@@ -3,8 +3,8 @@ use Rattle.std.proofs.Common.{◌≡◌, List, [], ◌∷◌, ◌++◌, refl, sy
 use Rattle.std.proofs.lemmas.List.{append-nil}
 use Rattle.core_ast.specs.declared.syntax.VarName.{VarName}
 use Rattle.core_scan.specs.declared.token.Token.{Token}
-use Rattle.dialyze.specs.declared.sort.Sort.{Sort}
-use Rattle.dialyze.specs.declared.sort.Sort.TheVariants as s
+use Rattle.dialyze.specs.declared.sort.SmallSort.{SmallSort}
+use Rattle.dialyze.specs.declared.sort.SmallSort.TheVariants as s
 use Rattle.dialyze.specs.Sorts.{sort}
 use Rattle.dialyze.specs.Grammar.{parameter, MoreParameters, end_parameters, next_parameter, Parameters, no_parameter, first_parameter, NoParameters}
 
@@ -19,7 +19,7 @@ first_two e = cc
 pub behind_two : {t u : Token} {ts us : List Token} → (t ∷ ts) ≡ (u ∷ us) → ts ≡ us
 behind_two e = cc
 
-pub sort_at : {t u : Token} {ts us : List Token} {c : Sort} → (t ∷ ts) ≡ (u ∷ us) → sort t ≡ c → sort u ≡ c
+pub sort_at : {t u : Token} {ts us : List Token} {c : SmallSort} → (t ∷ ts) ≡ (u ∷ us) → sort t ≡ c → sort u ≡ c
 sort_at {t} {u} {c = c} e h = let P : Token → Type 0 = λ z. sort z ≡ c in subst P (first_two e) h
 
 -- nothing

@@ -11,10 +11,10 @@ use Rattle.dialyze.specs.declared.sites.Site.{Site}
 use Rattle.dialyze.specs.Scope as scope
 use Rattle.dialyze.specs.Scope.{IsAccepted}
 use Rattle.dialyze.specs.Sites.{sites, def_sites}
-use Rattle.dialyze.specs.Numbered.{IsNumbered}
+use Rattle.dialyze.specs.steps.Numbered.{IsNumbered}
 use Rattle.dialyze.specs.Dead.{Dead}
 use Rattle.dialyze.specs.Report.{Finding, lines_of, IsReport}
-use Rattle.dialyze.specs.Found.{AreJudged, DefsFound, no_def_found, next_def_found, AddsFunction}
+use Rattle.dialyze.specs.steps.Found.{AreJudged, DefsFound, no_def_found, next_def_found, AddsFunction}
 use Rattle.dialyze.proofs.FoundLemmas.{are_findings}
 use Rattle.dialyze.proofs.LineExits.{lines_further}
 

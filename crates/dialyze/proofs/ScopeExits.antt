@@ -1,5 +1,5 @@
 -- The rules of scope: what each step of the test says.
-use Rattle.std.proofs.Common.{◌≡◌, ℕ, zero, suc, ◌+◌, ◌<◌, ◌↔◌, ◌⊎◌, inl, inr, List, [], ◌∷◌, refl, sym, ap, ◌∙◌, subst, Bool, true, false, IsTrue, Option, Some, length, get_or, drop, Contains, codes, nat_eq, eqb-true, eq-eqb, lit<, arith, add-one, drop-cons}
+use Rattle.std.proofs.Common.{◌≡◌, ℕ, zero, suc, ◌+◌, ◌<◌, ◌↔◌, ◌⊎◌, inl, inr, List, [], ◌∷◌, refl, sym, ap, ◌∙◌, subst, Bool, true, false, IsTrue, Some, length, get_or, drop, Contains, codes, nat_eq, eqb-true, eq-eqb, lit<, arith, add-one, drop-cons}
 use Rattle.std.proofs.lemmas.List.Elements.{Contains-append_right}
 use Rattle.std.specs.Cmp.Lexicographic.{pointwise, bytes_decides}
 use Rattle.type_kinds.specs.declared.atom.Atom.{Atom}

@@ -18,7 +18,7 @@ use Rattle.dialyze.specs.declared.sites.Site.{Site}
 use Rattle.dialyze.specs.declared.sites.Callee.TheVariants.{Applied, Called}
 use Rattle.dialyze.specs.Scope.{function_name}
 use Rattle.dialyze.specs.Sites.{site, sites, all_sites, def_sites}
-use Rattle.dialyze.specs.Few.{IsFew, AreFew, FewInDefs}
+use Rattle.dialyze.specs.steps.Few.{IsFew, AreFew, FewInDefs}
 
 -- the sites of each form
 apply_named : (k : Mark) (x : m.Tree) (xs : m.Trees) (g : FunName) → local_name x ≡ Some g → sites (m.apply k x xs) ≡ site k (Applied g (how_many xs)) ∷ all_sites xs

@@ -10,12 +10,13 @@ use Rattle.core_scan.specs.Bytes.{start}
 use Rattle.core_scan.specs.Lexed.{Lexed}
 use Rattle.dialyze.specs.Grammar.{Spells, SpellNothing}
 use Rattle.dialyze.specs.Scope.{IsAccepted}
-use Rattle.dialyze.specs.Outcome.{longest_source, IsBuilt, IsNotBuilt, SpellAccepted, SpellNoneAccepted}
+use Rattle.dialyze.specs.declared.source.TheConstants.{LONGEST_SOURCE}
+use Rattle.dialyze.specs.Outcome.{IsBuilt, IsNotBuilt, SpellAccepted, SpellNoneAccepted}
 
-built_it : (bytes : List ℕ) (tokens read : List Token) (x : m.Module) → length bytes ≤ longest_source → Lexed start bytes tokens → read ≡ tokens → SpellAccepted read x → IsBuilt bytes x
+built_it : (bytes : List ℕ) (tokens read : List Token) (x : m.Module) → length bytes ≤ LONGEST_SOURCE → Lexed start bytes tokens → read ≡ tokens → SpellAccepted read x → IsBuilt bytes x
 built_it bytes tokens read x a b is c = record { short = a; tokens = tokens; lexed = b; module_is = (let P : List Token → Type 0 = λ ts. SpellAccepted ts x in subst P is c) }
 
-pub too_long : (bytes : List ℕ) → longest_source < length bytes → IsNotBuilt bytes
+pub too_long : (bytes : List ℕ) → LONGEST_SOURCE < length bytes → IsNotBuilt bytes
 too_long bytes long = record { absent = λ x h. let short = h.short in omega arith }
 
 pub no_tokens : (bytes : List ℕ) → ((ts : List Token) → Lexed start bytes ts → ⊥) → IsNotBuilt bytes
@@ -25,7 +26,7 @@ no_module : (bytes : List ℕ) (tokens read : List Token) → ((us : List Token)
 no_module bytes tokens read once is none =
     record { absent = λ x h. none.absent x (let P : List Token → Type 0 = λ ts. SpellAccepted ts x in subst P (once h.tokens h.lexed ∙ sym is) h.module_is) }
 
-pub spelled_it : (bytes : List ℕ) (tokens read : List Token) (r : Result (Option Module) Memory) → length bytes ≤ longest_source → Lexed start bytes tokens → ((us : List Token) → Lexed start bytes us → us ≡ tokens) → read ≡ tokens
+pub spelled_it : (bytes : List ℕ) (tokens read : List Token) (r : Result (Option Module) Memory) → length bytes ≤ LONGEST_SOURCE → Lexed start bytes tokens → ((us : List Token) → Lexed start bytes us → us ≡ tokens) → read ≡ tokens
     → IfOk r (λ found. MatchOption found (SpellNoneAccepted read) (λ source. SpellAccepted read (module_tree source))) → IfOk r (λ found. MatchOption found (IsNotBuilt bytes) (λ source. IsBuilt bytes (module_tree source)))
 spelled_it bytes tokens read (Ok (Some source)) short lexed once is h = built_it bytes tokens read (module_tree source) short lexed is h
 spelled_it bytes tokens read (Ok None) short lexed once is h = no_module bytes tokens read once is h

@@ -16,9 +16,9 @@ abbrev pub IsNumberOf : m.Module → ℕ → FunName → Type 0
 IsNumberOf x j f = slice_get (names x.defs) j ≡ Some f
 
 -- What a site names: an applied function, with any number of arguments, or a called one that this module exports.
-abbrev pub Names : m.Module → Callee → ℕ → Type 0
-Names x (Applied f n) j = IsNumberOf x j f
-Names x (Called home f) j = (home ≡ x.name) × (home ≢ erlang) × Contains x.exports f × IsNumberOf x j f
+abbrev pub NamesFunction : m.Module → Callee → ℕ → Type 0
+NamesFunction x (Applied f n) j = IsNumberOf x j f
+NamesFunction x (Called home f) j = (home ≡ x.name) × (home ≢ erlang) × Contains x.exports f × IsNumberOf x j f
 
 -- The same with the right number of arguments.
 abbrev pub GoesTo : m.Module → Callee → ℕ → Type 0
@@ -32,15 +32,15 @@ IsMistaken x (Called home f) = (home ≡ x.name) × (home ≢ erlang) × (Contai
 
 -- The body of i names j.
 abbrev pub Calls : m.Module → ℕ → ℕ → Type 0
-Calls x i j = (s : Site) × Contains (sites_of x i) s × Names x s.callee j
+Calls x i j = (s : Site) × Contains (sites_of x i) s × NamesFunction x s.callee j
 
-pub data Reaches (x : m.Module) : ℕ → ℕ → Type 0 where
-  by_call : (i j : ℕ) → Calls x i j → Reaches x i j
-  by_calls : (i j k : ℕ) → Calls x i j → Reaches x j k → Reaches x i k
+pub data ReachesByCalls (x : m.Module) : ℕ → ℕ → Type 0 where
+  by_call : (i j : ℕ) → Calls x i j → ReachesByCalls x i j
+  by_calls : (i j k : ℕ) → Calls x i j → ReachesByCalls x j k → ReachesByCalls x i k
 
 -- The two are in one component.
-abbrev pub Together : m.Module → ℕ → ℕ → Type 0
-Together x i j = (i ≡ j) ⊎ (Reaches x i j × Reaches x j i)
+abbrev pub InOneComponent : m.Module → ℕ → ℕ → Type 0
+InOneComponent x i j = (i ≡ j) ⊎ (ReachesByCalls x i j × ReachesByCalls x j i)
 
 mutual
   -- The function never returns: its body has a bad call.
@@ -50,7 +50,7 @@ mutual
   -- The call, in the body of i, is bad: it is mistaken, or goes to a dead function of another component.
   pub data Bad (x : m.Module) : ℕ → Site → Type 0 where
     mistaken : (i : ℕ) (s : Site) → IsMistaken x s.callee → Bad x i s
-    to_dead : (i j : ℕ) (s : Site) → GoesTo x s.callee j → Dead x j → (Together x i j → ⊥) → Bad x i s
+    to_dead : (i j : ℕ) (s : Site) → GoesTo x s.callee j → Dead x j → (InOneComponent x i j → ⊥) → Bad x i s
 
 -- The call, in the body of i, never returns.
 abbrev pub NeverReturns : m.Module → ℕ → Site → Type 0

@@ -1,7 +1,7 @@
 -- The grammar of the small language: which tokens spell which tree, with its labels and places.
 --
 -- Each relation says that some tokens begin with a part, which tree the part is, and which tokens are
--- left behind it. Labels go through the text in its order, the outer before the inner: `n` is the label
+-- left after it. Labels go through the text in its order, the outer before the inner: `n` is the label
 -- of the part's first node, and `next` the label that follows those of its last. Each alternative of
 -- the grammar (Core Erlang 1.0.3, "Grammar") is one case.
 use Rattle.std.specs.Prelude.{◌≡◌, ℕ, ◌+◌, ◌≤◌, ℤ, pos, List, [], ◌∷◌, Option, Some, None, Bool, true, false, if◌then◌else◌, nat_lt}
@@ -16,13 +16,10 @@ use Rattle.core_ast.specs.Model as m
 use Rattle.core_scan.specs.declared.token.TokenKind.{TokenKind}
 use Rattle.core_scan.specs.declared.token.TokenKind.TheVariants as k
 use Rattle.core_scan.specs.declared.token.Token.{Token}
-use Rattle.dialyze.specs.declared.sort.Sort.{Sort}
-use Rattle.dialyze.specs.declared.sort.Sort.TheVariants as s
+use Rattle.dialyze.specs.declared.expressions.TheConstants.{DEEPEST}
+use Rattle.dialyze.specs.declared.sort.SmallSort.{SmallSort}
+use Rattle.dialyze.specs.declared.sort.SmallSort.TheVariants as s
 use Rattle.dialyze.specs.Sorts.{sort}
-
--- how deep expressions may stand in one another
-abbrev pub deepest : ℕ
-deepest = 400
 
 -- the name of a variable or an atom
 abbrev pub kind_text : TokenKind → Atom
@@ -63,8 +60,8 @@ abbrev pub parameter : Token → VarName
 parameter token = record { name = text token; place = token.place; note = no_note }
 
 -- A token of a sort, an atom, and a function's name: an atom, a slash and an arity.
-pub data Takes : Sort → List Token → List Token → Type 0 where
-  takes : {c : Sort} {t : Token} {ts : List Token} → sort t ≡ c → Takes c (t ∷ ts) ts
+pub data Takes : SmallSort → List Token → List Token → Type 0 where
+  takes : {c : SmallSort} {t : Token} {ts : List Token} → sort t ≡ c → Takes c (t ∷ ts) ts
 
 pub data AtomAt : List Token → Atom → Place → List Token → Type 0 where
   atom_at : {t : Token} {ts : List Token} → sort t ≡ s.Atom → AtomAt (t ∷ ts) (text t) t.place ts
@@ -82,25 +79,25 @@ pub data Simple : (n : ℕ) → Token → m.Tree → Type 0 where
 -- arguments of another.
 mutual
   pub data Expression : (calls : Bool) (d n : ℕ) → List Token → m.Tree → List Token → (next : ℕ) → Type 0 where
-    simple : {calls : Bool} {d n : ℕ} {t : Token} {ts : List Token} {x : m.Tree} → d ≤ deepest → Simple n t x → Expression calls d n (t ∷ ts) x ts (n + 1)
+    simple : {calls : Bool} {d n : ℕ} {t : Token} {ts : List Token} {x : m.Tree} → d ≤ DEEPEST → Simple n t x → Expression calls d n (t ∷ ts) x ts (n + 1)
     -- { elements }
-    tuple : {calls : Bool} {d n next : ℕ} {t : Token} {ts rest : List Token} {xs : m.Trees} → d ≤ deepest → sort t ≡ s.OpenCurly → Elements s.CloseCurly calls (d + 1) (n + 1) ts xs rest next → Expression calls d n (t ∷ ts) (m.tuple (at n t.place) xs) rest next
+    tuple : {calls : Bool} {d n next : ℕ} {t : Token} {ts rest : List Token} {xs : m.Trees} → d ≤ DEEPEST → sort t ≡ s.OpenCurly → Elements s.CloseCurly calls (d + 1) (n + 1) ts xs rest next → Expression calls d n (t ∷ ts) (m.tuple (at n t.place) xs) rest next
     -- apply name ( arguments )
-    apply : {d n next : ℕ} {t : Token} {ts us vs rest : List Token} {f : FunName} {place : Place} {xs : m.Trees} → d + 1 ≤ deepest → sort t ≡ s.Apply → NameAt ts f place us → Takes s.OpenRound us vs → Elements s.CloseRound false (d + 1) (n + 2) vs xs rest next
+    apply : {d n next : ℕ} {t : Token} {ts us vs rest : List Token} {f : FunName} {place : Place} {xs : m.Trees} → d + 1 ≤ DEEPEST → sort t ≡ s.Apply → NameAt ts f place us → Takes s.OpenRound us vs → Elements s.CloseRound false (d + 1) (n + 2) vs xs rest next
         → Expression true d n (t ∷ ts) (m.apply (at n t.place) (m.local (at (n + 1) place) f) xs) rest next
     -- call atom : atom ( arguments )
-    call : {d n next : ℕ} {t : Token} {ts us vs ws zs rest : List Token} {x f : Atom} {p q : Place} {xs : m.Trees} → d + 1 ≤ deepest → sort t ≡ s.Call → AtomAt ts x p us → Takes s.Colon us vs → AtomAt vs f q ws → Takes s.OpenRound ws zs → Elements s.CloseRound false (d + 1) (n + 3) zs xs rest next
+    call : {d n next : ℕ} {t : Token} {ts us vs ws zs rest : List Token} {x f : Atom} {p q : Place} {xs : m.Trees} → d + 1 ≤ DEEPEST → sort t ≡ s.Call → AtomAt ts x p us → Takes s.Colon us vs → AtomAt vs f q ws → Takes s.OpenRound ws zs → Elements s.CloseRound false (d + 1) (n + 3) zs xs rest next
         → Expression true d n (t ∷ ts) (m.call (at n t.place) (m.literal (at (n + 1) p) (l.Atom x)) (m.literal (at (n + 2) q) (l.Atom f)) xs) rest next
 
   -- expressions with commas between them, up to and with the token that closes them
-  pub data Elements : (close : Sort) (calls : Bool) (d n : ℕ) → List Token → m.Trees → List Token → (next : ℕ) → Type 0 where
-    none : {c : Sort} {calls : Bool} {d n : ℕ} {t : Token} {ts : List Token} → sort t ≡ c → Elements c calls d n (t ∷ ts) m.no_tree ts n
-    some : {c : Sort} {calls : Bool} {d n p next : ℕ} {ts us rest : List Token} {x : m.Tree} {xs : m.Trees} → Expression calls d n ts x us p → More c calls d p us xs rest next → Elements c calls d n ts (m.and_tree x xs) rest next
+  pub data Elements : (close : SmallSort) (calls : Bool) (d n : ℕ) → List Token → m.Trees → List Token → (next : ℕ) → Type 0 where
+    none : {c : SmallSort} {calls : Bool} {d n : ℕ} {t : Token} {ts : List Token} → sort t ≡ c → Elements c calls d n (t ∷ ts) m.no_tree ts n
+    some : {c : SmallSort} {calls : Bool} {d n p next : ℕ} {ts us rest : List Token} {x : m.Tree} {xs : m.Trees} → Expression calls d n ts x us p → More c calls d p us xs rest next → Elements c calls d n ts (m.and_tree x xs) rest next
 
   -- what follows an element
-  pub data More : (close : Sort) (calls : Bool) (d n : ℕ) → List Token → m.Trees → List Token → (next : ℕ) → Type 0 where
-    closes : {c : Sort} {calls : Bool} {d n : ℕ} {t : Token} {ts : List Token} → sort t ≡ c → More c calls d n (t ∷ ts) m.no_tree ts n
-    goes_on : {c : Sort} {calls : Bool} {d n p next : ℕ} {t : Token} {ts us rest : List Token} {x : m.Tree} {xs : m.Trees} → sort t ≡ s.Comma → Expression calls d n ts x us p → More c calls d p us xs rest next → More c calls d n (t ∷ ts) (m.and_tree x xs) rest next
+  pub data More : (close : SmallSort) (calls : Bool) (d n : ℕ) → List Token → m.Trees → List Token → (next : ℕ) → Type 0 where
+    closes : {c : SmallSort} {calls : Bool} {d n : ℕ} {t : Token} {ts : List Token} → sort t ≡ c → More c calls d n (t ∷ ts) m.no_tree ts n
+    goes_on : {c : SmallSort} {calls : Bool} {d n p next : ℕ} {t : Token} {ts us rest : List Token} {x : m.Tree} {xs : m.Trees} → sort t ≡ s.Comma → Expression calls d n ts x us p → More c calls d p us xs rest next → More c calls d n (t ∷ ts) (m.and_tree x xs) rest next
 
 -- The parameters of a fun, up to and with the bracket.
 pub data MoreParameters : List Token → List VarName → List Token → Type 0 where
@@ -143,7 +140,7 @@ pub data Spells : List Token → m.Module → Type 0 where
       → Spells ts (record { name = x; exports = fs; export_places = places; defs = ds; note = no_note })
 
 -- Nothing of the kind begins the tokens.
-pub record NoToken (c : Sort) (ts : List Token) : Type 0 where
+pub record NoToken (c : SmallSort) (ts : List Token) : Type 0 where
   pub absent : (rest : List Token) → Takes c ts rest → ⊥
 
 pub record NoAtom (ts : List Token) : Type 0 where
@@ -158,7 +155,7 @@ pub record NotSimple (n : ℕ) (t : Token) : Type 0 where
 pub record NoExpression (calls : Bool) (d n : ℕ) (ts : List Token) : Type 0 where
   pub absent : (x : m.Tree) (rest : List Token) (next : ℕ) → Expression calls d n ts x rest next → ⊥
 
-pub record NoElements (c : Sort) (calls : Bool) (d n : ℕ) (ts : List Token) : Type 0 where
+pub record NoElements (c : SmallSort) (calls : Bool) (d n : ℕ) (ts : List Token) : Type 0 where
   pub absent : (xs : m.Trees) (rest : List Token) (next : ℕ) → Elements c calls d n ts xs rest next → ⊥
 
 pub record NoParameters (ts : List Token) : Type 0 where
@@ -181,7 +178,7 @@ pub record SpellNothing (ts : List Token) : Type 0 where
   pub absent : (x : m.Module) → Spells ts x → ⊥
 
 -- the tokens that close a list
-abbrev pub closing : Sort → Bool
+abbrev pub closing : SmallSort → Bool
 closing s.CloseRound = true
 closing s.CloseCurly = true
 closing _ = false

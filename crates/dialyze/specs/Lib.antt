@@ -2,12 +2,9 @@ pub mod Sorts
 pub mod Grammar
 pub mod Scope
 pub mod Sites
-pub mod Numbered
-pub mod Few
 pub mod Dead
-pub mod Settled
+pub mod steps
 pub mod Report
-pub mod Found
 pub mod Words
 pub mod Codes
 pub mod Outcome

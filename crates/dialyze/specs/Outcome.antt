@@ -7,6 +7,7 @@ use Rattle.core_scan.specs.Bytes.{start}
 use Rattle.core_scan.specs.Lexed.{Lexed}
 use Rattle.da_shelf.specs.Counts.{Rose}
 use Rattle.da_shelf.specs.Told.{Files, Holds, Lacks, appended, IsFrontAppended}
+use Rattle.dialyze.specs.declared.source.TheConstants.{LONGEST_SOURCE}
 use Rattle.dialyze.specs.declared.status.Status.{Status}
 use Rattle.dialyze.specs.declared.status.Status.TheVariants.{Clean, Refused, Warnings, TableFault, DeviceFault, Memory, Usage}
 use Rattle.dialyze.specs.declared.status.Device.TheVariants.{Read, Replace, Write}
@@ -14,10 +15,6 @@ use Rattle.dialyze.specs.Words.{IsCheck, IsNoCommand}
 use Rattle.dialyze.specs.Grammar.{Spells}
 use Rattle.dialyze.specs.Scope.{IsAccepted}
 use Rattle.dialyze.specs.Report.{IsReport}
-
--- the most bytes that a source may have, 16 MiB
-abbrev pub longest_source : ℕ
-longest_source = 16777216
 
 -- The tokens spell the module, and it is accepted.
 pub record SpellAccepted (tokens : List Token) (x : m.Module) : Type 0 where
@@ -30,7 +27,7 @@ pub record SpellNoneAccepted (tokens : List Token) : Type 0 where
 
 -- The bytes are the source of the module: they are few enough, and their tokens spell it, and it is accepted.
 pub record IsBuilt (bytes : List ℕ) (x : m.Module) : Type 0 where
-  pub short : length bytes ≤ longest_source
+  pub short : length bytes ≤ LONGEST_SOURCE
   pub tokens : List Token
   pub lexed : Lexed start bytes tokens
   pub module_is : SpellAccepted tokens x
@@ -73,7 +70,7 @@ pub data Outcome (words : List (List ℕ)) (held : Files) (status : Status) (out
   lacking : (file : List ℕ) → status ≡ missing → output ≡ missing_line file → IsCheck words file → get held file ≡ None → Outcome words held status output
   judged : (file bytes : List ℕ) → IsCheck words file → get held file ≡ Some bytes → Judged file bytes status output → Outcome words held status output
 
--- An answer of the analysis: not want of memory, and not the fault of a device.
+-- An answer of the analysis: not a failed allocation, and not the fault of a device.
 abbrev pub IsAnswer : Status → Type 0
 IsAnswer (DeviceFault device) = ⊥
 IsAnswer Memory = ⊥

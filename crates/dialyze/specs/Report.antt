@@ -40,13 +40,13 @@ pub data IsFinding (x : m.Module) : Finding → Type 0 where
   lost_call : (i : ℕ) (s : Site) → Contains (sites_of x i) s → NeverReturns x i s → IsFinding x (never_returns s)
 
 -- One finding stands before another: by label, and at one label by kind.
-abbrev pub Before : Finding → Finding → Type 0
-Before f g = (f.label < g.label) ⊎ ((f.label ≡ g.label) × (f.kind < g.kind))
+abbrev pub StandsBefore : Finding → Finding → Type 0
+StandsBefore f g = (f.label < g.label) ⊎ ((f.label ≡ g.label) × (f.kind < g.kind))
 
 -- The list has the findings, all and no others, in order.
 pub record AreFindings (x : m.Module) (fs : List Finding) : Type 0 where
   pub exact : (f : Finding) → Contains fs f ↔ IsFinding x f
-  pub in_order : AllPairs Before fs
+  pub in_order : AllPairs StandsBefore fs
 
 -- 'm':12: text
 abbrev pub line_of : Atom → Finding → List ℕ

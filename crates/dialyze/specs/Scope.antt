@@ -69,14 +69,14 @@ module _ (home : Atom) (functions : List FunName) (params : List VarName) where
     AllInScope (m.and_tree x xs) = InScope x × AllInScope xs
 
 -- A definition has as many parameters as its name says, no variable twice among them, and a body in scope.
-pub record IsSound (home : Atom) (functions : List FunName) (f : FunName) (params : List VarName) (body : m.Tree) : Type 0 where
+pub record IsSoundDefinition (home : Atom) (functions : List FunName) (f : FunName) (params : List VarName) (body : m.Tree) : Type 0 where
   pub arity : length params ≡ f.arity
   pub distinct : DistinctVariables (variable_names params)
   pub in_scope : InScope home functions params body
 
 abbrev pub AllSound : Atom → List FunName → m.Defs → Type 0
 AllSound home functions m.no_def = Unit {0}
-AllSound home functions (m.and_def f k params body ds) = IsSound home functions f params body × AllSound home functions ds
+AllSound home functions (m.and_def f k params body ds) = IsSoundDefinition home functions f params body × AllSound home functions ds
 
 -- The module is accepted: no function is defined twice, each export is defined, each definition is
 -- exported, and each definition is sound.

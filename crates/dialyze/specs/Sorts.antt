@@ -4,10 +4,10 @@ use Rattle.std.specs.Cmp.Lexicographic.{pointwise}
 use Rattle.core_scan.specs.declared.token.TokenKind.{TokenKind}
 use Rattle.core_scan.specs.declared.token.TokenKind.TheVariants as k
 use Rattle.core_scan.specs.declared.token.Token.{Token}
-use Rattle.dialyze.specs.declared.sort.Sort.{Sort}
-use Rattle.dialyze.specs.declared.sort.Sort.TheVariants as s
+use Rattle.dialyze.specs.declared.sort.SmallSort.{SmallSort}
+use Rattle.dialyze.specs.declared.sort.SmallSort.TheVariants as s
 
-abbrev pub word_sort : List ℕ → Sort
+abbrev pub word_sort : List ℕ → SmallSort
 word_sort word =
     if pointwise nat_eq word (codes "module") then s.Module
     else if pointwise nat_eq word (codes "attributes") then s.Attributes
@@ -18,7 +18,7 @@ word_sort word =
     else s.Other
 
 -- the symbols of one byte, in the order ( ) { } [ ] , : / =
-abbrev pub byte_sort : ℕ → Sort
+abbrev pub byte_sort : ℕ → SmallSort
 byte_sort byte =
     if byte == 40 then s.OpenRound
     else if byte == 41 then s.CloseRound
@@ -32,11 +32,11 @@ byte_sort byte =
     else if byte == 61 then s.Equals
     else s.Other
 
-abbrev pub symbol_sort : List ℕ → Sort
+abbrev pub symbol_sort : List ℕ → SmallSort
 symbol_sort (byte ∷ []) = byte_sort byte
 symbol_sort symbol = if pointwise nat_eq symbol (codes "->") then s.Arrow else s.Other
 
-abbrev pub kind_sort : TokenKind → Sort
+abbrev pub kind_sort : TokenKind → SmallSort
 kind_sort (k.Word word) = word_sort word
 kind_sort (k.Variable name) = s.Variable
 kind_sort (k.Integer value bare) = s.Integer
@@ -46,5 +46,5 @@ kind_sort (k.Atom name) = s.Atom
 kind_sort (k.Text bytes) = s.Other
 kind_sort (k.Symbol symbol) = symbol_sort symbol
 
-abbrev pub sort : Token → Sort
+abbrev pub sort : Token → SmallSort
 sort token = kind_sort token.kind

@@ -3,18 +3,18 @@ ghost use Rattle.core_ast.specs.Tree.{all_defs, module_tree};
 ghost use Rattle.dialyze.specs.Scope.{names as defined_names, erlang, IsAccepted};
 ghost use Rattle.dialyze.specs.Dead as d;
 
-use crate::names::Names;
+use crate::name_table::NameTable;
 use crate::sites::Callee;
 use core_ast::Module;
 use type_kinds::Atom;
 
 /// The number of the function that a callee names, and `None` where it names none.
-pub fn number_of(source: &Module, names: &Names, callee: &Callee) -> Option<u32>
+pub fn number_of(source: &Module, names: &NameTable, callee: &Callee) -> Option<u32>
     requires accepted { IsAccepted (module_tree source.now) }
     requires names { names.now ≡ defined_names (all_defs source.now.defs) }
     requires few { length names.now < 2 ^ 32 }
-    ensures found { IfSome result (λ j. d.Names (module_tree source.now) callee.now j) }
-    ensures none { IfNone result ((j : ℕ) → d.Names (module_tree source.now) callee.now j → ⊥) }
+    ensures found { IfSome result (λ j. d.NamesFunction (module_tree source.now) callee.now j) }
+    ensures none { IfNone result ((j : ℕ) → d.NamesFunction (module_tree source.now) callee.now j → ⊥) }
 {
     match callee {
         Callee::Applied(name, _) => names.find(name),
@@ -33,8 +33,8 @@ pub fn number_of(source: &Module, names: &Names, callee: &Callee) -> Option<u32>
 /// export.
 pub fn is_mistaken(source: &Module, callee: &Callee, number: Option<u32>) -> bool
     requires accepted { IsAccepted (module_tree source.now) }
-    requires found { IfSome number (λ j. d.Names (module_tree source.now) callee.now j) }
-    requires none { IfNone number ((j : ℕ) → d.Names (module_tree source.now) callee.now j → ⊥) }
+    requires found { IfSome number (λ j. d.NamesFunction (module_tree source.now) callee.now j) }
+    requires none { IfNone number ((j : ℕ) → d.NamesFunction (module_tree source.now) callee.now j → ⊥) }
     ensures { IsTrue result ↔ d.IsMistaken (module_tree source.now) callee.now }
 {
     match callee {

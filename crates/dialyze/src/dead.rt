@@ -5,10 +5,10 @@ ghost use Rattle.components.specs.Numbering.{members_of};
 ghost use Rattle.dialyze.specs.Scope.{names as defined_names, IsAccepted};
 ghost use Rattle.dialyze.specs.Sites.{def_sites};
 ghost use Rattle.dialyze.specs.Dead as d;
-ghost use Rattle.dialyze.specs.Settled.{SomeNames, NumbersFunctions, SettledBelow, IsBadBy, SomeBadBy};
+ghost use Rattle.dialyze.specs.steps.Settled.{SomeNames, NumbersFunctions, SettledBelow, IsBadBy, SomeBadBy};
 
 use crate::callees::{is_mistaken, number_of};
-use crate::names::Names;
+use crate::name_table::NameTable;
 use crate::sites::{Callee, Site};
 use components::{Comps, Graph, components};
 use core_ast::Module;
@@ -19,7 +19,7 @@ use type_kinds::{List, Memory};
 pub fn dead_functions(
     alloc: Global,
     source: &Module,
-    names: &Names,
+    names: &NameTable,
     sites: &List<List<Site>>,
 ) -> Result<List<bool>, Memory>
     requires accepted { IsAccepted (module_tree source.now) }
@@ -39,7 +39,7 @@ pub fn dead_functions(
 // Settles all functions, by components from the lowest number up.
 fn settle(
     source: &Module,
-    names: &Names,
+    names: &NameTable,
     sites: &List<List<Site>>,
     comps: &Comps,
     flags: &mut List<bool>,
@@ -69,7 +69,7 @@ fn settle(
 // Settles the functions of one component, where those of lower components are settled.
 fn settle_component(
     source: &Module,
-    names: &Names,
+    names: &NameTable,
     sites: &List<List<Site>>,
     comps: &Comps,
     component: u32,
@@ -95,7 +95,7 @@ fn settle_component(
 // Whether one of the sites, of a function of this component, is a bad call as far as the flags say.
 fn has_bad(
     source: &Module,
-    names: &Names,
+    names: &NameTable,
     comps: &Comps,
     component: u32,
     flags: &List<bool>,
@@ -119,7 +119,7 @@ fn has_bad(
 // Whether a call, in a function of this component, is bad as far as the flags say.
 fn is_bad(
     source: &Module,
-    names: &Names,
+    names: &NameTable,
     comps: &Comps,
     component: u32,
     flags: &List<bool>,
@@ -146,7 +146,7 @@ fn is_bad(
 fn calls_graph(
     alloc: Global,
     source: &Module,
-    names: &Names,
+    names: &NameTable,
     sites: &List<List<Site>>,
 ) -> Result<Graph, Memory>
     requires accepted { IsAccepted (module_tree source.now) }
@@ -169,7 +169,7 @@ fn calls_graph(
 fn add_calls(
     graph: &mut Graph,
     source: &Module,
-    names: &Names,
+    names: &NameTable,
     from: u32,
     sites: &[Site],
 ) -> Result<(), Memory>
@@ -191,7 +191,7 @@ fn add_calls(
 fn add_call(
     graph: &mut Graph,
     source: &Module,
-    names: &Names,
+    names: &NameTable,
     from: u32,
     callee: &Callee,
 ) -> Result<(), Memory>
@@ -201,7 +201,7 @@ fn add_call(
     requires counted { length graph.old ≡ length names.now }
     requires from { from < length names.now }
     ensures counted { length graph.new ≡ length graph.old }
-    ensures calls { OnOk result ((f g : ℕ) → Leads graph.new f g ↔ (Leads graph.old f g ⊎ ((f ≡ from) × d.Names (module_tree source.now) callee.now g))) }
+    ensures calls { OnOk result ((f g : ℕ) → Leads graph.new f g ↔ (Leads graph.old f g ⊎ ((f ≡ from) × d.NamesFunction (module_tree source.now) callee.now g))) }
 {
     match number_of(source, names, callee) {
         Some(to) => graph.add(from, to),
@@ -215,10 +215,7 @@ fn no_flags(alloc: Global, count: u32) -> Result<List<bool>, Memory>
 {
     let mut flags = List::new(alloc);
     for _ in 0..count {
-        match flags.push(false) {
-            Ok(()) => {}
-            Err(_) => return Err(Memory),
-        }
+        flags.add(false)?;
     }
     Ok(flags)
 }

@@ -1,18 +1,17 @@
-ghost use Rattle.std.specs.Prelude.{◌≡◌, ◌+◌, ◌^◌, ◌<◌, ◌≤◌, [], ◌∷◌, ◌++◌, length, IfOk, IfSome, IfNone, IsErrOf};
-ghost use Rattle.std.specs.Bool.{OnTrue, OnFalse};
+ghost use Rattle.std.specs.Prelude.{◌≡◌, ◌+◌, ◌^◌, ◌<◌, ◌≤◌, [], ◌∷◌, ◌++◌, length, IfOk, IfSome, IfNone, IsErrOf, OnOk};
 ghost use Rattle.core_ast.specs.Model as m;
 ghost use Rattle.core_ast.specs.Tree.{tree, all_defs, module_tree};
-ghost use Rattle.dialyze.specs.Numbered.{IsNumbered};
-ghost use Rattle.dialyze.specs.Few.{AllFew};
+ghost use Rattle.dialyze.specs.steps.Numbered.{IsNumbered};
+ghost use Rattle.dialyze.specs.steps.Few.{AllFew};
 ghost use Rattle.dialyze.specs.Grammar.{parameter, Parameters, Exports, Definition, Definitions, EmptyAttributes, Spells, NoParameters, NoExports, NoDefinition, NoDefinitions, NoAttributes, SpellNothing};
 
 use crate::expressions::{ReadExpr, expression};
-use crate::leaves::{Fault, ReadName, mark, no_note, pushed, take, take_atom, take_name, text_of};
-use crate::sort::{Sort, has_sort};
-use core_ast::{FunDef, FunDefOf, FunName, FunOf, Module, VarName, discard, discard_definitions};
+use crate::leaves::{Fault, ReadName, mark, no_note, take, take_atom, take_name, text_of};
+use crate::sort::{SmallSort, has_sort};
+use core_ast::{FunDef, FunDefOf, FunName, Module, VarName, discard_definitions};
 use core_scan::Token;
 use std::alloc::Global;
-use type_kinds::{Boxed, List, Memory, Place, Shared};
+use type_kinds::{List, Memory, Place, Shared};
 
 /// The parameters of a fun, and what follows their bracket.
 #[derive(Drop)]
@@ -67,49 +66,45 @@ fn parameters<'a>(alloc: Global, tokens: &'a [Token]) -> Result<ReadParams<'a>, 
         return Err(Fault::NotBuilt);
     };
     let mut params = List::new(alloc);
-    if has_sort(first, Sort::CloseRound) {
+    if has_sort(first, SmallSort::CloseRound) {
         return Ok(ReadParams {
             params,
             rest: behind,
         });
     }
-    if !has_sort(first, Sort::Variable) {
+    if !has_sort(first, SmallSort::Variable) {
         return Err(Fault::NotBuilt);
     }
     let name = match parameter_of(alloc, first) {
         Ok(name) => name,
         Err(Memory) => return Err(Fault::Memory),
     };
-    if !pushed(&mut params, name) {
-        return Err(Fault::Memory);
-    }
+    params.add(name)?;
     let mut rest = behind;
     loop {
         let Some((token, behind)) = rest.split_first() else {
             return Err(Fault::NotBuilt);
         };
-        if has_sort(token, Sort::CloseRound) {
+        if has_sort(token, SmallSort::CloseRound) {
             return Ok(ReadParams {
                 params,
                 rest: behind,
             });
         }
-        if !has_sort(token, Sort::Comma) {
+        if !has_sort(token, SmallSort::Comma) {
             return Err(Fault::NotBuilt);
         }
         let Some((variable, after)) = behind.split_first() else {
             return Err(Fault::NotBuilt);
         };
-        if !has_sort(variable, Sort::Variable) {
+        if !has_sort(variable, SmallSort::Variable) {
             return Err(Fault::NotBuilt);
         }
         let name = match parameter_of(alloc, variable) {
             Ok(name) => name,
             Err(Memory) => return Err(Fault::Memory),
         };
-        if !pushed(&mut params, name) {
-            return Err(Fault::Memory);
-        }
+        params.add(name)?;
         rest = after;
     }
 }
@@ -123,7 +118,7 @@ fn exports<'a>(alloc: Global, tokens: &'a [Token]) -> Result<ReadExports<'a>, Fa
 {
     let mut names = List::new(alloc);
     let mut places = List::new(alloc);
-    if let Some(rest) = take(tokens, Sort::CloseSquare) {
+    if let Some(rest) = take(tokens, SmallSort::CloseSquare) {
         return Ok(ReadExports {
             names,
             places,
@@ -135,22 +130,21 @@ fn exports<'a>(alloc: Global, tokens: &'a [Token]) -> Result<ReadExports<'a>, Fa
         Err(fault) => return Err(fault),
     };
     let ReadName { name, place, rest } = found;
-    if !pushed(&mut names, name) || !pushed(&mut places, place) {
-        return Err(Fault::Memory);
-    }
+    names.add(name)?;
+    places.add(place)?;
     let mut left = rest;
     loop {
         let Some((token, behind)) = left.split_first() else {
             return Err(Fault::NotBuilt);
         };
-        if has_sort(token, Sort::CloseSquare) {
+        if has_sort(token, SmallSort::CloseSquare) {
             return Ok(ReadExports {
                 names,
                 places,
                 rest: behind,
             });
         }
-        if !has_sort(token, Sort::Comma) {
+        if !has_sort(token, SmallSort::Comma) {
             return Err(Fault::NotBuilt);
         }
         let found = match take_name(alloc, behind) {
@@ -158,9 +152,8 @@ fn exports<'a>(alloc: Global, tokens: &'a [Token]) -> Result<ReadExports<'a>, Fa
             Err(fault) => return Err(fault),
         };
         let ReadName { name, place, rest } = found;
-        if !pushed(&mut names, name) || !pushed(&mut places, place) {
-            return Err(Fault::Memory);
-        }
+        names.add(name)?;
+        places.add(place)?;
         left = rest;
     }
 }
@@ -178,23 +171,23 @@ fn definition<'a>(alloc: Global, tokens: &'a [Token], label: u32) -> Result<Read
         Ok(found) => found,
         Err(fault) => return Err(fault),
     };
-    let Some(rest) = take(name.rest, Sort::Equals) else {
+    let Some(rest) = take(name.rest, SmallSort::Equals) else {
         return Err(Fault::NotBuilt);
     };
     let Some((word, rest)) = rest.split_first() else {
         return Err(Fault::NotBuilt);
     };
-    if !has_sort(word, Sort::Fun) {
+    if !has_sort(word, SmallSort::Fun) {
         return Err(Fault::NotBuilt);
     }
-    let Some(rest) = take(rest, Sort::OpenRound) else {
+    let Some(rest) = take(rest, SmallSort::OpenRound) else {
         return Err(Fault::NotBuilt);
     };
     let params = match parameters(alloc, rest) {
         Ok(found) => found,
         Err(fault) => return Err(fault),
     };
-    let Some(rest) = take(params.rest, Sort::Arrow) else {
+    let Some(rest) = take(params.rest, SmallSort::Arrow) else {
         return Err(Fault::NotBuilt);
     };
     let ReadExpr {
@@ -205,23 +198,14 @@ fn definition<'a>(alloc: Global, tokens: &'a [Token], label: u32) -> Result<Read
         Ok(found) => found,
         Err(fault) => return Err(fault),
     };
-    match Boxed::new(alloc, expr) {
-        Ok(body) => Ok(ReadDef {
-            def: FunDefOf {
-                name: name.name,
-                mark: mark(label, word.place),
-                fun: FunOf {
-                    params: params.params,
-                    body,
-                },
-            },
+    let mark = mark(label, word.place);
+    match FunDefOf::new(alloc, name.name, mark, params.params, expr) {
+        Ok(def) => Ok(ReadDef {
+            def,
             rest,
             label: next,
         }),
-        Err((expr, Memory)) => {
-            discard(expr);
-            Err(Fault::Memory)
-        }
+        Err(Memory) => Err(Fault::Memory),
     }
 }
 
@@ -237,7 +221,7 @@ fn definitions<'a>(alloc: Global, tokens: &'a [Token]) -> Result<ReadDefs<'a>, F
     let mut left = tokens;
     let mut label = 0;
     loop {
-        if let Some(rest) = take(left, Sort::End) {
+        if let Some(rest) = take(left, SmallSort::End) {
             return Ok(ReadDefs { defs, rest });
         }
         let ReadDef {
@@ -251,7 +235,7 @@ fn definitions<'a>(alloc: Global, tokens: &'a [Token]) -> Result<ReadDefs<'a>, F
                 return Err(fault);
             }
         };
-        if !shared(alloc, &mut defs, def) {
+        if share(alloc, &mut defs, def).is_err() {
             discard_definitions(defs);
             return Err(Fault::Memory);
         }
@@ -260,15 +244,12 @@ fn definitions<'a>(alloc: Global, tokens: &'a [Token]) -> Result<ReadDefs<'a>, F
     }
 }
 
-// Adds a definition last, to be shared, or gives it up and answers false where memory is wanting.
-fn shared(alloc: Global, defs: &mut List<Shared<FunDef>>, def: FunDef) -> bool
-    ensures added { OnTrue result (defs.new ≡ defs.old ++ def ∷ []) }
-    ensures refused { OnFalse result (defs.new ≡ defs.old) }
+// Adds a definition last, to be shared. If allocation fails it is given up.
+fn share(alloc: Global, defs: &mut List<Shared<FunDef>>, def: FunDef) -> Result<(), Memory>
+    ensures { OnOk result (defs.new ≡ defs.old ++ def ∷ []) }
 {
-    match Shared::new(alloc, def) {
-        Ok(def) => pushed(defs, def),
-        Err(Memory) => false,
-    }
+    let shared = Shared::new(alloc, def)?;
+    defs.add(shared)
 }
 
 /// The module that tokens spell.
@@ -282,14 +263,14 @@ pub fn module_of(alloc: Global, tokens: &[Token]) -> Result<Module, Fault>
     ensures once { IfOk result (λ found. (x : m.Module) → Spells tokens.now x → x ≡ module_tree found) }
     ensures refused { IsErrOf result Fault.NotBuilt → SpellNothing tokens.now }
 {
-    let Some(rest) = take(tokens, Sort::Module) else {
+    let Some(rest) = take(tokens, SmallSort::Module) else {
         return Err(Fault::NotBuilt);
     };
     let name = match take_atom(alloc, rest) {
         Ok(found) => found,
         Err(fault) => return Err(fault),
     };
-    let Some(rest) = take(name.rest, Sort::OpenSquare) else {
+    let Some(rest) = take(name.rest, SmallSort::OpenSquare) else {
         return Err(Fault::NotBuilt);
     };
     let exports = match exports(alloc, rest) {
@@ -323,11 +304,11 @@ fn no_attributes<'a>(tokens: &'a [Token]) -> Option<&'a [Token]>
     ensures shorter { IfSome result (λ rest. length rest.now < length tokens.now) }
     ensures none { IfNone result (NoAttributes tokens.now) }
 {
-    let Some(rest) = take(tokens, Sort::Attributes) else {
+    let Some(rest) = take(tokens, SmallSort::Attributes) else {
         return None;
     };
-    let Some(rest) = take(rest, Sort::OpenSquare) else {
+    let Some(rest) = take(rest, SmallSort::OpenSquare) else {
         return None;
     };
-    take(rest, Sort::CloseSquare)
+    take(rest, SmallSort::CloseSquare)
 }

@@ -2,17 +2,17 @@ ghost use Rattle.std.specs.Prelude.{◌≡◌, ◌+◌, ◌^◌, ◌<◌, ◌≤
 ghost use Rattle.dialyze.specs.Sorts.{sort};
 ghost use Rattle.core_ast.specs.Model as m;
 ghost use Rattle.core_ast.specs.Tree.{tree, all_trees};
-ghost use Rattle.dialyze.specs.Grammar.{deepest, Simple, Expression, Elements, NotSimple, NoExpression, NoElements, closing};
+ghost use Rattle.dialyze.specs.Grammar.{Simple, Expression, Elements, NotSimple, NoExpression, NoElements, closing};
 
-use crate::leaves::{Fault, mark, pushed, take, take_atom, take_name, text_of, value_of};
-use crate::sort::{Sort, has_sort, sort_of};
+use crate::leaves::{Fault, mark, take, take_atom, take_name, text_of, value_of};
+use crate::sort::{SmallSort, has_sort, sort_of};
 use core_ast::{Expr, Literal, discard_all};
 use core_scan::Token;
 use std::alloc::Global;
 use type_kinds::{List, Memory};
 
 /// How deep expressions may stand in one another.
-const DEEPEST: u32 = 400;
+pub const DEEPEST: u32 = 400;
 
 /// An expression, what follows it, and the label that follows its last.
 pub struct ReadExpr<'a> {
@@ -52,10 +52,12 @@ pub fn expression<'a>(
         return Err(Fault::NotBuilt);
     }
     match sort_of(first) {
-        Sort::OpenCurly => tuple(alloc, first, rest, calls, depth, label),
-        Sort::Apply if calls => application(alloc, first, rest, depth, label),
-        Sort::Call if calls => call(alloc, first, rest, depth, label),
-        Sort::Variable | Sort::Integer | Sort::Atom => match simple(alloc, first, label) {
+        SmallSort::OpenCurly => tuple(alloc, first, rest, calls, depth, label),
+        SmallSort::Apply if calls => application(alloc, first, rest, depth, label),
+        SmallSort::Call if calls => call(alloc, first, rest, depth, label),
+        SmallSort::Variable | SmallSort::Integer | SmallSort::Atom => match simple(
+            alloc, first, label,
+        ) {
             Ok(expr) => Ok(ReadExpr {
                 expr,
                 rest,
@@ -75,12 +77,12 @@ fn simple(alloc: Global, token: &Token, label: u32) -> Result<Expr, Fault>
 {
     let mark = mark(label, token.place);
     match sort_of(token) {
-        Sort::Variable => match text_of(alloc, token) {
+        SmallSort::Variable => match text_of(alloc, token) {
             Ok(name) => Ok(Expr::variable(mark, name)),
             Err(Memory) => Err(Fault::Memory),
         },
-        Sort::Integer => Ok(Expr::literal(mark, Literal::Int(value_of(token)))),
-        Sort::Atom => match text_of(alloc, token) {
+        SmallSort::Integer => Ok(Expr::literal(mark, Literal::Int(value_of(token)))),
+        SmallSort::Atom => match text_of(alloc, token) {
             Ok(name) => Ok(Expr::literal(mark, Literal::Atom(name))),
             Err(Memory) => Err(Fault::Memory),
         },
@@ -88,7 +90,7 @@ fn simple(alloc: Global, token: &Token, label: u32) -> Result<Expr, Fault>
     }
 }
 
-// { elements }, behind the brace.
+// { elements }, after the brace.
 #[cycle(expressions)]
 #[tactic(auto, using(crate::proofs::ExpressionExits::tuple_exits))]
 fn tuple<'a>(
@@ -99,15 +101,22 @@ fn tuple<'a>(
     depth: u32,
     label: u32,
 ) -> Result<ReadExpr<'a>, Fault>
-    requires brace { sort brace.now ≡ Sort.OpenCurly }
-    requires shallow { depth ≤ deepest }
+    requires brace { sort brace.now ≡ SmallSort.OpenCurly }
+    requires shallow { depth ≤ DEEPEST }
     requires labels { label + 1 + length rest.now < 2 ^ 32 }
     ensures ok { IfOk result (λ r. Expression calls depth label (brace.now ∷ rest.now) (tree r.expr) r.rest.now r.label) }
     ensures labels { IfOk result (λ r. r.label + length r.rest.now ≤ label + 1 + length rest.now) }
     ensures shorter { IfOk result (λ r. length r.rest.now < length rest.now) }
     ensures refused { IsErrOf result Fault.NotBuilt → NoExpression calls depth label (brace.now ∷ rest.now) }
 {
-    match elements(alloc, rest, Sort::CloseCurly, calls, depth + 1, label + 1) {
+    match elements(
+        alloc,
+        rest,
+        SmallSort::CloseCurly,
+        calls,
+        depth + 1,
+        label + 1,
+    ) {
         Ok(
             ReadExprs {
                 items,
@@ -123,7 +132,7 @@ fn tuple<'a>(
     }
 }
 
-// apply name ( arguments ), behind the word.
+// apply name ( arguments ), after the word.
 #[cycle(expressions)]
 #[tactic(auto, using(crate::proofs::ExpressionExits::apply_exits))]
 fn application<'a>(
@@ -133,8 +142,8 @@ fn application<'a>(
     depth: u32,
     label: u32,
 ) -> Result<ReadExpr<'a>, Fault>
-    requires word { sort word.now ≡ Sort.Apply }
-    requires shallow { depth ≤ deepest }
+    requires word { sort word.now ≡ SmallSort.Apply }
+    requires shallow { depth ≤ DEEPEST }
     requires labels { label + 1 + length rest.now < 2 ^ 32 }
     ensures ok { IfOk result (λ r. Expression true depth label (word.now ∷ rest.now) (tree r.expr) r.rest.now r.label) }
     ensures labels { IfOk result (λ r. r.label + length r.rest.now ≤ label + 1 + length rest.now) }
@@ -148,14 +157,21 @@ fn application<'a>(
         Ok(found) => found,
         Err(fault) => return Err(fault),
     };
-    let Some(rest) = take(operator.rest, Sort::OpenRound) else {
+    let Some(rest) = take(operator.rest, SmallSort::OpenRound) else {
         return Err(Fault::NotBuilt);
     };
     let ReadExprs {
         items: args,
         rest,
         label: next,
-    } = match elements(alloc, rest, Sort::CloseRound, false, depth + 1, label + 2) {
+    } = match elements(
+        alloc,
+        rest,
+        SmallSort::CloseRound,
+        false,
+        depth + 1,
+        label + 2,
+    ) {
         Ok(found) => found,
         Err(fault) => return Err(fault),
     };
@@ -170,7 +186,7 @@ fn application<'a>(
     }
 }
 
-// call atom : atom ( arguments ), behind the word.
+// call atom : atom ( arguments ), after the word.
 #[cycle(expressions)]
 #[tactic(auto, using(crate::proofs::ExpressionExits::call_exits))]
 fn call<'a>(
@@ -180,8 +196,8 @@ fn call<'a>(
     depth: u32,
     label: u32,
 ) -> Result<ReadExpr<'a>, Fault>
-    requires word { sort word.now ≡ Sort.Call }
-    requires shallow { depth ≤ deepest }
+    requires word { sort word.now ≡ SmallSort.Call }
+    requires shallow { depth ≤ DEEPEST }
     requires labels { label + 1 + length rest.now < 2 ^ 32 }
     ensures ok { IfOk result (λ r. Expression true depth label (word.now ∷ rest.now) (tree r.expr) r.rest.now r.label) }
     ensures labels { IfOk result (λ r. r.label + length r.rest.now ≤ label + 1 + length rest.now) }
@@ -195,21 +211,28 @@ fn call<'a>(
         Ok(found) => found,
         Err(fault) => return Err(fault),
     };
-    let Some(rest) = take(home.rest, Sort::Colon) else {
+    let Some(rest) = take(home.rest, SmallSort::Colon) else {
         return Err(Fault::NotBuilt);
     };
     let name = match take_atom(alloc, rest) {
         Ok(found) => found,
         Err(fault) => return Err(fault),
     };
-    let Some(rest) = take(name.rest, Sort::OpenRound) else {
+    let Some(rest) = take(name.rest, SmallSort::OpenRound) else {
         return Err(Fault::NotBuilt);
     };
     let ReadExprs {
         items: args,
         rest,
         label: next,
-    } = match elements(alloc, rest, Sort::CloseRound, false, depth + 1, label + 3) {
+    } = match elements(
+        alloc,
+        rest,
+        SmallSort::CloseRound,
+        false,
+        depth + 1,
+        label + 3,
+    ) {
         Ok(found) => found,
         Err(fault) => return Err(fault),
     };
@@ -231,7 +254,7 @@ fn call<'a>(
 fn elements<'a>(
     alloc: Global,
     tokens: &'a [Token],
-    close: Sort,
+    close: SmallSort,
     calls: bool,
     depth: u32,
     label: u32,
@@ -256,7 +279,7 @@ fn elements<'a>(
     }
     let (mut rest, mut next) = match expression(alloc, tokens, calls, depth, label) {
         Ok(ReadExpr { expr, rest, label }) => {
-            if !pushed(&mut items, expr) {
+            if items.add(expr).is_err() {
                 discard_all(items);
                 return Err(Fault::Memory);
             }
@@ -279,7 +302,7 @@ fn elements<'a>(
                 label: next,
             });
         }
-        if !has_sort(token, Sort::Comma) {
+        if !has_sort(token, SmallSort::Comma) {
             discard_all(items);
             return Err(Fault::NotBuilt);
         }
@@ -291,7 +314,7 @@ fn elements<'a>(
                     label,
                 },
             ) => {
-                if !pushed(&mut items, expr) {
+                if items.add(expr).is_err() {
                     discard_all(items);
                     return Err(Fault::Memory);
                 }

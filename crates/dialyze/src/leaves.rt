@@ -1,8 +1,7 @@
-ghost use Rattle.std.specs.Prelude.{◌≡◌, [], ◌∷◌, ◌++◌, ◌<◌, length, IfOk, IfSome, IfNone, IsErrOf};
-ghost use Rattle.std.specs.Bool.{OnTrue, OnFalse};
+ghost use Rattle.std.specs.Prelude.{◌≡◌, ◌<◌, length, IfOk, IfSome, IfNone, IsErrOf};
 ghost use Rattle.dialyze.specs.Grammar.{no_note as empty_note, text, value, arity, at, Takes, AtomAt, NameAt, NoToken, NoAtom, NoName};
 
-use crate::sort::{Sort, has_sort};
+use crate::sort::{SmallSort, has_sort};
 use core_ast::{FunName, Mark, Note};
 use core_scan::{Token, TokenKind};
 use std::alloc::Global;
@@ -13,8 +12,18 @@ use type_kinds::{Atom, Bytes, List, Memory, Place};
 pub enum Fault {
     /// They spell none of the small language.
     NotBuilt,
-    /// There is no memory left.
+    /// Allocation failed.
     Memory,
+}
+
+impl From<Memory> for Fault {
+    ghost use Rattle.dialyze.specs.declared.leaves.Fault.TheVariants as fault;
+
+    ghost from_gives = { λ _ made. made ≡ fault.Memory };
+
+    fn from(_: Memory) -> Fault {
+        Fault::Memory
+    }
 }
 
 /// An atom, its place, and what follows it.
@@ -31,17 +40,6 @@ pub struct ReadName<'a> {
     pub name: FunName,
     pub place: Place,
     pub rest: &'a [Token],
-}
-
-/// Adds an item last and answers true, or gives it up and answers false where memory is wanting.
-pub fn pushed<T: Drop>(items: &mut List<T>, item: T) -> bool
-    ensures added { OnTrue result (items.new ≡ items.old ++ item ∷ []) }
-    ensures refused { OnFalse result (items.new ≡ items.old) }
-{
-    match items.push(item) {
-        Ok(()) => true,
-        Err(_) => false,
-    }
 }
 
 /// The note of a node without annotation.
@@ -67,7 +65,7 @@ pub fn mark(label: u32, place: Place) -> Mark
 
 /// What follows a token of a sort, which comes first.
 #[tactic(auto, using(crate::proofs::LeafExits::leaf_exits))]
-pub fn take<'a>(tokens: &'a [Token], sort: Sort) -> Option<&'a [Token]>
+pub fn take<'a>(tokens: &'a [Token], sort: SmallSort) -> Option<&'a [Token]>
     ensures taken { IfSome result (λ rest. Takes sort tokens.now rest.now) }
     ensures shorter { IfSome result (λ rest. length rest.now < length tokens.now) }
     ensures none { IfNone result (NoToken sort tokens.now) }
@@ -92,7 +90,7 @@ pub fn take_atom<'a>(alloc: Global, tokens: &'a [Token]) -> Result<ReadAtom<'a>,
     let Some((first, rest)) = tokens.split_first() else {
         return Err(Fault::NotBuilt);
     };
-    if !has_sort(first, Sort::Atom) {
+    if !has_sort(first, SmallSort::Atom) {
         return Err(Fault::NotBuilt);
     }
     match text_of(alloc, first) {
@@ -115,10 +113,10 @@ pub fn take_name<'a>(alloc: Global, tokens: &'a [Token]) -> Result<ReadName<'a>,
     let Some((first, rest)) = tokens.split_first() else {
         return Err(Fault::NotBuilt);
     };
-    if !has_sort(first, Sort::Atom) {
+    if !has_sort(first, SmallSort::Atom) {
         return Err(Fault::NotBuilt);
     }
-    let Some(rest) = take(rest, Sort::Slash) else {
+    let Some(rest) = take(rest, SmallSort::Slash) else {
         return Err(Fault::NotBuilt);
     };
     let Some((number, rest)) = rest.split_first() else {

@@ -3,13 +3,13 @@ ghost use Rattle.std.specs.Fmt.{decimal};
 ghost use Rattle.core_ast.specs.Tree.{tree, all_defs, module_tree};
 ghost use Rattle.dialyze.specs.Scope.{names as names_of, IsAccepted};
 ghost use Rattle.dialyze.specs.Sites.{sites as sites_in, def_sites};
-ghost use Rattle.dialyze.specs.Numbered.{IsNumbered};
+ghost use Rattle.dialyze.specs.steps.Numbered.{IsNumbered};
 ghost use Rattle.dialyze.specs.Dead.{Dead};
 ghost use Rattle.dialyze.specs.Report.{name_text, callee_text, line_of, never_returns, no_return, IsReport};
-ghost use Rattle.dialyze.specs.Found.{AreJudged, AddsSites, AddsFunction, start_of};
+ghost use Rattle.dialyze.specs.steps.Found.{AreJudged, AddsSites, AddsFunction, start_of};
 
 use crate::lost::is_lost;
-use crate::names::Names;
+use crate::name_table::NameTable;
 use crate::sites::{Callee, Site};
 use core_ast::{FunDef, FunName, Mark, Module};
 use std::alloc::Global;
@@ -21,7 +21,7 @@ use type_kinds::{Atom, Bytes, List, Memory};
 pub fn report(
     alloc: Global,
     source: &Module,
-    names: &Names,
+    names: &NameTable,
     sites: &List<List<Site>>,
     dead: &List<bool>,
 ) -> Result<Bytes, Memory>
@@ -40,7 +40,6 @@ pub fn report(
         let definition = defs[i].get();
         let found = sites.at(i);
         write_definition(
-            alloc,
             source,
             names,
             dead,
@@ -55,9 +54,8 @@ pub fn report(
 
 // Adds the lines of a definition, which has this number.
 fn write_definition(
-    alloc: Global,
     source: &Module,
-    names: &Names,
+    names: &NameTable,
     dead: &List<bool>,
     number: usize,
     definition: &FunDef,
@@ -69,20 +67,19 @@ fn write_definition(
     ensures { OnOk result (AddsFunction (module_tree source.now) number definition.now.name definition.now.mark sites.now out.old out.new) }
 {
     if !*dead.at(number) {
-        write_sites(alloc, source, names, dead, number, sites, out)?;
+        write_sites(source, names, dead, number, sites, out)?;
         return Ok(());
     }
-    write_function(alloc, &source.name, &definition.name, &definition.mark, out)?;
-    write_sites(alloc, source, names, dead, number, sites, out)?;
+    write_function(&source.name, &definition.name, &definition.mark, out)?;
+    write_sites(source, names, dead, number, sites, out)?;
     Ok(())
 }
 
 // Adds the lines of the sites of a definition, which has this number.
 #[tactic(auto, using(crate::proofs::LineExits::line_exits))]
 fn write_sites(
-    alloc: Global,
     source: &Module,
-    names: &Names,
+    names: &NameTable,
     dead: &List<bool>,
     number: usize,
     sites: &[Site],
@@ -92,16 +89,15 @@ fn write_sites(
     ensures { OnOk result (AddsSites (module_tree source.now) number sites.now out.old out.new) }
 {
     for i in 0..sites.len() {
-        write_if_lost(alloc, source, names, dead, number, &sites[i], out)?;
+        write_if_lost(source, names, dead, number, &sites[i], out)?;
     }
     Ok(())
 }
 
 // Adds the line of a site of a definition, which has this number, if it never returns.
 fn write_if_lost(
-    alloc: Global,
     source: &Module,
-    names: &Names,
+    names: &NameTable,
     dead: &List<bool>,
     number: usize,
     site: &Site,
@@ -113,80 +109,64 @@ fn write_if_lost(
     if !is_lost(source, names, dead, &site.callee) {
         return Ok(());
     }
-    write_site(alloc, &source.name, site, out)?;
+    write_site(&source.name, site, out)?;
     Ok(())
 }
 
 // Adds the line of a function that never returns.
-fn write_function(
-    alloc: Global,
-    home: &Atom,
-    name: &FunName,
-    mark: &Mark,
-    out: &mut Bytes,
-) -> Result<(), Memory>
+fn write_function(home: &Atom, name: &FunName, mark: &Mark, out: &mut Bytes) -> Result<(), Memory>
     ensures { OnOk result (out.new ≡ out.old ++ line_of home.now (no_return name.now mark.now)) }
 {
-    begin_line(alloc, home, mark.place.line, out)?;
+    begin_line(home, mark.place.line, out)?;
     out.append(b"function ")?;
-    write_name(alloc, name, out)?;
+    write_name(name, out)?;
     out.append(b" has no local return\n")?;
     Ok(())
 }
 
 // Adds the line of a call that never returns.
-fn write_site(alloc: Global, home: &Atom, site: &Site, out: &mut Bytes) -> Result<(), Memory>
+fn write_site(home: &Atom, site: &Site, out: &mut Bytes) -> Result<(), Memory>
     ensures { OnOk result (out.new ≡ out.old ++ line_of home.now (never_returns site.now)) }
 {
-    begin_line(alloc, home, site.line, out)?;
+    begin_line(home, site.line, out)?;
     out.append(b"the call ")?;
-    write_callee(alloc, &site.callee, out)?;
+    write_callee(&site.callee, out)?;
     out.append(b" never returns\n")?;
     Ok(())
 }
 
 // Adds what a line begins with: the module and the line of the source.
-fn begin_line(alloc: Global, home: &Atom, line: u32, out: &mut Bytes) -> Result<(), Memory>
+fn begin_line(home: &Atom, line: u32, out: &mut Bytes) -> Result<(), Memory>
     ensures { OnOk result (out.new ≡ out.old ++ start_of home.now line) }
 {
     home.text(out)?;
     out.append(b":")?;
-    write_number(alloc, line, out)?;
+    out.append_decimal(line)?;
     out.append(b": ")?;
     Ok(())
 }
 
 // Adds what a call goes to.
-fn write_callee(alloc: Global, callee: &Callee, out: &mut Bytes) -> Result<(), Memory>
+fn write_callee(callee: &Callee, out: &mut Bytes) -> Result<(), Memory>
     ensures { OnOk result (out.new ≡ out.old ++ callee_text callee.now) }
 {
     match callee {
-        Callee::Applied(name, _) => write_name(alloc, name, out),
+        Callee::Applied(name, _) => write_name(name, out),
         Callee::Called(home, name) => {
             home.text(out)?;
             out.append(b":")?;
-            write_name(alloc, name, out)?;
+            write_name(name, out)?;
             Ok(())
         }
     }
 }
 
 // Adds a function's name.
-fn write_name(alloc: Global, name: &FunName, out: &mut Bytes) -> Result<(), Memory>
+fn write_name(name: &FunName, out: &mut Bytes) -> Result<(), Memory>
     ensures { OnOk result (out.new ≡ out.old ++ name_text name.now) }
 {
     name.name.text(out)?;
     out.append(b"/")?;
-    write_number(alloc, name.arity, out)?;
+    out.append_decimal(name.arity)?;
     Ok(())
-}
-
-// Adds a number in decimal digits.
-fn write_number(alloc: Global, number: u32, out: &mut Bytes) -> Result<(), Memory>
-    ensures { OnOk result (out.new ≡ out.old ++ decimal number) }
-{
-    match number.to_string(alloc) {
-        Ok(text) => out.append(text.as_bytes()),
-        Err(_) => Err(Memory),
-    }
 }

@@ -1,6 +1,14 @@
 //! The program: from the words of a command to lines on standard output.
 #![tactic(auto)]
 
+ghost use Rattle.std.specs.Prelude.{◌≡◌, ◌↔◌, map, IfOk};
+ghost use Rattle.std.specs.String.{string_bytes};
+ghost use Rattle.std.specs.Process.{exit_status};
+ghost use Rattle.dialyze.specs.declared.status.Status.{Status as TheStatus};
+ghost use Rattle.dialyze.specs.Codes.{code_of};
+ghost use Rattle.dialyze.specs.Words.{texts, IsNoCommand};
+ghost use Rattle.dialyze.specs.Outcome.{IsAnswer, IsPossible};
+
 mod answer;
 mod callees;
 mod check;
@@ -11,7 +19,7 @@ mod laws;
 mod leaves;
 mod lines;
 mod lost;
-mod names;
+mod name_table;
 mod report;
 mod scope;
 mod sites;
@@ -23,50 +31,65 @@ mod words;
 use crate::check::dialyze;
 use crate::status::Status;
 use da_shelf::{FileShelf, OpenGate, StdoutSink};
+use std::alloc::Global;
 use std::env;
 use std::io::ErrorKind;
 use std::process::ExitCode;
-use type_kinds::Memory;
+use type_kinds::{List, Memory};
 
 fn main(rt: HostRuntime) -> ExitCode {
-    let status = match words_of(&rt) {
-        Ok(words) => match run(&rt, &words) {
-            Ok(status) => status,
-            Err(Memory) => Status::Memory,
-        },
+    exit_code(&rt)
+}
+
+// The code of the status that the run ends with.
+fn exit_code(rt: &HostRuntime) -> ExitCode
+    ensures { (status : TheStatus) × IsPossible status × (exit_status result ≡ code_of status) }
+{
+    let status = match words_of(rt) {
+        Ok(Some(words)) => run(rt, &words),
+        Ok(None) => Status::Usage,
         Err(Memory) => Status::Memory,
     };
     ExitCode::from(status.code())
 }
 
-// The words behind the program's name, and none where the host doesn't give them as text: no words
-// are no command.
-fn words_of(rt: &HostRuntime) -> Result<Vec<String>, Memory> {
+// The words that follow the program's name, or `None` where the host doesn't give them as text.
+fn words_of(rt: &HostRuntime) -> Result<Option<Vec<String>>, Memory> {
     let mut args = match env::args(rt) {
         Ok(args) => args,
         Err(error) => {
             return if error.kind() == ErrorKind::OutOfMemory {
                 Err(Memory)
             } else {
-                Ok(Vec::new(rt.alloc()))
+                Ok(None)
             };
         }
     };
     let _program = args.next();
     match args.collect(rt.alloc()) {
-        Ok(words) => Ok(words),
+        Ok(words) => Ok(Some(words)),
         Err(_) => Err(Memory),
     }
 }
 
-// Carries the command out on files and the standard output.
-fn run(rt: &HostRuntime, words: &Vec<String>) -> Result<Status, Memory> {
-    let mut texts = Vec::new(rt.alloc());
-    for word in words {
-        if texts.push(word.as_str()).is_err() {
-            return Err(Memory);
-        }
+// Carries the command out on files and the standard output. Where the words are no command the
+// answer is a usage, except that allocation or the output may fail first.
+fn run(rt: &HostRuntime, words: &Vec<String>) -> Status
+    ensures usage { IsAnswer result → (result ≡ Status.Usage) ↔ IsNoCommand (map string_bytes words.now.items) }
+    ensures possible { IsPossible result }
+{
+    match run_with(rt, words) {
+        Ok(status) => status,
+        Err(Memory) => Status::Memory,
     }
+}
+
+// The same. An error says that allocation failed before `dialyze` was called.
+fn run_with(rt: &HostRuntime, words: &Vec<String>) -> Result<Status, Memory>
+    ensures usage { IfOk result (λ status. IsAnswer status → (status ≡ Status.Usage) ↔ IsNoCommand (map string_bytes words.now.items)) }
+    ensures possible { IfOk result IsPossible }
+{
+    let texts = texts_of(rt.alloc(), words)?;
     let mut shelf = FileShelf::new(rt, rt.alloc())?;
     let mut out = StdoutSink::new(rt)?;
     Ok(dialyze(
@@ -76,6 +99,17 @@ fn run(rt: &HostRuntime, words: &Vec<String>) -> Result<Status, Memory> {
         &mut out,
         &OpenGate,
     ))
+}
+
+// The words as texts.
+fn texts_of(alloc: Global, words: &Vec<String>) -> Result<List<&str>, Memory>
+    ensures { IfOk result (λ found. texts found ≡ map string_bytes words.now.items) }
+{
+    let mut found = List::new(alloc);
+    for word in words {
+        found.add(word.as_str())?;
+    }
+    Ok(found)
 }
 
 #[cfg(test)]

@@ -1,15 +1,15 @@
 ghost use Rattle.std.specs.Prelude.{◌≡◌, ◌≤◌, length, IfOk};
 ghost use Rattle.core_ast.specs.Tree.{module_tree};
 ghost use Rattle.dialyze.specs.Scope.{IsAccepted};
-ghost use Rattle.dialyze.specs.Numbered.{IsNumbered};
-ghost use Rattle.dialyze.specs.Few.{AllFew};
-ghost use Rattle.dialyze.specs.Outcome.{longest_source};
+ghost use Rattle.dialyze.specs.steps.Numbered.{IsNumbered};
+ghost use Rattle.dialyze.specs.steps.Few.{AllFew};
 ghost use Rattle.dialyze.specs.Report.{IsReport};
 
 use crate::dead::dead_functions;
 use crate::lines::report;
 use crate::scope::names_of;
 use crate::sites::sites_of_module;
+use crate::source::LONGEST_SOURCE;
 use core_ast::Module;
 use std::alloc::Global;
 use type_kinds::{Bytes, Memory};
@@ -18,7 +18,7 @@ use type_kinds::{Bytes, Memory};
 pub fn report_on(alloc: Global, source: &Module) -> Result<Bytes, Memory>
     requires accepted { IsAccepted (module_tree source.now) }
     requires numbered { IsNumbered (module_tree source.now) }
-    requires few { length source.now.defs ≤ longest_source }
+    requires few { length source.now.defs ≤ LONGEST_SOURCE }
     requires few_arguments { AllFew (module_tree source.now) }
     ensures { IfOk result (IsReport (module_tree source.now)) }
 {

@@ -3,9 +3,9 @@ ghost use Rattle.type_kinds.specs.declared.atom.Atom.{Atom as TheAtom};
 ghost use Rattle.core_ast.specs.declared.syntax.FunName.{FunName as TheName};
 ghost use Rattle.core_ast.specs.Tree.{tree, all_trees, all_defs, module_tree};
 ghost use Rattle.core_ast.specs.Named.{literal_atom};
-ghost use Rattle.dialyze.specs.Scope.{names, Distinct, wildcard, variable_names, DistinctVariables, IsBound, erlang, function_name, never_returning, IsKnownCall, InScope, AllInScope, IsSound, AllSound, IsAccepted};
+ghost use Rattle.dialyze.specs.Scope.{names, Distinct, wildcard, variable_names, DistinctVariables, IsBound, erlang, function_name, never_returning, IsKnownCall, InScope, AllInScope, IsSoundDefinition, AllSound, IsAccepted};
 
-use crate::names::{Names, discard_names};
+use crate::name_table::{NameTable, discard_names};
 use core_ast::{Expr, Form, FunDef, FunName, Module, VarName};
 use std::alloc::Global;
 use type_kinds::{Atom, List, Memory, Shared};
@@ -81,7 +81,7 @@ fn is_known_call(home: &Atom, called: &Atom, name: &Atom, arity: usize) -> bool
 // functions and each call known.
 #[cycle(scope)]
 #[tactic(auto, using(core_ast::proofs::Trees::tree_equations))]
-fn in_scope(expr: &Expr, home: &Atom, functions: &Names, params: &[VarName]) -> bool
+fn in_scope(expr: &Expr, home: &Atom, functions: &NameTable, params: &[VarName]) -> bool
     ensures { IsTrue result ↔ InScope home.now functions.now params.now (tree expr.now) }
 {
     match &expr.form {
@@ -104,7 +104,7 @@ fn in_scope(expr: &Expr, home: &Atom, functions: &Names, params: &[VarName]) -> 
 // Whether expressions are in scope.
 #[cycle(scope)]
 #[tactic(auto, using(core_ast::proofs::Trees::tree_equations))]
-fn all_in_scope(exprs: &List<Expr>, home: &Atom, functions: &Names, params: &[VarName]) -> bool
+fn all_in_scope(exprs: &List<Expr>, home: &Atom, functions: &NameTable, params: &[VarName]) -> bool
     ensures { IsTrue result ↔ AllInScope home.now functions.now params.now (all_trees exprs.now) }
 {
     for expr in exprs.as_slice() {
@@ -130,8 +130,8 @@ fn is_known(called: &Expr, name: &Expr, arity: usize, home: &Atom) -> bool
 
 // Whether a definition has as many parameters as its name says, no variable twice among them, and a
 // body in scope.
-fn is_sound(def: &FunDef, home: &Atom, functions: &Names) -> bool
-    ensures { IsTrue result ↔ IsSound home.now functions.now def.now.name def.now.fun.params (tree def.now.fun.body) }
+fn is_sound(def: &FunDef, home: &Atom, functions: &NameTable) -> bool
+    ensures { IsTrue result ↔ IsSoundDefinition home.now functions.now def.now.name def.now.fun.params (tree def.now.fun.body) }
 {
     let params = def.fun.params.as_slice();
     if params.len() != def.name.arity as usize || !distinct_variables(params) {
@@ -141,7 +141,7 @@ fn is_sound(def: &FunDef, home: &Atom, functions: &Names) -> bool
 }
 
 // Whether definitions are sound.
-fn all_sound(defs: &[Shared<FunDef>], home: &Atom, functions: &Names) -> bool
+fn all_sound(defs: &[Shared<FunDef>], home: &Atom, functions: &NameTable) -> bool
     ensures { IsTrue result ↔ AllSound home.now functions.now (all_defs defs.now) }
 {
     for def in defs {
@@ -153,7 +153,7 @@ fn all_sound(defs: &[Shared<FunDef>], home: &Atom, functions: &Names) -> bool
 }
 
 // Whether each export is among the functions.
-fn all_defined(functions: &Names, exports: &[FunName]) -> bool
+fn all_defined(functions: &NameTable, exports: &[FunName]) -> bool
     ensures { IsTrue result ↔ All (Contains functions.now) exports.now }
 {
     for name in exports {
@@ -165,7 +165,7 @@ fn all_defined(functions: &Names, exports: &[FunName]) -> bool
 }
 
 // Whether each definition is among the exports.
-fn all_exported(exported: &Names, defs: &[Shared<FunDef>]) -> bool
+fn all_exported(exported: &NameTable, defs: &[Shared<FunDef>]) -> bool
     ensures { IsTrue result ↔ All (Contains exported.now) (names (all_defs defs.now)) }
 {
     for def in defs {
@@ -177,7 +177,7 @@ fn all_exported(exported: &Names, defs: &[Shared<FunDef>]) -> bool
 }
 
 // Inserts the names of a list where there are none, each once.
-fn insert_all(alloc: Global, found: &mut Names, list: &[FunName]) -> Result<(), Memory>
+fn insert_all(alloc: Global, found: &mut NameTable, list: &[FunName]) -> Result<(), Memory>
     requires { found.old ≡ [] }
     ensures { OnOk result ((name : TheName) → Contains found.new name ↔ Contains list.now name) }
 {
@@ -192,7 +192,7 @@ fn insert_all(alloc: Global, found: &mut Names, list: &[FunName]) -> Result<(), 
 fn is_exported(alloc: Global, source: &Module) -> Result<bool, Memory>
     ensures { IfOk result (λ yes. IsTrue yes ↔ All (Contains source.now.exports) (names (all_defs source.now.defs))) }
 {
-    let mut exported = Names::new(alloc);
+    let mut exported = NameTable::new(alloc);
     match insert_all(alloc, &mut exported, source.exports.as_slice()) {
         Ok(()) => {
             let all = all_exported(&exported, source.defs.as_slice());
@@ -208,7 +208,11 @@ fn is_exported(alloc: Global, source: &Module) -> Result<bool, Memory>
 
 // Inserts the names of definitions where there are none, up to one that is there already, and says
 // whether there was none such.
-fn insert_names(alloc: Global, found: &mut Names, defs: &[Shared<FunDef>]) -> Result<bool, Memory>
+fn insert_names(
+    alloc: Global,
+    found: &mut NameTable,
+    defs: &[Shared<FunDef>],
+) -> Result<bool, Memory>
     requires { found.old ≡ [] }
     ensures { IfOk result (λ all. MatchBool all ((found.new ≡ names (all_defs defs.now)) × Distinct (names (all_defs defs.now))) (Distinct (names (all_defs defs.now)) → ⊥)) }
 {
@@ -223,10 +227,10 @@ fn insert_names(alloc: Global, found: &mut Names, defs: &[Shared<FunDef>]) -> Re
 
 /// The names of a module's definitions, in the order of the text, or `None` where one is defined
 /// twice.
-pub fn names_of(alloc: Global, source: &Module) -> Result<Option<Names>, Memory>
+pub fn names_of(alloc: Global, source: &Module) -> Result<Option<NameTable>, Memory>
     ensures { IfOk result (λ found. MatchOption found (Distinct (names (all_defs source.now.defs)) → ⊥) (λ ns. (ns ≡ names (all_defs source.now.defs)) × Distinct (names (all_defs source.now.defs)))) }
 {
-    let mut found = Names::new(alloc);
+    let mut found = NameTable::new(alloc);
     match insert_names(alloc, &mut found, source.defs.as_slice()) {
         Ok(true) => Ok(Some(found)),
         Ok(false) => {
@@ -241,7 +245,7 @@ pub fn names_of(alloc: Global, source: &Module) -> Result<Option<Names>, Memory>
 }
 
 // Whether a module is accepted in which no function is defined twice.
-fn is_accepted_with(alloc: Global, source: &Module, functions: &Names) -> Result<bool, Memory>
+fn is_accepted_with(alloc: Global, source: &Module, functions: &NameTable) -> Result<bool, Memory>
     requires order { functions.now ≡ names (all_defs source.now.defs) }
     requires distinct { Distinct (names (all_defs source.now.defs)) }
     ensures { IfOk result (λ yes. IsTrue yes ↔ IsAccepted (module_tree source.now)) }

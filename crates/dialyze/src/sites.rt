@@ -2,7 +2,7 @@ ghost use Rattle.std.specs.Prelude.{◌≡◌, [], ◌∷◌, ◌++◌, ◌<◌,
 ghost use Rattle.core_ast.specs.Tree.{tree, all_trees, all_defs, module_tree};
 ghost use Rattle.dialyze.specs.Scope.{function_name};
 ghost use Rattle.dialyze.specs.Sites.{site, sites, all_sites, def_sites};
-ghost use Rattle.dialyze.specs.Few.{IsFew, AreFew, AllFew};
+ghost use Rattle.dialyze.specs.steps.Few.{IsFew, AreFew, AllFew};
 
 use core_ast::{Expr, Form, FunName, Mark, Module};
 use std::alloc::Global;

@@ -5,7 +5,7 @@ use core_scan::{Token, TokenKind};
 
 /// What the grammar asks of a token: which word or symbol it is, or its kind.
 #[derive(Clone, Copy, Debug, PartialEq, Eq)]
-pub enum Sort {
+pub enum SmallSort {
     Module,
     Attributes,
     Fun,
@@ -31,72 +31,72 @@ pub enum Sort {
 }
 
 /// The sort of a token.
-pub fn sort_of(token: &Token) -> Sort
+pub fn sort_of(token: &Token) -> SmallSort
     ensures { result ≡ sort token.now }
 {
     match &token.kind {
         TokenKind::Word(word) => sort_of_word(word.as_slice()),
-        TokenKind::Variable(_) => Sort::Variable,
-        TokenKind::Integer { .. } => Sort::Integer,
-        TokenKind::Atom(_) => Sort::Atom,
+        TokenKind::Variable(_) => SmallSort::Variable,
+        TokenKind::Integer { .. } => SmallSort::Integer,
+        TokenKind::Atom(_) => SmallSort::Atom,
         TokenKind::Symbol(symbol) => sort_of_symbol(symbol.as_slice()),
-        TokenKind::Float(_) | TokenKind::Char(_) | TokenKind::Text(_) => Sort::Other,
+        TokenKind::Float(_) | TokenKind::Char(_) | TokenKind::Text(_) => SmallSort::Other,
     }
 }
 
 /// Whether a token is of a sort.
-pub fn has_sort(token: &Token, wanted: Sort) -> bool
+pub fn has_sort(token: &Token, wanted: SmallSort) -> bool
     ensures { IsTrue result ↔ (sort token.now ≡ wanted) }
 {
     sort_of(token) == wanted
 }
 
-fn sort_of_word(word: &[u8]) -> Sort
+fn sort_of_word(word: &[u8]) -> SmallSort
     ensures { result ≡ word_sort word.now }
 {
     if word == b"module".as_slice() {
-        Sort::Module
+        SmallSort::Module
     } else if word == b"attributes".as_slice() {
-        Sort::Attributes
+        SmallSort::Attributes
     } else if word == b"fun".as_slice() {
-        Sort::Fun
+        SmallSort::Fun
     } else if word == b"apply".as_slice() {
-        Sort::Apply
+        SmallSort::Apply
     } else if word == b"call".as_slice() {
-        Sort::Call
+        SmallSort::Call
     } else if word == b"end".as_slice() {
-        Sort::End
+        SmallSort::End
     } else {
-        Sort::Other
+        SmallSort::Other
     }
 }
 
-fn sort_of_symbol(symbol: &[u8]) -> Sort
+fn sort_of_symbol(symbol: &[u8]) -> SmallSort
     ensures { result ≡ symbol_sort symbol.now }
 {
     if symbol == b"->".as_slice() {
-        return Sort::Arrow;
+        return SmallSort::Arrow;
     }
     match symbol {
         [byte] => sort_of_byte(*byte),
-        _ => Sort::Other,
+        _ => SmallSort::Other,
     }
 }
 
-fn sort_of_byte(byte: u8) -> Sort
+fn sort_of_byte(byte: u8) -> SmallSort
     ensures { result ≡ byte_sort byte }
 {
     match byte {
-        b'(' => Sort::OpenRound,
-        b')' => Sort::CloseRound,
-        b'{' => Sort::OpenCurly,
-        b'}' => Sort::CloseCurly,
-        b'[' => Sort::OpenSquare,
-        b']' => Sort::CloseSquare,
-        b',' => Sort::Comma,
-        b':' => Sort::Colon,
-        b'/' => Sort::Slash,
-        b'=' => Sort::Equals,
-        _ => Sort::Other,
+        b'(' => SmallSort::OpenRound,
+        b')' => SmallSort::CloseRound,
+        b'{' => SmallSort::OpenCurly,
+        b'}' => SmallSort::CloseCurly,
+        b'[' => SmallSort::OpenSquare,
+        b']' => SmallSort::CloseSquare,
+        b',' => SmallSort::Comma,
+        b':' => SmallSort::Colon,
+        b'/' => SmallSort::Slash,
+        b'=' => SmallSort::Equals,
+        _ => SmallSort::Other,
     }
 }

@@ -1,7 +1,7 @@
 use Rattle.std.proofs.Common.{◌≡◌, ℕ, ◌⊎◌, ◌↔◌, length, take}
 use Rattle.core_ast.specs.Tree.{module_tree}
 use Rattle.components.specs.Graph.{Leads}
-use Rattle.dialyze.specs.Settled.{SomeNames}
+use Rattle.dialyze.specs.steps.Settled.{SomeNames}
 use Rattle.dialyze.proofs.dead.add_calls.Given as goal
 
 abbrev pub invariant-loop-site : goal.invariant-loop-site

@@ -1,7 +1,7 @@
 use Rattle.std.proofs.Common.{inl, inr, arith}
 use Rattle.core_ast.specs.Tree.{module_tree}
 use Rattle.dialyze.specs.declared.sites.Site.{Site}
-use Rattle.dialyze.specs.Settled.{IsBadBy}
+use Rattle.dialyze.specs.steps.Settled.{IsBadBy}
 use Rattle.dialyze.proofs.DeadCalls.{some_of_more, some_of_all}
 use Rattle.dialyze.proofs.dead.has_bad.Goals as goal
 

@@ -1,6 +1,6 @@
 use Rattle.std.proofs.Common.{take}
 use Rattle.core_ast.specs.Tree.{module_tree}
-use Rattle.dialyze.specs.Settled.{SomeBadBy}
+use Rattle.dialyze.specs.steps.Settled.{SomeBadBy}
 use Rattle.dialyze.proofs.dead.has_bad.Given as goal
 
 abbrev pub invariant-loop-site : goal.invariant-loop-site

@@ -1,5 +1,5 @@
 use Rattle.core_ast.specs.Tree.{module_tree}
-use Rattle.dialyze.specs.Settled.{SettledBelow}
+use Rattle.dialyze.specs.steps.Settled.{SettledBelow}
 use Rattle.dialyze.proofs.dead.settle.Given as goal
 
 abbrev pub invariant-loop-component : goal.invariant-loop-component

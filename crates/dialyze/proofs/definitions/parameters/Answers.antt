@@ -4,7 +4,7 @@ use Rattle.dialyze.proofs.definitions.parameters.Goals as goal
 
 pub loop-token-init : goal.loop-token-init
 loop-token-init c = record {
-  read = parameters_begun _ _ _ c.in-Ok.name c.pushed.new.items c.in-Some.ensures.cases.0 (c.has_sort-2.ensures.0 c.if-not-has_sort.false) c.in-Ok.ensures (c.if-not-pushed.ensures.added ∙ ap (λ z. z ++ c.in-Ok.name ∷ []) c.new-params.ensures);
+  read = parameters_begun _ _ _ c.in-Ok.name c.add.new.self c.in-Some.ensures.cases.0 (c.has_sort-2.ensures.0 c.if-not-has_sort.false) c.in-Ok.ensures (c.in_ok-add.ensures.ok ∙ ap (λ z. z ++ c.in-Ok.name ∷ []) c.new-params.ensures);
   shorter = omega (arith, c.in-Some.ensures.cases.1);
 }
 
@@ -18,6 +18,6 @@ returns-then-not-has_sort-3-clause-refused c =
 
 pub loop-token-preserved : goal.loop-token-preserved
 loop-token-preserved c = record {
-  read = parameters_further _ _ _ _ _ _ c.in-Ok-parameter_of.name _ c.pushed-in-loop-token.new.items c.loop-token.invariant.read c.in-Some-split_first.ensures.cases.0 (c.has_sort-in-loop-token-2.ensures.0 c.if-not-has_sort-2.false) c.in-Some-split_first-2.ensures.cases.0 (c.has_sort-in-loop-token-3.ensures.0 c.if-not-has_sort-3.false) c.in-Ok-parameter_of.ensures c.if-not-pushed-2.ensures.added;
+  read = parameters_further _ _ _ _ _ _ c.in-Ok-parameter_of.name _ c.add-in-loop-token.new.self c.loop-token.invariant.read c.in-Some-split_first.ensures.cases.0 (c.has_sort-in-loop-token-2.ensures.0 c.if-not-has_sort-2.false) c.in-Some-split_first-2.ensures.cases.0 (c.has_sort-in-loop-token-3.ensures.0 c.if-not-has_sort-3.false) c.in-Ok-parameter_of.ensures c.in_ok-add-2.ensures.ok;
   shorter = omega (arith, c.loop-token.invariant.shorter, c.in-Some-split_first.ensures.cases.1, c.in-Some-split_first-2.ensures.cases.1);
 }

@@ -1,6 +1,6 @@
 use Rattle.std.proofs.Common.{codes}
 use Rattle.dialyze.specs.Report.{callee_text}
-use Rattle.dialyze.specs.Found.{start_of}
+use Rattle.dialyze.specs.steps.Found.{start_of}
 use Rattle.dialyze.proofs.LineTexts.{whole_line}
 use Rattle.dialyze.proofs.lines.write_site.Goals as goal
 

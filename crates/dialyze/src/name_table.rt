@@ -9,11 +9,11 @@ use type_kinds::Memory;
 /// Functions' names, each with its number: how many were inserted before it. Contracts see the
 /// names in the order of insertion.
 #[derive(Drop)]
-pub struct Names {
+pub struct NameTable {
     set: IndexSet<FunName>,
 }
 
-impl Model for Names {
+impl Model for NameTable {
     ghost use Rattle.std.specs.Prelude.{List};
     ghost use Rattle.core_ast.specs.declared.syntax.FunName.{FunName};
 
@@ -23,20 +23,20 @@ impl Model for Names {
 }
 
 /// Gives names up.
-pub fn discard_names(_names: Names) {}
+pub fn discard_names(_names: NameTable) {}
 
-impl Names {
+impl NameTable {
     /// No names. Takes no memory.
-    pub fn new(alloc: Global) -> Names
+    pub fn new(alloc: Global) -> NameTable
         ensures { result ≡ [] }
     {
-        Names {
+        NameTable {
             set: IndexSet::new(alloc),
         }
     }
 
     /// Adds a name last, and says whether it is new: one that is there already changes nothing.
-    /// Where memory is wanting the names stay as they were.
+    /// If allocation fails the names are as before.
     pub fn insert(&mut self, name: FunName) -> Result<bool, Memory>
         ensures added { IfOk result (λ added. MatchBool added (self.new ≡ self.old ++ name ∷ []) (self.new ≡ self.old)) }
         ensures known { IfOk result (λ added. IsTrue added ↔ (Contains self.old name → ⊥)) }

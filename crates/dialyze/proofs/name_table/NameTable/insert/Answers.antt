@@ -1,6 +1,6 @@
 use Rattle.dialyze.proofs.NameSets.{added_tells, none_added}
-use Rattle.dialyze.proofs.names.Names.insert.Goals as goal
-use Rattle.dialyze.proofs.names.Names.insert.Goals.{in-Ok, in-Err}
+use Rattle.dialyze.proofs.name_table.NameTable.insert.Goals as goal
+use Rattle.dialyze.proofs.name_table.NameTable.insert.Goals.{in-Ok, in-Err}
 
 pub returns-clause-known : goal.returns-clause-known
 returns-clause-known c = elim c.match-insert.branch [

@@ -8,6 +8,6 @@ abbrev pub labels : m.Defs → List ℕ
 labels m.no_def = []
 labels (m.and_def f k params body ds) = k.label ∷ map (λ s. s.label) (sites body) ++ labels ds
 
--- Each label is lower than those behind it.
+-- Each label is lower than those after it.
 abbrev pub IsNumbered : m.Module → Type 0
 IsNumbered x = AllPairs (λ i j. i < j) (labels x.defs)

@@ -1,5 +1,5 @@
 use Rattle.dialyze.proofs.NameSets.{found_at, found_none}
-use Rattle.dialyze.proofs.names.Names.find.Goals as goal
+use Rattle.dialyze.proofs.name_table.NameTable.find.Goals as goal
 
 pub returns-in-Some-clause-found : goal.returns-in-Some-clause-found
 returns-in-Some-clause-found c = found_at c.args.self.now c.self.inside.set.keys c.args.name.now c.in-Some.number c.self.view_is c.in-Some.ensures.index

@@ -5,18 +5,18 @@ use Rattle.components.specs.Numbering.{Numbering, component_of_node, members_of}
 use Rattle.dialyze.specs.declared.sites.Site.{Site}
 use Rattle.dialyze.specs.declared.sites.Callee.{Callee}
 use Rattle.dialyze.specs.Scope.{names}
-use Rattle.dialyze.specs.Dead.{Names, IsMistaken, Calls, Together, Dead}
+use Rattle.dialyze.specs.Dead.{NamesFunction, IsMistaken, Calls, InOneComponent, Dead}
 
 -- A site of the list names j.
 abbrev pub SomeNames : m.Module → List Site → ℕ → Type 0
-SomeNames x sites j = (s : Site) × Contains sites s × Names x s.callee j
+SomeNames x sites j = (s : Site) × Contains sites s × NamesFunction x s.callee j
 
 -- The numbers are those of the components of the module's functions, with their members, and calls lead to
 -- no higher one.
 pub record NumbersFunctions (x : m.Module) (c : Numbering) : Type 0 where
   pub counted : length c.component_of ≡ length (names x.defs)
   pub below : (i : ℕ) → i < length (names x.defs) → component_of_node c i < c.count
-  pub together : (i j : ℕ) → i < length (names x.defs) → j < length (names x.defs) → (component_of_node c i ≡ component_of_node c j) ↔ Together x i j
+  pub together : (i j : ℕ) → i < length (names x.defs) → j < length (names x.defs) → (component_of_node c i ≡ component_of_node c j) ↔ InOneComponent x i j
   pub downward : (i j : ℕ) → Calls x i j → component_of_node c j ≤ component_of_node c i
   pub members : (k i : ℕ) → Contains (members_of c k) i ↔ ((i < length (names x.defs)) × (component_of_node c i ≡ k))
 
@@ -32,7 +32,7 @@ pub record SettledBelow (x : m.Module) (c : Numbering) (flags : List Bool) (k : 
 -- The call, from a function of component k, is bad as far as the flags say.
 abbrev pub IsBadBy : m.Module → Numbering → List Bool → ℕ → Callee → Type 0
 IsBadBy x c flags k callee =
-    IsMistaken x callee ⊎ ((j : ℕ) × Names x callee j × (component_of_node c j ≢ k) × (slice_get flags j ≡ Some true))
+    IsMistaken x callee ⊎ ((j : ℕ) × NamesFunction x callee j × (component_of_node c j ≢ k) × (slice_get flags j ≡ Some true))
 
 -- A site of the list is a bad call, as far as the flags say.
 abbrev pub SomeBadBy : m.Module → Numbering → List Bool → ℕ → List Site → Type 0

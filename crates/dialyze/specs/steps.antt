@@ -1,0 +1,4 @@
+pub mod Numbered
+pub mod Few
+pub mod Settled
+pub mod Found
