@@ -112,7 +112,7 @@ none_there d c e = ap (λ y. proper_cell (cell_view d y)) e
 
 -- ---- the element type of a list with one more head
 
--- round every value there is nothing more
+-- above every value there is nothing more
 join_any : (d : ℕ) (s : TypeAt d) → NormalAt d s → (ops d).any ≡ (ops d).join s (ops d).any
 join_any d s k =
     let l = level_laws d in

@@ -6,6 +6,7 @@ ghost use Rattle.type_sets.specs.Numbers.{Numbers};
 ghost use Rattle.type_model.specs.Canonical.{IsCanonical};
 ghost use Rattle.type_model.specs.HasType.{HasAll};
 ghost use Rattle.type_model.specs.Parts.{value_at};
+ghost use Rattle.type_model.specs.declared.limits.TheConstants.{MAX_ELEMENTS};
 ghost use Rattle.type_model.specs.Values.{Value, Values, and_value, count, heads, end_of, int, nil, cons as cons_value, tuple as tuple_value};
 ghost use Rattle.type_lattice.specs.Chains.{Falls, IsHeight};
 ghost use Rattle.type_lattice.specs.Elements.{ints_of, elements_at};
@@ -17,7 +18,7 @@ ghost use Rattle.type_lattice.specs.declared.kinds.Kind.TheVariants.{FunOf};
 
 /// Types are sets of values, each in one form, and inclusion is an order. A type is none or has a
 /// value, and any has every value. The meet has exactly the values of both, and the join is the
-/// least type round both. A smaller type has a lower rank, so no descent goes on for ever.
+/// least type that contains both. A smaller type has a lower rank, so no descent goes on for ever.
 pub fn type_laws()
     ensures reflexive { (t : Type4) → Below t t }
     ensures transitive { (s t u : Type4) → Below s t → Below t u → Below s u }
@@ -79,7 +80,7 @@ pub fn tuple_laws()
     ensures above { (ts : List Type4) (vs : Values) → HasTypes vs ts → HasType (tuple_value vs) (tuple ts) }
     ensures least { (ts : List Type4) (u : Type4) → ((vs : Values) → HasTypes vs ts → HasType (tuple_value vs) u) → Below (tuple ts) u }
     ensures only { (ts : List Type4) (v : Value) → HasType v (tuple ts) → (vs : Values) × (v ≡ tuple_value vs) }
-    ensures exact { (ts : List Type4) → length ts ≤ 64 → (vs : Values) → HasType (tuple_value vs) (tuple ts) ↔ HasTypes vs (map (cut 3) ts) }
+    ensures exact { (ts : List Type4) → length ts ≤ MAX_ELEMENTS → (vs : Values) → HasType (tuple_value vs) (tuple ts) ↔ HasTypes vs (map (cut 3) ts) }
 {}
 
 /// The type of the lists of a head and a tail has them, and has nothing but conses. With proper ends it
@@ -105,7 +106,7 @@ pub fn list_laws()
 /// smallest that does.
 pub fn project_laws()
     ensures holds { (t : Type4) (n i : ℕ) (vs : Values) (v : Value) → HasType (tuple_value vs) t → count vs ≡ n → value_at vs (i - 1) ≡ Some v → HasType v (project t n i) }
-    ensures least { (t : Type4) (n i : ℕ) → n ≤ 64 → 1 ≤ i → i ≤ n → (u : Type4) → ((vs : Values) (v : Value) → HasType (tuple_value vs) t → count vs ≡ n → value_at vs (i - 1) ≡ Some v → HasType v u) → Below (project t n i) u }
+    ensures least { (t : Type4) (n i : ℕ) → n ≤ MAX_ELEMENTS → 1 ≤ i → i ≤ n → (u : Type4) → ((vs : Values) (v : Value) → HasType (tuple_value vs) t → count vs ≡ n → value_at vs (i - 1) ≡ Some v → HasType v u) → Below (project t n i) u }
 {}
 
 /// The integers of a type are exactly those that it has. The type of the elements at some places has

@@ -1,5 +1,5 @@
 //! What the calls on types are made of: products, lists, and what stands in them.
-ghost use Rattle.std.specs.Prelude.{◌≡◌, ◌<◌, ℕ, false, [], Some, None, IfOk, cond, map, length, slice_get};
+ghost use Rattle.std.specs.Prelude.{◌≡◌, ◌<◌, ◌≤◌, ℕ, false, [], Some, None, IfOk, cond, map, length, slice_get};
 ghost use Rattle.type_sets.specs.Names as names;
 ghost use Rattle.type_sets.specs.Numbers as numbers;
 ghost use Rattle.type_sets.specs.declared.bits.Bits.TheVariants.{No};
@@ -12,9 +12,10 @@ use crate::kinds::{Kind, plain_kind};
 use crate::types::Ty;
 use std::alloc::Global;
 use type_kinds::{Boxed, List, Memory};
+use type_model::MAX_ELEMENTS;
 use type_trees::{
-    BodyOf, CellOf, Node, PartsOf, Plain, TuplesOf, add, add_size, copy, discard, elements_of,
-    join, product_body,
+    BodyOf, CellOf, Node, PartsOf, Plain, SizeOf, TuplesOf, copy, discard, elements_of, join,
+    product_body,
 };
 
 /// Whether one of the types has no value.
@@ -29,9 +30,9 @@ pub fn any_none(types: &[Ty]) -> bool
     false
 }
 
-/// The tuples of at most 64 elements of these types, one level up.
+/// The tuples of at most `MAX_ELEMENTS` elements of these types, one level up.
 pub fn product(alloc: Global, types: &[Ty]) -> Result<Node, Memory>
-    requires few { length types.now < 65 }
+    requires few { length types.now ≤ MAX_ELEMENTS }
     requires filled { has_none (ops 4) (map (λ t. t.ty) types.now) ≡ false }
     ensures fits { IfOk result (λ n. Fits 5 n) }
     ensures value { IfOk result (λ n. view 5 n ≡ product_of (ops 4) (map (λ t. t.ty) types.now)) }
@@ -39,11 +40,14 @@ pub fn product(alloc: Global, types: &[Ty]) -> Result<Node, Memory>
     let mut row = List::new(alloc);
     for t in types {
         let node = copy(alloc, 4, t.node())?;
-        add(&mut row, node)?;
+        row.add(node)?;
     }
     let body = product_body(alloc, 4, row)?;
     let mut sizes = List::new(alloc);
-    add_size(&mut sizes, types.len() as u8, body)?;
+    sizes.add(SizeOf {
+        size: types.len() as u8,
+        body,
+    })?;
     Ok(Node::Of(PartsOf {
         plain: Plain::none(),
         cell: None,

@@ -15,6 +15,7 @@ use crate::makers::{any_none, cell_alone, element, element_with, is_list, produc
 use std::alloc::Global;
 use std::marker::Model;
 use type_kinds::{List, Memory};
+use type_model::MAX_ELEMENTS;
 use type_sets::{AtomSet, IntSet};
 use type_trees::{
     Node, PartsOf, Plain, TuplesOf, copy, cut, find_size, is_none, join, leq, made, meet,
@@ -97,7 +98,7 @@ impl Ty {
     }
 
     /// The least type of level 4 that has the tuples of elements of these types: none where one of
-    /// them has no value, and every tuple where they are more than 64.
+    /// them has no value, and every tuple where they are more than `MAX_ELEMENTS`.
     pub fn tuple(alloc: Global, parts: &[Ty]) -> Result<Ty, Memory>
         ensures value { IfOk result (λ t. t ≡ tuple parts.now) }
         ensures above { IfOk result (λ t. (vs : Values) → HasTypes vs parts.now → HasType (tuple_value vs) t) }
@@ -106,7 +107,7 @@ impl Ty {
         if any_none(parts) {
             return Ok(Ty::none(alloc));
         }
-        if parts.len() > 64 {
+        if parts.len() > MAX_ELEMENTS {
             return Ok(Ty::every_tuple());
         }
         let wide = product(alloc, parts)?;
@@ -187,7 +188,7 @@ impl Ty {
 
     /// The type of one element of the tuples of a size, at a place from 1 to the size: the join of
     /// what stands there in the type's tuples of this size, any where the type has all tuples, or
-    /// has tuples and the size is over 64, and none where it has no such tuple.
+    /// has tuples and the size is over `MAX_ELEMENTS`, and none where it has no such tuple.
     pub fn project(&self, alloc: Global, size: u32, place: u32) -> Result<Ty, Memory>
         requires { (1 ≤ place) × (place ≤ size) }
         ensures value { IfOk result (λ t. t ≡ project self.now size place) }
@@ -199,7 +200,7 @@ impl Ty {
         let TuplesOf::Sizes(sizes) = &parts.tuples else {
             return Ok(Ty::any());
         };
-        if size > 64 {
+        if size > MAX_ELEMENTS as u32 {
             if sizes.is_empty() {
                 return Ok(Ty::none(alloc));
             }

@@ -1,14 +1,14 @@
 -- What each variant of the code's values stands for, and which variant a value is.
-use Rattle.std.proofs.Common.{◌≡◌, ℕ, zero, suc, ℤ, List, length, map, refl, sym, ap, ◌∙◌}
+use Rattle.std.proofs.Common.{◌≡◌, ℕ, ℤ, List, map, refl, sym, ap, ◌∙◌}
 use Rattle.type_kinds.specs.declared.atom.Atom.{Atom}
 use Rattle.type_model.specs.Shapes.{floats, pids, ports, references, nils, maps}
 use Rattle.type_model.specs.Values as m
-use Rattle.type_model.specs.ValueShapes.{Leaf, an_int, an_atom, some_bits, of_flag, a_function, leaf, pair, row, shape}
+use Rattle.type_model.specs.ValueShapes.{Leaf, an_int, an_atom, some_bits, of_flag, a_function, leaf, pair, row, shape, zeros, length-zeros}
 use Rattle.type_meaning.specs.declared.value.Value.{Value, out-Value, roll-Value, roll-out-Value}
 use Rattle.type_meaning.specs.declared.value.Value.TheVariants as v
 use Rattle.type_meaning.specs.declared.value.Value.TheOpen.{Value-F}
 use Rattle.type_meaning.specs.declared.value.Value.TheFolds.{map-Value, fold_out-Value}
-use Rattle.type_meaning.specs.Values.{zero_bits, values, pairs, value_layer, value_of}
+use Rattle.type_meaning.specs.Values.{values, pairs, value_layer, value_of}
 
 -- a list of values
 abbrev pub all_values : List Value → m.Values
@@ -32,7 +32,7 @@ value-Float s = stands_for (v.Float s) _ (v.outs-Float s)
 pub value-Atom : (a : Atom) → value_of (v.Atom a) ≡ m.atom a
 value-Atom a = stands_for (v.Atom a) _ (v.outs-Atom a)
 
-pub value-Bits : (n : ℕ) → value_of (v.Bits n) ≡ m.bits (zero_bits n)
+pub value-Bits : (n : ℕ) → value_of (v.Bits n) ≡ m.bits (zeros n)
 value-Bits n = stands_for (v.Bits n) _ (v.outs-Bits n)
 
 pub value-Nil : value_of v.Nil ≡ m.nil
@@ -96,10 +96,6 @@ variant x = by (out-Value x) refl
 
 -- ---- values that hold no others
 
-length-zero_bits : (n : ℕ) → length (zero_bits n) ≡ n
-length-zero_bits zero = refl
-length-zero_bits (suc n) = ap suc (length-zero_bits n)
-
 pub shape-Int : (x : Value) (n : ℤ) → x ≡ v.Int n → shape (value_of x) ≡ leaf (an_int n)
 shape-Int x n e = ap shape (ap value_of e ∙ value-Int n)
 
@@ -110,7 +106,7 @@ pub shape-Atom : (x : Value) (a : Atom) → x ≡ v.Atom a → shape (value_of x
 shape-Atom x a e = ap shape (ap value_of e ∙ value-Atom a)
 
 pub shape-Bits : (x : Value) (n : ℕ) → x ≡ v.Bits n → shape (value_of x) ≡ leaf (some_bits n)
-shape-Bits x n e = ap shape (ap value_of e ∙ value-Bits n) ∙ ap (λ k. leaf (some_bits k)) (length-zero_bits n)
+shape-Bits x n e = ap shape (ap value_of e ∙ value-Bits n) ∙ ap (λ k. leaf (some_bits k)) (length-zeros n)
 
 pub shape-Nil : (x : Value) → x ≡ v.Nil → shape (value_of x) ≡ leaf (of_flag nils)
 shape-Nil x e = ap shape (ap value_of e ∙ value-Nil)

@@ -1,13 +1,10 @@
 -- The value that a value of the code stands for.
-use Rattle.std.specs.Prelude.{ℕ, zero, suc, Bool, false, List, [], ◌∷◌}
+use Rattle.std.specs.Prelude.{List, [], ◌∷◌}
 use Rattle.type_model.specs.Values as m
+use Rattle.type_model.specs.ValueShapes.{zeros}
 use Rattle.type_meaning.specs.declared.value.Value.{Value}
 use Rattle.type_meaning.specs.declared.value.Value.TheOpen.{Value-F}
 use Rattle.type_meaning.specs.declared.value.Value.TheFolds.{fold-Value}
-
-abbrev pub zero_bits : ℕ → List Bool
-zero_bits zero = []
-zero_bits (suc n) = false ∷ zero_bits n
 
 abbrev pub values : List m.Value → m.Values
 values [] = m.no_value
@@ -22,7 +19,7 @@ abbrev pub value_layer : Value-F m.Value → m.Value
 value_layer (Value-F.Int n) = m.int n
 value_layer (Value-F.Float s) = m.float s
 value_layer (Value-F.Atom a) = m.atom a
-value_layer (Value-F.Bits n) = m.bits (zero_bits n)
+value_layer (Value-F.Bits n) = m.bits (zeros n)
 value_layer Value-F.Nil = m.nil
 value_layer (Value-F.Cons h t) = m.cons h t
 value_layer (Value-F.Tuple vs) = m.tuple (values vs)

@@ -8,6 +8,7 @@ ghost use Rattle.type_meaning.specs.Values.{value_of, values};
 
 use crate::value::Value;
 use type_lattice::Ty;
+use type_model::MAX_ELEMENTS;
 use type_sets::Bits;
 use type_trees::{BodyOf, CellOf, FunSet, Node, Plain, TuplesOf, find_size, find_tag};
 
@@ -61,7 +62,7 @@ fn tuple_in(level: u32, elements: &[Value], tuples: &TuplesOf<Node>) -> bool
     let TuplesOf::Sizes(sizes) = tuples else {
         return true;
     };
-    if elements.len() > 64 {
+    if elements.len() > MAX_ELEMENTS {
         return false;
     }
     match find_size(sizes.as_slice(), elements.len() as u8) {

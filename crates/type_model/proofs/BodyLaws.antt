@@ -360,7 +360,7 @@ module _ {E : Type 0} {Has : Value → E → Type 0} {Normal : E → Type 0} {o 
   body_meet_right n (Some (product es)) (Some (tags m)) j k vs h = tags_meet_left n m (product es) k j vs h
   body_meet_right n (Some (tags m)) (Some b) j k vs h = tags_meet_right n m b j k vs h
 
-  -- ---- the least product round some tags
+  -- ---- the least product that contains some tags
 
   rows_join_normal : (n : ℕ) (es : List E) (m : Rows) → RowOf n (Some es) → NormalRows Normal o n m → RowOf n (Some (rows_join o es (held m)))
   rows_join_normal n es [] j k = j

@@ -1,18 +1,19 @@
 -- The laws of canonical values: a map is told by its pairs, and a type by the canonical values that it has.
-use Rattle.std.proofs.Common.{◌≡◌, ◌⊎◌, inl, inr, ℕ, zero, suc, true, List, [], ◌∷◌, Option, Some, None, refl, sym, ap, ◌∙◌, subst}
-use Rattle.std.specs.Prelude.{◌↔◌}
-use Rattle.std.specs.Ordering.{is_lt, nat_cmp}
-use Rattle.type_sets.specs.Ascending.{is_below_all, is_ascending}
+use Rattle.std.proofs.Common.{◌≡◌, ◌⊎◌, inl, inr, ℕ, zero, suc, true, List, [], ◌∷◌, Option, Some, None, refl, sym, ap, ◌∙◌, subst, true≢false, cond, Less, Equal, Greater}
+use Rattle.std.specs.Prelude.{◌↔◌, pos}
+use Rattle.std.specs.Ordering.{is_lt, is_eq, nat_cmp}
+use Rattle.type_sets.specs.Ascending.{is_below_all, is_ascending, placed}
 use Rattle.type_sets.specs.Names.{Name, name_cmp}
 use Rattle.type_sets.proofs.Truths.{first, second}
 use Rattle.type_sets.proofs.AscendingLaws as ascending
 use Rattle.type_sets.proofs.NameLaws.{name_total, name_same}
-use Rattle.type_model.specs.Values.{Value, atom, nil, cons, tuple, map, closure, Values, no_value, and_value, Pairs, no_pair, and_pair, no_variable, count, heads, end_of}
+use Rattle.type_model.specs.Values.{Value, int, atom, nil, cons, tuple, map, closure, Values, no_value, and_value, Pairs, no_pair, and_pair, no_variable, and_variable, count, heads, end_of}
 use Rattle.type_model.specs.Tables.{find}
 use Rattle.type_model.specs.Shapes.{Cell, Body, product, tags, Tuples, sizes, all_tuples, TypeAt}
 use Rattle.type_model.specs.HasType.{HasAll, HasEach, HasRow, HasCell, HasTag, HasBody, HasTuple, HasParts, HasAt}
 use Rattle.type_model.specs.Laws.{BelowBy}
-use Rattle.type_model.specs.Canonical.{spelled, spelled_keys, AreAscending, IsCanonical, AreCanonical, HoldsPair, PairsBelow}
+use Rattle.type_model.specs.Canonical.{spelled, spelled_keys, AreAscending, IsCanonical, AreCanonical, ArePairsCanonical, HoldsPair, PairsBelow, put_pair}
+use Rattle.type_model.proofs.Spellings.{spelled_once}
 
 -- ---- maps are told by their pairs
 
@@ -66,6 +67,61 @@ one_value (and_pair j u ps) a k v w (inl e) (inl f) = e.1 ∙ sym f.1
 one_value (and_pair j u ps) a k v w (inl e) (inr i) = absurd (later j u ps a k w i e.0)
 one_value (and_pair j u ps) a k v w (inr h) (inl f) = absurd (later j u ps a k v h f.0)
 one_value (and_pair j u ps) a k v w (inr h) (inr i) = one_value ps (rest_ascends j u ps a) k v w h i
+
+-- ---- a pair that is put into a map
+
+keys_put : (k v : Value) (ps : Pairs) → spelled_keys (put_pair k v ps) ≡ placed name_cmp (spelled k) (spelled_keys ps)
+keys_put k v no_pair = refl
+keys_put k v (and_pair j w ps) =
+    elim (name_cmp (spelled k) (spelled j)) as (λ r. spelled_keys (cond (is_lt r) (and_pair k v (and_pair j w ps)) (cond (is_eq r) (and_pair j v ps) (and_pair j w (put_pair k v ps)))) ≡ cond (is_lt r) (spelled k ∷ spelled j ∷ spelled_keys ps) (cond (is_eq r) (spelled j ∷ spelled_keys ps) (spelled j ∷ placed name_cmp (spelled k) (spelled_keys ps)))) [
+      | Less ↦ refl
+      | Equal ↦ refl
+      | Greater ↦ ap (λ ks. spelled j ∷ ks) (keys_put k v ps)
+    ]
+
+put_ascends : (k v : Value) (ps : Pairs) → AreAscending ps → AreAscending (put_pair k v ps)
+put_ascends k v ps a = ap (is_ascending name_cmp) (keys_put k v ps) ∙ ascending.ascending-placed name_total name_same (spelled k) (spelled_keys ps) a
+
+put_parts : (k v : Value) (ps : Pairs) → IsCanonical k → IsCanonical v → ArePairsCanonical ps → ArePairsCanonical (put_pair k v ps)
+put_parts k v no_pair a b c = (a, b, tt)
+put_parts k v (and_pair j w ps) a b c =
+    elim (name_cmp (spelled k) (spelled j)) as (λ r. ArePairsCanonical (cond (is_lt r) (and_pair k v (and_pair j w ps)) (cond (is_eq r) (and_pair j v ps) (and_pair j w (put_pair k v ps))))) [
+      | Less ↦ (a, b, c)
+      | Equal ↦ (c.0, b, c.2)
+      | Greater ↦ (c.0, c.1, put_parts k v ps a b c.2)
+    ]
+
+pub put_canonical : (k v : Value) (ps : Pairs) → IsCanonical k → IsCanonical v → IsCanonical (map ps) → IsCanonical (map (put_pair k v ps))
+put_canonical k v ps a b c = (put_ascends k v ps c.0, put_parts k v ps a b c.1)
+
+-- the pair is there, and of the others those of other keys
+abbrev Put : Value → Value → Pairs → Value → Value → Type 0
+Put k v ps x y = ((x ≡ k) × (y ≡ v)) ⊎ ((x ≡ k → ⊥) × HoldsPair ps x y)
+
+-- a value isn't above itself
+greater_apart : (k j : Value) → name_cmp (spelled k) (spelled j) ≡ Greater → k ≡ j → ⊥
+greater_apart k j e q = true≢false (sym (ascending.itself name_total name_same (spelled k)) ∙ ap (λ z. is_eq (name_cmp (spelled k) (spelled z))) q ∙ ap is_eq e)
+
+pub put_holds : (k v : Value) (ps : Pairs) → AreAscending ps → (x y : Value) → HoldsPair (put_pair k v ps) x y ↔ Put k v ps x y
+put_holds k v no_pair a x y = (λ h. elim h [ inl e ↦ inl e | inr i ↦ absurd i ], λ h. elim h [ inl e ↦ inl e | inr i ↦ absurd i.1 ])
+put_holds k v (and_pair j w ps) a x y =
+    elim (name_cmp (spelled k) (spelled j)) as (λ r. name_cmp (spelled k) (spelled j) ≡ r → AreAscending (cond (is_lt r) (and_pair k v (and_pair j w ps)) (cond (is_eq r) (and_pair j v ps) (and_pair j w (put_pair k v ps)))) → HoldsPair (cond (is_lt r) (and_pair k v (and_pair j w ps)) (cond (is_eq r) (and_pair j v ps) (and_pair j w (put_pair k v ps)))) x y ↔ Put k v (and_pair j w ps) x y) [
+      | Less ↦ λ e b. (
+        λ h. elim h [ inl p ↦ inl p | inr i ↦ inr (later k v (and_pair j w ps) b x y i, i) ],
+        λ h. elim h [ inl p ↦ inl p | inr i ↦ inr i.1 ],
+      )
+      | Equal ↦ λ e b.
+          let q : k ≡ j = spelled_once k j (name_same (spelled k) (spelled j) e) in (
+            λ h. elim h [ inl p ↦ inl (p.0 ∙ sym q, p.1) | inr i ↦ inr (λ n. later j w ps a x y i (n ∙ q), inr i) ],
+            λ h. elim h [ inl p ↦ inl (p.0 ∙ q, p.1) | inr i ↦ elim i.1 [ inl g ↦ absurd (i.0 (g.0 ∙ sym q)) | inr m ↦ inr m ] ],
+          )
+      | Greater ↦ λ e b.
+          let more = put_holds k v ps (rest_ascends j w ps a) x y in
+          let other : k ≡ j → ⊥ = λ n. greater_apart k j e n in (
+            λ h. elim h [ inl g ↦ inr (λ n. other (sym n ∙ g.0), inl g) | inr i ↦ elim (more.0 i) [ inl p ↦ inl p | inr m ↦ inr (m.0, inr m.1) ] ],
+            λ h. elim h [ inl p ↦ inr (more.1 (inl p)) | inr i ↦ elim i.1 [ inl g ↦ inl g | inr m ↦ inr (more.1 (inr (i.0, m))) ] ],
+          )
+    ] refl (put_ascends k v (and_pair j w ps) a)
 
 -- ---- a value without what a type doesn't look at: its maps have no pairs, and its closures no environment
 
@@ -160,3 +216,20 @@ level_alike (suc d) v t = parts_alike (level_alike d) v t
 -- so what holds of the canonical values of a type holds of all
 pub canonical_below : (d : ℕ) (s t : TypeAt d) → ((v : Value) → IsCanonical v → HasAt d v s → HasAt d v t) → BelowBy (HasAt d) s t
 canonical_below d s t f v h = (level_alike d v t).0 (f (bare v) (bare-canonical v) ((level_alike d v s).1 h))
+
+-- ---- examples
+
+-- a map of two keys is written in one order alone
+ascending_keys : IsCanonical (map (and_pair (int (pos 1)) nil (and_pair (atom (97 ∷ [])) (int (pos 2)) no_pair)))
+ascending_keys = (refl, (tt, tt, (tt, tt, tt)))
+
+descending_keys : IsCanonical (map (and_pair (atom (97 ∷ [])) (int (pos 2)) (and_pair (int (pos 1)) nil no_pair))) → ⊥
+descending_keys h = true≢false (sym h.0)
+
+-- no key stands twice
+twice : (v w : Value) → IsCanonical (map (and_pair nil v (and_pair nil w no_pair))) → ⊥
+twice v w h = true≢false (sym h.0)
+
+-- nor in a map that a closure's environment holds
+inside : (v w : Value) → IsCanonical (closure [] 0 0 (and_variable [] (map (and_pair nil v (and_pair nil w no_pair))) no_variable)) → ⊥
+inside v w h = twice v w h.0

@@ -36,7 +36,7 @@ module _ {E : Type 0} {Has : Value → E → Type 0} {Normal : E → Type 0} {o 
   abbrev at_place : Option (Body E) → ℕ → Option E
   at_place b i = elim b [ None ↦ None | Some c ↦ slice_get (elements o c) i ]
 
-  -- the least product round a body is below that round a larger one
+  -- the least product that contains a body is below the one that contains a larger body
   body_rises : (n : ℕ) (b c : Option (Body E)) → NormalBody Normal o n b → NormalBody Normal o n c → BelowBy (HasBody Has) b c → (i : ℕ) → Rises (at_place b i) (at_place c i)
   body_rises n None c j k f i = tt
   body_rises n (Some b) None j k f i = elim ((body_lattice l n).filled (Some b) j) [ inl z ↦ absurd (some-none b z) | inr v ↦ absurd (f v.0 v.1) ]

@@ -1,6 +1,7 @@
 -- Canonical values: the pairs of each map in them ascend strictly by their keys, in an order of all values. So two maps are
 -- one value where they have the same pairs.
 use Rattle.std.specs.Prelude.{◌≡◌, ◌⊎◌, ℕ, ℤ, pos, negsuc, Bool, true, cond, List, [], ◌∷◌, ◌++◌, length}
+use Rattle.std.specs.Ordering.{is_lt, eq_by_cmp}
 use Rattle.type_sets.specs.Ascending.{is_ascending}
 use Rattle.type_sets.specs.Names.{Name, name_cmp}
 use Rattle.type_model.specs.Values.{Value, int, atom, bits, float, pid, port, reference, nil, cons, tuple, map, closure, external, foreign, Values, no_value, and_value, Pairs, no_pair, and_pair, Env, no_variable, and_variable, and_frame, Local}
@@ -94,3 +95,9 @@ HoldsPair (and_pair j w ps) k v = ((k ≡ j) × (v ≡ w)) ⊎ HoldsPair ps k v
 -- each pair of the first is one of the second
 abbrev pub PairsBelow : Pairs → Pairs → Type 0
 PairsBelow ps qs = (k v : Value) → HoldsPair ps k v → HoldsPair qs k v
+
+-- a map with one more pair, or with another value at a key that it has
+abbrev pub put_pair : Value → Value → Pairs → Pairs
+put_pair k v no_pair = and_pair k v no_pair
+put_pair k v (and_pair j w ps) =
+    cond (is_lt (name_cmp (spelled k) (spelled j))) (and_pair k v (and_pair j w ps)) (cond (eq_by_cmp name_cmp (spelled k) (spelled j)) (and_pair j v ps) (and_pair j w (put_pair k v ps)))

@@ -1,7 +1,9 @@
 -- The normal form: a set of values that the family has, it has in one way.
-use Rattle.std.specs.Prelude.{◌≡◌, ℕ, zero, suc, ◌^◌, true, false, List, [], ◌∷◌, length, nat_lt, Option, Some, None}
+use Rattle.std.specs.Prelude.{◌≡◌, ℕ, zero, suc, ◌+◌, ◌^◌, true, false, List, [], ◌∷◌, length, nat_lt, Option, Some, None}
 use Rattle.std.specs.Ordering.{nat_cmp}
+use Rattle.type_sets.specs.Few.{are_few}
 use Rattle.type_sets.specs.Names.{Name, name_cmp}
+use Rattle.type_model.specs.declared.limits.TheConstants.{MAX_SIZES, MAX_ELEMENTS}
 use Rattle.type_model.specs.Tables.{is_table}
 use Rattle.type_model.specs.Shapes.{Functions, no_function, of_arity, all_functions, Cell, Body, product, tags, Tuples, sizes, all_tuples, Parts, TypeAt}
 use Rattle.type_model.specs.Operations.{Ops, is_empty, ops}
@@ -45,7 +47,7 @@ module _ {E : Type 0} (Normal : E → Type 0) (o : Ops E) where
 
   abbrev pub NormalTags : ℕ → List (Name × List E) → Type 0
   NormalTags zero m = ⊥
-  NormalTags (suc n) m = AreTags n m × (nat_lt (length m) 14 ≡ true) × (o.has_tags ≡ true)
+  NormalTags (suc n) m = AreTags n m × (are_few m ≡ true) × (o.has_tags ≡ true)
 
   -- a body of tuples of n elements
   abbrev pub NormalBody : ℕ → Option (Body E) → Type 0
@@ -55,11 +57,11 @@ module _ {E : Type 0} (Normal : E → Type 0) (o : Ops E) where
 
   abbrev pub NormalSizes : List (ℕ × Body E) → Type 0
   NormalSizes [] = Unit {0}
-  NormalSizes (e ∷ m) = (nat_lt e.0 65 ≡ true) × NormalBody e.0 (Some e.1) × NormalSizes m
+  NormalSizes (e ∷ m) = (nat_lt e.0 (MAX_ELEMENTS + 1) ≡ true) × NormalBody e.0 (Some e.1) × NormalSizes m
 
-  -- at most eight sizes, ascending, of at most 64 elements
+  -- at most MAX_SIZES sizes, ascending, of at most MAX_ELEMENTS elements
   abbrev pub NormalTuples : Tuples E → Type 0
-  NormalTuples (sizes m) = (is_table nat_cmp m ≡ true) × (nat_lt (length m) 9 ≡ true) × NormalSizes m
+  NormalTuples (sizes m) = (is_table nat_cmp m ≡ true) × (nat_lt (length m) (MAX_SIZES + 1) ≡ true) × NormalSizes m
   NormalTuples all_tuples = Unit {0}
 
   abbrev pub NormalParts : Parts E → Type 0

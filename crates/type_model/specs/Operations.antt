@@ -1,13 +1,15 @@
 -- What the analysis does with types: meet, join, and the atoms of a type. The operations of a level are made of those of the
 -- level below.
-use Rattle.std.specs.Prelude.{ℕ, zero, suc, ◌==◌, Bool, true, false, not, cond, ◌&&◌, ◌||◌, List, [], ◌∷◌, length, nat_lt, Option, Some, None, option_map}
+use Rattle.std.specs.Prelude.{ℕ, zero, suc, ◌+◌, ◌==◌, Bool, true, false, not, cond, ◌&&◌, ◌||◌, List, [], ◌∷◌, length, nat_lt, Option, Some, None, option_map}
 use Rattle.std.specs.Ordering.{nat_cmp}
 use Rattle.type_sets.specs.Names as names
 use Rattle.type_sets.specs.Names.{Name, Names, name_cmp}
 use Rattle.type_sets.specs.Numbers as numbers
+use Rattle.type_sets.specs.Few.{are_few}
 use Rattle.type_sets.specs.BitLengths as bit_lengths
 use Rattle.type_sets.specs.declared.bits.Bits.{Bits}
 use Rattle.type_sets.specs.declared.bits.Bits.TheVariants.{No, Whole, Any}
+use Rattle.type_model.specs.declared.limits.TheConstants.{MAX_SIZES}
 use Rattle.type_model.specs.Tables.{keys, held, all_hold, chosen, find, united}
 use Rattle.type_model.specs.Shapes.{Flags, Functions, no_function, of_arity, all_functions, PlainParts, Cell, Body, product, tags, Tuples, sizes, all_tuples, Parts, TypeAt}
 
@@ -164,7 +166,7 @@ module _ {E : Type 0} (o : Ops E) where
   body_meet (product es) (tags m) = some_tags (tags_meet m (product es))
   body_meet (tags m) b = some_tags (tags_meet m b)
 
-  -- the element types of the least product round a body
+  -- the element types of the least product that contains a body
   abbrev pub elements : Body E → List E
   elements (product es) = es
   elements (tags m) = o.of_names (keys m) ∷ all_rows_join (held m)
@@ -174,7 +176,7 @@ module _ {E : Type 0} (o : Ops E) where
 
   -- more than thirteen tags become a product
   abbrev pub capped_tags : List (Name × List E) → Body E
-  capped_tags m = cond (nat_lt (length m) 14) (tags m) (product (elements (tags m)))
+  capped_tags m = cond (are_few m) (tags m) (product (elements (tags m)))
 
   abbrev pub body_join : Body E → Body E → Body E
   body_join (product es) b = product (row_join es (elements b))
@@ -192,7 +194,7 @@ module _ {E : Type 0} (o : Ops E) where
 
   -- more than eight sizes become all tuples
   abbrev pub capped_sizes : List (ℕ × Body E) → Tuples E
-  capped_sizes m = cond (nat_lt (length m) 9) (sizes m) all_tuples
+  capped_sizes m = cond (nat_lt (length m) (MAX_SIZES + 1)) (sizes m) all_tuples
 
   abbrev pub tuples_join : Tuples E → Tuples E → Tuples E
   tuples_join all_tuples t = all_tuples

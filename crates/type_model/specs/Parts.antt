@@ -1,9 +1,10 @@
 -- Types made of types, and the types of what a tuple or a list holds.
-use Rattle.std.specs.Prelude.{ℕ, zero, suc, ◌-◌, Bool, true, false, cond, ◌&&◌, List, [], ◌∷◌, length, nat_lt, slice_get, Option, Some, None}
+use Rattle.std.specs.Prelude.{ℕ, zero, suc, ◌+◌, ◌-◌, Bool, true, false, cond, ◌&&◌, List, [], ◌∷◌, length, nat_lt, slice_get, Option, Some, None}
 use Rattle.std.specs.Ordering.{nat_cmp}
 use Rattle.type_sets.specs.Names as names
 use Rattle.type_sets.specs.Numbers as numbers
 use Rattle.type_sets.specs.declared.bits.Bits.TheVariants.{No}
+use Rattle.type_model.specs.declared.limits.TheConstants.{MAX_ELEMENTS}
 use Rattle.type_model.specs.Values.{Value, Values, no_value, and_value}
 use Rattle.type_model.specs.Tables.{find}
 use Rattle.type_model.specs.Shapes.{Flags, PlainParts, no_function, Cell, Tuples, sizes, all_tuples, Parts, TypeAt}
@@ -26,7 +27,7 @@ module _ {E : Type 0} (o : Ops E) where
   abbrev pub product_of : List E → Parts E
   product_of es =
       cond (has_none o es) (of_plain o plain_none)
-      (record { plain = plain_none; cell = None; tuples = cond (nat_lt (length es) 65) (sizes ((length es, body_of o es) ∷ [])) all_tuples })
+      (record { plain = plain_none; cell = None; tuples = cond (nat_lt (length es) (MAX_ELEMENTS + 1)) (sizes ((length es, body_of o es) ∷ [])) all_tuples })
 
   -- whether each value of the type is a proper list
   abbrev pub is_list : Parts E → Bool
@@ -41,7 +42,7 @@ module _ {E : Type 0} (o : Ops E) where
   abbrev pub element_at : Tuples E → ℕ → ℕ → Option E
   element_at all_tuples n i = Some o.any
   element_at (sizes m) n i =
-      cond (nat_lt n 65)
+      cond (nat_lt n (MAX_ELEMENTS + 1))
       (elim (find nat_cmp m n) [ None ↦ None | Some b ↦ slice_get (elements o b) i ])
       (cond (is_empty m) None (Some o.any))
 

@@ -3,7 +3,9 @@ use Rattle.std.specs.Prelude.{◌≡◌, ℕ, zero, suc, ◌+◌, ◌*◌, Bool,
 use Rattle.type_sets.specs.Names as names
 use Rattle.type_sets.specs.Names.{Name}
 use Rattle.type_sets.specs.Numbers as numbers
+use Rattle.type_sets.specs.declared.limits.TheConstants.{MAX_MEMBERS}
 use Rattle.type_sets.specs.BitLengths as bit_lengths
+use Rattle.type_model.specs.declared.limits.TheConstants.{MAX_SIZES, MAX_ELEMENTS}
 use Rattle.type_model.specs.Shapes.{Flags, Functions, no_function, of_arity, all_functions, PlainParts, Cell, Body, product, tags, Tuples, sizes, all_tuples, Parts, TypeAt}
 use Rattle.type_model.specs.HasType.{HasAt}
 use Rattle.type_model.specs.Normal.{NormalAt}
@@ -37,29 +39,29 @@ module _ {E : Type 0} (rank_of : E → ℕ) (most : ℕ) where
   tags_rank [] = 0
   tags_rank (e ∷ m) = 1 + row_rank e.1 + tags_rank m
 
-  -- a product is above thirteen tags whose types are those of its rest
+  -- a product is above MAX_MEMBERS tags whose types are those of its rest
   abbrev pub body_rank : Body E → ℕ
   body_rank (product []) = 0
-  body_rank (product (e ∷ es)) = rank_of e + 14 * (1 + row_rank es)
+  body_rank (product (e ∷ es)) = rank_of e + (MAX_MEMBERS + 1) * (1 + row_rank es)
   body_rank (tags m) = tags_rank m
 
   abbrev pub sizes_rank : List (ℕ × Body E) → ℕ
   sizes_rank [] = 0
   sizes_rank (e ∷ m) = 1 + body_rank e.1 + sizes_rank m
 
-  -- no body of 64 elements has a higher rank
+  -- no body of MAX_ELEMENTS elements has a higher rank
   abbrev pub most_body : ℕ
-  most_body = most + 14 * (1 + 64 * most)
+  most_body = most + (MAX_MEMBERS + 1) * (1 + MAX_ELEMENTS * most)
 
   abbrev pub tuples_rank : Tuples E → ℕ
   tuples_rank (sizes m) = sizes_rank m
-  tuples_rank all_tuples = 1 + 8 * (1 + most_body)
+  tuples_rank all_tuples = 1 + MAX_SIZES * (1 + most_body)
 
   abbrev pub parts_rank : Parts E → ℕ
   parts_rank p = plain_rank p.plain + cell_rank p.cell + tuples_rank p.tuples
 
   abbrev pub most_parts : ℕ
-  most_parts = 42 + (2 + most) + (1 + 8 * (1 + most_body))
+  most_parts = 42 + (2 + most) + (1 + MAX_SIZES * (1 + most_body))
 
 -- the highest rank of a level, and the rank of a type
 unfoldable pub most_at : ℕ → ℕ

@@ -50,12 +50,12 @@ shape (closure m l n env) = leaf (a_function n)
 shape (external m f n) = leaf (a_function n)
 shape (foreign x n) = leaf (a_function n)
 
-zeros : ℕ → List Bool
+-- so many bits 0
+abbrev pub zeros : ℕ → List Bool
 zeros zero = []
 zeros (suc n) = false ∷ zeros n
 
-length-zeros : (n : ℕ) → length (zeros n) ≡ n
-unfolding zeros
+pub length-zeros : (n : ℕ) → length (zeros n) ≡ n
 length-zeros zero = refl
 length-zeros (suc n) = ap suc (length-zeros n)
 

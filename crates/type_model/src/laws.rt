@@ -1,23 +1,24 @@
 //! The laws of types, as functions that do nothing: who calls one has its clauses. They speak of
 //! types of any level.
-ghost use Rattle.std.specs.Prelude.{◌≡◌, ◌↔◌, ◌≤◌, ◌<◌, ◌-◌, ℕ, pos, suc, Bool, true, false, List, Some, nat_lt, length, map};
+ghost use Rattle.std.specs.Prelude.{◌≡◌, ◌⊎◌, ◌↔◌, ◌≤◌, ◌<◌, ◌+◌, ◌-◌, ℕ, pos, suc, Bool, true, false, List, Some, nat_lt, length, map};
 ghost use Rattle.type_sets.specs.Numbers as numbers;
 ghost use Rattle.type_sets.specs.Numbers.{Numbers};
 ghost use Rattle.type_model.specs.Values.{Value, Values, and_value, Pairs, nil, cons, tuple, map as map_value, heads, end_of, count};
-ghost use Rattle.type_model.specs.Canonical.{spelled, IsCanonical, HoldsPair, PairsBelow};
+ghost use Rattle.type_model.specs.Canonical.{spelled, IsCanonical, HoldsPair, PairsBelow, put_pair};
 ghost use Rattle.type_model.specs.Shapes.{TypeAt};
 ghost use Rattle.type_model.specs.HasType.{HasAt, HasAll, HasEach};
 ghost use Rattle.type_model.specs.Operations.{ops};
 ghost use Rattle.type_model.specs.Normal.{NormalAt};
 ghost use Rattle.type_model.specs.Laws.{BelowBy, Laws, Lowering};
+ghost use Rattle.type_model.specs.declared.limits.TheConstants.{MAX_ELEMENTS};
 ghost use Rattle.type_model.specs.Cut.{cut};
 ghost use Rattle.type_model.specs.Elements.{elements_at};
 ghost use Rattle.type_model.specs.Ranks.{rank, most_at, FallsAt};
 ghost use Rattle.type_model.specs.Parts.{tuple_at, cons_at, project_at, elem_at, tail_at, is_list, value_at, AreNormal};
 
 /// The types of each level are sets of values, each in one form: inclusion is an order, the meet has
-/// exactly the values of both, the join is the least type of the level round both, a type is none or
-/// has a value, and any has every value.
+/// exactly the values of both, the join is the least type of the level that contains both, a
+/// type is none or has a value, and any has every value.
 pub fn type_laws()
     ensures { (d : ℕ) → Laws (HasAt d) (NormalAt d) (ops d) }
 {}
@@ -37,9 +38,9 @@ pub fn tuple_laws()
     ensures above { (d : ℕ) (es : List (TypeAt d)) → AreNormal (NormalAt d) es → (vs : Values) → HasEach (HasAt d) vs es → HasAt d (tuple vs) (tuple_at d es) }
     ensures least { (d : ℕ) (es : List (TypeAt d)) → AreNormal (NormalAt d) es → (u : TypeAt d) → NormalAt d u → ((vs : Values) → HasEach (HasAt d) vs es → HasAt d (tuple vs) u) → BelowBy (HasAt d) (tuple_at d es) u }
     ensures only { (d : ℕ) (es : List (TypeAt (suc d))) (v : Value) → HasAt (suc d) v (tuple_at (suc d) es) → (vs : Values) × (v ≡ tuple vs) }
-    ensures exact { (d : ℕ) (es : List (TypeAt (suc d))) → AreNormal (NormalAt (suc d)) es → nat_lt (length es) 65 ≡ true → (vs : Values) → HasAt (suc d) (tuple vs) (tuple_at (suc d) es) ↔ HasEach (HasAt d) vs (map (cut (suc d) d) es) }
+    ensures exact { (d : ℕ) (es : List (TypeAt (suc d))) → AreNormal (NormalAt (suc d)) es → nat_lt (length es) (MAX_ELEMENTS + 1) ≡ true → (vs : Values) → HasAt (suc d) (tuple vs) (tuple_at (suc d) es) ↔ HasEach (HasAt d) vs (map (cut (suc d) d) es) }
     ensures project { (d : ℕ) (t : TypeAt (suc d)) → NormalAt (suc d) t → (n : ℕ) (vs : Values) → HasAt (suc d) (tuple vs) t → count vs ≡ n → (i : ℕ) (v : Value) → value_at vs (i - 1) ≡ Some v → HasAt (suc d) v (project_at d t n i) }
-    ensures project_least { (d : ℕ) (t : TypeAt (suc d)) → NormalAt (suc d) t → (n i : ℕ) → n ≤ 64 → 1 ≤ i → i ≤ n → (u : TypeAt (suc d)) → NormalAt (suc d) u → ((vs : Values) (v : Value) → HasAt (suc d) (tuple vs) t → count vs ≡ n → value_at vs (i - 1) ≡ Some v → HasAt (suc d) v u) → BelowBy (HasAt (suc d)) (project_at d t n i) u }
+    ensures project_least { (d : ℕ) (t : TypeAt (suc d)) → NormalAt (suc d) t → (n i : ℕ) → n ≤ MAX_ELEMENTS → 1 ≤ i → i ≤ n → (u : TypeAt (suc d)) → NormalAt (suc d) u → ((vs : Values) (v : Value) → HasAt (suc d) (tuple vs) t → count vs ≡ n → value_at vs (i - 1) ≡ Some v → HasAt (suc d) v u) → BelowBy (HasAt (suc d)) (project_at d t n i) u }
 {}
 
 /// The join of the elements at the places in a set, over all sizes: it has what stands there, and where
@@ -81,11 +82,14 @@ pub fn rank_laws()
 {}
 
 /// Canonical values. A value is told by its spelling, by which values are ordered. A map is told by
-/// its pairs, and has one value at each key. What each canonical value of a type meets, each of its
-/// values meets: canonical values tell types apart as well as all values do.
+/// its pairs, and has one value at each key. A map with one more pair is canonical again: it has the
+/// pair, and those of other keys. Where each canonical value of a type is one of another, each of its
+/// values is: canonical values tell types apart as well as all values do.
 pub fn value_laws()
     ensures spelled { (v w : Value) → spelled v ≡ spelled w → v ≡ w }
     ensures maps { (ps qs : Pairs) → IsCanonical (map_value ps) → IsCanonical (map_value qs) → PairsBelow ps qs → PairsBelow qs ps → map_value ps ≡ map_value qs }
     ensures keys { (ps : Pairs) → IsCanonical (map_value ps) → (k v w : Value) → HoldsPair ps k v → HoldsPair ps k w → v ≡ w }
+    ensures put { (k v : Value) (ps : Pairs) → IsCanonical k → IsCanonical v → IsCanonical (map_value ps) → IsCanonical (map_value (put_pair k v ps)) }
+    ensures put_holds { (k v : Value) (ps : Pairs) → IsCanonical (map_value ps) → (x y : Value) → HoldsPair (put_pair k v ps) x y ↔ (((x ≡ k) × (y ≡ v)) ⊎ ((x ≡ k → ⊥) × HoldsPair ps x y)) }
     ensures below { (d : ℕ) (s t : TypeAt d) → ((v : Value) → IsCanonical v → HasAt d v s → HasAt d v t) → BelowBy (HasAt d) s t }
 {}

@@ -80,10 +80,7 @@ fn types(alloc: Global) -> Result<List<Ty>, TextFault> {
     let mut types = List::new(alloc);
     for text in TYPES {
         let t = read(alloc, text)?;
-        match types.push(t) {
-            Ok(()) => {}
-            Err(_) => return Err(TextFault::Memory),
-        }
+        types.add(t)?;
     }
     Ok(types)
 }

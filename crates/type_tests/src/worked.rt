@@ -78,12 +78,9 @@ fn wrapped(alloc: Global, t: Ty) -> Result<Ty, Memory> {
 
 // The tuples of so many elements of any type.
 fn wide(alloc: Global, size: usize) -> Result<Ty, Memory> {
-    let mut parts = Vec::new(alloc);
+    let mut parts = List::new(alloc);
     for _ in 0..size {
-        match parts.push(Ty::any()) {
-            Ok(()) => {}
-            Err(_) => return Err(Memory),
-        }
+        parts.add(Ty::any())?;
     }
     Ty::tuple(alloc, parts.as_slice())
 }
@@ -321,9 +318,7 @@ fn cuts(rt: HostRuntime) -> Result<(), TextFault> {
 fn maps(rt: HostRuntime) -> Result<(), TextFault> {
     let alloc = rt.alloc();
     let mut pairs = List::new(alloc);
-    let Ok(()) = pairs.push((Value::Int(1), Value::Nil)) else {
-        return Err(TextFault::Memory);
-    };
+    pairs.add((Value::Int(1), Value::Nil))?;
     let map = Value::Map(pairs);
     let every = Ty::kind(alloc, Kind::Map);
     assert!(rt; is(alloc, &every, b"map()")?);

@@ -54,7 +54,7 @@ pub one_more :
 one_more words more xs i d x h is {s = s} {a = a} {c = c} {o = o} {q = q} k l =
     subst (λ ws. Adds s ws a c o q) (sym (ap words (take_more xs i d h ∙ ap (λ y. take i xs ++ y ∷ []) (sym is)) ∙ more (take i xs) (x ∷ []))) (both k l)
 
--- ---- what stands in front
+-- ---- what was there before
 
 front : (o p q w : List ℕ) → p ≡ o ++ w → take (length p) q ≡ p → take (length o) q ≡ o
 front o p q w e h =
@@ -62,6 +62,6 @@ front o p q w e h =
     let whole : o ++ (w ++ r) ≡ q = sym (append_assoc o w r) ∙ ap (λ t. t ++ r) (sym (h ∙ e)) ∙ take-append-drop (length p) q in
     subst (λ x. take (length o) x ≡ o) whole (take-append_seam o (w ++ r))
 
--- what stood in front of what was added stays there, as long as that does
+-- what was there before an addition stays as long as the addition does
 pub still_front : {s : List ℕ} {ws : List (List ℕ)} {a b : Bool} {o p : List ℕ} → Adds s ws a b o p → (q : List ℕ) → take (length p) q ≡ p → take (length o) q ≡ o
 still_front {s = s} {ws = ws} {a = a} {o = o} {p = p} k q h = front o p q (row_text s a ws) k.text h

@@ -1,18 +1,17 @@
 -- What the readers of words, atoms and numbers rest on.
-use Rattle.std.proofs.Common.{◌≡◌, ℕ, suc, ◌+◌, ◌*◌, ◌^◌, ◌<◌, ◌≤◌, true, false, List, [], ◌∷◌, ◌++◌, length, take, drop, ℤ, pos, negsuc, neg_ℤ, IsTrue, Option, Some, None, IfSome, MatchOption, Bor, refl, sym, ap, ◌∙◌, subst, arith, append_assoc, nat_eq}
+use Rattle.std.proofs.Common.{◌≡◌, ℕ, suc, ◌+◌, ◌^◌, ◌<◌, true, false, true≢false, List, [], ◌∷◌, ◌++◌, length, take, drop, ℤ, pos, negsuc, neg_ℤ, IsTrue, Option, Some, None, IfSome, MatchOption, Bor, refl, sym, ap, ◌∙◌, subst, arith, append_assoc, nat_eq}
 use Rattle.std.specs.Option.{IsSomeAnd}
 use Rattle.std.specs.Fmt.{decimal, signed_decimal}
-use Rattle.std.specs.Char.{digit_value}
-use Rattle.std.specs.Str.Parse.{AllDigits, digits_value_after}
+use Rattle.std.specs.List.{list_all, prefix_len}
 use Rattle.std.specs.Cmp.Lexicographic.{pointwise, same_text, other_text}
 use Rattle.std.proofs.lemmas.List.{take_at, drop_at, take-append-drop, append-nil}
-use Rattle.std.proofs.lemmas.Str.Parse.{digit_from_value}
-use Rattle.std.proofs.lemmas.Str.{digit_value_digit}
-use Rattle.std.proofs.lemmas.Fmt.{decimal_is_IsNumeral_wide}
 use Rattle.std.proofs.lemmas.Bool.Decides.{nat_tests}
 use Rattle.type_kinds.specs.Quoted.{escaped, all_escaped}
+use Rattle.type_kinds.specs.Digits.{is_digit}
+use Rattle.type_kinds.proofs.DigitLaws.{is_written}
+use Rattle.type_sets.proofs.Truths.{first}
 use Rattle.type_sets.specs.Numbers.{is_narrow}
-use Rattle.type_text.specs.Words.{is_digit, WordStop, TypeStop}
+use Rattle.type_text.specs.Words.{WordStop, TypeStop}
 
 -- ---- where words end
 
@@ -74,56 +73,22 @@ atom_ends bytes left atom rest so_far reads = by so_far.more so_far.all so_far.t
 
 -- ---- numbers
 
--- what is still to be read of a number, where the digits that are read make a value: digits, and what stands behind them
-pub record NumberLeft (value : ℕ) (left : List ℕ) (n : ℕ) (rest : List ℕ) : Type 0 where
-  pub more : List ℕ
-  pub digits : AllDigits 10 more
-  pub all : digits_value_after 10 value more ≡ n
-  pub text : left ≡ more ++ rest
-
-pub no_stop : (left : List ℕ) (c : ℕ) (cs rest : List ℕ) → AllDigits 10 (c ∷ cs) → left ≡ (c ∷ cs) ++ rest → WordStop left → ⊥
-no_stop left c cs rest digits text stops =
-    let digit = digit_from_value c digits.0 in
-    let stop : is_digit c ≡ false = subst WordStop text stops in grind (arith, nat_tests)
-
-pub number_ends : (value : ℕ) (left : List ℕ) (n : ℕ) (rest : List ℕ) → NumberLeft value left n rest → WordStop left → (value ≡ n) × (left ≡ rest)
-number_ends value left n rest so_far stops = by so_far.more so_far.digits so_far.all so_far.text
-  where
-    by : (more : List ℕ) → AllDigits 10 more → digits_value_after 10 value more ≡ n → left ≡ more ++ rest → (value ≡ n) × (left ≡ rest)
-    by [] digits all text = (all, text)
-    by (c ∷ cs) digits all text = absurd (no_stop left c cs rest digits text stops)
-
--- one digit more
-pub number_further : (value : ℕ) (left : List ℕ) (n : ℕ) (rest : List ℕ) (digit next : ℕ) (after : List ℕ)
-    → NumberLeft value left n rest → WordStop rest → digit < 10 → next ≡ value * 10 + digit → left ≡ (48 + digit) ∷ after → NumberLeft next after n rest
-number_further value left n rest digit next after so_far stops small counts is = by so_far.more so_far.digits so_far.all so_far.text
-  where
-    by : (more : List ℕ) → AllDigits 10 more → digits_value_after 10 value more ≡ n → left ≡ more ++ rest → NumberLeft next after n rest
-    by [] digits all text = let stop : is_digit (48 + digit) ≡ false = subst WordStop (sym text ∙ is) stops in absurd (grind (arith, nat_tests))
-    by (c ∷ cs) digits all text =
-        let same : (48 + digit) ∷ after ≡ c ∷ (cs ++ rest) = sym is ∙ text in
-        let first : 48 + digit ≡ c = cc in
-        let tells = digit_value_digit c (digit_from_value c digits.0) in
-        let value_is : next ≡ value * 10 + digit_value c = omega arith in
-        record { more = cs; digits = digits.1; all = ap (λ v. digits_value_after 10 v cs) value_is ∙ all; text = ap (drop 1) same }
-
-grows : (value : ℕ) (ds : List ℕ) → value ≤ digits_value_after 10 value ds
-grows value [] = omega arith
-grows value (d ∷ ds) = let more = grows (value * 10 + digit_value d) ds in omega arith
-
-pub number_above : (value : ℕ) (left : List ℕ) (n : ℕ) (rest : List ℕ) → NumberLeft value left n rest → value ≤ n
-number_above value left n rest so_far = omega (arith, grows value so_far.more, so_far.all)
-
-pub number_begins : (n : ℕ) (text rest : List ℕ) → n < 2 ^ 127 → text ≡ decimal n ++ rest → NumberLeft 0 text n rest
-number_begins n text rest narrow is =
-    let numeral = decimal_is_IsNumeral_wide n (omega arith) in record { more = decimal n; digits = numeral.0.1; all = numeral.1; text = is }
+-- what may follow a number begins with no digit
+pub no_digits : (rest : List ℕ) → WordStop rest → prefix_len is_digit rest ≡ 0
+no_digits [] stops = refl
+no_digits (b ∷ bs) stops = rw stops refl
 
 pub number_is_there : (n : ℕ) (text rest : List ℕ) → n < 2 ^ 127 → text ≡ decimal n ++ rest → WordStop text → ⊥
-number_is_there n text rest narrow is stops = let numeral = decimal_is_IsNumeral_wide n (omega arith) in by (decimal n) numeral.0.0 numeral.0.1 is
+number_is_there n text rest narrow is stops =
+    let some = (is_written n (omega arith)).some in
+    let front = (is_written n (omega arith)).digits in
+    by (decimal n) some front is
   where
-    by : (ds : List ℕ) → 0 < length ds → AllDigits 10 ds → text ≡ ds ++ rest → ⊥
-    by [] some digits text_is = omega arith
-    by (c ∷ cs) some digits text_is = no_stop text c cs rest digits text_is stops
+    by : (ds : List ℕ) → 0 < length ds → IsTrue (list_all is_digit ds) → text ≡ ds ++ rest → ⊥
+    by [] some digits text_is = omega (arith, some)
+    by (c ∷ cs) some digits text_is =
+        let stop : is_digit c ≡ false = subst WordStop text_is stops in
+        true≢false (sym (first (is_digit c) (list_all is_digit cs) digits) ∙ stop)
 
 -- no number begins with a minus
 pub number_no_minus : (n : ℕ) (text after rest : List ℕ) → n < 2 ^ 127 → text ≡ decimal n ++ rest → text ≡ 45 ∷ after → ⊥

@@ -3,9 +3,8 @@
 use Rattle.std.proofs.Common.{◌≡◌, ◌⊎◌, inl, inr, ℕ, suc, ◌+◌, ◌/◌, ◌%◌, ◌<◌, ◌^◌, ℤ, pos, negsuc, true, List, [], ◌∷◌, ◌++◌, drop, refl, sym, ap, ◌∙◌, arith, append_assoc, true≢false}
 use Rattle.std.specs.Prelude.{codes, nat_lt, ◌==◌, if◌then◌else◌}
 use Rattle.std.specs.Fmt.{decimal, signed_decimal}
-use Rattle.std.specs.Str.Parse.{AllDigits, digits_value_after}
 use borrow.Author.Tests.{eqb-true, eq-eqb, ltb-true}
-use Rattle.std.proofs.lemmas.Fmt.{decimal_is_IsNumeral_wide}
+use Rattle.type_kinds.proofs.DigitLaws.{number_in_front}
 use Rattle.type_kinds.specs.Quoted.{needs_backslash, is_control, octal, escaped, all_escaped, quoted}
 use Rattle.type_sets.proofs.Truths.{decided, either, in_first, in_second}
 use Rattle.type_sets.specs.Numbers.{is_narrow}
@@ -15,7 +14,7 @@ use Rattle.type_sets.specs.declared.ends.High.{High}
 use Rattle.type_sets.specs.declared.ends.High.TheVariants as high
 use Rattle.type_text.specs.Words.{WordStop}
 use Rattle.type_text.specs.Texts.{low_text, high_text}
-use Rattle.type_text.proofs.LeafLaws.{no_stop, number_no_minus}
+use Rattle.type_text.proofs.LeafLaws.{no_digits, number_no_minus}
 use Rattle.type_text.proofs.WordStarts.{begins}
 
 heads : (a b : ℕ) (x y : List ℕ) → a ∷ x ≡ b ∷ y → a ≡ b
@@ -104,21 +103,11 @@ quoted_once a b r q e =
 
 -- ---- numbers
 
-digits_once : (ds es r q : List ℕ) → AllDigits 10 ds → AllDigits 10 es → WordStop r → WordStop q → ds ++ r ≡ es ++ q → (ds ≡ es) × (r ≡ q)
-digits_once [] [] r q j k f g e = (refl, e)
-digits_once [] (c ∷ cs) r q j k f g e = absurd (no_stop r c cs q k e f)
-digits_once (d ∷ ds) [] r q j k f g e = absurd (no_stop q d ds r j (sym e) g)
-digits_once (d ∷ ds) (c ∷ cs) r q j k f g e =
-    let first = heads d c (ds ++ r) (cs ++ q) e in
-    let later = digits_once ds cs r q j.1 k.1 f g (ap (drop 1) e) in
-    (λ i. first i ∷ later.0 i, later.1)
-
 pub decimal_once : (m n : ℕ) (r q : List ℕ) → m < 2 ^ 128 → n < 2 ^ 128 → WordStop r → WordStop q → decimal m ++ r ≡ decimal n ++ q → (m ≡ n) × (r ≡ q)
 decimal_once m n r q j k f g e =
-    let x = decimal_is_IsNumeral_wide m (omega (arith, j)) in
-    let y = decimal_is_IsNumeral_wide n (omega (arith, k)) in
-    let same = digits_once (decimal m) (decimal n) r q x.0.1 y.0.1 f g e in
-    (sym x.1 ∙ ap (digits_value_after 10 0) same.0 ∙ y.1, same.1)
+    let x = number_in_front m (decimal m ++ r) r (omega (arith, j)) refl (no_digits r f) in
+    let y = number_in_front n (decimal m ++ r) q (omega (arith, k)) e (no_digits q g) in
+    (sym x.spells ∙ y.spells, sym x.behind ∙ y.behind)
 
 pub signed_once : (m n : ℤ) (r q : List ℕ) → is_narrow m ≡ true → is_narrow n ≡ true → WordStop r → WordStop q → signed_decimal m ++ r ≡ signed_decimal n ++ q → (m ≡ n) × (r ≡ q)
 signed_once (pos m) (pos n) r q j k f g e =

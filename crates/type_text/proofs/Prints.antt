@@ -1,7 +1,6 @@
 -- The text of a type, from that of its parts.
-use Rattle.std.proofs.Common.{◌≡◌, ℕ, zero, suc, ◌-◌, ◌≤◌, Bool, true, false, cond, ◌&&◌, List, [], ◌∷◌, ◌++◌, Option, Some, None, map, codes, refl, sym, ap, ◌∙◌, subst, true≢false, arith, append_assoc, length, ◌<◌}
+use Rattle.std.proofs.Common.{◌≡◌, ℕ, zero, suc, ◌-◌, Bool, true, false, cond, ◌&&◌, List, [], ◌∷◌, ◌++◌, Option, Some, None, map, codes, refl, sym, ap, ◌∙◌, true≢false, arith, append_assoc}
 use Rattle.std.specs.Coded.{Coded-set, coded_bool}
-use Rattle.std.specs.Prelude.{slice_index_or}
 use Rattle.type_kinds.specs.Quoted.{quoted}
 use Rattle.type_sets.specs.Names as names
 use Rattle.type_sets.specs.Names.{Names}
@@ -14,44 +13,20 @@ use Rattle.type_sets.specs.declared.bits.Bits.TheVariants.{No, Whole, Any}
 use Rattle.type_sets.proofs.Truths.{first, second, is_false}
 use Rattle.type_model.specs.Shapes.{Functions, no_function, of_arity, all_functions, PlainParts, Cell, Tuples, sizes, all_tuples, TypeAt}
 use Rattle.type_model.specs.Operations.{ops, plain_all}
-use Rattle.type_model.specs.Normal.{NormalAt}
-use Rattle.type_trees.specs.declared.node.Node.{Node, out-Node}
-use Rattle.type_trees.specs.declared.node.Node.TheOpen.{Node-F}
+use Rattle.type_trees.specs.declared.node.Node.{Node}
 use Rattle.type_trees.specs.declared.node.Node.TheVariants as v
 use Rattle.type_trees.specs.declared.node.PartsOf.{PartsOf}
 use Rattle.type_trees.specs.declared.node.SizeOf.{SizeOf}
 use Rattle.type_trees.specs.declared.node.TagOf.{TagOf}
-use Rattle.type_trees.specs.View.{view, is_any as is_whole, layer, row_view, tags_view, body_view, sizes_view, parts_view, Fits, IsLayer, EachInParts, EachNode, EachInBody, EachTag, EachSize}
+use Rattle.type_trees.specs.View.{view, row_view, tags_view, body_view, sizes_view, parts_view, Fits, EachInParts}
+use Rattle.type_trees.proofs.Views.{view_any, view_of, of_above, fits_of, below_fits}
 use Rattle.type_text.specs.Texts.{separated, tuple_word, body_words, tag_words, size_words, parts_words, is_all_atoms, is_all_ints, is_all_bits, is_all_functions, is_all_plain, is_any_cell, is_every_tuple, is_any, text_at}
 
 -- ---- one level of a tree
 
-out_of : (t : Node) (p : PartsOf Node) → t ≡ v.Of p → out-Node t ≡ Node-F.Of p
-out_of t p e = ap out-Node e ∙ v.outs-Of p
-
-view_any : (t : Node) → t ≡ v.Any → (d : ℕ) → view d t ≡ (ops d).any
-unfolding view ops
-view_any t e zero = ap is_whole (ap out-Node e ∙ v.outs-Any)
-view_any t e (suc d) = ap (λ n. layer (ops (suc d)).any (view d) n) (ap out-Node e ∙ v.outs-Any)
-
-view_of : (t : Node) (p : PartsOf Node) → t ≡ v.Of p → (d : ℕ) → view (suc d) t ≡ parts_view d p
-unfolding view
-view_of t p e d = ap (λ n. layer (ops (suc d)).any (view d) n) (out_of t p e)
-
--- parts never stand at level 0
-pub of_above : (t : Node) (p : PartsOf Node) → t ≡ v.Of p → (d : ℕ) → Fits d t → 1 ≤ d
-unfolding Fits
-of_above t p e zero h = absurd (true≢false (sym h ∙ ap is_whole (out_of t p e)))
-of_above t p e (suc d) h = omega arith
-
-layer_of : (t : Node) (p : PartsOf Node) → t ≡ v.Of p → (d : ℕ) → Fits (suc d) t → IsLayer (NormalAt (suc d)) (ops (suc d)).any (view d) (Fits d) (Node-F.Of p)
-unfolding Fits
-layer_of t p e d h = subst (λ n. IsLayer (NormalAt (suc d)) (ops (suc d)).any (view d) (Fits d) n) (out_of t p e) h
-
 -- the elements of parts stand for types of the level below
 pub each_below : (t : Node) (p : PartsOf Node) → t ≡ v.Of p → (d : ℕ) → Fits d t → EachInParts (Fits (d - 1)) p
-each_below t p e zero h = let k = of_above t p e zero h in absurd (omega arith)
-each_below t p e (suc d) h = let one_less : d ≡ suc d - 1 = omega arith in subst (λ n. EachInParts (Fits n) p) one_less (layer_of t p e d h).0.1
+each_below t p e d h = (below_fits t p e d h).each
 
 -- ---- whether all parts are full
 
@@ -141,7 +116,7 @@ pub text_of_any : (t : Node) → t ≡ v.Any → (d : ℕ) → text_at d (view d
 text_of_any t e d = ap (text_at d) (view_any t e d) ∙ any_text d
 
 not_all : (t : Node) (p : PartsOf Node) → t ≡ v.Of p → (d : ℕ) → Fits (suc d) t → is_any (suc d) (parts_view d p) ≡ false
-not_all t p e d h = is_false (is_any (suc d) (parts_view d p)) (λ k. (layer_of t p e d h).1 (any_is_all (suc d) (parts_view d p) k))
+not_all t p e d h = is_false (is_any (suc d) (parts_view d p)) (λ k. (fits_of t p e d h).1 (any_is_all (suc d) (parts_view d p) k))
 
 -- what a tree of parts turns on, where some part has a value
 text_of_parts : (t : Node) (p : PartsOf Node) → t ≡ v.Of p → (d : ℕ) → Fits (suc d) t → text_at (suc d) (view (suc d) t) ≡ cond ((ops (suc d)).is_none (view (suc d) t)) (codes "none()") (separated (codes " | ") (parts_words (text_at d) (parts_view d p)))
@@ -161,18 +136,6 @@ text_of_some t p e (suc d) h k =
     text_of_parts t p e d h
     ∙ ap (λ b. cond b (codes "none()") (separated (codes " | ") (parts_words (text_at d) (parts_view d p)))) (sym k)
     ∙ ap (λ n. separated (codes " | ") (parts_words (text_at n) (parts_view n p))) one_less
-
--- ---- the items of lists
-
-pub size_at : (P : Node → Type 0) (ss : List (SizeOf Node)) → EachSize P ss → (i : ℕ) (x : SizeOf Node) → i < length ss → EachInBody P (slice_index_or ss i x).body
-size_at P [] k i x h = absurd (omega arith)
-size_at P (s ∷ ss) k zero x h = k.0
-size_at P (s ∷ ss) k (suc i) x h = size_at P ss k.1 i x (omega arith)
-
-pub tag_at : (P : Node → Type 0) (ts : List (TagOf Node)) → EachTag P ts → (i : ℕ) (x : TagOf Node) → i < length ts → EachNode P (slice_index_or ts i x).rest
-tag_at P [] k i x h = absurd (omega arith)
-tag_at P (t ∷ ts) k zero x h = k.0
-tag_at P (t ∷ ts) k (suc i) x h = tag_at P ts k.1 i x (omega arith)
 
 -- ---- the words of longer lists
 

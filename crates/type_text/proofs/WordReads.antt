@@ -1,11 +1,12 @@
 -- What the reader of types rests on: the trees that it makes, and how a text that is read goes on.
-use Rattle.std.proofs.Common.{◌≡◌, inl, inr, ℕ, zero, suc, ◌<◌, ◌^◌, Bool, true, false, List, [], ◌∷◌, ◌++◌, length, map, drop, Option, Some, None, MatchOption, IfSome, is_some, Bor, refl, sym, ap, ◌∙◌, subst, arith, append_assoc, true≢false}
+use Rattle.std.proofs.Common.{◌≡◌, inl, inr, ℕ, zero, suc, ◌<◌, ◌≤◌, ◌^◌, Bool, true, false, List, [], ◌∷◌, ◌++◌, length, map, drop, Option, Some, None, MatchOption, IfSome, is_some, Bor, refl, sym, ap, ◌∙◌, subst, arith, append_assoc, true≢false}
 use Rattle.std.specs.Prelude.{codes, nat_le, ◌==◌, ◌&&◌}
 use Rattle.std.specs.Option.{IsSomeAnd}
 use Rattle.std.specs.Fmt.{decimal}
 use borrow.Author.Tests.{ltb-true, lt-ltb, leb-true, eqb-true}
 use Rattle.type_sets.proofs.Truths.{first, second, either}
 use Rattle.std.proofs.lemmas.List.{append-nil, length-map, map-append}
+use Rattle.type_model.specs.declared.limits.TheConstants.{MAX_ELEMENTS}
 use Rattle.type_model.specs.Shapes.{of_arity, PlainParts, Cell, Body, Tuples, sizes, all_tuples, Parts, TypeAt}
 use Rattle.type_model.specs.Operations.{ops, plain_none, of_plain, body_of}
 use Rattle.type_model.specs.Normal.{NormalFunctions, IsElement, AreElements, NormalParts, NormalAt, NormalBody}
@@ -92,10 +93,10 @@ size_parts q ss s e f d = λ n. record { plain = e n; cell = None; tuples = size
 pub size_value : (t : Node) (q : PlainParts) (ss : List (SizeOf Node)) (s : SizeOf Node) → t ≡ v.Of (record { plain = q; cell = None; tuples = Sizes ss }) → q ≡ plain_none → ss ≡ s ∷ [] → (d : ℕ) → view (suc d) t ≡ of_tuples (ops d) (sizes ((s.size, body_view d s.body) ∷ []))
 size_value t q ss s i e f d = view_of t (record { plain = q; cell = None; tuples = Sizes ss }) i d ∙ size_parts q ss s e f d
 
-pub size_fits : (t : Node) (q : PlainParts) (ss : List (SizeOf Node)) (s : SizeOf Node) → t ≡ v.Of (record { plain = q; cell = None; tuples = Sizes ss }) → q ≡ plain_none → ss ≡ s ∷ [] → (d : ℕ) → s.size < 65 → BodyFits d s.size s.body → Fits (suc d) t
+pub size_fits : (t : Node) (q : PlainParts) (ss : List (SizeOf Node)) (s : SizeOf Node) → t ≡ v.Of (record { plain = q; cell = None; tuples = Sizes ss }) → q ≡ plain_none → ss ≡ s ∷ [] → (d : ℕ) → s.size ≤ MAX_ELEMENTS → BodyFits d s.size s.body → Fits (suc d) t
 size_fits t q ss s i e f d few k =
     without_list t (record { plain = q; cell = None; tuples = Sizes ss }) i refl d (of_tuples (ops d) (sizes ((s.size, body_view d s.body) ∷ []))) (size_parts q ss s e f d)
-    (tt, tt, (refl, refl, (lt-ltb s.size 65 few, k.normal, tt))) (subst (EachSize (Fits d)) (sym f) (k.each, tt))
+    (tt, tt, (refl, refl, (lt-ltb s.size 65 (omega (arith, few)), k.normal, tt))) (subst (EachSize (Fits d)) (sym f) (k.each, tt))
 
 list_parts : (q : PlainParts) (ss : List (SizeOf Node)) (c e : Node) (p : Bool) → q ≡ plain_none → ss ≡ [] → c ≡ e → (d : ℕ) → parts_view d (record { plain = q; cell = Some (record { element = c; is_proper = p }); tuples = Sizes ss }) ≡ of_list (ops d) (view d e) p
 list_parts q ss c e p f g h d = λ n. record { plain = f n; cell = Some (record { element = view d (h n); is_proper = p }); tuples = sizes (sizes_view d (g n)) }

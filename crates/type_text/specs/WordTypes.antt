@@ -1,5 +1,5 @@
 -- The words of a type. Each word stands for a type of its own, and the type that is written is the join of these.
-use Rattle.std.specs.Prelude.{◌≡◌, ℕ, suc, ◌^◌, ℤ, Bool, true, false, nat_lt, List, [], ◌∷◌, ◌++◌, length, map, Option, Some, None, codes}
+use Rattle.std.specs.Prelude.{◌≡◌, ℕ, suc, ◌+◌, ◌^◌, ℤ, Bool, true, false, nat_lt, List, [], ◌∷◌, ◌++◌, length, map, Option, Some, None, codes}
 use Rattle.std.specs.Fmt.{decimal, signed_decimal}
 use Rattle.type_kinds.specs.Quoted.{quoted}
 use Rattle.type_sets.specs.Names as names
@@ -11,6 +11,7 @@ use Rattle.type_sets.specs.declared.ends.Low.{Low}
 use Rattle.type_sets.specs.declared.ends.High.{High}
 use Rattle.type_sets.specs.declared.bits.Bits.{Bits}
 use Rattle.type_sets.specs.declared.bits.Bits.TheVariants.{No, Whole, Any}
+use Rattle.type_model.specs.declared.limits.TheConstants.{MAX_ELEMENTS}
 use Rattle.type_model.specs.Shapes.{Flags, Functions, no_function, of_arity, all_functions, Cell, Tuples, sizes, all_tuples, Parts, TypeAt}
 use Rattle.type_model.specs.Operations.{Ops, no_flags, plain_none, body_of, of_plain, of_atoms, ops}
 use Rattle.type_model.specs.Normal.{IsElement, AreElements, NormalAt}
@@ -64,7 +65,7 @@ module _ {E : Type 0} (o : Ops E) where
 
 -- ---- words
 
--- a word, and the type that it stands for. The types of elements are normal and not none, and a tuple has at most 64 of them
+-- a word, and the type that it stands for. The types of elements are normal and not none, and a tuple has at most MAX_ELEMENTS of them
 pub data IsWordOf {E : Type 0} (text : E → List ℕ) (Normal : E → Type 0) (o : Ops E) : List ℕ → Parts E → Type 0 where
   one_atom : (a : Name) → IsWordOf text Normal o (quoted a) (of_atoms o (names.listed (a ∷ [])))
   every_atom : IsWordOf text Normal o (codes "atom()") (of_atoms o names.every)
@@ -86,7 +87,7 @@ pub data IsWordOf {E : Type 0} (text : E → List ℕ) (Normal : E → Type 0) (
   any_list : (e : E) → IsElement Normal o e → IsWordOf text Normal o (codes "cons_any(" ++ text e ++ codes ")") (of_list o e false)
   every_tuple : IsWordOf text Normal o (codes "tuple()") (of_tuples o all_tuples)
   -- the tuples of some element types. Where the first is one atom, this is the word of a tag
-  one_tuple : (es : List E) → AreElements Normal o es → nat_lt (length es) 65 ≡ true → IsWordOf text Normal o (tuple_word (map text es)) (of_row o es)
+  one_tuple : (es : List E) → AreElements Normal o es → nat_lt (length es) (MAX_ELEMENTS + 1) ≡ true → IsWordOf text Normal o (tuple_word (map text es)) (of_row o es)
 
 -- the same at a level, whose elements are of level d
 abbrev pub IsWord : (d : ℕ) → List ℕ → TypeAt (suc d) → Type 0

@@ -1,9 +1,6 @@
 -- Where a word of a type's text may end.
-use Rattle.std.specs.Prelude.{◌≡◌, ℕ, Bool, true, false, ◌&&◌, ◌||◌, ◌==◌, nat_le, List, [], ◌∷◌}
-
--- a decimal digit
-abbrev pub is_digit : ℕ → Bool
-is_digit b = nat_le 48 b && nat_le b 57
+use Rattle.std.specs.Prelude.{◌≡◌, ℕ, Bool, true, false, ◌||◌, ◌==◌, List, [], ◌∷◌}
+use Rattle.type_kinds.specs.Digits.{is_digit}
 
 -- a comma, a brace or a parenthesis that closes
 abbrev pub is_stop : ℕ → Bool

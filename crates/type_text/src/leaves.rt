@@ -3,14 +3,13 @@
 ghost use Rattle.std.specs.Prelude.{◌≡◌, ℕ, ℤ, pos, neg_ℤ, ◌+◌, ◌*◌, ◌/◌, ◌%◌, ◌^◌, ◌<◌, ◌≤◌, List, [], ◌∷◌, ◌++◌, length, codes, IsTrue, IfOk, IfSome, MatchOption};
 ghost use Rattle.std.specs.Option.{IsSomeAnd};
 ghost use Rattle.std.specs.Fmt.{decimal, signed_decimal};
-ghost use Rattle.std.specs.Str.Parse.{AllDigits, digits_value_after};
 ghost use Rattle.type_kinds.specs.Quoted.{quoted, escaped, needs_backslash};
 ghost use Rattle.type_sets.specs.Numbers.{is_narrow};
 ghost use Rattle.type_text.specs.Texts.{low_text, high_text};
 ghost use Rattle.type_text.specs.Words.{WordStop};
 
 use std::alloc::Global;
-use type_kinds::{Atom, Bytes, Memory};
+use type_kinds::{Atom, Bytes, Memory, digits_len, parse_decimal};
 use type_sets::{High, Low};
 
 /// What stands behind a word, where the text begins with it.
@@ -140,52 +139,13 @@ fn read_natural(text: &[u8]) -> Option<(u128, &[u8])>
     ensures narrow { IfSome result (λ p. p.0 < 2 ^ 127) }
     ensures shorter { IfSome result (λ p. length p.1.now < length text.now) }
 {
-    let (first, after) = next_digit(text)?;
-    read_more(u128::from(first), after)
-}
-
-// The number that further digits make of what stood before them.
-fn read_more(before: u128, text: &[u8]) -> Option<(u128, &[u8])>
-    requires { before < 2 ^ 127 }
-    ensures complete { (digits rest : List ℕ) → AllDigits 10 digits → digits_value_after 10 before digits < 2 ^ 127 → WordStop rest → text.now ≡ digits ++ rest → IsSomeAnd result (λ p. (p.0 ≡ digits_value_after 10 before digits) × (p.1.now ≡ rest)) }
-    ensures narrow { IfSome result (λ p. p.0 < 2 ^ 127) }
-    ensures shorter { IfSome result (λ p. length p.1.now ≤ length text.now) }
-{
-    let mut value = before;
-    let mut rest = text;
-    while let Some((digit, after)) = next_digit(rest) {
-        value = next_value(value, digit)?;
-        rest = after;
-    }
-    Some((value, rest))
-}
-
-// One digit more.
-fn next_value(value: u128, digit: u8) -> Option<u128>
-    requires wide { value < 2 ^ 127 }
-    requires digit { digit < 10 }
-    ensures { MatchOption result (2 ^ 127 ≤ value * 10 + digit) (λ n. (n ≡ value * 10 + digit) × (n < 2 ^ 127)) }
-{
-    if value > 17014118346046923173168730371588410572 {
+    let len = digits_len(text);
+    if len == 0 {
         return None;
     }
-    let next = value * 10 + u128::from(digit);
-    if next < 170141183460469231731687303715884105728 {
-        Some(next)
-    } else {
-        None
-    }
-}
-
-// What a decimal digit tells.
-fn next_digit(text: &[u8]) -> Option<(u8, &[u8])>
-    ensures { MatchOption result (WordStop text.now) (λ p. (p.0 < 10) × (text.now ≡ (48 + p.0) ∷ p.1.now)) }
-{
-    let (first, rest) = text.split_first()?;
-    match *first {
-        b'0'..=b'9' => Some((*first - b'0', rest)),
-        _ => None,
-    }
+    let (digits, rest) = text.split_at(len);
+    let number = parse_decimal(digits)?;
+    Some((number, rest))
 }
 
 /// The ends of a range, and the parenthesis behind them.

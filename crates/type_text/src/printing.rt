@@ -7,26 +7,20 @@ ghost use Rattle.type_text.specs.Adds.{row_text, Adds};
 ghost use Rattle.type_trees.specs.Plains.{functions_of};
 ghost use Rattle.type_trees.specs.View.{view, Fits, row_view, tags_view, body_view, sizes_view, tuples_view, cell_view, EachNode, EachTag, EachInBody, EachSize, EachInTuples, EachInCell};
 
-use itoa::Buffer;
 use type_kinds::{Atom, Bytes, Memory};
 use type_lattice::Ty;
 use type_sets::{AtomSet, Bits, High, IntSet, Low};
 use type_trees::{BodyOf, CellOf, FunSet, Node, Plain, SizeOf, TagOf, TuplesOf, is_none};
 
 /// Appends the text of the type: `none()`, `any()`, or what its parts have with ` | ` between, part by
-/// part. A type has one text. Where memory is wanting `out` stays as it was.
+/// part. A type has one text. If allocation fails `out` is as before.
 pub fn print(t: &Ty, out: &mut Bytes) -> Result<(), Memory>
     ensures ok { OnOk result (out.new ≡ out.old ++ text_of t.now) }
     ensures err { OnErr result (out.new ≡ out.old) }
 {
     let before = out.len();
-    match append_type(4, t.node(), out) {
-        Ok(()) => Ok(()),
-        Err(Memory) => {
-            out.truncate(before);
-            Err(Memory)
-        }
-    }
+    let answer = append_type(4, t.node(), out);
+    out.or_truncate(before, answer)
 }
 
 // Appends the text of the type that the tree stands for.
@@ -250,7 +244,7 @@ fn append_numbers(numbers: &[i128], some: &mut bool, out: &mut Bytes) -> Result<
 {
     for n in numbers {
         separate(b" | ", some, out)?;
-        append_signed(*n, out)?;
+        out.append_decimal(*n)?;
     }
     Ok(())
 }
@@ -333,7 +327,7 @@ fn append_arity(arity: u32, some: &mut bool, out: &mut Bytes) -> Result<(), Memo
 {
     separate(b" | ", some, out)?;
     out.append(b"fun(")?;
-    append_decimal(arity, out)?;
+    out.append_decimal(arity)?;
     out.append(b")")
 }
 
@@ -369,22 +363,4 @@ fn separate(separator: &[u8], some: &mut bool, out: &mut Bytes) -> Result<(), Me
     }
     *some = true;
     Ok(())
-}
-
-// Appends a number in decimal digits.
-fn append_decimal(n: u32, out: &mut Bytes) -> Result<(), Memory>
-    ensures ok { OnOk result (out.new ≡ out.old ++ decimal n) }
-    ensures front { take (length out.old) out.new ≡ out.old }
-{
-    let mut buffer = Buffer::new();
-    out.append(buffer.format(n).as_bytes())
-}
-
-// Appends a number in decimal digits, with a minus where it is below 0.
-fn append_signed(n: i128, out: &mut Bytes) -> Result<(), Memory>
-    ensures ok { OnOk result (out.new ≡ out.old ++ signed_decimal n) }
-    ensures front { take (length out.old) out.new ≡ out.old }
-{
-    let mut buffer = Buffer::new();
-    out.append(buffer.format(n).as_bytes())
 }

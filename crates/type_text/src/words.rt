@@ -18,10 +18,11 @@ ghost use Rattle.type_text.specs.Starts.{begins_number, NoFlag, NoBits, NoFuncti
 use crate::leaves::{after_word, read_arity, read_integer, read_quoted, read_range};
 use std::alloc::Global;
 use type_kinds::{Boxed, List, Memory};
+use type_model::MAX_ELEMENTS;
 use type_sets::{AtomSet, Bits, High, IntSet, Low};
 use type_trees::{
-    BodyOf, CellOf, FlagSet, FunSet, Node, PartsOf, Plain, SizeOf, TuplesOf, add, add_size,
-    discard, is_none, join, product_body,
+    BodyOf, CellOf, FlagSet, FunSet, Node, PartsOf, Plain, SizeOf, TuplesOf, discard, is_none,
+    join, product_body,
 };
 
 /// The type of a level, which has a value, that the text begins with, and what is left.
@@ -197,12 +198,12 @@ fn read_tuple<'a>(
 ) -> Result<Option<(Node, &'a [u8])>, Memory>
     ensures fits { IfOk result (λ r. IfSome r (λ p. Fits (suc level) p.0)) }
     ensures shorter { IfOk result (λ r. IfSome r (λ p. length p.1.now ≤ length text.now)) }
-    ensures complete { IfOk result (λ r. (es : List (TypeAt level)) (rest : List ℕ) → AreElements (NormalAt level) (ops level) es → length es < 65 → text.now ≡ separated (codes ",") (map (text_at level) es) ++ (codes "}" ++ rest) → MatchOption r ⊥ (λ p. (view (suc level) p.0 ≡ of_row (ops level) es) × (p.1.now ≡ rest))) }
+    ensures complete { IfOk result (λ r. (es : List (TypeAt level)) (rest : List ℕ) → AreElements (NormalAt level) (ops level) es → length es ≤ MAX_ELEMENTS → text.now ≡ separated (codes ",") (map (text_at level) es) ++ (codes "}" ++ rest) → MatchOption r ⊥ (λ p. (view (suc level) p.0 ≡ of_row (ops level) es) × (p.1.now ≡ rest))) }
 {
     let Some((row, rest)) = read_row(alloc, level, text)? else {
         return Ok(None);
     };
-    if row.len() > 64 {
+    if row.len() > MAX_ELEMENTS {
         discard_row(row);
         return Ok(None);
     }
@@ -213,7 +214,7 @@ fn discard_row(_row: List<Node>) {}
 
 // The tuples of these element types.
 fn tuples_of(alloc: Global, level: u32, row: List<Node>) -> Result<Node, Memory>
-    requires few { length row < 65 }
+    requires few { length row ≤ MAX_ELEMENTS }
     requires each { EachNode (Fits level) row }
     requires some { AreElements (NormalAt level) (ops level) (row_view level row) }
     ensures fits { IfOk result (λ t. Fits (suc level) t) }
@@ -243,7 +244,7 @@ fn read_row<'a>(
         return Ok(None);
     };
     let mut row = List::new(alloc);
-    add(&mut row, element)?;
+    row.add(element)?;
     read_later(alloc, level, row, rest)
 }
 
@@ -269,7 +270,7 @@ fn read_later<'a>(
             discard_row(row);
             return Ok(None);
         };
-        add(&mut row, element)?;
+        row.add(element)?;
         rest = after;
     }
     match after_word(rest, b"}") {
@@ -283,11 +284,11 @@ fn read_later<'a>(
 
 // The tuples of one size.
 fn one_size(alloc: Global, size: u8, body: BodyOf<Node>) -> Result<Node, Memory>
-    ensures fits { IfOk result (λ t. (d : ℕ) → size < 65 → BodyFits d size body → Fits (suc d) t) }
+    ensures fits { IfOk result (λ t. (d : ℕ) → size ≤ MAX_ELEMENTS → BodyFits d size body → Fits (suc d) t) }
     ensures value { IfOk result (λ t. (d : ℕ) → view (suc d) t ≡ of_tuples (ops d) (sizes ((size, body_view d body) ∷ []))) }
 {
     let mut sizes = List::new(alloc);
-    add_size(&mut sizes, size, body)?;
+    sizes.add(SizeOf { size, body })?;
     Ok(Node::Of(PartsOf {
         plain: Plain::none(),
         cell: None,

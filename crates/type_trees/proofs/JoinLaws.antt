@@ -171,7 +171,7 @@ unfolding ops
 atoms_value t s q ss ts i e f g d =
     view_of t (record { plain = q; cell = None; tuples = Sizes ss }) i d ∙ atoms_part s q ss e f d ∙ ap (of_atoms (ops d)) (g (suc d))
 
--- ---- the least product round some tags
+-- ---- the least product that contains some tags
 
 rows_join-more : {E : Type 0} (o : Ops E) (es : List E) (rows : List (List E)) (fs : List E) → rows_join o es (rows ++ fs ∷ []) ≡ row_join o (rows_join o es rows) fs
 rows_join-more o es [] fs = refl
@@ -501,7 +501,7 @@ elements_fit d n b es k v e = record {
 pub row_is : (d n : ℕ) (es fs : List Node) → es ≡ fs → RowFits d n fs → RowFits d n es
 row_is d n es fs e k = subst (RowFits d n) (sym e) k
 
--- the element types of the least product round tags
+-- the element types of the least product that contains the tags
 pub tags_elements : (d : ℕ) (ts : List (TagOf Node)) (first : Node) (rest row : List Node) → 0 < d → ((e : ℕ) → view (suc e) first ≡ (ops (suc e)).of_names (keys (tags_view (suc e) ts))) → row_view d rest ≡ all_rows_join (ops d) (held (tags_view d ts)) → row ≡ first ∷ rest → row_view d row ≡ elements (ops d) (tags (tags_view d ts))
 tags_elements zero ts first rest row h f r e = absurd (omega arith)
 tags_elements (suc d) ts first rest row h f r e = ap (row_view (suc d)) e ∙ (λ n. f d n ∷ r n)

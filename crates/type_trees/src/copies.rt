@@ -2,9 +2,7 @@
 ghost use Rattle.std.specs.Prelude.{◌≡◌, IfOk};
 ghost use Rattle.type_trees.specs.View.{Fits, EachNode, EachTag, EachInBody, EachSize, EachInTuples, EachInCell};
 
-use crate::node::{
-    BodyOf, CellOf, Node, PartsOf, SizeOf, TagOf, TuplesOf, add, add_size, add_tag, discard,
-};
+use crate::node::{BodyOf, CellOf, Node, PartsOf, SizeOf, TagOf, TuplesOf, discard};
 use std::alloc::Global;
 use type_kinds::{Boxed, List, Memory};
 
@@ -64,7 +62,7 @@ pub fn copy_row(alloc: Global, level: u32, row: &[Node]) -> Result<List<Node>, M
     let mut out = List::new(alloc);
     for element in row {
         let copied = copy(alloc, level, element)?;
-        add(&mut out, copied)?;
+        out.add(copied)?;
     }
     Ok(out)
 }
@@ -91,7 +89,7 @@ pub fn copy_tags(
     let mut out = List::new(alloc);
     for tag in tags {
         let copied = copy_tag(alloc, level, tag)?;
-        add_tag(&mut out, copied)?;
+        out.add(copied)?;
     }
     Ok(out)
 }
@@ -119,7 +117,10 @@ pub fn copy_sizes(
     let mut out = List::new(alloc);
     for size in sizes {
         let body = copy_body(alloc, level, &size.body)?;
-        add_size(&mut out, size.size, body)?;
+        out.add(SizeOf {
+            size: size.size,
+            body,
+        })?;
     }
     Ok(out)
 }

@@ -1,4 +1,4 @@
-//! The least type of a level round a type.
+//! The least type of a level that contains a type.
 ghost use Rattle.std.specs.Prelude.{◌≡◌, ◌⊎◌, ℕ, false, ◌≤◌, IfOk};
 ghost use Rattle.type_model.specs.Cut.{row_lower, cell_lower, body_lower, tuples_lower, parts_lower};
 ghost use Rattle.type_model.specs.Cut as levels;
@@ -7,9 +7,7 @@ ghost use Rattle.type_model.specs.Tables.{mapped};
 ghost use Rattle.type_trees.specs.View.{view, Fits, row_view, tags_view, body_view, sizes_view, tuples_view, cell_view, parts_view, EachNode, EachTag, EachInBody, EachSize, EachInTuples, EachInCell, RowFits, TagsFit, BodyFits, SizesFit, TuplesFit, CellFits, PartsFit};
 
 use crate::joins::elements_of_tags;
-use crate::node::{
-    BodyOf, CellOf, Node, PartsOf, SizeOf, TagOf, TuplesOf, add, add_size, add_tag, discard, made,
-};
+use crate::node::{BodyOf, CellOf, Node, PartsOf, SizeOf, TagOf, TuplesOf, discard, made};
 use std::alloc::Global;
 use type_kinds::{Boxed, List, Memory};
 
@@ -91,7 +89,7 @@ fn cut_row(alloc: Global, from: u32, to: u32, row: &[Node]) -> Result<List<Node>
     let mut out = List::new(alloc);
     for element in row {
         let cut = cut(alloc, from, to, element)?;
-        add(&mut out, cut)?;
+        out.add(cut)?;
     }
     Ok(out)
 }
@@ -111,7 +109,7 @@ fn cut_tags(
     for tag in tags {
         let rest = cut_row(alloc, from, to, tag.rest.as_slice())?;
         let atom = tag.atom.copy(alloc)?;
-        add_tag(&mut out, TagOf { atom, rest })?;
+        out.add(TagOf { atom, rest })?;
     }
     Ok(out)
 }
@@ -149,7 +147,10 @@ fn cut_sizes(
     let mut out = List::new(alloc);
     for size in sizes {
         let body = cut_body(alloc, from, to, &size.body)?;
-        add_size(&mut out, size.size, body)?;
+        out.add(SizeOf {
+            size: size.size,
+            body,
+        })?;
     }
     Ok(out)
 }

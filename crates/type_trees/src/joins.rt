@@ -1,4 +1,4 @@
-//! The least type round two types.
+//! The least type that contains two types.
 ghost use Rattle.std.specs.Prelude.{◌≡◌, ℕ, suc, ◌<◌, IfOk};
 ghost use Rattle.std.specs.Ordering.{nat_cmp};
 ghost use Rattle.type_sets.specs.Names.{name_cmp, every, or_else};
@@ -8,14 +8,15 @@ ghost use Rattle.type_model.specs.Shapes.{tags as tagged};
 ghost use Rattle.type_trees.specs.View.{view, Fits, row_view, tags_view, body_view, sizes_view, tuples_view, cell_view, parts_view, EachNode, EachTag, EachInBody, EachSize, EachInTuples, EachInCell, RowFits, TagsFit, BodyFits, SizesFit, TuplesFit, CellFits, PartsFit};
 
 use crate::copies::{copy_body, copy_cell, copy_row, copy_sizes, copy_tag, copy_tags};
-use crate::node::{BodyOf, CellOf, Node, PartsOf, SizeOf, TagOf, TuplesOf, add, discard, made};
+use crate::node::{BodyOf, CellOf, Node, PartsOf, SizeOf, TagOf, TuplesOf, discard, made};
 use crate::places::{insert_size, insert_tag, place_of_size, place_of_tag};
 use crate::plain::Plain;
 use std::alloc::Global;
 use type_kinds::{Boxed, List, Memory};
-use type_sets::AtomSet;
+use type_model::MAX_SIZES;
+use type_sets::{AtomSet, MAX_MEMBERS};
 
-/// The least type round both.
+/// The least type that contains both.
 #[cycle(joins)]
 pub fn join(alloc: Global, level: u32, a: &Node, b: &Node) -> Result<Node, Memory>
     requires a { Fits level a.now }
@@ -98,12 +99,12 @@ fn join_row(alloc: Global, level: u32, a: &[Node], b: &[Node]) -> Result<List<No
     let mut out = List::new(alloc);
     for i in 0..a.len() {
         let joined = join(alloc, level, &a[i], &b[i])?;
-        add(&mut out, joined)?;
+        out.add(joined)?;
     }
     Ok(out)
 }
 
-// The least product round all that stands after the tags, of which there is one at least.
+// The least product that contains the rests of the tags, of which there is one at least.
 #[cycle(joins)]
 fn join_rests(alloc: Global, level: u32, tags: &[TagOf<Node>]) -> Result<List<Node>, Memory>
     requires { (n : ℕ) × TagsFit level n tags.now }
@@ -117,7 +118,7 @@ fn join_rests(alloc: Global, level: u32, tags: &[TagOf<Node>]) -> Result<List<No
     Ok(out)
 }
 
-// The element types of the least product round tags, of which there is one at least.
+// The element types of the least product that contains the tags, of which there is one at least.
 #[cycle(joins)]
 pub fn elements_of_tags(
     alloc: Global,
@@ -129,18 +130,13 @@ pub fn elements_of_tags(
     ensures value { IfOk result (λ j. row_view level j ≡ elements (ops level) (tagged (tags_view level tags.now))) }
     ensures each { IfOk result (λ j. EachNode (Fits level) j) }
 {
-    let mut out = join_rests(alloc, level, tags)?.into_vec();
+    let mut out = join_rests(alloc, level, tags)?;
     let first = atoms_of(alloc, tags)?;
-    match out.insert(0, first) {
-        Ok(()) => Ok(List::from_vec(out)),
-        Err(failed) => {
-            discard(failed.value);
-            Err(Memory)
-        }
-    }
+    out.insert(0, first)?;
+    Ok(out)
 }
 
-// The element types of the least product round a body.
+// The element types of the least product that contains a body.
 #[cycle(joins)]
 pub fn elements_of(alloc: Global, level: u32, body: &BodyOf<Node>) -> Result<List<Node>, Memory>
     requires { (n : ℕ) × BodyFits level n body.now }
@@ -198,7 +194,7 @@ fn join_tags(
     Ok(List::from_vec(out))
 }
 
-// Tags, and where they are more than thirteen the least product round them.
+// The tags, or if they are more than `MAX_MEMBERS` the least product that contains them.
 #[cycle(joins)]
 fn cap_tags(alloc: Global, level: u32, tags: List<TagOf<Node>>) -> Result<BodyOf<Node>, Memory>
     requires fits { (n : ℕ) × TagsFit level n tags }
@@ -206,7 +202,7 @@ fn cap_tags(alloc: Global, level: u32, tags: List<TagOf<Node>>) -> Result<BodyOf
     ensures value { IfOk result (λ j. body_view level j ≡ capped_tags (ops level) (tags_view level tags)) }
     ensures each { IfOk result (λ j. EachInBody (Fits level) j) }
 {
-    if tags.len() <= 13 {
+    if tags.len() <= MAX_MEMBERS {
         return Ok(BodyOf::Tags(tags));
     }
     let row = elements_of_tags(alloc, level, tags.as_slice())?;
@@ -319,19 +315,19 @@ fn join_tuples(
     }
 }
 
-// Sizes, and where they are more than eight all tuples.
+// The sizes, or all tuples if they are more than `MAX_SIZES`.
 fn cap_sizes(sizes: List<SizeOf<Node>>) -> TuplesOf<Node>
     ensures value { (d : ℕ) → tuples_view d result ≡ capped_sizes (ops d) (sizes_view d sizes) }
     ensures each { (d : ℕ) → EachSize (Fits d) sizes → EachInTuples (Fits d) result }
 {
-    if sizes.len() <= 8 {
+    if sizes.len() <= MAX_SIZES {
         TuplesOf::Sizes(sizes)
     } else {
         TuplesOf::All
     }
 }
 
-// The type of the atoms of the tags: all atoms where they are more than thirteen.
+// The type of the atoms of the tags: all atoms where they are more than `MAX_MEMBERS`.
 fn atoms_of(alloc: Global, tags: &[TagOf<Node>]) -> Result<Node, Memory>
     ensures fits { IfOk result (λ t. (d : ℕ) → Fits (suc d) t) }
     ensures value { IfOk result (λ t. (d : ℕ) → view (suc d) t ≡ (ops (suc d)).of_names (keys (tags_view (suc d) tags.now))) }
@@ -351,10 +347,7 @@ fn tag_atoms(alloc: Global, tags: &[TagOf<Node>]) -> Result<AtomSet, Memory>
     let mut atoms = List::new(alloc);
     for tag in tags {
         let atom = tag.atom.copy(alloc)?;
-        match atoms.push(atom) {
-            Ok(()) => {}
-            Err(_) => return Err(Memory),
-        }
+        atoms.add(atom)?;
     }
     if AtomSet::can_list(atoms.as_slice()) {
         Ok(AtomSet::listed(atoms))

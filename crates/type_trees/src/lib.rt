@@ -17,7 +17,7 @@ pub use inclusion::leq;
 pub use joins::{elements_of, join};
 pub use meets::{meet, product_body};
 pub use node::{
-    BodyOf, CellOf, Node, PartsOf, SizeOf, TagOf, TuplesOf, add, add_size, discard, find_size,
-    find_tag, is_none, made,
+    BodyOf, CellOf, Node, PartsOf, SizeOf, TagOf, TuplesOf, discard, find_size, find_tag, is_none,
+    made,
 };
 pub use plain::{FlagSet, FunSet, Plain};

@@ -6,8 +6,8 @@ ghost use Rattle.type_trees.specs.View.{view, Fits, row_view, tags_view, body_vi
 
 use crate::copies::{copy, copy_row, copy_tuples};
 use crate::node::{
-    BodyOf, CellOf, Node, PartsOf, SizeOf, TagOf, TuplesOf, add, add_size, add_tag, discard,
-    find_size, is_none, only_atoms, rest_after,
+    BodyOf, CellOf, Node, PartsOf, SizeOf, TagOf, TuplesOf, discard, find_size, is_none,
+    only_atoms, rest_after,
 };
 use std::alloc::Global;
 use type_kinds::{Atom, Boxed, List, Memory};
@@ -108,7 +108,7 @@ fn meet_row(alloc: Global, level: u32, a: &[Node], b: &[Node]) -> Result<Option<
             discard(met);
             return Ok(None);
         }
-        add(&mut out, met)?;
+        out.add(met)?;
     }
     Ok(Some(out))
 }
@@ -143,7 +143,7 @@ fn spread(
     for atom in atoms {
         let rest = copy_row(alloc, level, rest)?;
         let atom = atom.copy(alloc)?;
-        add_tag(&mut out, TagOf { atom, rest })?;
+        out.add(TagOf { atom, rest })?;
     }
     Ok(out)
 }
@@ -165,7 +165,7 @@ fn meet_tags(
         if let Some(other) = rest_after(b, &tag.atom) {
             if let Some(rest) = meet_row(alloc, level, tag.rest.as_slice(), other)? {
                 let atom = tag.atom.copy(alloc)?;
-                add_tag(&mut out, TagOf { atom, rest })?;
+                out.add(TagOf { atom, rest })?;
             }
         }
     }
@@ -217,7 +217,10 @@ fn meet_sizes(
     for size in a {
         if let Some(other) = find_size(b, size.size) {
             if let Some(body) = meet_body(alloc, level, &size.body, other)? {
-                add_size(&mut out, size.size, body)?;
+                out.add(SizeOf {
+                    size: size.size,
+                    body,
+                })?;
             }
         }
     }

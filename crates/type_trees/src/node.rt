@@ -61,39 +61,6 @@ pub struct TagOf<E> {
 
 pub fn discard(_t: Node) {}
 
-/// Adds a type last.
-pub fn add(row: &mut List<Node>, t: Node) -> Result<(), Memory>
-    ensures { IfOk result (λ _. row.new ≡ row.old ++ t ∷ []) }
-{
-    match row.push(t) {
-        Ok(()) => Ok(()),
-        Err((t, Memory)) => {
-            discard(t);
-            Err(Memory)
-        }
-    }
-}
-
-/// Adds a tag last.
-pub fn add_tag(tags: &mut List<TagOf<Node>>, tag: TagOf<Node>) -> Result<(), Memory>
-    ensures { IfOk result (λ _. tags.new ≡ tags.old ++ tag ∷ []) }
-{
-    match tags.push(tag) {
-        Ok(()) => Ok(()),
-        Err(_) => Err(Memory),
-    }
-}
-
-/// Adds a size last.
-pub fn add_size(sizes: &mut List<SizeOf<Node>>, size: u8, body: BodyOf<Node>) -> Result<(), Memory>
-    ensures { IfOk result (λ _. sizes.new ≡ sizes.old ++ record { size = size; body = body } ∷ []) }
-{
-    match sizes.push(SizeOf { size, body }) {
-        Ok(()) => Ok(()),
-        Err(_) => Err(Memory),
-    }
-}
-
 /// Whether the type has no value.
 pub fn is_none(t: &Node) -> bool
     ensures { (d : ℕ) → Fits d t.now → result ≡ (ops d).is_none (view d t.now) }

@@ -67,8 +67,8 @@ follows-returns-in_default t c = end_follows c.args.level c.args.v.now c.args.ce
 
 -- ---- tuples
 
-pub tuple_in-returns-then-elements-gt64 : goal.tuple_in-returns-then-elements-gt64
-tuple_in-returns-then-elements-gt64 t c = refuted (too_long c.args.level c.args.elements.now c.args.tuples.now c.in-Sizes.sizes c.in-Sizes.is c.requires c.if-elements-gt64.true)
+pub tuple_in-returns-then-elements-gt-MAX_ELEMENTS : goal.tuple_in-returns-then-elements-gt-MAX_ELEMENTS
+tuple_in-returns-then-elements-gt-MAX_ELEMENTS t c = refuted (too_long c.args.level c.args.elements.now c.args.tuples.now c.in-Sizes.sizes c.in-Sizes.is c.requires c.if-elements-gt-MAX_ELEMENTS.true)
 
 pub tuple_in-body_in-requires : goal.tuple_in-body_in-requires
 tuple_in-body_in-requires t c =

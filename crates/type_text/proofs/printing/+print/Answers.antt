@@ -4,8 +4,9 @@ use Rattle.std.proofs.lemmas.List.{append-nil}
 use Rattle.type_text.specs.Texts.{text_at}
 use Rattle.type_text.specs.Adds.{Adds}
 use Rattle.type_trees.specs.View.{view, Fits, EachNode, EachInBody}
+use Rattle.type_trees.proofs.Views.{of_above, size_at, tag_at}
 use Rattle.type_text.proofs.Adding.{both, one_word, one_more, still_front}
-use Rattle.type_text.proofs.Prints.{of_above, each_below, text_of_any, text_of_none, text_of_some, size_at, tag_at, row_words, tags_words, sizes_words, row_words-append, tags_words-append, sizes_words-append}
+use Rattle.type_text.proofs.Prints.{each_below, text_of_any, text_of_none, text_of_some, row_words, tags_words, sizes_words, row_words-append, tags_words-append, sizes_words-append}
 use Rattle.type_text.proofs.printing.+print.Goals as goal
 
 pub append_type-overflow_sub-level : goal.append_type-overflow_sub-level

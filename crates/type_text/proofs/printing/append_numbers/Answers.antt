@@ -12,4 +12,4 @@ loop-n-preserved c =
     let n : ℤ = get_or c.args.numbers.now c.loop-n.n-index (pos 0) in
     let fits : SFits w128 n = search rules in
     one_more (map signed_decimal) (map-append signed_decimal) c.args.numbers.now c.loop-n.n-index (pos 0) n c.loop-n-test.true refl c.loop-n.invariant
-    (one_word c.in_ok-separate.ensures.ok (signed_decimal n) c.append_signed.new.out (simp to_z-of_z at c.in_ok-append_signed.ensures.ok))
+    (one_word c.in_ok-separate.ensures.ok (signed_decimal n) c.append_decimal.new.self (simp to_z-of_z at c.in_ok-append_decimal.ensures.ok))

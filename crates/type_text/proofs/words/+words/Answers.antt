@@ -22,13 +22,13 @@ pub read_later-loop-next-preserved : goal.read_later-loop-next-preserved
 read_later-loop-next-preserved t c =
     let fits = if_found _ c.in_ok-element.field-0 _ c.in-Some-2.is c.in_ok-element.ensures.fits in
     record {
-      each = each_more (Fits c.args.level) c.add.new.row c.loop-next.row c.in-Some-2.element c.in_ok-add.ensures c.loop-next.invariant.each fits.0;
-      some = elements_more c.args.level c.loop-next.row c.add.new.row c.in-Some-2.element c.in_ok-add.ensures c.loop-next.invariant.some fits.0 fits.1;
+      each = each_more (Fits c.args.level) c.add.new.self c.loop-next.row c.in-Some-2.element c.in_ok-add.ensures.ok c.loop-next.invariant.each fits.0;
+      some = elements_more c.args.level c.loop-next.row c.add.new.self c.in-Some-2.element c.in_ok-add.ensures.ok c.loop-next.invariant.some fits.0 fits.1;
       shorter = omega (arith, if_found _ c.in_ok-element.field-0 _ c.in-Some-2.is c.in_ok-element.ensures.shorter, c.in-Some.ensures.shorter, c.loop-next.invariant.shorter);
       so_far = λ es rest k text.
           let n = next_element c.args.level c.loop-next.row c.loop-next.rest.now _ rest c.in-Some.next.now (c.loop-next.invariant.so_far es rest k text) c.in-Some.ensures.exact in
           let read = found_some _ c.in_ok-element.field-0 _ c.in-Some-2.is (c.in_ok-element.ensures.complete n.type n.behind n.element n.stop n.text) in
-          elements_further c.args.level c.loop-next.row c.add.new.row c.in-Some-2.element c.in-Some.next.now c.in-Some-2.after.now _ rest n c.in_ok-add.ensures read.0 read.1;
+          elements_further c.args.level c.loop-next.row c.add.new.self c.in-Some-2.element c.in-Some.next.now c.in-Some-2.after.now _ rest n c.in_ok-add.ensures.ok read.0 read.1;
     }
 
 pub read_later-returns-in-Some-after_word-clause-complete : goal.read_later-returns-in-Some-after_word-clause-complete
@@ -73,17 +73,17 @@ read_row-returns-in_default-2-clause-complete t c es rest k text =
 pub read_row-read_later-requires : goal.read_row-read_later-requires
 read_row-read_later-requires t c =
     let fits = if_found _ c.in_ok-element.field-0 _ c.in-Some-2.is c.in_ok-element.ensures.fits in
-    let is : c.add.new.row ≡ [] ++ c.in-Some-2.element ∷ [] = c.in_ok-add.ensures ∙ ap (λ r. r ++ c.in-Some-2.element ∷ []) c.new-row.ensures in
-    (omega (arith, c.decreases), (each_more (Fits c.args.level) c.add.new.row [] c.in-Some-2.element is tt fits.0, elements_more c.args.level [] c.add.new.row c.in-Some-2.element is tt fits.0 fits.1))
+    let is : c.add.new.self ≡ [] ++ c.in-Some-2.element ∷ [] = c.in_ok-add.ensures.ok ∙ ap (λ r. r ++ c.in-Some-2.element ∷ []) c.new-row.ensures in
+    (omega (arith, c.decreases), (each_more (Fits c.args.level) c.add.new.self [] c.in-Some-2.element is tt fits.0, elements_more c.args.level [] c.add.new.self c.in-Some-2.element is tt fits.0 fits.1))
 
 pub read_row-returns-clause-complete : goal.read_row-returns-clause-complete
 read_row-returns-clause-complete t c =
     IfOk-weaker c.read_later.result _ _
     (λ r f es rest k text.
-    let is : c.add.new.row ≡ [] ++ c.in-Some-2.element ∷ [] = c.in_ok-add.ensures ∙ ap (λ r. r ++ c.in-Some-2.element ∷ []) c.new-row.ensures in
+    let is : c.add.new.self ≡ [] ++ c.in-Some-2.element ∷ [] = c.in_ok-add.ensures.ok ∙ ap (λ r. r ++ c.in-Some-2.element ∷ []) c.new-row.ensures in
     let n = first_element c.args.level c.args.text.now es rest k text c.in_default.ensures.complete in
     let read = found_some _ c.in_ok-element.field-0 _ c.in-Some-2.is (c.in_ok-element.ensures.complete n.type n.behind n.element n.stop n.text) in
-    let left = elements_further c.args.level [] c.add.new.row c.in-Some-2.element c.args.text.now c.in-Some-2.rest.now es rest n is read.0 read.1 in
+    let left = elements_further c.args.level [] c.add.new.self c.in-Some-2.element c.args.text.now c.in-Some-2.rest.now es rest n is read.0 read.1 in
     subst (λ x. MatchOption r ⊥ (λ p. (row_view c.args.level p.0 ≡ x) × (p.1.now ≡ rest))) left.all (f left.more rest left.elements left.text)) c.read_later.ensures.complete
 
 pub read_type-returns-in-Some-clause-fits : goal.read_type-returns-in-Some-clause-fits
@@ -130,7 +130,7 @@ read_word-returns-in-Some-clause-complete t c =
     IfOk-weaker c.read_tuple.result _ _
     (λ r f w rest u i stop e.
     let s = at_tuple w u i c.args.text.now rest c.in-Some.rest.now e c.in-Some.ensures.exact in
-    found_as (suc c.args.level) _ u rest r (sym s.1.1.1.1) (f s.0 rest s.1.0 (ltb-true (length s.0) 65 s.1.1.0) s.1.1.1.0)) c.read_tuple.ensures.complete
+    found_as (suc c.args.level) _ u rest r (sym s.1.1.1.1) (f s.0 rest s.1.0 (omega (arith, ltb-true (length s.0) 65 s.1.1.0)) s.1.1.1.0)) c.read_tuple.ensures.complete
 
 pub read_word-returns-in-Some-after_word-clause-complete : goal.read_word-returns-in-Some-after_word-clause-complete
 read_word-returns-in-Some-after_word-clause-complete t c =

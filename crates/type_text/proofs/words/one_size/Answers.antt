@@ -7,9 +7,9 @@ use Rattle.type_text.proofs.words.one_size.Goals as goal
 pub returns-clause-fits : goal.returns-clause-fits
 returns-clause-fits c =
     let s : SizeOf Node = record { size = c.args.size; body = c.args.body } in
-    size_fits _ c.none.result c.add_size.new.sizes s refl c.none.ensures (c.in_ok-add_size.ensures ∙ ap (λ ss. ss ++ s ∷ []) c.new-sizes.ensures)
+    size_fits _ c.none.result c.add.new.self s refl c.none.ensures (c.in_ok-add.ensures.ok ∙ ap (λ ss. ss ++ s ∷ []) c.new-sizes.ensures)
 
 pub returns-clause-value : goal.returns-clause-value
 returns-clause-value c =
     let s : SizeOf Node = record { size = c.args.size; body = c.args.body } in
-    size_value _ c.none.result c.add_size.new.sizes s refl c.none.ensures (c.in_ok-add_size.ensures ∙ ap (λ ss. ss ++ s ∷ []) c.new-sizes.ensures)
+    size_value _ c.none.result c.add.new.self s refl c.none.ensures (c.in_ok-add.ensures.ok ∙ ap (λ ss. ss ++ s ∷ []) c.new-sizes.ensures)

@@ -61,8 +61,8 @@ cut_row-cut-requires t c = let f = element_fits c.args.from c.args.row.now c.req
 
 pub cut_row-loop-element-preserved : goal.cut_row-loop-element-preserved
 cut_row-loop-element-preserved t c = record {
-  value = ap (row_view c.args.to) c.in_ok-add.ensures ∙ row_further c.args.from c.args.to c.args.row.now c.loop-element.out c.loop-element.element-index c.element-item.result c.in_ok-cut.cut c.loop-element-test.true c.element-item.is c.loop-element.invariant.value c.in_ok-cut.ensures.value;
-  each = subst (EachNode (Fits c.args.to)) (sym c.in_ok-add.ensures) (one_node (Fits c.args.to) c.loop-element.out c.in_ok-cut.cut c.loop-element.invariant.each c.in_ok-cut.ensures.fits);
+  value = ap (row_view c.args.to) c.in_ok-add.ensures.ok ∙ row_further c.args.from c.args.to c.args.row.now c.loop-element.out c.loop-element.element-index c.element-item.result c.in_ok-cut.cut c.loop-element-test.true c.element-item.is c.loop-element.invariant.value c.in_ok-cut.ensures.value;
+  each = subst (EachNode (Fits c.args.to)) (sym c.in_ok-add.ensures.ok) (one_node (Fits c.args.to) c.loop-element.out c.in_ok-cut.cut c.loop-element.invariant.each c.in_ok-cut.ensures.fits);
 }
 
 pub cut_sizes-cut_body-requires : goal.cut_sizes-cut_body-requires
@@ -70,8 +70,8 @@ cut_sizes-cut_body-requires t c = (omega (arith, c.decreases), body_fits c.args.
 
 pub cut_sizes-loop-size-preserved : goal.cut_sizes-loop-size-preserved
 cut_sizes-loop-size-preserved t c = record {
-  value = ap (sizes_view c.args.to) c.in_ok-add_size.ensures ∙ sizes_further c.args.from c.args.to c.args.sizes.now c.loop-size.out c.loop-size.size-index c.size-item.result c.in_ok-body.body c.loop-size-test.true c.size-item.is c.loop-size.invariant.value c.in_ok-body.ensures.value;
-  each = subst (EachSize (Fits c.args.to)) (sym c.in_ok-add_size.ensures) (one_size (Fits c.args.to) c.loop-size.out (record { size = c.size-item.result.size; body = c.in_ok-body.body }) c.loop-size.invariant.each c.in_ok-body.ensures.each);
+  value = ap (sizes_view c.args.to) c.in_ok-add.ensures.ok ∙ sizes_further c.args.from c.args.to c.args.sizes.now c.loop-size.out c.loop-size.size-index c.size-item.result c.in_ok-body.body c.loop-size-test.true c.size-item.is c.loop-size.invariant.value c.in_ok-body.ensures.value;
+  each = subst (EachSize (Fits c.args.to)) (sym c.in_ok-add.ensures.ok) (one_size (Fits c.args.to) c.loop-size.out (record { size = c.size-item.result.size; body = c.in_ok-body.body }) c.loop-size.invariant.each c.in_ok-body.ensures.each);
 }
 
 pub cut_tags-cut_row-requires : goal.cut_tags-cut_row-requires
@@ -80,8 +80,8 @@ cut_tags-cut_row-requires t c = (omega (arith, c.decreases), subst (λ r. (n : �
 pub cut_tags-loop-tag-preserved : goal.cut_tags-loop-tag-preserved
 cut_tags-loop-tag-preserved t c = let y : TagOf Node = record { atom = c.in_ok-atom.atom; rest = c.in_ok-rest.rest } in
     record {
-      value = ap (tags_view c.args.to) c.in_ok-add_tag.ensures ∙ tags_further c.args.from c.args.to c.args.tags.now c.loop-tag.out c.loop-tag.tag-index c.tag-item.result y c.loop-tag-test.true c.tag-item.is c.loop-tag.invariant.value c.in_ok-atom.ensures (c.in_ok-rest.ensures.value ∙ ap (λ r. row_lower (levels.cut c.args.from c.args.to) (ops c.args.from) (ops c.args.to) (row_view c.args.from r)) c.as_slice.ensures);
-      each = subst (EachTag (Fits c.args.to)) (sym c.in_ok-add_tag.ensures) (one_tag (Fits c.args.to) c.loop-tag.out y c.loop-tag.invariant.each c.in_ok-rest.ensures.each);
+      value = ap (tags_view c.args.to) c.in_ok-add.ensures.ok ∙ tags_further c.args.from c.args.to c.args.tags.now c.loop-tag.out c.loop-tag.tag-index c.tag-item.result y c.loop-tag-test.true c.tag-item.is c.loop-tag.invariant.value c.in_ok-atom.ensures (c.in_ok-rest.ensures.value ∙ ap (λ r. row_lower (levels.cut c.args.from c.args.to) (ops c.args.from) (ops c.args.to) (row_view c.args.from r)) c.as_slice.ensures);
+      each = subst (EachTag (Fits c.args.to)) (sym c.in_ok-add.ensures.ok) (one_tag (Fits c.args.to) c.loop-tag.out y c.loop-tag.invariant.each c.in_ok-rest.ensures.each);
     }
 
 pub cut_tuples-cut_sizes-requires : goal.cut_tuples-cut_sizes-requires

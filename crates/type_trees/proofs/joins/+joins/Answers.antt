@@ -1,4 +1,4 @@
-use Rattle.std.proofs.Common.{ℕ, ◌<◌, ◌∷◌, length, sym, ap, ◌∙◌, subst, arith}
+use Rattle.std.proofs.Common.{ℕ, ◌<◌, length, sym, ap, ◌∙◌, subst, arith}
 use Rattle.std.specs.Ordering.{nat_cmp}
 use Rattle.std.proofs.lemmas.Result.{IfOk-weaker}
 use Rattle.type_sets.specs.Names.{name_cmp}
@@ -12,8 +12,8 @@ use Rattle.type_trees.proofs.Views.{of_above, below_fits}
 use Rattle.type_trees.proofs.JoinLaws.{few_tags, many_tags, row_step, row_end, each_push, same_length, rests_step, rests_end, rests_fit, same_item, tag_row, tags_so_far, tags_joined, sizes_so_far, size_body, tags_step, tags_end, sizes_step, sizes_end, tag_missing, tag_missing_each, tag_found, each_tag-set, size_missing, size_missing_each, size_same, size_found, each_size-set, tags_of_body, tags_of_bodies, product_of_body, elements_fit, row_is, tags_elements, any_left, any_right, parts_fit, made_join, made_fit}
 use Rattle.type_trees.proofs.joins.+joins.Goals as goal
 
-pub cap_tags-returns-then-len-le13-clause-value : goal.cap_tags-returns-then-len-le13-clause-value
-cap_tags-returns-then-len-le13-clause-value t c = few_tags c.args.level c.args.tags (omega arith)
+pub cap_tags-returns-then-len-le-MAX_MEMBERS-clause-value : goal.cap_tags-returns-then-len-le-MAX_MEMBERS-clause-value
+cap_tags-returns-then-len-le-MAX_MEMBERS-clause-value t c = few_tags c.args.level c.args.tags (omega arith)
 
 pub cap_tags-returns-clause-value : goal.cap_tags-returns-clause-value
 cap_tags-returns-clause-value t c =
@@ -24,9 +24,9 @@ elements_of-elements_of_tags-requires t c =
     let k = tags_of_body c.args.level c.requires.0 c.args.body.now c.in-Tags.tags c.requires.1 c.in-Tags.is in
     (omega (arith, c.decreases), (subst (λ ts. (m : ℕ) × TagsFit c.args.level m ts) (sym c.as_slice-in-Tags.ensures) k.0, k.1))
 
-pub elements_of_tags-returns-in-Ok-clause-value : goal.elements_of_tags-returns-in-Ok-clause-value
-elements_of_tags-returns-in-Ok-clause-value t c =
-    tags_elements c.args.level c.args.tags.now c.in_ok-first.first c.in_ok-join_rests.field-0 c.from_vec.result c.requires.above c.in_ok-first.ensures.value c.in_ok-join_rests.ensures.value (c.from_vec.ensures ∙ c.in-Ok.ensures.items ∙ ap (λ es. c.in_ok-first.first ∷ es) c.into_vec-out.ensures)
+pub elements_of_tags-returns-clause-value : goal.elements_of_tags-returns-clause-value
+elements_of_tags-returns-clause-value t c =
+    tags_elements c.args.level c.args.tags.now c.in_ok-first.first c.in_ok-out.out c.insert.new.self c.requires.above c.in_ok-first.ensures.value c.in_ok-out.ensures.value c.in_ok-insert.ensures.ok
 
 pub join-overflow_sub-level : goal.join-overflow_sub-level
 join-overflow_sub-level t c = of_above c.args.a.now c.in-Of.parts c.in-Of.is c.args.level c.requires.a
@@ -125,8 +125,8 @@ join_rests-returns-clause-value t c = rests_end c.args.level c.args.tags.now c.l
 
 pub join_row-loop-i-preserved : goal.join_row-loop-i-preserved
 join_row-loop-i-preserved t c = record {
-  value = row_step c.args.level c.args.a.now c.args.b.now c.loop-i.out c.add.new.row c.loop-i.i c.index-a-i.result c.index-b-i.result c.in_ok-joined.joined (same_length c.args.level c.requires.0 c.args.a.now c.args.b.now c.requires.1.0 c.requires.1.1) (omega arith) c.index-a-i.is c.index-b-i.is c.in_ok-joined.ensures.value c.loop-i.invariant.value c.in_ok-add.ensures;
-  each = subst (EachNode (Fits c.args.level)) (sym c.in_ok-add.ensures) (each_push (Fits c.args.level) c.loop-i.out c.in_ok-joined.joined c.loop-i.invariant.each c.in_ok-joined.ensures.fits);
+  value = row_step c.args.level c.args.a.now c.args.b.now c.loop-i.out c.add.new.self c.loop-i.i c.index-a-i.result c.index-b-i.result c.in_ok-joined.joined (same_length c.args.level c.requires.0 c.args.a.now c.args.b.now c.requires.1.0 c.requires.1.1) (omega arith) c.index-a-i.is c.index-b-i.is c.in_ok-joined.ensures.value c.loop-i.invariant.value c.in_ok-add.ensures.ok;
+  each = subst (EachNode (Fits c.args.level)) (sym c.in_ok-add.ensures.ok) (each_push (Fits c.args.level) c.loop-i.out c.in_ok-joined.joined c.loop-i.invariant.each c.in_ok-joined.ensures.fits);
 }
 
 pub join_row-returns-clause-value : goal.join_row-returns-clause-value

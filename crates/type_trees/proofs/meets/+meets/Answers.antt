@@ -7,7 +7,7 @@ use Rattle.type_trees.specs.declared.node.TuplesOf.TheVariants.{Sizes}
 use Rattle.type_trees.proofs.Views.{of_above, below_fits}
 use Rattle.type_trees.proofs.MeetViews.{meet_of_any, meet_with_any, meet_of_parts, meet_of_parts_fits, drop_item, same_length, row_more, row_none, filled_more, each_more, each_tag_more, each_size_more, rest_fits, after_fits, tags_more, tags_fewer, size_fits, found_fits, sizes_more, sizes_fewer, tags_left, sizes_fit}
 use Rattle.type_trees.proofs.meets.+meets.Goals as goal
-use Rattle.type_trees.proofs.meets.+meets.Goals.{meet_sizes-in-Some+in_ok-body+in-Some-2+in_ok-add_size, meet_sizes-in-Some+in_ok-body+in_default-2, meet_sizes-in_default, meet_tags-in-Some+in_ok-rest+in-Some-2+in_ok-atom+in_ok-add_tag, meet_tags-in-Some+in_ok-rest+in_default-2, meet_tags-in_default}
+use Rattle.type_trees.proofs.meets.+meets.Goals.{meet_sizes-in-Some+in_ok-body+in-Some-2+in_ok-add, meet_sizes-in-Some+in_ok-body+in_default-2, meet_sizes-in_default, meet_tags-in-Some+in_ok-rest+in-Some-2+in_ok-atom+in_ok-add, meet_tags-in-Some+in_ok-rest+in_default-2, meet_tags-in_default}
 
 pub meet-overflow_sub-level : goal.meet-overflow_sub-level
 meet-overflow_sub-level t c = of_above c.args.a.now c.in-Of.parts c.in-Of.is c.args.level c.requires.a
@@ -51,9 +51,9 @@ meet_row-loop-i-preserved t c =
     let b = c.args.b.now in
     let shorter : i < length b = omega (arith, c.loop-i-test.true, same_length d c.requires.0 a b c.requires.1.0 c.requires.1.1) in
     record {
-      value = row_more d c.add.new.row c.loop-i.out (drop i a) (drop i b) (drop (i + 1) a) (drop (i + 1) b) c.index-a-i.result c.index-b-i.result c.in_ok-met.met c.in_ok-add.ensures (drop_item a i c.index-a-i.result c.loop-i-test.true c.index-a-i.is) (drop_item b i c.index-b-i.result shorter c.index-b-i.is) c.in_ok-met.ensures.value ∙ c.loop-i.invariant.value;
-      filled = filled_more d c.add.new.row c.loop-i.out c.in_ok-met.met c.in_ok-add.ensures c.loop-i.invariant.filled (sym (c.is_none.ensures d c.in_ok-met.ensures.fits) ∙ c.if-is_none.false);
-      each = each_more (Fits d) c.add.new.row c.loop-i.out c.in_ok-met.met c.in_ok-add.ensures c.loop-i.invariant.each c.in_ok-met.ensures.fits;
+      value = row_more d c.add.new.self c.loop-i.out (drop i a) (drop i b) (drop (i + 1) a) (drop (i + 1) b) c.index-a-i.result c.index-b-i.result c.in_ok-met.met c.in_ok-add.ensures.ok (drop_item a i c.index-a-i.result c.loop-i-test.true c.index-a-i.is) (drop_item b i c.index-b-i.result shorter c.index-b-i.is) c.in_ok-met.ensures.value ∙ c.loop-i.invariant.value;
+      filled = filled_more d c.add.new.self c.loop-i.out c.in_ok-met.met c.in_ok-add.ensures.ok c.loop-i.invariant.filled (sym (c.is_none.ensures d c.in_ok-met.ensures.fits) ∙ c.if-is_none.false);
+      each = each_more (Fits d) c.add.new.self c.loop-i.out c.in_ok-met.met c.in_ok-add.ensures.ok c.loop-i.invariant.each c.in_ok-met.ensures.fits;
     }
 
 pub meet_sizes-meet_body-requires : goal.meet_sizes-meet_body-requires
@@ -77,9 +77,9 @@ meet_sizes-loop-size-preserved t c =
     let w = sizes_view d c.args.b.now in
     let later = drop_item a i s c.loop-size-test.true c.size-item.is in
     elim c.match-find_size.branch [
-      | meet_sizes-in-Some+in_ok-body+in-Some-2+in_ok-add_size k ↦ record {
-        value = sizes_more d c.match-find_size.out c.loop-size.out (drop i a) (drop (i + 1) a) s _ w (body_view d k.in-Some.other.now) (k.out-is ∙ k.in_ok-add_size.ensures) later refl (k.in-Some.ensures.value d) (sym (ap (option_map (body_view d)) k.in-Some-2.is) ∙ k.in_ok-body.ensures.value) ∙ c.loop-size.invariant.value;
-        each = each_size_more (Fits d) c.match-find_size.out c.loop-size.out _ (k.out-is ∙ k.in_ok-add_size.ensures) c.loop-size.invariant.each (subst (λ o. IfSome o (EachInBody (Fits d))) k.in-Some-2.is k.in_ok-body.ensures.each);
+      | meet_sizes-in-Some+in_ok-body+in-Some-2+in_ok-add k ↦ record {
+        value = sizes_more d c.match-find_size.out c.loop-size.out (drop i a) (drop (i + 1) a) s _ w (body_view d k.in-Some.other.now) (k.out-is ∙ k.in_ok-add.ensures.ok) later refl (k.in-Some.ensures.value d) (sym (ap (option_map (body_view d)) k.in-Some-2.is) ∙ k.in_ok-body.ensures.value) ∙ c.loop-size.invariant.value;
+        each = each_size_more (Fits d) c.match-find_size.out c.loop-size.out _ (k.out-is ∙ k.in_ok-add.ensures.ok) c.loop-size.invariant.each (subst (λ o. IfSome o (EachInBody (Fits d))) k.in-Some-2.is k.in_ok-body.ensures.each);
       }
       | meet_sizes-in-Some+in_ok-body+in_default-2 k ↦ record {
         value = sizes_fewer d c.match-find_size.out c.loop-size.out (drop i a) (drop (i + 1) a) s w k.out-is later (sym (ap (option_map (body_view d)) k.in_default-2.is) ∙ k.in_ok-body.ensures.value ∙ ap (met_with (body_meet (ops d) (body_view d s.body))) (k.in-Some.ensures.value d)) ∙ c.loop-size.invariant.value;
@@ -116,9 +116,9 @@ meet_tags-loop-tag-preserved t c =
     let j = c.requires.1.1.each in
     let later = drop_item a i g c.loop-tag-test.true c.tag-item.is in
     elim c.match-rest_after.branch [
-      | meet_tags-in-Some+in_ok-rest+in-Some-2+in_ok-atom+in_ok-add_tag k ↦ record {
-        value = tags_more d c.match-rest_after.out c.loop-tag.out (drop i a) (drop (i + 1) a) g _ b (row_view d k.in-Some.other.now) (k.out-is ∙ k.in_ok-add_tag.ensures) later k.in_ok-atom.ensures (k.in-Some.ensures.value d j) (sym (ap (option_map (row_view d)) k.in-Some-2.is) ∙ k.in_ok-rest.ensures.value ∙ ap (λ l. row_meet (ops d) (row_view d l) (row_view d k.in-Some.other.now)) k.as_slice.ensures) ∙ c.loop-tag.invariant.value;
-        each = each_tag_more (Fits d) c.match-rest_after.out c.loop-tag.out _ (k.out-is ∙ k.in_ok-add_tag.ensures) c.loop-tag.invariant.each (subst (λ o. IfSome o (EachNode (Fits d))) k.in-Some-2.is k.in_ok-rest.ensures.each);
+      | meet_tags-in-Some+in_ok-rest+in-Some-2+in_ok-atom+in_ok-add k ↦ record {
+        value = tags_more d c.match-rest_after.out c.loop-tag.out (drop i a) (drop (i + 1) a) g _ b (row_view d k.in-Some.other.now) (k.out-is ∙ k.in_ok-add.ensures.ok) later k.in_ok-atom.ensures (k.in-Some.ensures.value d j) (sym (ap (option_map (row_view d)) k.in-Some-2.is) ∙ k.in_ok-rest.ensures.value ∙ ap (λ l. row_meet (ops d) (row_view d l) (row_view d k.in-Some.other.now)) k.as_slice.ensures) ∙ c.loop-tag.invariant.value;
+        each = each_tag_more (Fits d) c.match-rest_after.out c.loop-tag.out _ (k.out-is ∙ k.in_ok-add.ensures.ok) c.loop-tag.invariant.each (subst (λ o. IfSome o (EachNode (Fits d))) k.in-Some-2.is k.in_ok-rest.ensures.each);
       }
       | meet_tags-in-Some+in_ok-rest+in_default-2 k ↦ record {
         value = tags_fewer d c.match-rest_after.out c.loop-tag.out (drop i a) (drop (i + 1) a) g b k.out-is later (sym (ap (option_map (row_view d)) k.in_default-2.is) ∙ k.in_ok-rest.ensures.value ∙ ap (λ l. row_meet (ops d) (row_view d l) (row_view d k.in-Some.other.now)) k.as_slice.ensures ∙ ap (met_with (row_meet (ops d) (row_view d g.rest))) (k.in-Some.ensures.value d j)) ∙ c.loop-tag.invariant.value;

@@ -23,17 +23,17 @@ pub returns-then-is_empty-clause-value : goal.returns-then-is_empty-clause-value
 returns-then-is_empty-clause-value c =
     let t = c.args.self.now in
     let ss = c.in-Sizes.sizes in
-    project_wide_none t c.none.result c.args.size c.args.place ss (tuples_are t c.self.inside.kept.node c.in-Of.parts (Sizes ss) c.in-Of.is (ap (λ t. t.ty) c.self.view_is) c.in-Sizes.is) c.if-size-gt64.true (c.is_empty.ensures.0 c.if-is_empty.true) c.none.ensures.value
+    project_wide_none t c.none.result c.args.size c.args.place ss (tuples_are t c.self.inside.kept.node c.in-Of.parts (Sizes ss) c.in-Of.is (ap (λ t. t.ty) c.self.view_is) c.in-Sizes.is) c.if-size.true (c.is_empty.ensures.0 c.if-is_empty.true) c.none.ensures.value
 
 pub returns-then-is_empty-clause-holds : goal.returns-then-is_empty-clause-holds
 returns-then-is_empty-clause-holds c = λ vs v h e f.
     subst (HasType v) (sym (returns-then-is_empty-clause-value c)) (project-holds c.args.self.now c.args.size c.args.place vs v h e f)
 
-pub returns-then-size-gt64-clause-value : goal.returns-then-size-gt64-clause-value
-returns-then-size-gt64-clause-value c =
+pub returns-then-size-clause-value : goal.returns-then-size-clause-value
+returns-then-size-clause-value c =
     let t = c.args.self.now in
     let ss = c.in-Sizes.sizes in
-    project_wide_any t c.any-then-size-gt64.result c.args.size c.args.place ss (tuples_are t c.self.inside.kept.node c.in-Of.parts (Sizes ss) c.in-Of.is (ap (λ t. t.ty) c.self.view_is) c.in-Sizes.is) c.if-size-gt64.true (λ e. true≢false (sym (c.is_empty.ensures.1 e) ∙ c.if-is_empty.false)) c.any-then-size-gt64.ensures.value
+    project_wide_any t c.any-then-size.result c.args.size c.args.place ss (tuples_are t c.self.inside.kept.node c.in-Of.parts (Sizes ss) c.in-Of.is (ap (λ t. t.ty) c.self.view_is) c.in-Sizes.is) c.if-size.true (λ e. true≢false (sym (c.is_empty.ensures.1 e) ∙ c.if-is_empty.false)) c.any-then-size.ensures.value
 
 pub element-requires : goal.element-requires
 element-requires c =
@@ -51,7 +51,7 @@ returns-in-None-clause-value c =
     let t = c.args.self.now in
     let ss = c.in-Sizes.sizes in
     let missing = subst (λ x. None ≡ find nat_cmp (sizes_view 3 x) c.args.size) c.as_slice.ensures (c.in-None.ensures.value 3) in
-    project_missing t c.none-in-None.result c.args.size c.args.place ss (tuples_are t c.self.inside.kept.node c.in-Of.parts (Sizes ss) c.in-Of.is (ap (λ t. t.ty) c.self.view_is) c.in-Sizes.is) c.if-size-gt64.false missing c.none-in-None.ensures.value
+    project_missing t c.none-in-None.result c.args.size c.args.place ss (tuples_are t c.self.inside.kept.node c.in-Of.parts (Sizes ss) c.in-Of.is (ap (λ t. t.ty) c.self.view_is) c.in-Sizes.is) c.if-size.false missing c.none-in-None.ensures.value
 
 pub returns-in-None-clause-holds : goal.returns-in-None-clause-holds
 returns-in-None-clause-holds c = λ vs v h e f.
@@ -63,7 +63,7 @@ returns-in_ok-element-in-Some-clause-value c =
     let ss = c.in-Sizes.sizes in
     let b = c.in-Some.body.now in
     let found = subst (λ x. Some (body_view 3 b) ≡ find nat_cmp (sizes_view 3 x) c.args.size) c.as_slice.ensures (c.in-Some.ensures.value 3) in
-    project_found t c.of_node.result c.args.size c.args.place ss b c.in_ok-element-in-Some.field-0 (tuples_are t c.self.inside.kept.node c.in-Of.parts (Sizes ss) c.in-Of.is (ap (λ t. t.ty) c.self.view_is) c.in-Sizes.is) c.if-size-gt64.false found c.in_ok-element-in-Some.ensures.value c.in_ok-element-in-Some.ensures.fits c.of_node.ensures
+    project_found t c.of_node.result c.args.size c.args.place ss b c.in_ok-element-in-Some.field-0 (tuples_are t c.self.inside.kept.node c.in-Of.parts (Sizes ss) c.in-Of.is (ap (λ t. t.ty) c.self.view_is) c.in-Sizes.is) c.if-size.false found c.in_ok-element-in-Some.ensures.value c.in_ok-element-in-Some.ensures.fits c.of_node.ensures
 
 pub returns-in_ok-element-in-Some-clause-holds : goal.returns-in_ok-element-in-Some-clause-holds
 returns-in_ok-element-in-Some-clause-holds c = λ vs v h e f.

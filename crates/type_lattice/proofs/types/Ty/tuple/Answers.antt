@@ -12,17 +12,17 @@ pub returns-then-any_none-clause-above : goal.returns-then-any_none-clause-above
 returns-then-any_none-clause-above c = λ vs h.
     subst (HasType (tuple_value vs)) (sym (returns-then-any_none-clause-value c)) (tuple-has c.args.parts.now vs h)
 
-pub returns-then-parts-gt64-clause-value : goal.returns-then-parts-gt64-clause-value
-returns-then-parts-gt64-clause-value c =
-    tuple_wide c.args.parts.now c.every_tuple.result c.if-any_none.ensures c.if-parts-gt64.true c.every_tuple.ensures
+pub returns-then-parts-gt-MAX_ELEMENTS-clause-value : goal.returns-then-parts-gt-MAX_ELEMENTS-clause-value
+returns-then-parts-gt-MAX_ELEMENTS-clause-value c =
+    tuple_wide c.args.parts.now c.every_tuple.result c.if-any_none.ensures c.if-parts-gt-MAX_ELEMENTS.true c.every_tuple.ensures
 
-pub returns-then-parts-gt64-clause-above : goal.returns-then-parts-gt64-clause-above
-returns-then-parts-gt64-clause-above c = λ vs h.
-    subst (HasType (tuple_value vs)) (sym (returns-then-parts-gt64-clause-value c)) (tuple-has c.args.parts.now vs h)
+pub returns-then-parts-gt-MAX_ELEMENTS-clause-above : goal.returns-then-parts-gt-MAX_ELEMENTS-clause-above
+returns-then-parts-gt-MAX_ELEMENTS-clause-above c = λ vs h.
+    subst (HasType (tuple_value vs)) (sym (returns-then-parts-gt-MAX_ELEMENTS-clause-value c)) (tuple-has c.args.parts.now vs h)
 
-pub returns-then-parts-gt64-clause-least : goal.returns-then-parts-gt64-clause-least
-returns-then-parts-gt64-clause-least c = λ u f.
-    subst (λ t. Below t u) (sym (returns-then-parts-gt64-clause-value c)) (tuple-is_least c.args.parts.now u f)
+pub returns-then-parts-gt-MAX_ELEMENTS-clause-least : goal.returns-then-parts-gt-MAX_ELEMENTS-clause-least
+returns-then-parts-gt-MAX_ELEMENTS-clause-least c = λ u f.
+    subst (λ t. Below t u) (sym (returns-then-parts-gt-MAX_ELEMENTS-clause-value c)) (tuple-is_least c.args.parts.now u f)
 
 pub returns-clause-value : goal.returns-clause-value
 returns-clause-value c =
