@@ -1,29 +1,29 @@
-pub mod Once
-pub mod LeafExits
-pub mod ExpressionExits
-pub mod ElementExits
-pub mod ParameterExits
-pub mod ExportExits
-pub mod DefinitionExits
-pub mod ModuleExits
-pub mod Numbers
-pub mod FewTokens
-pub mod SourceExits
-pub mod AnswerExits
-pub mod WordExits
-pub mod CheckExits
-pub mod NameSets
-pub mod ScopeExits
-pub mod ModuleScope
-pub mod SiteExits
-pub mod FoundLemmas
-pub mod LostExits
-pub mod LineTexts
-pub mod LineExits
-pub mod ReportExits
-pub mod DeadNames
-pub mod DeadCalls
-pub mod DeadFlags
-pub mod OneOutcome
-pub mod ScopeExamples
-pub mod DeadExamples
+mod Once
+mod LeafExits
+mod ExpressionExits
+mod ElementExits
+mod ParameterExits
+mod ExportExits
+mod DefinitionExits
+mod ModuleExits
+mod Numbers
+mod FewTokens
+mod SourceExits
+mod AnswerExits
+mod WordExits
+mod CheckExits
+mod NameSets
+mod ScopeExits
+mod ModuleScope
+mod SiteExits
+mod FoundLemmas
+mod LostExits
+mod LineTexts
+mod LineExits
+mod ReportExits
+mod DeadNames
+mod DeadCalls
+mod DeadFlags
+mod OneOutcome
+mod ScopeExamples
+mod DeadExamples
