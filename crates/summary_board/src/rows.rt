@@ -33,7 +33,7 @@ impl Rows {
         ensures room { IfOk result (λ rows. count ≤ 64 * length rows) }
     {
         let words = (count as usize).div_ceil(64).max(1);
-        let rows = unused_rows(alloc, words)?;
+        let rows = zero_rows(alloc, words)?;
         Ok(Rows { rows })
     }
 
@@ -64,7 +64,7 @@ impl Rows {
 }
 
 // So many words that are 0.
-fn unused_words(alloc: Global, words: usize) -> Result<List<u64>, Memory>
+fn zero_words(alloc: Global, words: usize) -> Result<List<u64>, Memory>
     ensures { IfOk result (λ row. row ≡ replicate words 0) }
 {
     let mut row: Vec<u64> = Vec::new(alloc);
@@ -75,17 +75,17 @@ fn unused_words(alloc: Global, words: usize) -> Result<List<u64>, Memory>
 }
 
 // Rows over a lowest row of so many words, that mark no number.
-fn unused_rows(alloc: Global, words: usize) -> Result<Vec<List<u64>>, Memory>
+fn zero_rows(alloc: Global, words: usize) -> Result<Vec<List<u64>>, Memory>
     requires some { 0 < words }
     requires few { words ≤ 2 ^ 26 }
     ensures tied { IfOk result (λ rows. AreTied rows.items) }
     ensures lowest { IfOk result (λ rows. lowest rows.items ≡ replicate words 0) }
 {
-    let row = unused_words(alloc, words)?;
+    let row = zero_words(alloc, words)?;
     let mut rows = if words == 1 {
         Vec::new(alloc)
     } else {
-        unused_rows(alloc, words.div_ceil(64))?
+        zero_rows(alloc, words.div_ceil(64))?
     };
     match rows.insert(0, row) {
         Ok(()) => Ok(rows),

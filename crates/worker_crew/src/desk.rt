@@ -4,7 +4,7 @@ ghost use Rattle.summary_board.specs.Calls.{Takes, Fits, finished, halted};
 use summary_board::{Board, Done, Job, Take, Work};
 use type_kinds::Memory;
 
-/// What lies under the lock: the board, and whether a worker ran out of memory. Each method is one
+/// What lies under the lock: the board, and whether an allocation failed for a worker. Each method is one
 /// critical section, and at most one event of the board.
 #[derive(Drop)]
 pub struct Desk<W: Work> {
@@ -23,7 +23,7 @@ impl<W: Work> Desk<W> {
         }
     }
 
-    // Stops the board because memory ran out.
+    // Stops the board because an allocation failed.
     fn give_up(&mut self)
         ensures stopped { self.new.board ≡ halted self.old.board }
         ensures noted { self.new.out_of_memory ≡ true }
@@ -32,7 +32,7 @@ impl<W: Work> Desk<W> {
         self.out_of_memory = true;
     }
 
-    /// What the worker with this seat is told. If memory runs out, the board is stopped.
+    /// What the worker with this seat is told. If allocation fails, the board is stopped.
     pub fn take(&mut self, seat: u32) -> Result<Take<W>, Memory>
         ensures ok { IfOk result (λ told. Takes self.old.board seat told self.new.board) }
         ensures err { OnErr result ((self.new.board ≡ halted self.old.board) × (self.new.out_of_memory ≡ true)) }
@@ -47,7 +47,7 @@ impl<W: Work> Desk<W> {
     }
 
     /// Finishes what the worker with this seat solved. The board is stopped if the job doesn't fit, so
-    /// that nobody waits for its component, and if memory ran out.
+    /// that nobody waits for its component, and if an allocation failed.
     pub fn hand_in(&mut self, seat: u32, solved: Result<Done<W>, (Job<W>, Memory)>)
         ensures fits { IfOk solved (λ done. Fits self.old.board seat done → self.new.board ≡ finished self.old.board seat done) }
         ensures misfit { IfOk solved (λ done. (Fits self.old.board seat done → ⊥) → self.new.board ≡ halted self.old.board) }
@@ -65,7 +65,7 @@ impl<W: Work> Desk<W> {
         }
     }
 
-    /// The board, unless a worker ran out of memory. Takes no memory.
+    /// The board, unless an allocation failed for a worker. Takes no memory.
     pub fn into_board(self) -> Result<Board<W>, Memory>
         ensures ok { IfOk result (λ board. board ≡ self.board) }
         ensures err { OnErr result (self.out_of_memory ≡ true) }

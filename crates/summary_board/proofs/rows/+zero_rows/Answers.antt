@@ -1,7 +1,7 @@
 use Rattle.std.proofs.Common.{ap, ◌∙◌, arith, ◌<◌, ◌≤◌, ◌*◌}
 use Rattle.summary_board.proofs.RowLemmas.{one_zero_tied, zeros_tied}
-use Rattle.summary_board.proofs.rows.+unused_rows.Goals as goal
-use Rattle.summary_board.proofs.rows.+unused_rows.Goals.{then-words-eq1, else-words-eq1+in_ok-rows}
+use Rattle.summary_board.proofs.rows.+zero_rows.Goals as goal
+use Rattle.summary_board.proofs.rows.+zero_rows.Goals.{then-words-eq1, else-words-eq1+in_ok-rows}
 
 pub returns-in-Ok-clause-tied : goal.returns-in-Ok-clause-tied
 returns-in-Ok-clause-tied t c =
