@@ -1,3 +1,5 @@
+ghost use Rattle.std.specs.Prelude.{◌≤◌, IfOk, length};
+
 use super::*;
 use std::alloc::Global;
 use std::cell::{Cell, RefCell};
@@ -114,7 +116,9 @@ impl Worn {
         }
     }
 
-    fn take(&self, bytes: &[u8]) -> io::Result<usize> {
+    fn take(&self, bytes: &[u8]) -> io::Result<usize>
+        ensures { IfOk result (λ n. n ≤ length bytes.now) }
+    {
         let front = &bytes[..bytes.len().min(3)];
         let Ok(mut taken) = self.taken.try_borrow_mut() else {
             return Err(io::Error::from(ErrorKind::Other));
