@@ -5,7 +5,7 @@ use Rattle.std.proofs.lemmas.Option.{slice_get_within, none-some}
 use Rattle.std.proofs.lemmas.List.Elements.{All-head, All-tail, All-cons, All-nil}
 use Rattle.std.specs.declared.option.Option.{Option}
 use Rattle.std.specs.declared.option.Option.TheVariants.{Some, None}
-use Rattle.summary_board.specs.Machine.{Mark, waiting, out, done, AreDone}
+use Rattle.summary_board.specs.Machine.{Standing, waiting, out, done, AreDone}
 use Rattle.summary_board.specs.steps.Agenda.{open_one, open_in, unfinished_in, times}
 use Rattle.summary_board.proofs.Sets.{get_set_same, get_set_other, same_or_not}
 
@@ -16,61 +16,61 @@ pub same_test : (c d : ℕ) → d ≡ c → nat_eq c d ≡ true
 same_test c d same = grind (arith, nat_tests)
 
 -- ---- a component is done
-one_lower : (marks : List Mark) (c d : ℕ) (seat : ℕ) → slice_get marks c ≡ Some (out seat)
-    → open_one (slice_get (slice_set marks c done) d) + cond (nat_eq c d) 1 0 ≡ open_one (slice_get marks d)
-one_lower marks c d seat is =
+one_lower : (standings : List Standing) (c d : ℕ) (seat : ℕ) → slice_get standings c ≡ Some (out seat)
+    → open_one (slice_get (slice_set standings c done) d) + cond (nat_eq c d) 1 0 ≡ open_one (slice_get standings d)
+one_lower standings c d seat is =
     elim (same_or_not d c) [
       | inl same ↦
           let test : nat_eq c d ≡ true = same_test c d same in
-          rw (test, same, get_set_same marks c done (slice_get_within marks c (out seat) is), is) refl
+          rw (test, same, get_set_same standings c done (slice_get_within standings c (out seat) is), is) refl
       | inr other ↦
           let test : nat_eq c d ≡ false = other_test c d other in
-          rw (test, get_set_other marks c d done other) (omega arith)
+          rw (test, get_set_other standings c d done other) (omega arith)
     ]
 
 -- a count falls by how often the component is called
-pub lowers : (marks : List Mark) (c seat : ℕ) → slice_get marks c ≡ Some (out seat) → (cs : List ℕ) → open_in (slice_set marks c done) cs + times c cs ≡ open_in marks cs
-lowers marks c seat is [] = refl
-lowers marks c seat is (d ∷ cs) = omega (arith, one_lower marks c d seat is, lowers marks c seat is cs)
+pub lowers : (standings : List Standing) (c seat : ℕ) → slice_get standings c ≡ Some (out seat) → (cs : List ℕ) → open_in (slice_set standings c done) cs + times c cs ≡ open_in standings cs
+lowers standings c seat is [] = refl
+lowers standings c seat is (d ∷ cs) = omega (arith, one_lower standings c d seat is, lowers standings c seat is cs)
 
 -- so the component is called no more often than that
-pub times_open : (marks : List Mark) (c seat : ℕ) → slice_get marks c ≡ Some (out seat) → (cs : List ℕ) → times c cs ≤ open_in marks cs
-times_open marks c seat is cs = omega (arith, lowers marks c seat is cs)
+pub times_open : (standings : List Standing) (c seat : ℕ) → slice_get standings c ≡ Some (out seat) → (cs : List ℕ) → times c cs ≤ open_in standings cs
+times_open standings c seat is cs = omega (arith, lowers standings c seat is cs)
 
 -- ---- a component is taken
-one_stays : (marks : List Mark) (c d seat : ℕ) → slice_get marks c ≡ Some waiting → open_one (slice_get (slice_set marks c (out seat)) d) ≡ open_one (slice_get marks d)
-one_stays marks c d seat is =
+one_stays : (standings : List Standing) (c d seat : ℕ) → slice_get standings c ≡ Some waiting → open_one (slice_get (slice_set standings c (out seat)) d) ≡ open_one (slice_get standings d)
+one_stays standings c d seat is =
     elim (same_or_not d c) [
-      | inl same ↦ rw (same, get_set_same marks c (out seat) (slice_get_within marks c waiting is), is) refl
-      | inr other ↦ rw (get_set_other marks c d (out seat) other) refl
+      | inl same ↦ rw (same, get_set_same standings c (out seat) (slice_get_within standings c waiting is), is) refl
+      | inr other ↦ rw (get_set_other standings c d (out seat) other) refl
     ]
 
-pub open_stays : (marks : List Mark) (c seat : ℕ) → slice_get marks c ≡ Some waiting → (cs : List ℕ) → open_in (slice_set marks c (out seat)) cs ≡ open_in marks cs
-open_stays marks c seat is [] = refl
-open_stays marks c seat is (d ∷ cs) = omega (arith, one_stays marks c d seat is, open_stays marks c seat is cs)
+pub open_stays : (standings : List Standing) (c seat : ℕ) → slice_get standings c ≡ Some waiting → (cs : List ℕ) → open_in (slice_set standings c (out seat)) cs ≡ open_in standings cs
+open_stays standings c seat is [] = refl
+open_stays standings c seat is (d ∷ cs) = omega (arith, one_stays standings c d seat is, open_stays standings c seat is cs)
 
 -- ---- a count of 0 says that all are done
-pub none_open : (m : Option Mark) → open_one m ≡ 0 → m ≡ Some done
+pub none_open : (m : Option Standing) → open_one m ≡ 0 → m ≡ Some done
 none_open None is = absurd (omega (arith, is))
 none_open (Some waiting) is = absurd (omega (arith, is))
 none_open (Some (out seat)) is = absurd (omega (arith, is))
 none_open (Some done) is = refl
 
-pub none_open_done : (marks : List Mark) (cs : List ℕ) → open_in marks cs ≡ 0 → AreDone marks cs
-none_open_done marks [] is = All-nil (λ k. slice_get marks k ≡ Some done)
-none_open_done marks (c ∷ cs) is =
-    All-cons (λ k. slice_get marks k ≡ Some done) c cs (none_open (slice_get marks c) (omega (arith, is))) (none_open_done marks cs (omega (arith, is)))
+pub none_open_done : (standings : List Standing) (cs : List ℕ) → open_in standings cs ≡ 0 → AreDone standings cs
+none_open_done standings [] is = All-nil (λ k. slice_get standings k ≡ Some done)
+none_open_done standings (c ∷ cs) is =
+    All-cons (λ k. slice_get standings k ≡ Some done) c cs (none_open (slice_get standings c) (omega (arith, is))) (none_open_done standings cs (omega (arith, is)))
 
-pub done_none_open : (marks : List Mark) (cs : List ℕ) → AreDone marks cs → open_in marks cs ≡ 0
-done_none_open marks [] all = refl
-done_none_open marks (c ∷ cs) all =
-    let D : ℕ → Type 0 = λ k. slice_get marks k ≡ Some done in
-    let here : open_one (slice_get marks c) ≡ 0 = ap open_one (All-head D c cs all) in
-    omega (arith, here, done_none_open marks cs (All-tail D c cs all))
+pub done_none_open : (standings : List Standing) (cs : List ℕ) → AreDone standings cs → open_in standings cs ≡ 0
+done_none_open standings [] all = refl
+done_none_open standings (c ∷ cs) all =
+    let D : ℕ → Type 0 = λ k. slice_get standings k ≡ Some done in
+    let here : open_one (slice_get standings c) ≡ 0 = ap open_one (All-head D c cs all) in
+    omega (arith, here, done_none_open standings cs (All-tail D c cs all))
 
 -- ---- how many of all components aren't done
-pub unfinished_set : (marks : List Mark) (c : ℕ) (old new : Mark) → slice_get marks c ≡ Some old
-    → unfinished_in (slice_set marks c new) + open_one (Some old) ≡ unfinished_in marks + open_one (Some new)
+pub unfinished_set : (standings : List Standing) (c : ℕ) (old new : Standing) → slice_get standings c ≡ Some old
+    → unfinished_in (slice_set standings c new) + open_one (Some old) ≡ unfinished_in standings + open_one (Some new)
 unfinished_set [] c old new is = absurd (none-some old is)
 unfinished_set (m ∷ ms) zero old new is = let same : open_one (Some m) ≡ open_one (Some old) = ap open_one is in omega (arith, same)
 unfinished_set (m ∷ ms) (suc c) old new is = omega (arith, unfinished_set ms c old new is)

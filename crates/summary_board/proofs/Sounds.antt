@@ -9,7 +9,7 @@ use Rattle.summary_board.specs.declared.event.Event.TheVariants.{Taken, Finished
 use Rattle.summary_board.specs.declared.progress.Progress.{Progress}
 use Rattle.summary_board.specs.declared.progress.Progress.TheVariants.{Waiting, Out, Done}
 use Rattle.summary_board.specs.Machine.{waiting, out, done, State, May, step, replay, begin, called, AreDone, IsReady}
-use Rattle.summary_board.specs.BoardValue.{BoardValue, mark_of, marks_of, outputs_of, state_of, IsSupported, AreSupported, IsSound}
+use Rattle.summary_board.specs.BoardValue.{BoardValue, standing_of, standings_of, outputs_of, state_of, IsSupported, AreSupported, IsSound}
 use Rattle.summary_board.specs.steps.Room.{left, left_in, left_of}
 use Rattle.summary_board.specs.Ascending.{AscendsBelow}
 use Rattle.summary_board.specs.Calls.{each_below, fresh, taken, finished, Fits}
@@ -33,32 +33,32 @@ done_waiting is = cc
 module _ {O : Type 0} where
   -- the component isn't done
   abbrev pub IsOpen : List (Progress O) → ℕ → Type 0
-  IsOpen progress c = slice_get (marks_of progress) c ≢ Some done
+  IsOpen progress c = slice_get (standings_of progress) c ≢ Some done
 
   -- a component that is done is another one
-  other_than : (progress : List (Progress O)) (c d : ℕ) → IsOpen progress c → slice_get (marks_of progress) d ≡ Some done → d ≢ c
-  other_than progress c d opened is same = let P : ℕ → Type 0 = λ k. slice_get (marks_of progress) k ≡ Some done in opened (subst P same is)
+  other_than : (progress : List (Progress O)) (c d : ℕ) → IsOpen progress c → slice_get (standings_of progress) d ≡ Some done → d ≢ c
+  other_than progress c d opened is same = let P : ℕ → Type 0 = λ k. slice_get (standings_of progress) k ≡ Some done in opened (subst P same is)
 
   -- what is done stays done
   pub done_stays : (progress : List (Progress O)) (c : ℕ) (at : Progress O) → IsOpen progress c
-      → (d : ℕ) → slice_get (marks_of progress) d ≡ Some done → slice_get (marks_of (slice_set progress c at)) d ≡ Some done
+      → (d : ℕ) → slice_get (standings_of progress) d ≡ Some done → slice_get (standings_of (slice_set progress c at)) d ≡ Some done
   done_stays progress c at opened d is =
-      rw (map-set mark_of progress c at, get_set_other (marks_of progress) c d (mark_of at) (other_than progress c d opened is)) is
+      rw (map-set standing_of progress c at, get_set_other (standings_of progress) c d (standing_of at) (other_than progress c d opened is)) is
 
   pub all_done_stay : (progress : List (Progress O)) (c : ℕ) (at : Progress O) → IsOpen progress c
-      → (cs : List ℕ) → AreDone (marks_of progress) cs → AreDone (marks_of (slice_set progress c at)) cs
+      → (cs : List ℕ) → AreDone (standings_of progress) cs → AreDone (standings_of (slice_set progress c at)) cs
   all_done_stay progress c at opened cs all = All-weaker _ _ (done_stays progress c at opened) cs all
 
   pub outputs_stay : (progress : List (Progress O)) (c : ℕ) (at : Progress O) → IsOpen progress c
-      → (cs : List ℕ) → AreDone (marks_of progress) cs → outputs_of (slice_set progress c at) cs ≡ outputs_of progress cs
+      → (cs : List ℕ) → AreDone (standings_of progress) cs → outputs_of (slice_set progress c at) cs ≡ outputs_of progress cs
   outputs_stay progress c at opened [] all = refl
   outputs_stay progress c at opened (d ∷ cs) all =
-      let D : ℕ → Type 0 = λ k. slice_get (marks_of progress) k ≡ Some done in
+      let D : ℕ → Type 0 = λ k. slice_get (standings_of progress) k ≡ Some done in
       let here : d ≢ c = other_than progress c d opened (All-head D d cs all) in
       rw (get_set_other progress c d at here, outputs_stay progress c at opened cs (All-tail D d cs all)) refl
 
-  pub mark_at : (progress : List (Progress O)) (c : ℕ) (at : Progress O) → slice_get progress c ≡ Some at → slice_get (marks_of progress) c ≡ Some (mark_of at)
-  mark_at progress c at is = rw (slice_get-map mark_of progress c, is) refl
+  pub mark_at : (progress : List (Progress O)) (c : ℕ) (at : Progress O) → slice_get progress c ≡ Some at → slice_get (standings_of progress) c ≡ Some (standing_of at)
+  mark_at progress c at is = rw (slice_get-map standing_of progress c, is) refl
 
   module _ {P : Type 0} (written : P → List O → O) where
     supported_stays : (progress : List (Progress O)) (c : ℕ) (new : Progress O) → IsOpen progress c
@@ -84,7 +84,7 @@ module _ {O : Type 0} where
         ]
 
 module _ {O : Type 0} where
-  pub waiting_at : (progress : List (Progress O)) (c : ℕ) → slice_get (marks_of progress) c ≡ Some waiting → slice_get progress c ≡ Some Waiting
+  pub waiting_at : (progress : List (Progress O)) (c : ℕ) → slice_get (standings_of progress) c ≡ Some waiting → slice_get progress c ≡ Some Waiting
   waiting_at [] c is = absurd (none-some waiting is)
   waiting_at (Waiting ∷ progress) zero is = refl
   waiting_at (Out seat ∷ progress) zero is = absurd (out_waiting seat is)
@@ -118,13 +118,13 @@ module _ {P O : Type 0} (written : P → List O → O) where
         supported = rw (parts, callees) supported;
       }
 
-  pub sound_taken : (old : BoardValue P O) (seat c : ℕ) → IsSound written old → old.stopped ≡ false → IsReady old.callees (marks_of old.progress) c
+  pub sound_taken : (old : BoardValue P O) (seat c : ℕ) → IsSound written old → old.stopped ≡ false → IsReady old.callees (standings_of old.progress) c
       → IsSound written (taken old seat c)
   sound_taken old seat c sound going ready =
       let opened : IsOpen old.progress c = λ is. waiting_done (same_Some waiting done (sym ready.0 ∙ is)) in
       let within : c < length old.progress = slice_get_within old.progress c Waiting (waiting_at old.progress c ready.0) in
       sound_more old (taken old seat c) (Taken seat c) sound refl refl (length-set old.progress c (Out seat)) refl
-      (ap (λ m. record { marks = m; stopped = old.stopped }) (map-set mark_of old.progress c (Out seat)))
+      (ap (λ m. record { standings = m; stopped = old.stopped }) (map-set standing_of old.progress c (Out seat)))
       (going, ready)
       (supported_set written old.parts old.callees old.progress c (Out seat) opened within (λ part at. ready.1) sound.supported)
 
@@ -133,12 +133,12 @@ module _ {P O : Type 0} (written : P → List O → O) where
   sound_finished old seat it sound fits is =
       let c = it.component in
       let new : Progress O = Done it.inputs it.output in
-      let mark : slice_get (marks_of old.progress) c ≡ Some (out seat) = mark_at old.progress c (Out seat) fits.0 in
+      let mark : slice_get (standings_of old.progress) c ≡ Some (out seat) = mark_at old.progress c (Out seat) fits.0 in
       let opened : IsOpen old.progress c = λ was. out_done seat (same_Some (out seat) done (sym mark ∙ was)) in
       let within : c < length old.progress = slice_get_within old.progress c (Out seat) fits.0 in
-      let ready : AreDone (marks_of old.progress) (called old.callees c) = sound.supported c it.part (Out seat) fits.1 fits.0 in
+      let ready : AreDone (standings_of old.progress) (called old.callees c) = sound.supported c it.part (Out seat) fits.1 fits.0 in
       sound_more old (finished old seat it) (Finished seat c) sound refl refl (length-set old.progress c new) refl
-      (ap (λ m. record { marks = m; stopped = old.stopped }) (map-set mark_of old.progress c new))
+      (ap (λ m. record { standings = m; stopped = old.stopped }) (map-set standing_of old.progress c new))
       mark
       (supported_set written old.parts old.callees old.progress c new opened within
       (λ part at. (ready, fits.2, is ∙ ap (λ p. written p it.inputs) (same_Some it.part part (sym fits.1 ∙ at)))) sound.supported)
@@ -153,7 +153,7 @@ module _ {P O : Type 0} (written : P → List O → O) where
       (sound_more old new Stopped known.0 refl refl refl is refl going known.0.supported, omega (arith, before, room))
 
   pub kept_taken : (old : BoardValue P O) (seat c spare spare' : ℕ) (progress : List (Progress O)) (journal : List Event)
-      → IsSound written old × (left old.progress old.stopped ≤ spare) → old.stopped ≡ false → IsReady old.callees (marks_of old.progress) c
+      → IsSound written old × (left old.progress old.stopped ≤ spare) → old.stopped ≡ false → IsReady old.callees (standings_of old.progress) c
       → progress ≡ slice_set old.progress c (Out seat) → journal ≡ old.journal ++ Taken seat c ∷ [] → spare ≤ spare' + 1
       → IsSound written (record old { progress = progress; journal = journal }) × (left progress old.stopped ≤ spare')
   kept_taken old seat c spare spare' progress journal known going ready progress_is journal_is room =
@@ -171,7 +171,7 @@ module _ {P O : Type 0} (written : P → List O → O) where
       rw (progress_is, journal_is) (sound_finished old seat it known.0 fits is, omega (arith, fewer, before, room))
 
   -- there is room for the event
-  pub room_taken : (old : BoardValue P O) (c spare : ℕ) → IsSound written old × (left old.progress old.stopped ≤ spare) → IsReady old.callees (marks_of old.progress) c → 0 < spare
+  pub room_taken : (old : BoardValue P O) (c spare : ℕ) → IsSound written old × (left old.progress old.stopped ≤ spare) → IsReady old.callees (standings_of old.progress) c → 0 < spare
   room_taken old c spare known ready =
       let fewer = left_set old.progress c Waiting (Out 0) (waiting_at old.progress c ready.0) in
       let before = known.1 in
@@ -192,14 +192,14 @@ module _ {P O : Type 0} (written : P → List O → O) where
       → IsSound written (fresh n part callees) × (left (replicate {A = Progress O} n Waiting) false ≤ spare)
   kept_fresh n spare part callees few room ascending =
       let long = length_each_below n part in
-      let marks : replicate n waiting ≡ marks_of (replicate {A = Progress O} n Waiting) = sym (map_replicate n mark_of Waiting) in (
+      let standings : replicate n waiting ≡ standings_of (replicate {A = Progress O} n Waiting) = sym (map_replicate n standing_of Waiting) in (
         record {
           few = rw long few;
           as_many_callees = length_each_below n callees ∙ sym long;
           as_many_progress = length-replicate n Waiting ∙ sym long;
           ascending = λ c within. let less : c < n = rw (← long) within in rw (get_each_below n callees c [] less) (ascending c less);
           legal = tt;
-          replays = rw long (ap (λ m. record { marks = m; stopped = false }) marks);
+          replays = rw long (ap (λ m. record { standings = m; stopped = false }) standings);
           supported = λ c part at at_part at_progress.
               let Q : Progress O → Type 0 = λ p. IsSupported written (replicate n Waiting) (called (each_below n callees) c) part p in
               subst Q (get_replicate n Waiting at c at_progress) tt;

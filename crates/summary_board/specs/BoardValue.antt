@@ -6,7 +6,7 @@ use Rattle.summary_board.specs.declared.event.Event.{Event}
 use Rattle.summary_board.specs.declared.progress.Progress.{Progress}
 use Rattle.summary_board.specs.declared.progress.Progress.TheVariants.{Waiting, Out, Done}
 use Rattle.summary_board.specs.Ascending.{AscendsBelow}
-use Rattle.summary_board.specs.Machine.{Mark, waiting, out, done, State, begin, called, replay, IsLegal, AreDone}
+use Rattle.summary_board.specs.Machine.{Standing, waiting, out, done, State, begin, called, replay, IsLegal, AreDone}
 
 -- A board over a work with parts of type P and outputs of type O: the part and the callees of each component, how far each
 -- has come, whether the board was stopped, and what happened so far.
@@ -19,13 +19,13 @@ pub record BoardValue (P O : Type 0) : Type 0 where
 
 module _ {O : Type 0} where
   -- how far a component has come, without inputs and output
-  abbrev pub mark_of : Progress O → Mark
-  mark_of Waiting = waiting
-  mark_of (Out seat) = out seat
-  mark_of (Done inputs output) = done
+  abbrev pub standing_of : Progress O → Standing
+  standing_of Waiting = waiting
+  standing_of (Out seat) = out seat
+  standing_of (Done inputs output) = done
 
-  abbrev pub marks_of : List (Progress O) → List Mark
-  marks_of progress = map mark_of progress
+  abbrev pub standings_of : List (Progress O) → List Standing
+  standings_of progress = map standing_of progress
 
   -- the output of a component that is done
   abbrev pub published : Option (Progress O) → List O
@@ -42,7 +42,7 @@ module _ {O : Type 0} where
 module _ {P O : Type 0} where
   -- the state of the machine
   abbrev pub state_of : BoardValue P O → State
-  state_of board = record { marks = marks_of board.progress; stopped = board.stopped }
+  state_of board = record { standings = standings_of board.progress; stopped = board.stopped }
 
   -- The component is done, and this is its entry: its own part, the inputs that it was solved from, and its output.
   abbrev pub IsEntry : BoardValue P O → ℕ → P → List O → O → Type 0
@@ -52,9 +52,9 @@ module _ {P O : Type 0} where
   -- inputs are the outputs published for them, and its output is the written one of its part and these inputs.
   abbrev pub IsSupported : (P → List O → O) → List (Progress O) → List ℕ → P → Progress O → Type 0
   IsSupported written progress callees part Waiting = Unit {0}
-  IsSupported written progress callees part (Out seat) = AreDone (marks_of progress) callees
+  IsSupported written progress callees part (Out seat) = AreDone (standings_of progress) callees
   IsSupported written progress callees part (Done inputs output) =
-      AreDone (marks_of progress) callees × (inputs ≡ outputs_of progress callees) × (output ≡ written part inputs)
+      AreDone (standings_of progress) callees × (inputs ≡ outputs_of progress callees) × (output ≡ written part inputs)
 
   abbrev pub AreSupported : (P → List O → O) → List P → List (List ℕ) → List (Progress O) → Type 0
   AreSupported written parts callees progress = (c : ℕ) (part : P) (at : Progress O)

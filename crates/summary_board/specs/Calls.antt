@@ -5,7 +5,7 @@ use Rattle.summary_board.specs.declared.event.Event.TheVariants.{Taken, Finished
 use Rattle.summary_board.specs.declared.progress.Progress.TheVariants.{Waiting, Out, Done}
 use Rattle.summary_board.specs.declared.job.Take.{Take}
 use Rattle.summary_board.specs.declared.job.Take.TheVariants.{Given, NoneReady, AllDone, Stopped}
-use Rattle.summary_board.specs.BoardValue.{BoardValue, mark_of, marks_of, outputs_of}
+use Rattle.summary_board.specs.BoardValue.{BoardValue, standing_of, standings_of, outputs_of}
 use Rattle.summary_board.specs.Machine.{done, called, IsReady}
 use Rattle.summary_board.specs.DoneValue.{DoneValue}
 
@@ -50,12 +50,12 @@ module _ {P O : Type 0} where
   -- The component is ready, and none below it is.
   abbrev pub IsLeastReady : BoardValue P O → ℕ → Type 0
   IsLeastReady board c =
-      IsReady board.callees (marks_of board.progress) c
-      × ((k : ℕ) → k < c → IsReady board.callees (marks_of board.progress) k → ⊥)
+      IsReady board.callees (standings_of board.progress) c
+      × ((k : ℕ) → k < c → IsReady board.callees (standings_of board.progress) k → ⊥)
 
   -- Each component is done.
   abbrev pub IsOver : BoardValue P O → Type 0
-  IsOver board = All (λ at. mark_of at ≡ done) board.progress
+  IsOver board = All (λ at. standing_of at ≡ done) board.progress
 
   -- What a seat that asks for a component is told, and what the board is then. A stopped board says so. Else a board whose components
   -- are all done says so. Else a board where none is ready says so. Else the least ready component is handed out.
@@ -67,6 +67,6 @@ module _ {P O : Type 0} where
       × (job.inputs ≡ outputs_of old.progress (called old.callees job.component))
       × (new ≡ taken old seat job.component)
   Takes old seat NoneReady new =
-      (old.stopped ≡ false) × (IsOver old → ⊥) × ((c : ℕ) → IsReady old.callees (marks_of old.progress) c → ⊥) × (new ≡ old)
+      (old.stopped ≡ false) × (IsOver old → ⊥) × ((c : ℕ) → IsReady old.callees (standings_of old.progress) c → ⊥) × (new ≡ old)
   Takes old seat AllDone new = (old.stopped ≡ false) × IsOver old × (new ≡ old)
   Takes old seat Stopped new = (old.stopped ≡ true) × (new ≡ old)

@@ -5,43 +5,43 @@ use Rattle.summary_board.specs.declared.event.Event.{Event}
 use Rattle.summary_board.specs.declared.event.Event.TheVariants.{Taken, Finished, Stopped}
 
 -- Of a component: nobody has taken it, the worker with this seat has it, or it is solved.
-pub data Mark : Type 0 where
-  waiting : Mark
-  out : ℕ → Mark
-  done : Mark
+pub data Standing : Type 0 where
+  waiting : Standing
+  out : ℕ → Standing
+  done : Standing
 
--- The mark of each component, and whether the board was stopped.
+-- The standing of each component, and whether the board was stopped.
 pub record State : Type 0 where
-  pub marks : List Mark
+  pub standings : List Standing
   pub stopped : Bool
 
 -- The first state: all components wait.
 abbrev pub begin : ℕ → State
-begin count = record { marks = replicate count waiting; stopped = false }
+begin count = record { standings = replicate count waiting; stopped = false }
 
 -- Each of these components is done.
-abbrev pub AreDone : List Mark → List ℕ → Type 0
-AreDone marks cs = All (λ c. slice_get marks c ≡ Some done) cs
+abbrev pub AreDone : List Standing → List ℕ → Type 0
+AreDone standings cs = All (λ c. slice_get standings c ≡ Some done) cs
 
 -- The callees of a component.
 abbrev pub called : List (List ℕ) → ℕ → List ℕ
 called callees c = slice_index_or callees c []
 
 -- The component waits, and all its callees are done.
-abbrev pub IsReady : List (List ℕ) → List Mark → ℕ → Type 0
-IsReady callees marks c = (slice_get marks c ≡ Some waiting) × AreDone marks (called callees c)
+abbrev pub IsReady : List (List ℕ) → List Standing → ℕ → Type 0
+IsReady callees standings c = (slice_get standings c ≡ Some waiting) × AreDone standings (called callees c)
 
 -- The event is legal in this state: only a ready component is taken, and only while the board runs; only the seat that
 -- has a component finishes it; a board is stopped once.
 abbrev pub May : List (List ℕ) → State → Event → Type 0
-May callees state (Taken seat c) = (state.stopped ≡ false) × IsReady callees state.marks c
-May callees state (Finished seat c) = slice_get state.marks c ≡ Some (out seat)
+May callees state (Taken seat c) = (state.stopped ≡ false) × IsReady callees state.standings c
+May callees state (Finished seat c) = slice_get state.standings c ≡ Some (out seat)
 May callees state Stopped = state.stopped ≡ false
 
 -- The state after an event.
 abbrev pub step : State → Event → State
-step state (Taken seat c) = record state { marks = slice_set state.marks c (out seat) }
-step state (Finished seat c) = record state { marks = slice_set state.marks c done }
+step state (Taken seat c) = record state { standings = slice_set state.standings c (out seat) }
+step state (Finished seat c) = record state { standings = slice_set state.standings c done }
 step state Stopped = record state { stopped = true }
 
 -- The state after a history.

@@ -32,13 +32,13 @@ impl<W: Work> Model for Board<W> {
 
     ghost Value = { BoardValue W.Part W.Out };
 
-    ghost use Rattle.summary_board.specs.BoardValue.{IsSound, marks_of};
+    ghost use Rattle.summary_board.specs.BoardValue.{IsSound, standings_of};
     ghost use Rattle.summary_board.specs.steps.Agenda.{Tracks};
     ghost use Rattle.summary_board.specs.steps.Room.{left};
 
     ghost view = { λ b. record { parts = b.parts; callees = b.callees; progress = b.progress; stopped = b.stopped; journal = b.journal.items } };
 
-    ghost invariant = { λ b. IsSound W.written (record { parts = b.parts; callees = b.callees; progress = b.progress; stopped = b.stopped; journal = b.journal.items }) × (left b.progress b.stopped ≤ b.journal.spare) × Tracks b.callees (marks_of b.progress) b.agenda.callers b.agenda.counts b.agenda.unfinished b.agenda.ready };
+    ghost invariant = { λ b. IsSound W.written (record { parts = b.parts; callees = b.callees; progress = b.progress; stopped = b.stopped; journal = b.journal.items }) × (left b.progress b.stopped ≤ b.journal.spare) × Tracks b.callees (standings_of b.progress) b.agenda.callers b.agenda.counts b.agenda.unfinished b.agenda.ready };
 }
 
 impl<W: Work> Board<W> {

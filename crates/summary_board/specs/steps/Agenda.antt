@@ -2,23 +2,23 @@
 use Rattle.std.specs.Prelude.{◌≡◌, ◌↔◌, ◌⊎◌, ℕ, ◌+◌, ◌*◌, ◌<◌, ◌≤◌, ◌==◌, cond, List, [], ◌∷◌, length, slice_get, slice_index_or}
 use Rattle.std.specs.declared.option.Option.{Option}
 use Rattle.std.specs.declared.option.Option.TheVariants.{Some, None}
-use Rattle.summary_board.specs.Machine.{Mark, waiting, out, done, called, IsReady}
+use Rattle.summary_board.specs.Machine.{Standing, waiting, out, done, called, IsReady}
 use Rattle.summary_board.specs.steps.Rows.{IsMarked}
 
 -- 1 if the component isn't done
-abbrev pub open_one : Option Mark → ℕ
+abbrev pub open_one : Option Standing → ℕ
 open_one None = 1
 open_one (Some waiting) = 1
 open_one (Some (out seat)) = 1
 open_one (Some done) = 0
 
 -- how many of these components aren't done
-abbrev pub open_in : List Mark → List ℕ → ℕ
-open_in marks [] = 0
-open_in marks (c ∷ cs) = open_one (slice_get marks c) + open_in marks cs
+abbrev pub open_in : List Standing → List ℕ → ℕ
+open_in standings [] = 0
+open_in standings (c ∷ cs) = open_one (slice_get standings c) + open_in standings cs
 
 -- how many of all components aren't done
-abbrev pub unfinished_in : List Mark → ℕ
+abbrev pub unfinished_in : List Standing → ℕ
 unfinished_in [] = 0
 unfinished_in (m ∷ ms) = open_one (Some m) + unfinished_in ms
 
@@ -36,15 +36,15 @@ abbrev pub AreCallers : List (List ℕ) → List (List ℕ) → Type 0
 AreCallers callees callers = (c d : ℕ) → times c (called callers d) ≡ times d (called callees c)
 
 -- Each count is how many callees of the component aren't done, and just the ready components are marked.
-pub record Tracks (callees : List (List ℕ)) (marks : List Mark) (callers : List (List ℕ)) (counts : List ℕ) (unfinished : ℕ) (ready : List ℕ) : Type 0 where
-  pub as_many_callees : length callees ≡ length marks
-  pub as_many_callers : length callers ≡ length marks
-  pub as_many_counts : length counts ≡ length marks
-  pub room : length marks ≤ 64 * length ready
+pub record Tracks (callees : List (List ℕ)) (standings : List Standing) (callers : List (List ℕ)) (counts : List ℕ) (unfinished : ℕ) (ready : List ℕ) : Type 0 where
+  pub as_many_callees : length callees ≡ length standings
+  pub as_many_callers : length callers ≡ length standings
+  pub as_many_counts : length counts ≡ length standings
+  pub room : length standings ≤ 64 * length ready
   pub inverse : AreCallers callees callers
-  pub counted : (c : ℕ) → c < length marks → count_at counts c ≡ open_in marks (called callees c)
-  pub left : unfinished ≡ unfinished_in marks
-  pub exact : (c : ℕ) → IsMarked ready c ↔ IsReady callees marks c
+  pub counted : (c : ℕ) → c < length standings → count_at counts c ≡ open_in standings (called callees c)
+  pub left : unfinished ≡ unfinished_in standings
+  pub exact : (c : ℕ) → IsMarked ready c ↔ IsReady callees standings c
 
 -- The counts of these callers are lower, each by how often it is there, and those whose count is 0 then are marked.
 pub record Lowered (callers counts counts' ready ready' : List ℕ) : Type 0 where
