@@ -14,7 +14,7 @@ use Rattle.core_scan.specs.declared.token.Token.{Token}
 use Rattle.dialyze.specs.declared.sort.SmallSort.{SmallSort}
 use Rattle.dialyze.specs.declared.sort.SmallSort.TheVariants as s
 use Rattle.dialyze.specs.Sorts.{sort}
-use Rattle.dialyze.specs.Grammar.{at, Takes, takes, NameAt, name_at, Parameters, Expression, Definition, defined, Definitions, ended, one_more, NoToken, NoName, NoParameters, NoExpression, NoDefinition, NoDefinitions}
+use Rattle.dialyze.specs.Grammar.{at, Takes, takes, NameAt, name_at, Parameters, Expression, Definition, defined, Definitions, ended, one_more, NoSuchToken, NoFunctionName, NoParameters, NoExpression, NoDefinition, NoDefinitions}
 use Rattle.dialyze.proofs.Once.{once-Takes, once-NameAt, once-Expression, takes_from}
 use Rattle.dialyze.proofs.ParameterExits.{once-Parameters, sort_at, behind_two}
 
@@ -76,10 +76,10 @@ behind_arrow_is : {n p : ℕ} {u : Token} {ts us as_ vs ws cs bs rest : List Tok
 behind_arrow_is name equals is open_ params arrow i = once-Takes arrow (takes_from (sym (behind_params_is name equals is open_ params i)) i.arrow)
 
 -- where there is none
-pub no_name_to_define : (n : ℕ) (ts : List Token) → NoName ts → NoDefinition n ts
+pub no_name_to_define : (n : ℕ) (ts : List Token) → NoFunctionName ts → NoDefinition n ts
 no_name_to_define n ts none = record { absent = λ f k xs body rest p h. let i = in_definition h in none.absent i.name i.place i.behind_name i.named }
 
-pub no_equals_to_define : (n : ℕ) (ts us : List Token) (f : FunName) (place : Place) → NameAt ts f place us → NoToken s.Equals us → NoDefinition n ts
+pub no_equals_to_define : (n : ℕ) (ts us : List Token) (f : FunName) (place : Place) → NameAt ts f place us → NoSuchToken s.Equals us → NoDefinition n ts
 no_equals_to_define n ts us f place name none = record { absent = λ g k xs body rest p h. let i = in_definition h in none.absent (i.word ∷ i.behind_word) (takes_from (sym (behind_name_is name i)) i.equals) }
 
 pub no_word_to_define : (n : ℕ) (ts us as_ : List Token) (f : FunName) (place : Place) → NameAt ts f place us → Takes s.Equals us as_ → length as_ ≡ 0 → NoDefinition n ts
@@ -94,7 +94,7 @@ other_word_to_define n u ts us as_ vs f place a name equals is not_fun funs =
           absurd cc;
     }
 
-pub no_bracket_to_define : (n : ℕ) (u : Token) (ts us as_ vs : List Token) (f : FunName) (place : Place) → NameAt ts f place us → Takes s.Equals us as_ → as_ ≡ u ∷ vs → NoToken s.OpenRound vs → NoDefinition n ts
+pub no_bracket_to_define : (n : ℕ) (u : Token) (ts us as_ vs : List Token) (f : FunName) (place : Place) → NameAt ts f place us → Takes s.Equals us as_ → as_ ≡ u ∷ vs → NoSuchToken s.OpenRound vs → NoDefinition n ts
 no_bracket_to_define n u ts us as_ vs f place name equals is none =
     record { absent = λ g k xs body rest p h. let i = in_definition h in none.absent i.behind_open (takes_from (behind_two (sym (behind_equals_is name equals i) ∙ is)) i.opened) }
 
@@ -102,7 +102,7 @@ pub no_params_to_define : (n : ℕ) (u : Token) (ts us as_ vs ws : List Token) (
 no_params_to_define n u ts us as_ vs ws f place name equals is open_ none =
     record { absent = λ g k xs body rest p h. let i = in_definition h in none.absent i.params i.behind_params (parameters_at (sym (behind_open_is name equals is open_ i)) i.parameters) }
 
-pub no_arrow_to_define : (n : ℕ) (u : Token) (ts us as_ vs ws cs : List Token) (f : FunName) (place : Place) (ps : List VarName) → NameAt ts f place us → Takes s.Equals us as_ → as_ ≡ u ∷ vs → Takes s.OpenRound vs ws → Parameters ws ps cs → NoToken s.Arrow cs → NoDefinition n ts
+pub no_arrow_to_define : (n : ℕ) (u : Token) (ts us as_ vs ws cs : List Token) (f : FunName) (place : Place) (ps : List VarName) → NameAt ts f place us → Takes s.Equals us as_ → as_ ≡ u ∷ vs → Takes s.OpenRound vs ws → Parameters ws ps cs → NoSuchToken s.Arrow cs → NoDefinition n ts
 no_arrow_to_define n u ts us as_ vs ws cs f place ps name equals is open_ params none =
     record { absent = λ g k xs body rest p h. let i = in_definition h in none.absent i.behind_arrow (takes_from (sym (behind_params_is name equals is open_ params i)) i.arrow) }
 
@@ -174,11 +174,11 @@ ended_here (takes h) = ended h
 pub definitions_closed : (p : ℕ) (ts us vs : List Token) (ds : List (FunDefOf Expr)) → DefinitionsSoFar ts ds p us → Takes s.End us vs → Definitions 0 ts (all_defs ds) vs
 definitions_closed p ts us vs ds before h = definitions_are (append-nil (map def_tree ds)) (before.completes [] vs (ended_here h))
 
-neither_end_nor_definition : {n : ℕ} {us vs : List Token} {ds : m.Defs} → Definitions n us ds vs → NoToken s.End us → NoDefinition n us → ⊥
+neither_end_nor_definition : {n : ℕ} {us vs : List Token} {ds : m.Defs} → Definitions n us ds vs → NoSuchToken s.End us → NoDefinition n us → ⊥
 neither_end_nor_definition (ended {ts = ts} h) a b = a.absent ts (takes h)
 neither_end_nor_definition (one_more {p = p} {us = us} {f = f} {k = k} {xs = xs} {body = body} d more) a b = b.absent f k xs body us p d
 
-pub definitions_stuck : (p : ℕ) (ts us : List Token) (ds : List (FunDefOf Expr)) → DefinitionsSoFar ts ds p us → NoToken s.End us → NoDefinition p us → NoDefinitions 0 ts
+pub definitions_stuck : (p : ℕ) (ts us : List Token) (ds : List (FunDefOf Expr)) → DefinitionsSoFar ts ds p us → NoSuchToken s.End us → NoDefinition p us → NoDefinitions 0 ts
 definitions_stuck p ts us ds before a b = record { absent = λ es vs h. neither_end_nor_definition (before.only es vs h).1 a b }
 
 -- in one way alone

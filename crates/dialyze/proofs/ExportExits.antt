@@ -6,7 +6,7 @@ use Rattle.core_ast.specs.declared.syntax.FunName.{FunName}
 use Rattle.core_scan.specs.declared.token.Token.{Token}
 use Rattle.dialyze.specs.declared.sort.SmallSort.TheVariants as s
 use Rattle.dialyze.specs.Sorts.{sort}
-use Rattle.dialyze.specs.Grammar.{Takes, takes, NameAt, name_at, MoreExports, end_exports, next_export, Exports, no_export, first_export, NoToken, NoName, NoExports}
+use Rattle.dialyze.specs.Grammar.{Takes, takes, NameAt, name_at, MoreExports, end_exports, next_export, Exports, no_export, first_export, NoSuchToken, NoFunctionName, NoExports}
 use Rattle.dialyze.proofs.Once.{once-NameAt}
 use Rattle.dialyze.proofs.ParameterExits.{sort_at, behind_two}
 
@@ -58,11 +58,11 @@ pub exports_closed : (t : Token) (ts us vs : List Token) (fs : List FunName) (ps
 exports_closed t ts us vs fs ps before e h = exports_are (append-nil fs) (append-nil ps) (before.completes [] [] vs (more_exports_from (sym e) (end_exports h)))
 
 -- where there are none
-neither_close_nor_name : {ts vs : List Token} {gs : List FunName} {qs : List Place} → Exports ts gs qs vs → NoToken s.CloseSquare ts → NoName ts → ⊥
+neither_close_nor_name : {ts vs : List Token} {gs : List FunName} {qs : List Place} → Exports ts gs qs vs → NoSuchToken s.CloseSquare ts → NoFunctionName ts → ⊥
 neither_close_nor_name (no_export {ts = us} h) a b = a.absent us (takes h)
 neither_close_nor_name (first_export {us = us} {f = f} {place = p} named more) a b = b.absent f p us named
 
-pub no_first_export : (ts : List Token) → NoToken s.CloseSquare ts → NoName ts → NoExports ts
+pub no_first_export : (ts : List Token) → NoSuchToken s.CloseSquare ts → NoFunctionName ts → NoExports ts
 no_first_export ts a b = record { absent = λ gs qs vs h. neither_close_nor_name h a b }
 
 nothing_next_export : {us vs : List Token} {gs : List FunName} {qs : List Place} → MoreExports us gs qs vs → length us ≡ 0 → ⊥
@@ -79,11 +79,11 @@ neither_next_export (next_export h i more) e a a' b b' = let k = b' (sort_at e h
 pub exports_stuck : (t : Token) (ts us vs : List Token) (fs : List FunName) (ps : List Place) (a b : Bool) → ExportsSoFar ts fs ps us → us ≡ t ∷ vs → a ≡ false → (sort t ≡ s.CloseSquare → a ≡ true) → b ≡ false → (sort t ≡ s.Comma → b ≡ true) → NoExports ts
 exports_stuck t ts us vs fs ps a b before e f f' g g' = record { absent = λ gs qs zs h. neither_next_export (before.only gs qs zs h).2 e f f' g g' }
 
-no_name_next : {t : Token} {us vs ws : List Token} {gs : List FunName} {qs : List Place} → MoreExports us gs qs ws → us ≡ t ∷ vs → sort t ≡ s.Comma → NoName vs → ⊥
+no_name_next : {t : Token} {us vs ws : List Token} {gs : List FunName} {qs : List Place} → MoreExports us gs qs ws → us ≡ t ∷ vs → sort t ≡ s.Comma → NoFunctionName vs → ⊥
 no_name_next (end_exports h) e g none = let k = sort_at e h in absurd cc
 no_name_next (next_export {us = us} {f = f} {place = p} h named more) e g none = let P : List Token → Type 0 = λ x. NameAt x f p us in none.absent f p us (subst P (behind_two e) named)
 
-pub no_next_export : (t : Token) (ts us vs : List Token) (fs : List FunName) (ps : List Place) → ExportsSoFar ts fs ps us → us ≡ t ∷ vs → sort t ≡ s.Comma → NoName vs → NoExports ts
+pub no_next_export : (t : Token) (ts us vs : List Token) (fs : List FunName) (ps : List Place) → ExportsSoFar ts fs ps us → us ≡ t ∷ vs → sort t ≡ s.Comma → NoFunctionName vs → NoExports ts
 no_next_export t ts us vs fs ps before e g none = record { absent = λ gs qs zs h. no_name_next (before.only gs qs zs h).2 e g none }
 
 -- in one way alone

@@ -12,7 +12,7 @@ use Rattle.dialyze.specs.declared.sort.SmallSort.{SmallSort}
 use Rattle.dialyze.specs.declared.sort.SmallSort.TheVariants as s
 use Rattle.dialyze.specs.Sorts.{sort}
 use Rattle.dialyze.specs.declared.expressions.TheConstants.{DEEPEST}
-use Rattle.dialyze.specs.Grammar.{text, value, at, Takes, AtomAt, NameAt, Simple, variable, integer, atom, Expression, simple, tuple, apply, call, Elements, NoToken, NoAtom, NoName, NotSimple, NoExpression, NoElements}
+use Rattle.dialyze.specs.Grammar.{text, value, at, Takes, AtomAt, NameAt, Simple, variable, integer, atom, Expression, simple, tuple, apply, call, Elements, NoSuchToken, NoAtom, NoFunctionName, NotSimple, NoExpression, NoElements}
 use Rattle.dialyze.proofs.Once.{is_simple, simple_sort, once-Takes, once-AtomAt, once-NameAt, takes_from, atom_from, elements_from}
 
 -- one token
@@ -144,10 +144,10 @@ in_apply e (call _ h x c f o xs) = absurd cc
 pub too_deep_to_apply : (q : Bool) (d n : ℕ) (t : Token) (ts : List Token) → sort t ≡ s.Apply → DEEPEST < d + 1 → NoExpression q d n (t ∷ ts)
 too_deep_to_apply q d n t ts e deep = record { absent = λ x us p h. let i = (in_apply e h).shallow in omega arith }
 
-pub no_name_to_apply : (q : Bool) (d n : ℕ) (t : Token) (ts : List Token) → sort t ≡ s.Apply → NoName ts → NoExpression q d n (t ∷ ts)
+pub no_name_to_apply : (q : Bool) (d n : ℕ) (t : Token) (ts : List Token) → sort t ≡ s.Apply → NoFunctionName ts → NoExpression q d n (t ∷ ts)
 no_name_to_apply q d n t ts e none = record { absent = λ x us p h. let i = in_apply e h in none.absent i.name i.place i.behind_name i.named }
 
-pub no_bracket_to_apply : (q : Bool) (d n : ℕ) (t : Token) (ts us : List Token) (f : FunName) (place : Place) → sort t ≡ s.Apply → NameAt ts f place us → NoToken s.OpenRound us → NoExpression q d n (t ∷ ts)
+pub no_bracket_to_apply : (q : Bool) (d n : ℕ) (t : Token) (ts us : List Token) (f : FunName) (place : Place) → sort t ≡ s.Apply → NameAt ts f place us → NoSuchToken s.OpenRound us → NoExpression q d n (t ∷ ts)
 no_bracket_to_apply q d n t ts us f place e name none =
     record { absent = λ x rest p h. let i = in_apply e h in none.absent i.behind_open (takes_from (sym (once-NameAt name i.named).rest_is) i.opened) }
 
@@ -198,7 +198,7 @@ too_deep_to_call q d n t ts e deep = record { absent = λ x us p h. let i = (in_
 pub no_home_to_call : (q : Bool) (d n : ℕ) (t : Token) (ts : List Token) → sort t ≡ s.Call → NoAtom ts → NoExpression q d n (t ∷ ts)
 no_home_to_call q d n t ts e none = record { absent = λ x us p h. let i = in_call e h in none.absent i.home i.home_place i.behind_home i.homed }
 
-pub no_colon_to_call : (q : Bool) (d n : ℕ) (t : Token) (ts us : List Token) (a : Atom) (r : Place) → sort t ≡ s.Call → AtomAt ts a r us → NoToken s.Colon us → NoExpression q d n (t ∷ ts)
+pub no_colon_to_call : (q : Bool) (d n : ℕ) (t : Token) (ts us : List Token) (a : Atom) (r : Place) → sort t ≡ s.Call → AtomAt ts a r us → NoSuchToken s.Colon us → NoExpression q d n (t ∷ ts)
 no_colon_to_call q d n t ts us a r e home none =
     record { absent = λ x rest p h. let i = in_call e h in none.absent i.behind_colon (takes_from (sym (once-AtomAt home i.homed).rest_is) i.parted) }
 
@@ -217,7 +217,7 @@ behind_call_name home colon name i =
     let same = once-Takes colon (takes_from (sym (once-AtomAt home i.homed).rest_is) i.parted) in
     (once-AtomAt name (atom_from (sym same) i.named)).rest_is
 
-pub no_bracket_to_call : (q : Bool) (d n : ℕ) (t : Token) (ts us vs ws : List Token) (a f : Atom) (r o : Place) → sort t ≡ s.Call → AtomAt ts a r us → Takes s.Colon us vs → AtomAt vs f o ws → NoToken s.OpenRound ws → NoExpression q d n (t ∷ ts)
+pub no_bracket_to_call : (q : Bool) (d n : ℕ) (t : Token) (ts us vs ws : List Token) (a f : Atom) (r o : Place) → sort t ≡ s.Call → AtomAt ts a r us → Takes s.Colon us vs → AtomAt vs f o ws → NoSuchToken s.OpenRound ws → NoExpression q d n (t ∷ ts)
 no_bracket_to_call q d n t ts us vs ws a f r o e home colon name none =
     record { absent = λ x rest p h. let i = in_call e h in none.absent i.behind_open (takes_from (sym (behind_call_name home colon name i)) i.opened) }
 

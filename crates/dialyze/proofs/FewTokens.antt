@@ -15,7 +15,7 @@ use Rattle.dialyze.specs.declared.source.TheConstants.{LONGEST_SOURCE}
 use Rattle.core_ast.specs.Lengths.{how_many}
 use Rattle.dialyze.specs.Scope.{names}
 use Rattle.dialyze.specs.steps.Few.{IsFew, AreFew, FewInDefs, AllFew}
-use Rattle.dialyze.specs.Grammar.{Takes, takes, AtomAt, atom_at, NameAt, name_at, Simple, variable, integer, atom, Expression, simple, tuple, apply, call, Elements, none, some, More, closes, goes_on, MoreParameters, end_parameters, next_parameter, Parameters, no_parameter, first_parameter, MoreExports, end_exports, next_export, Exports, no_export, first_export, Definition, defined, Definitions, ended, one_more, EmptyAttributes, empty_attributes, Spells, spelled}
+use Rattle.dialyze.specs.Grammar.{Takes, takes, AtomAt, atom_at, NameAt, name_at, Simple, variable, integer, atom, Expression, simple, tuple, apply, call, Elements, none, some, More, closes, goes_on, MoreParameters, end_parameters, next_parameter, Parameters, no_parameter, first_parameter, MoreExports, end_exports, next_export, Exports, no_export, first_export, Definition, defined, Definitions, ended, one_more, EmptyAttributes, empty_attributes, SpellsSmall, spelled}
 
 taken_shorter : {c : SmallSort} {ts us : List Token} → Takes c ts us → length us < length ts
 taken_shorter (takes h) = omega arith
@@ -93,7 +93,7 @@ definitions_few short (ended h) = tt
 definitions_few short (one_more d more) = let a = definition_shorter d in (definition_few short d, definitions_few (omega arith) more)
 
 -- A module that fewer than 2^32 tokens spell has few arguments everywhere.
-pub spelled_is_few : {ts : List Token} {x : m.Module} → length ts < 4294967296 → Spells ts x → AllFew x
+pub spelled_is_few : {ts : List Token} {x : m.Module} → length ts < 4294967296 → SpellsSmall ts x → AllFew x
 spelled_is_few short (spelled a b c d e g h) =
     let i = taken_shorter a in let j = atom_shorter b in let k = taken_shorter c in let l = exports_shorter d in let o = attributes_shorter e in definitions_few (omega arith) g
 

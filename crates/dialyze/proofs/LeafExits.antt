@@ -8,7 +8,7 @@ use Rattle.core_scan.specs.declared.token.Token.{Token}
 use Rattle.dialyze.specs.declared.sort.SmallSort.{SmallSort}
 use Rattle.dialyze.specs.declared.sort.SmallSort.TheVariants as s
 use Rattle.dialyze.specs.Sorts.{sort}
-use Rattle.dialyze.specs.Grammar.{text, arity, Takes, takes, AtomAt, atom_at, NameAt, name_at, NoToken, NoAtom, NoName}
+use Rattle.dialyze.specs.Grammar.{text, arity, Takes, takes, AtomAt, atom_at, NameAt, name_at, NoSuchToken, NoAtom, NoFunctionName}
 
 same_sort : {t u : Token} {c : SmallSort} {ts us : List Token} → (u ∷ us) ≡ (t ∷ ts) → sort u ≡ c → sort t ≡ c
 same_sort {t} {u} {c} e h = let P : Token → Type 0 = λ x. sort x ≡ c in let f : u ≡ t = cc in subst P f h
@@ -20,13 +20,13 @@ takes_it c t ts us e h = let P : List Token → Type 0 = λ x. Takes c x us in s
 nothing_to_take : {c : SmallSort} {ts rest : List Token} → Takes c ts rest → length ts ≡ 0 → ⊥
 nothing_to_take (takes h) e = absurd (omega arith)
 
-pub none_to_take : (c : SmallSort) (ts : List Token) → length ts ≡ 0 → NoToken c ts
+pub none_to_take : (c : SmallSort) (ts : List Token) → length ts ≡ 0 → NoSuchToken c ts
 none_to_take c ts e = record { absent = λ rest h. nothing_to_take h e }
 
 not_first : {c : SmallSort} {t : Token} {ts us rest : List Token} → Takes c ts rest → ts ≡ t ∷ us → sort t ≡ c
 not_first (takes h) e = same_sort e h
 
-pub other_to_take : (c : SmallSort) (t : Token) (ts us : List Token) (found : Bool) → ts ≡ t ∷ us → found ≡ false → (sort t ≡ c → found ≡ true) → NoToken c ts
+pub other_to_take : (c : SmallSort) (t : Token) (ts us : List Token) (found : Bool) → ts ≡ t ∷ us → found ≡ false → (sort t ≡ c → found ≡ true) → NoSuchToken c ts
 other_to_take c t ts us found e not_found finds = record { absent = λ rest h. let k = finds (not_first h e) in absurd cc }
 
 -- an atom
@@ -76,22 +76,22 @@ behind_name {us = us} {rest = rest} (name_at {i = i} {a = a} {ts = vs} h c numbe
     let P : List Token → Type 0 = λ y. Takes s.Slash y (i ∷ rest) in
     record { number = i; size = a; slash = subst P f c; is_arity = number }
 
-pub none_for_name : (ts : List Token) → length ts ≡ 0 → NoName ts
+pub none_for_name : (ts : List Token) → length ts ≡ 0 → NoFunctionName ts
 none_for_name ts e = record { absent = λ x p rest h. no_name_left h e }
 
-pub other_for_name : (t : Token) (ts us : List Token) → ts ≡ t ∷ us → (sort t ≡ s.Atom → ⊥) → NoName ts
+pub other_for_name : (t : Token) (ts us : List Token) → ts ≡ t ∷ us → (sort t ≡ s.Atom → ⊥) → NoFunctionName ts
 other_for_name t ts us e differs = record { absent = λ x p rest h. differs (no_name_first h e) }
 
-pub no_slash_for_name : (t : Token) (ts us : List Token) → ts ≡ t ∷ us → NoToken s.Slash us → NoName ts
+pub no_slash_for_name : (t : Token) (ts us : List Token) → ts ≡ t ∷ us → NoSuchToken s.Slash us → NoFunctionName ts
 no_slash_for_name t ts us e none = record { absent = λ x p rest h. none.absent _ (behind_name h e).slash }
 
 same_taken : {c : SmallSort} {us vs ws : List Token} → Takes c us vs → Takes c us ws → vs ≡ ws
 same_taken (takes h) (takes g) = refl
 
-pub no_number_for_name : (t : Token) (ts us vs : List Token) → ts ≡ t ∷ us → Takes s.Slash us vs → length vs ≡ 0 → NoName ts
+pub no_number_for_name : (t : Token) (ts us vs : List Token) → ts ≡ t ∷ us → Takes s.Slash us vs → length vs ≡ 0 → NoFunctionName ts
 no_number_for_name t ts us vs e slash f = record { absent = λ x p rest h. let g = ap length (same_taken slash (behind_name h e).slash) in absurd (omega arith) }
 
-pub no_arity_for_name : (t i : Token) (ts us vs ws : List Token) → ts ≡ t ∷ us → Takes s.Slash us vs → vs ≡ i ∷ ws → arity i ≡ None → NoName ts
+pub no_arity_for_name : (t i : Token) (ts us vs ws : List Token) → ts ≡ t ∷ us → Takes s.Slash us vs → vs ≡ i ∷ ws → arity i ≡ None → NoFunctionName ts
 no_arity_for_name t i ts us vs ws e slash f none =
     record {
       absent = λ x p rest h.

@@ -8,7 +8,7 @@ use Rattle.core_ast.specs.declared.syntax.FunName.{FunName}
 use Rattle.core_ast.specs.Model as m
 use Rattle.core_scan.specs.declared.token.Token.{Token}
 use Rattle.dialyze.specs.declared.sort.SmallSort.TheVariants as s
-use Rattle.dialyze.specs.Grammar.{no_note, Takes, AtomAt, Exports, Definitions, EmptyAttributes, empty_attributes, Spells, spelled, NoToken, NoAtom, NoExports, NoAttributes, NoDefinitions, SpellNothing}
+use Rattle.dialyze.specs.Grammar.{no_note, Takes, AtomAt, Exports, Definitions, EmptyAttributes, empty_attributes, SpellsSmall, spelled, NoSuchToken, NoAtom, NoExports, NoAttributes, NoDefinitions, SpellNothing}
 use Rattle.dialyze.proofs.Once.{once-Takes, once-AtomAt, takes_from, atom_from}
 use Rattle.dialyze.proofs.ExportExits.{once-Exports}
 use Rattle.dialyze.proofs.DefinitionExits.{once-Definitions}
@@ -17,22 +17,22 @@ use Rattle.dialyze.proofs.DefinitionExits.{once-Definitions}
 pub attributes_it : (ts us vs ws : List Token) → Takes s.Attributes ts us → Takes s.OpenSquare us vs → Takes s.CloseSquare vs ws → EmptyAttributes ts ws
 attributes_it ts us vs ws a b c = empty_attributes a b c
 
-no_word_for : {ts rest : List Token} → EmptyAttributes ts rest → NoToken s.Attributes ts → ⊥
+no_word_for : {ts rest : List Token} → EmptyAttributes ts rest → NoSuchToken s.Attributes ts → ⊥
 no_word_for (empty_attributes {us = us} a b c) none = none.absent us a
 
-pub no_attributes_word : (ts : List Token) → NoToken s.Attributes ts → NoAttributes ts
+pub no_attributes_word : (ts : List Token) → NoSuchToken s.Attributes ts → NoAttributes ts
 no_attributes_word ts none = record { absent = λ rest h. no_word_for h none }
 
-no_open_for : {ts us rest : List Token} → EmptyAttributes ts rest → Takes s.Attributes ts us → NoToken s.OpenSquare us → ⊥
+no_open_for : {ts us rest : List Token} → EmptyAttributes ts rest → Takes s.Attributes ts us → NoSuchToken s.OpenSquare us → ⊥
 no_open_for (empty_attributes {vs = vs} a b c) a' none = none.absent vs (takes_from (once-Takes a a') b)
 
-pub no_attributes_open : (ts us : List Token) → Takes s.Attributes ts us → NoToken s.OpenSquare us → NoAttributes ts
+pub no_attributes_open : (ts us : List Token) → Takes s.Attributes ts us → NoSuchToken s.OpenSquare us → NoAttributes ts
 no_attributes_open ts us a none = record { absent = λ rest h. no_open_for h a none }
 
-no_close_for : {ts us vs rest : List Token} → EmptyAttributes ts rest → Takes s.Attributes ts us → Takes s.OpenSquare us vs → NoToken s.CloseSquare vs → ⊥
+no_close_for : {ts us vs rest : List Token} → EmptyAttributes ts rest → Takes s.Attributes ts us → Takes s.OpenSquare us vs → NoSuchToken s.CloseSquare vs → ⊥
 no_close_for {rest = rest} (empty_attributes a b c) a' b' none = none.absent rest (takes_from (once-Takes (takes_from (once-Takes a a') b) b') c)
 
-pub no_attributes_close : (ts us vs : List Token) → Takes s.Attributes ts us → Takes s.OpenSquare us vs → NoToken s.CloseSquare vs → NoAttributes ts
+pub no_attributes_close : (ts us vs : List Token) → Takes s.Attributes ts us → Takes s.OpenSquare us vs → NoSuchToken s.CloseSquare vs → NoAttributes ts
 no_attributes_close ts us vs a b none = record { absent = λ rest h. no_close_for h a b none }
 
 pub once-EmptyAttributes : {ts us vs : List Token} → EmptyAttributes ts us → EmptyAttributes ts vs → us ≡ vs
@@ -62,7 +62,7 @@ record InModule (ts : List Token) (x : m.Module) : Type 0 where
   at_end : behind_defs ≡ []
   whole : x ≡ (let y : m.Module = record { name = name; exports = exports; export_places = places; defs = defs; note = no_note } in y)
 
-in_module : {ts : List Token} {x : m.Module} → Spells ts x → InModule ts x
+in_module : {ts : List Token} {x : m.Module} → SpellsSmall ts x → InModule ts x
 in_module (spelled {us = us} {vs = vs} {ws = ws} {cs = cs} {bs = bs} {zs = zs} {x = x} {place = place} {fs = fs} {places = places} {ds = ds} a b c d e g h) =
     record { behind_word = us; behind_name = vs; behind_open = ws; behind_exports = cs; behind_attributes = bs; behind_defs = zs; name = x; place = place; exports = fs; places = places; defs = ds; word = a; named = b; opened = c; exported = d; attributes = e; definitions = g; at_end = h; whole = refl }
 
@@ -101,11 +101,11 @@ behind_attributes_is h i =
 
 -- the whole
 pub module_it : (ts us vs ws cs bs zs : List Token) (x : Atom) (place : Place) (fs : List FunName) (ps : List Place) (ds : m.Defs) (y : m.Module) → Takes s.Module ts us → AtomAt us x place vs → Takes s.OpenSquare vs ws → Exports ws fs ps cs → EmptyAttributes cs bs → Definitions 0 bs ds zs → zs ≡ []
-    → y ≡ (let z : m.Module = record { name = x; exports = fs; export_places = ps; defs = ds; note = no_note } in z) → Spells ts y
-module_it ts us vs ws cs bs zs x place fs ps ds y a b c d e g h is = let P : m.Module → Type 0 = λ z. Spells ts z in subst P (sym is) (spelled a b c d e g h)
+    → y ≡ (let z : m.Module = record { name = x; exports = fs; export_places = ps; defs = ds; note = no_note } in z) → SpellsSmall ts y
+module_it ts us vs ws cs bs zs x place fs ps ds y a b c d e g h is = let P : m.Module → Type 0 = λ z. SpellsSmall ts z in subst P (sym is) (spelled a b c d e g h)
 
 -- where there is none
-pub no_module_word : (ts : List Token) → NoToken s.Module ts → SpellNothing ts
+pub no_module_word : (ts : List Token) → NoSuchToken s.Module ts → SpellNothing ts
 no_module_word ts none = record { absent = λ x h. let i = in_module h in none.absent i.behind_word i.word }
 
 pub no_module_name : (ts us : List Token) → Takes s.Module ts us → NoAtom us → SpellNothing ts
@@ -114,7 +114,7 @@ no_module_name ts us a none = record { absent = λ x h. let i = in_module h in n
 behind_name_is : {ts us vs : List Token} {x : Atom} {place : Place} {y : m.Module} → Takes s.Module ts us → AtomAt us x place vs → (i : InModule ts y) → vs ≡ i.behind_name
 behind_name_is a b i = (once-AtomAt b (atom_from (once-Takes i.word a) i.named)).rest_is
 
-pub no_module_open : (ts us vs : List Token) (x : Atom) (place : Place) → Takes s.Module ts us → AtomAt us x place vs → NoToken s.OpenSquare vs → SpellNothing ts
+pub no_module_open : (ts us vs : List Token) (x : Atom) (place : Place) → Takes s.Module ts us → AtomAt us x place vs → NoSuchToken s.OpenSquare vs → SpellNothing ts
 no_module_open ts us vs x place a b none = record { absent = λ y h. let i = in_module h in none.absent i.behind_open (takes_from (sym (behind_name_is a b i)) i.opened) }
 
 behind_open_is : {ts us vs ws : List Token} {x : Atom} {place : Place} {y : m.Module} → Takes s.Module ts us → AtomAt us x place vs → Takes s.OpenSquare vs ws → (i : InModule ts y) → ws ≡ i.behind_open
@@ -145,8 +145,8 @@ more_behind_module ts us vs ws cs bs zs x place fs ps ds a b c d e g more =
 pub ruleset module_exits = (module_it, no_module_word, no_module_name, no_module_open, no_module_exports, no_module_attributes, no_module_defs, more_behind_module)
 
 -- Tokens spell one module at most.
-pub once-Spells : {ts : List Token} {x y : m.Module} → Spells ts x → Spells ts y → x ≡ y
-once-Spells h g =
+pub once-SpellsSmall : {ts : List Token} {x y : m.Module} → SpellsSmall ts x → SpellsSmall ts y → x ≡ y
+once-SpellsSmall h g =
     let i = in_module h in
     let j = in_module g in
     let a = once-Takes i.word j.word in

@@ -11,7 +11,7 @@ use Rattle.dialyze.specs.declared.sort.SmallSort.{SmallSort}
 use Rattle.dialyze.specs.declared.sites.Site.{Site}
 use Rattle.dialyze.specs.Sites.{sites, all_sites}
 use Rattle.dialyze.specs.steps.Numbered.{labels, IsNumbered}
-use Rattle.dialyze.specs.Grammar.{Simple, variable, integer, atom, Expression, simple, tuple, apply, call, Elements, none, some, More, closes, goes_on, Definition, defined, Definitions, ended, one_more, Spells, spelled}
+use Rattle.dialyze.specs.Grammar.{Simple, variable, integer, atom, Expression, simple, tuple, apply, call, Elements, none, some, More, closes, goes_on, Definition, defined, Definitions, ended, one_more, SpellsSmall, spelled}
 
 -- The numbers ascend, from one on and below another.
 abbrev pub Rising : (low high : ℕ) → List ℕ → Type 0
@@ -82,5 +82,5 @@ pairs_ascend low high (n ∷ ns) h =
     above n (k ∷ ns) h = (omega (arith, h.0), above n ns h.1)
 
 -- The labels of a module that tokens spell ascend.
-pub spelled_is_numbered : {ts : List Token} {x : m.Module} → Spells ts x → IsNumbered x
+pub spelled_is_numbered : {ts : List Token} {x : m.Module} → SpellsSmall ts x → IsNumbered x
 spelled_is_numbered (spelled {ds = ds} a b c d e g h) = let r = definitions_risen g in pairs_ascend 0 r.0 (labels ds) r.1

@@ -10,10 +10,10 @@ use Rattle.core_scan.specs.Lexed.{Lexed}
 use Rattle.da_shelf.specs.Told.{Files}
 use Rattle.dialyze.specs.declared.status.Status.{Status}
 use Rattle.dialyze.specs.Words.{IsCheck}
-use Rattle.dialyze.specs.Grammar.{Spells}
+use Rattle.dialyze.specs.Grammar.{SpellsSmall}
 use Rattle.dialyze.specs.Report.{Finding, StandsBefore, AreFindings, lines_of, IsReport}
 use Rattle.dialyze.specs.Outcome.{IsBuilt, Judged, refused, clean, warned, Outcome, usage, lacking, judged, missing_line}
-use Rattle.dialyze.proofs.ModuleExits.{once-Spells}
+use Rattle.dialyze.proofs.ModuleExits.{once-SpellsSmall}
 use Rattle.dialyze.proofs.FoundLemmas.{first_or_later, first_in, later_in, in_nothing}
 
 -- lists in one strict order with the same items are one
@@ -70,8 +70,8 @@ one_report {x} r s = r.written ∙ ap (lines_of x.name) (one_list r.are s.are) �
 module _ (lexed_once : (place : Place) (bytes : List ℕ) (ts us : List Token) → Lexed place bytes ts → Lexed place bytes us → ts ≡ us) where
   one_module : {bytes : List ℕ} {x y : m.Module} → IsBuilt bytes x → IsBuilt bytes y → x ≡ y
   one_module {bytes} {x} a b =
-      let P : List Token → Type 0 = λ ts. Spells ts x in
-      once-Spells (subst P (lexed_once start bytes a.tokens b.tokens a.lexed b.lexed) a.module_is.spelled) b.module_is.spelled
+      let P : List Token → Type 0 = λ ts. SpellsSmall ts x in
+      once-SpellsSmall (subst P (lexed_once start bytes a.tokens b.tokens a.lexed b.lexed) a.module_is.spelled) b.module_is.spelled
 
   pub record SameAnswer (s t : Status) (a b : List ℕ) : Type 0 where
     pub status_is : s ≡ t

@@ -8,7 +8,7 @@ use Rattle.core_ast.specs.Tree.{module_tree}
 use Rattle.core_scan.specs.declared.token.Token.{Token}
 use Rattle.core_scan.specs.Bytes.{start}
 use Rattle.core_scan.specs.Lexed.{Lexed}
-use Rattle.dialyze.specs.Grammar.{Spells, SpellNothing}
+use Rattle.dialyze.specs.Grammar.{SpellsSmall, SpellNothing}
 use Rattle.dialyze.specs.Scope.{IsAccepted}
 use Rattle.dialyze.specs.declared.source.TheConstants.{LONGEST_SOURCE}
 use Rattle.dialyze.specs.Outcome.{IsBuilt, IsNotBuilt, SpellAccepted, SpellNoneAccepted}
@@ -34,13 +34,13 @@ spelled_it bytes tokens read (Err e) short lexed once is h = tt
 
 pub ruleset source_exits = (too_long, no_tokens)
 
-pub accepted_it : (tokens : List Token) (x : m.Module) → Spells tokens x → IsAccepted x → SpellAccepted tokens x
+pub accepted_it : (tokens : List Token) (x : m.Module) → SpellsSmall tokens x → IsAccepted x → SpellAccepted tokens x
 accepted_it tokens x a b = record { spelled = a; accepted = b }
 
 pub nothing_spelled : (tokens : List Token) → SpellNothing tokens → SpellNoneAccepted tokens
 nothing_spelled tokens none = record { absent = λ x h. none.absent x h.spelled }
 
-pub not_accepted : (tokens : List Token) (x : m.Module) → ((y : m.Module) → Spells tokens y → y ≡ x) → (IsAccepted x → ⊥) → SpellNoneAccepted tokens
+pub not_accepted : (tokens : List Token) (x : m.Module) → ((y : m.Module) → SpellsSmall tokens y → y ≡ x) → (IsAccepted x → ⊥) → SpellNoneAccepted tokens
 not_accepted tokens x only bad = record { absent = λ y h. bad (subst IsAccepted (only y h.spelled) h.accepted) }
 
 pub ruleset spelled_exits = (accepted_it, nothing_spelled, not_accepted)

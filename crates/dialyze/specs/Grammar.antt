@@ -134,19 +134,19 @@ pub data EmptyAttributes : List Token → List Token → Type 0 where
   empty_attributes : {ts us vs rest : List Token} → Takes s.Attributes ts us → Takes s.OpenSquare us vs → Takes s.CloseSquare vs rest → EmptyAttributes ts rest
 
 -- The tokens spell the module: module name [ exports ] attributes [ ] definitions end.
-pub data Spells : List Token → m.Module → Type 0 where
+pub data SpellsSmall : List Token → m.Module → Type 0 where
   spelled : {ts us vs ws cs bs zs : List Token} {x : Atom} {place : Place} {fs : List FunName} {places : List Place} {ds : m.Defs}
       → Takes s.Module ts us → AtomAt us x place vs → Takes s.OpenSquare vs ws → Exports ws fs places cs → EmptyAttributes cs bs → Definitions 0 bs ds zs → zs ≡ []
-      → Spells ts (record { name = x; exports = fs; export_places = places; defs = ds; note = no_note })
+      → SpellsSmall ts (record { name = x; exports = fs; export_places = places; defs = ds; note = no_note })
 
 -- Nothing of the kind begins the tokens.
-pub record NoToken (c : SmallSort) (ts : List Token) : Type 0 where
+pub record NoSuchToken (c : SmallSort) (ts : List Token) : Type 0 where
   pub absent : (rest : List Token) → Takes c ts rest → ⊥
 
 pub record NoAtom (ts : List Token) : Type 0 where
   pub absent : (x : Atom) (place : Place) (rest : List Token) → AtomAt ts x place rest → ⊥
 
-pub record NoName (ts : List Token) : Type 0 where
+pub record NoFunctionName (ts : List Token) : Type 0 where
   pub absent : (f : FunName) (place : Place) (rest : List Token) → NameAt ts f place rest → ⊥
 
 pub record NotSimple (n : ℕ) (t : Token) : Type 0 where
@@ -175,7 +175,7 @@ pub record NoAttributes (ts : List Token) : Type 0 where
 
 -- The tokens spell no module.
 pub record SpellNothing (ts : List Token) : Type 0 where
-  pub absent : (x : m.Module) → Spells ts x → ⊥
+  pub absent : (x : m.Module) → SpellsSmall ts x → ⊥
 
 -- the tokens that close a list
 abbrev pub closing : SmallSort → Bool

@@ -12,13 +12,13 @@ use Rattle.dialyze.specs.declared.status.Status.{Status}
 use Rattle.dialyze.specs.declared.status.Status.TheVariants.{Clean, Refused, Warnings, TableFault, DeviceFault, Memory, Usage}
 use Rattle.dialyze.specs.declared.status.Device.TheVariants.{Read, Replace, Write}
 use Rattle.dialyze.specs.Words.{IsCheck, IsNoCommand}
-use Rattle.dialyze.specs.Grammar.{Spells}
+use Rattle.dialyze.specs.Grammar.{SpellsSmall}
 use Rattle.dialyze.specs.Scope.{IsAccepted}
 use Rattle.dialyze.specs.Report.{IsReport}
 
 -- The tokens spell the module, and it is accepted.
 pub record SpellAccepted (tokens : List Token) (x : m.Module) : Type 0 where
-  pub spelled : Spells tokens x
+  pub spelled : SpellsSmall tokens x
   pub accepted : IsAccepted x
 
 -- The tokens spell no module that is accepted.

@@ -3,7 +3,7 @@ ghost use Rattle.core_ast.specs.Model as m;
 ghost use Rattle.core_ast.specs.Tree.{tree, all_defs, module_tree};
 ghost use Rattle.dialyze.specs.steps.Numbered.{IsNumbered};
 ghost use Rattle.dialyze.specs.steps.Few.{AllFew};
-ghost use Rattle.dialyze.specs.Grammar.{parameter, Parameters, Exports, Definition, Definitions, EmptyAttributes, Spells, NoParameters, NoExports, NoDefinition, NoDefinitions, NoAttributes, SpellNothing};
+ghost use Rattle.dialyze.specs.Grammar.{parameter, Parameters, Exports, Definition, Definitions, EmptyAttributes, SpellsSmall, NoParameters, NoExports, NoDefinition, NoDefinitions, NoAttributes, SpellNothing};
 
 use crate::expressions::{ReadExpr, expression};
 use crate::leaves::{Fault, ReadName, mark, no_note, take, take_atom, take_name, text_of};
@@ -256,11 +256,11 @@ fn share(alloc: Global, defs: &mut List<Shared<FunDef>>, def: FunDef) -> Result<
 #[tactic(auto, using(crate::proofs::ModuleExits::module_exits))]
 pub fn module_of(alloc: Global, tokens: &[Token]) -> Result<Module, Fault>
     requires { length tokens.now < 2 ^ 32 }
-    ensures ok { IfOk result (λ found. Spells tokens.now (module_tree found)) }
+    ensures ok { IfOk result (λ found. SpellsSmall tokens.now (module_tree found)) }
     ensures few { IfOk result (λ found. length found.defs ≤ length tokens.now) }
     ensures numbered { IfOk result (λ found. IsNumbered (module_tree found)) }
     ensures few_arguments { IfOk result (λ found. AllFew (module_tree found)) }
-    ensures once { IfOk result (λ found. (x : m.Module) → Spells tokens.now x → x ≡ module_tree found) }
+    ensures once { IfOk result (λ found. (x : m.Module) → SpellsSmall tokens.now x → x ≡ module_tree found) }
     ensures refused { IsErrOf result Fault.NotBuilt → SpellNothing tokens.now }
 {
     let Some(rest) = take(tokens, SmallSort::Module) else {

@@ -1,5 +1,5 @@
 ghost use Rattle.std.specs.Prelude.{◌≡◌, ◌<◌, length, IfOk, IfSome, IfNone, IsErrOf};
-ghost use Rattle.dialyze.specs.Grammar.{no_note as empty_note, text, value, arity, at, Takes, AtomAt, NameAt, NoToken, NoAtom, NoName};
+ghost use Rattle.dialyze.specs.Grammar.{no_note as empty_note, text, value, arity, at, Takes, AtomAt, NameAt, NoSuchToken, NoAtom, NoFunctionName};
 
 use crate::sort::{SmallSort, has_sort};
 use core_ast::{FunName, Mark, Note};
@@ -68,7 +68,7 @@ pub fn mark(label: u32, place: Place) -> Mark
 pub fn take<'a>(tokens: &'a [Token], sort: SmallSort) -> Option<&'a [Token]>
     ensures taken { IfSome result (λ rest. Takes sort tokens.now rest.now) }
     ensures shorter { IfSome result (λ rest. length rest.now < length tokens.now) }
-    ensures none { IfNone result (NoToken sort tokens.now) }
+    ensures none { IfNone result (NoSuchToken sort tokens.now) }
 {
     let Some((first, rest)) = tokens.split_first() else {
         return None;
@@ -108,7 +108,7 @@ pub fn take_atom<'a>(alloc: Global, tokens: &'a [Token]) -> Result<ReadAtom<'a>,
 pub fn take_name<'a>(alloc: Global, tokens: &'a [Token]) -> Result<ReadName<'a>, Fault>
     ensures ok { IfOk result (λ r. NameAt tokens.now r.name r.place r.rest.now) }
     ensures shorter { IfOk result (λ r. length r.rest.now < length tokens.now) }
-    ensures refused { IsErrOf result Fault.NotBuilt → NoName tokens.now }
+    ensures refused { IsErrOf result Fault.NotBuilt → NoFunctionName tokens.now }
 {
     let Some((first, rest)) = tokens.split_first() else {
         return Err(Fault::NotBuilt);

@@ -15,7 +15,7 @@ abbrev pub all_values : List Value → m.Values
 all_values vs = values (map value_of vs)
 
 -- the pairs of a map
-abbrev pub all_pairs : List (Value × Value) → m.Pairs
+abbrev pub all_pairs : List (Value × Value) → m.ValuePairs
 all_pairs ps = pairs (map (λ p. (value_of p.0, value_of p.1)) ps)
 
 -- what a value stands for, by what its layer is

@@ -10,7 +10,7 @@ abbrev pub values : List m.Value → m.Values
 values [] = m.no_value
 values (v ∷ vs) = m.and_value v (values vs)
 
-abbrev pub pairs : List (m.Value × m.Value) → m.Pairs
+abbrev pub pairs : List (m.Value × m.Value) → m.ValuePairs
 pairs [] = m.no_pair
 pairs (p ∷ ps) = m.and_pair p.0 p.1 (pairs ps)
 

@@ -7,7 +7,7 @@ use Rattle.type_sets.specs.Names.{Name, name_cmp}
 use Rattle.type_sets.proofs.Truths.{first, second}
 use Rattle.type_sets.proofs.AscendingLaws as ascending
 use Rattle.type_sets.proofs.NameLaws.{name_total, name_same}
-use Rattle.type_model.specs.Values.{Value, int, atom, nil, cons, tuple, map, closure, Values, no_value, and_value, Pairs, no_pair, and_pair, no_variable, and_variable, count, heads, end_of}
+use Rattle.type_model.specs.Values.{Value, int, atom, nil, cons, tuple, map, closure, Values, no_value, and_value, ValuePairs, no_pair, and_pair, no_variable, and_variable, count, heads, end_of}
 use Rattle.type_model.specs.Tables.{find}
 use Rattle.type_model.specs.Shapes.{Cell, Body, product, tags, Tuples, sizes, all_tuples, TypeAt}
 use Rattle.type_model.specs.HasType.{HasAll, HasEach, HasRow, HasCell, HasTag, HasBody, HasTuple, HasParts, HasAt}
@@ -18,7 +18,7 @@ use Rattle.type_model.proofs.Spellings.{spelled_once}
 -- ---- maps are told by their pairs
 
 -- a key that stands below all of a map's keys stands below each of them
-below_each : (x : Name) (ps : Pairs) → is_below_all name_cmp x (spelled_keys ps) ≡ true → (k v : Value) → HoldsPair ps k v → is_lt (name_cmp x (spelled k)) ≡ true
+below_each : (x : Name) (ps : ValuePairs) → is_below_all name_cmp x (spelled_keys ps) ≡ true → (k v : Value) → HoldsPair ps k v → is_lt (name_cmp x (spelled k)) ≡ true
 below_each x no_pair h k v i = absurd i
 below_each x (and_pair j w ps) h k v (inl e) = ap (λ q. is_lt (name_cmp x (spelled q))) e.0 ∙ first _ (is_below_all name_cmp x (spelled_keys ps)) h
 below_each x (and_pair j w ps) h k v (inr i) = below_each x ps (second _ (is_below_all name_cmp x (spelled_keys ps)) h) k v i
@@ -27,15 +27,15 @@ not_below_itself : (k : Value) → is_lt (name_cmp (spelled k) (spelled k)) ≡ 
 not_below_itself k = ascending.below-not_itself name_total name_same (spelled k)
 
 -- no key of what follows is the first one
-later : (j w : Value) (ps : Pairs) → AreAscending (and_pair j w ps) → (k v : Value) → HoldsPair ps k v → k ≡ j → ⊥
+later : (j w : Value) (ps : ValuePairs) → AreAscending (and_pair j w ps) → (k v : Value) → HoldsPair ps k v → k ≡ j → ⊥
 later j w ps a k v h e =
     not_below_itself j (ap (λ q. is_lt (name_cmp (spelled j) (spelled q))) (sym e) ∙ below_each (spelled j) ps (first _ (is_ascending name_cmp (spelled_keys ps)) a) k v h)
 
-rest_ascends : (k v : Value) (ps : Pairs) → AreAscending (and_pair k v ps) → AreAscending ps
+rest_ascends : (k v : Value) (ps : ValuePairs) → AreAscending (and_pair k v ps) → AreAscending ps
 rest_ascends k v ps a = second (is_below_all name_cmp (spelled k) (spelled_keys ps)) (is_ascending name_cmp (spelled_keys ps)) a
 
 -- the first pairs of two maps that have the same are one
-same_firsts : (k v : Value) (ps : Pairs) (j w : Value) (qs : Pairs) → AreAscending (and_pair k v ps) → AreAscending (and_pair j w qs) → ((k ≡ j) × (v ≡ w)) ⊎ HoldsPair qs k v → ((j ≡ k) × (w ≡ v)) ⊎ HoldsPair ps j w → (k ≡ j) × (v ≡ w)
+same_firsts : (k v : Value) (ps : ValuePairs) (j w : Value) (qs : ValuePairs) → AreAscending (and_pair k v ps) → AreAscending (and_pair j w qs) → ((k ≡ j) × (v ≡ w)) ⊎ HoldsPair qs k v → ((j ≡ k) × (w ≡ v)) ⊎ HoldsPair ps j w → (k ≡ j) × (v ≡ w)
 same_firsts k v ps j w qs a b (inl e) i = e
 same_firsts k v ps j w qs a b (inr h) (inl e) = (sym e.0, sym e.1)
 same_firsts k v ps j w qs a b (inr h) (inr i) =
@@ -44,14 +44,14 @@ same_firsts k v ps j w qs a b (inr h) (inr i) =
     absurd (ascending.below-both_ways name_total name_same (spelled k) (spelled j) under over)
 
 -- what the rest of the one has, the rest of the other has
-rest_below : (k v : Value) (ps : Pairs) (j w : Value) (qs : Pairs) → AreAscending (and_pair k v ps) → k ≡ j → PairsBelow (and_pair k v ps) (and_pair j w qs) → PairsBelow ps qs
+rest_below : (k v : Value) (ps : ValuePairs) (j w : Value) (qs : ValuePairs) → AreAscending (and_pair k v ps) → k ≡ j → PairsBelow (and_pair k v ps) (and_pair j w qs) → PairsBelow ps qs
 rest_below k v ps j w qs a e f x y h =
     elim (f x y (inr h)) [
       | inl g ↦ absurd (later k v ps a x y h (g.0 ∙ sym e))
       | inr i ↦ i
     ]
 
-pub same_pairs : (ps qs : Pairs) → AreAscending ps → AreAscending qs → PairsBelow ps qs → PairsBelow qs ps → ps ≡ qs
+pub same_pairs : (ps qs : ValuePairs) → AreAscending ps → AreAscending qs → PairsBelow ps qs → PairsBelow qs ps → ps ≡ qs
 same_pairs no_pair no_pair a b f g = refl
 same_pairs no_pair (and_pair j w qs) a b f g = absurd (g j w (inl (refl, refl)))
 same_pairs (and_pair k v ps) no_pair a b f g = absurd (f k v (inl (refl, refl)))
@@ -61,7 +61,7 @@ same_pairs (and_pair k v ps) (and_pair j w qs) a b f g =
     λ i. and_pair (e.0 i) (e.1 i) (rest i)
 
 -- a key has one value
-pub one_value : (ps : Pairs) → AreAscending ps → (k v w : Value) → HoldsPair ps k v → HoldsPair ps k w → v ≡ w
+pub one_value : (ps : ValuePairs) → AreAscending ps → (k v w : Value) → HoldsPair ps k v → HoldsPair ps k w → v ≡ w
 one_value no_pair a k v w h i = absurd h
 one_value (and_pair j u ps) a k v w (inl e) (inl f) = e.1 ∙ sym f.1
 one_value (and_pair j u ps) a k v w (inl e) (inr i) = absurd (later j u ps a k w i e.0)
@@ -70,7 +70,7 @@ one_value (and_pair j u ps) a k v w (inr h) (inr i) = one_value ps (rest_ascends
 
 -- ---- a pair that is put into a map
 
-keys_put : (k v : Value) (ps : Pairs) → spelled_keys (put_pair k v ps) ≡ placed name_cmp (spelled k) (spelled_keys ps)
+keys_put : (k v : Value) (ps : ValuePairs) → spelled_keys (put_pair k v ps) ≡ placed name_cmp (spelled k) (spelled_keys ps)
 keys_put k v no_pair = refl
 keys_put k v (and_pair j w ps) =
     elim (name_cmp (spelled k) (spelled j)) as (λ r. spelled_keys (cond (is_lt r) (and_pair k v (and_pair j w ps)) (cond (is_eq r) (and_pair j v ps) (and_pair j w (put_pair k v ps)))) ≡ cond (is_lt r) (spelled k ∷ spelled j ∷ spelled_keys ps) (cond (is_eq r) (spelled j ∷ spelled_keys ps) (spelled j ∷ placed name_cmp (spelled k) (spelled_keys ps)))) [
@@ -79,10 +79,10 @@ keys_put k v (and_pair j w ps) =
       | Greater ↦ ap (λ ks. spelled j ∷ ks) (keys_put k v ps)
     ]
 
-put_ascends : (k v : Value) (ps : Pairs) → AreAscending ps → AreAscending (put_pair k v ps)
+put_ascends : (k v : Value) (ps : ValuePairs) → AreAscending ps → AreAscending (put_pair k v ps)
 put_ascends k v ps a = ap (is_ascending name_cmp) (keys_put k v ps) ∙ ascending.ascending-placed name_total name_same (spelled k) (spelled_keys ps) a
 
-put_parts : (k v : Value) (ps : Pairs) → IsCanonical k → IsCanonical v → ArePairsCanonical ps → ArePairsCanonical (put_pair k v ps)
+put_parts : (k v : Value) (ps : ValuePairs) → IsCanonical k → IsCanonical v → ArePairsCanonical ps → ArePairsCanonical (put_pair k v ps)
 put_parts k v no_pair a b c = (a, b, tt)
 put_parts k v (and_pair j w ps) a b c =
     elim (name_cmp (spelled k) (spelled j)) as (λ r. ArePairsCanonical (cond (is_lt r) (and_pair k v (and_pair j w ps)) (cond (is_eq r) (and_pair j v ps) (and_pair j w (put_pair k v ps))))) [
@@ -91,18 +91,18 @@ put_parts k v (and_pair j w ps) a b c =
       | Greater ↦ (c.0, c.1, put_parts k v ps a b c.2)
     ]
 
-pub put_canonical : (k v : Value) (ps : Pairs) → IsCanonical k → IsCanonical v → IsCanonical (map ps) → IsCanonical (map (put_pair k v ps))
+pub put_canonical : (k v : Value) (ps : ValuePairs) → IsCanonical k → IsCanonical v → IsCanonical (map ps) → IsCanonical (map (put_pair k v ps))
 put_canonical k v ps a b c = (put_ascends k v ps c.0, put_parts k v ps a b c.1)
 
 -- the pair is there, and of the others those of other keys
-abbrev Put : Value → Value → Pairs → Value → Value → Type 0
+abbrev Put : Value → Value → ValuePairs → Value → Value → Type 0
 Put k v ps x y = ((x ≡ k) × (y ≡ v)) ⊎ ((x ≡ k → ⊥) × HoldsPair ps x y)
 
 -- a value isn't above itself
 greater_apart : (k j : Value) → name_cmp (spelled k) (spelled j) ≡ Greater → k ≡ j → ⊥
 greater_apart k j e q = true≢false (sym (ascending.itself name_total name_same (spelled k)) ∙ ap (λ z. is_eq (name_cmp (spelled k) (spelled z))) q ∙ ap is_eq e)
 
-pub put_holds : (k v : Value) (ps : Pairs) → AreAscending ps → (x y : Value) → HoldsPair (put_pair k v ps) x y ↔ Put k v ps x y
+pub put_holds : (k v : Value) (ps : ValuePairs) → AreAscending ps → (x y : Value) → HoldsPair (put_pair k v ps) x y ↔ Put k v ps x y
 put_holds k v no_pair a x y = (λ h. elim h [ inl e ↦ inl e | inr i ↦ absurd i ], λ h. elim h [ inl e ↦ inl e | inr i ↦ absurd i.1 ])
 put_holds k v (and_pair j w ps) a x y =
     elim (name_cmp (spelled k) (spelled j)) as (λ r. name_cmp (spelled k) (spelled j) ≡ r → AreAscending (cond (is_lt r) (and_pair k v (and_pair j w ps)) (cond (is_eq r) (and_pair j v ps) (and_pair j w (put_pair k v ps)))) → HoldsPair (cond (is_lt r) (and_pair k v (and_pair j w ps)) (cond (is_eq r) (and_pair j v ps) (and_pair j w (put_pair k v ps)))) x y ↔ Put k v (and_pair j w ps) x y) [

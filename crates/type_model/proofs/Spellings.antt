@@ -1,7 +1,7 @@
 -- A value is told by its spelling, also where more numbers follow: no spelling is a front of another.
 use Rattle.std.proofs.Common.{◌≡◌, ℕ, ◌==◌, Bool, true, false, List, [], ◌∷◌, ◌++◌, length, drop, refl, sym, ap, ap₂, ◌∙◌, arith, append_assoc, true≢false}
 use Rattle.std.specs.Prelude.{pos, negsuc}
-use Rattle.type_model.specs.Values.{Value, int, atom, bits, float, pid, port, reference, nil, cons, tuple, map, closure, external, foreign, Values, no_value, and_value, Pairs, no_pair, and_pair, Env, no_variable, and_variable, and_frame}
+use Rattle.type_model.specs.Values.{Value, int, atom, bits, float, pid, port, reference, nil, cons, tuple, map, closure, external, foreign, Values, no_value, and_value, ValuePairs, no_pair, and_pair, Env, no_variable, and_variable, and_frame}
 use Rattle.type_model.specs.Canonical.{spelled_name, spelled_int, spelled_bits, spelled_locals, spelled, spelled_values, spelled_pairs, spelled_env}
 
 -- what spells alike, with more behind, is the same, and so is what is behind
@@ -135,7 +135,7 @@ mutual
       let q = values_code vs ws r s p.1 in
       (ap₂ and_value p.0 q.0, q.1)
 
-  pairs_code : (ps qs : Pairs) (r s : List ℕ) → spelled_pairs ps ++ r ≡ spelled_pairs qs ++ s → (ps ≡ qs) × (r ≡ s)
+  pairs_code : (ps qs : ValuePairs) (r s : List ℕ) → spelled_pairs ps ++ r ≡ spelled_pairs qs ++ s → (ps ≡ qs) × (r ≡ s)
   pairs_code no_pair no_pair r s e = (refl, same_rest 0 0 r s e)
   pairs_code no_pair (and_pair j w qs) r s e = absurd (true≢false (ap (begins 0) e))
   pairs_code (and_pair k v ps) no_pair r s e = absurd (true≢false (ap (begins 1) e))

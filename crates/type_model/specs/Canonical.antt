@@ -4,7 +4,7 @@ use Rattle.std.specs.Prelude.{◌≡◌, ◌⊎◌, ℕ, ℤ, pos, negsuc, Bool,
 use Rattle.std.specs.Ordering.{is_lt, eq_by_cmp}
 use Rattle.type_sets.specs.Ascending.{is_ascending}
 use Rattle.type_sets.specs.Names.{Name, name_cmp}
-use Rattle.type_model.specs.Values.{Value, int, atom, bits, float, pid, port, reference, nil, cons, tuple, map, closure, external, foreign, Values, no_value, and_value, Pairs, no_pair, and_pair, Env, no_variable, and_variable, and_frame, Local}
+use Rattle.type_model.specs.Values.{Value, int, atom, bits, float, pid, port, reference, nil, cons, tuple, map, closure, external, foreign, Values, no_value, and_value, ValuePairs, no_pair, and_pair, Env, no_variable, and_variable, and_frame, Local}
 
 -- ---- a value as a list of numbers, from which it can be read: a number for what it is, then its parts. A name has its
 -- length first, a list of values or bits a number before each item and 0 at the end
@@ -45,7 +45,7 @@ abbrev mutual
   spelled_values no_value = 0 ∷ []
   spelled_values (and_value v vs) = 1 ∷ (spelled v ++ spelled_values vs)
 
-  pub spelled_pairs : Pairs → List ℕ
+  pub spelled_pairs : ValuePairs → List ℕ
   spelled_pairs no_pair = 0 ∷ []
   spelled_pairs (and_pair k v ps) = 1 ∷ (spelled k ++ (spelled v ++ spelled_pairs ps))
 
@@ -57,12 +57,12 @@ abbrev mutual
 -- ---- the order
 
 -- the keys of a map, spelled
-abbrev pub spelled_keys : Pairs → List Name
+abbrev pub spelled_keys : ValuePairs → List Name
 spelled_keys no_pair = []
 spelled_keys (and_pair k v ps) = spelled k ∷ spelled_keys ps
 
 -- the keys ascend strictly: values are ordered by their spellings, as words are in a dictionary
-abbrev pub AreAscending : Pairs → Type 0
+abbrev pub AreAscending : ValuePairs → Type 0
 AreAscending ps = is_ascending name_cmp (spelled_keys ps) ≡ true
 
 -- each map in the value has its pairs in this order: in its elements, in its pairs, and in the environment of a closure
@@ -78,7 +78,7 @@ abbrev mutual
   AreCanonical no_value = Unit {0}
   AreCanonical (and_value v vs) = IsCanonical v × AreCanonical vs
 
-  pub ArePairsCanonical : Pairs → Type 0
+  pub ArePairsCanonical : ValuePairs → Type 0
   ArePairsCanonical no_pair = Unit {0}
   ArePairsCanonical (and_pair k v ps) = IsCanonical k × IsCanonical v × ArePairsCanonical ps
 
@@ -88,16 +88,16 @@ abbrev mutual
   IsEnvCanonical (and_frame ls env) = IsEnvCanonical env
 
 -- the key and the value are one of the pairs
-abbrev pub HoldsPair : Pairs → Value → Value → Type 0
+abbrev pub HoldsPair : ValuePairs → Value → Value → Type 0
 HoldsPair no_pair k v = ⊥
 HoldsPair (and_pair j w ps) k v = ((k ≡ j) × (v ≡ w)) ⊎ HoldsPair ps k v
 
 -- each pair of the first is one of the second
-abbrev pub PairsBelow : Pairs → Pairs → Type 0
+abbrev pub PairsBelow : ValuePairs → ValuePairs → Type 0
 PairsBelow ps qs = (k v : Value) → HoldsPair ps k v → HoldsPair qs k v
 
 -- a map with one more pair, or with another value at a key that it has
-abbrev pub put_pair : Value → Value → Pairs → Pairs
+abbrev pub put_pair : Value → Value → ValuePairs → ValuePairs
 put_pair k v no_pair = and_pair k v no_pair
 put_pair k v (and_pair j w ps) =
     cond (is_lt (name_cmp (spelled k) (spelled j))) (and_pair k v (and_pair j w ps)) (cond (eq_by_cmp name_cmp (spelled k) (spelled j)) (and_pair j v ps) (and_pair j w (put_pair k v ps)))

@@ -23,7 +23,7 @@ mutual
     cons : (head tail : Value) → Value
     tuple : (vs : Values) → Value
     -- a map, by its pairs of a key and a value; in a value of a run the keys ascend strictly (`Canonical.antt`)
-    map : (ps : Pairs) → Value
+    map : (ps : ValuePairs) → Value
     -- a `fun` of a module, by its label and arity, with the captured environment
     closure : (home : Name) (label arity : ℕ) (env : Env) → Value
     -- an exported function
@@ -36,9 +36,9 @@ mutual
     and_value : (v : Value) (vs : Values) → Values
 
   -- the pairs of a map
-  pub data Pairs : Type 0 where
-    no_pair : Pairs
-    and_pair : (key value : Value) (ps : Pairs) → Pairs
+  pub data ValuePairs : Type 0 where
+    no_pair : ValuePairs
+    and_pair : (key value : Value) (ps : ValuePairs) → ValuePairs
 
   -- the variables and the functions of the `letrec`s that enclose a place, the innermost first
   pub data Env : Type 0 where

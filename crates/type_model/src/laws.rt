@@ -3,7 +3,7 @@
 ghost use Rattle.std.specs.Prelude.{◌≡◌, ◌⊎◌, ◌↔◌, ◌≤◌, ◌<◌, ◌+◌, ◌-◌, ℕ, pos, suc, Bool, true, false, List, Some, nat_lt, length, map};
 ghost use Rattle.type_sets.specs.Numbers as numbers;
 ghost use Rattle.type_sets.specs.Numbers.{Numbers};
-ghost use Rattle.type_model.specs.Values.{Value, Values, and_value, Pairs, nil, cons, tuple, map as map_value, heads, end_of, count};
+ghost use Rattle.type_model.specs.Values.{Value, Values, and_value, ValuePairs, nil, cons, tuple, map as map_value, heads, end_of, count};
 ghost use Rattle.type_model.specs.Canonical.{spelled, IsCanonical, HoldsPair, PairsBelow, put_pair};
 ghost use Rattle.type_model.specs.Shapes.{TypeAt};
 ghost use Rattle.type_model.specs.HasType.{HasAt, HasAll, HasEach};
@@ -87,9 +87,9 @@ pub fn rank_laws()
 /// values is: canonical values tell types apart as well as all values do.
 pub fn value_laws()
     ensures spelled { (v w : Value) → spelled v ≡ spelled w → v ≡ w }
-    ensures maps { (ps qs : Pairs) → IsCanonical (map_value ps) → IsCanonical (map_value qs) → PairsBelow ps qs → PairsBelow qs ps → map_value ps ≡ map_value qs }
-    ensures keys { (ps : Pairs) → IsCanonical (map_value ps) → (k v w : Value) → HoldsPair ps k v → HoldsPair ps k w → v ≡ w }
-    ensures put { (k v : Value) (ps : Pairs) → IsCanonical k → IsCanonical v → IsCanonical (map_value ps) → IsCanonical (map_value (put_pair k v ps)) }
-    ensures put_holds { (k v : Value) (ps : Pairs) → IsCanonical (map_value ps) → (x y : Value) → HoldsPair (put_pair k v ps) x y ↔ (((x ≡ k) × (y ≡ v)) ⊎ ((x ≡ k → ⊥) × HoldsPair ps x y)) }
+    ensures maps { (ps qs : ValuePairs) → IsCanonical (map_value ps) → IsCanonical (map_value qs) → PairsBelow ps qs → PairsBelow qs ps → map_value ps ≡ map_value qs }
+    ensures keys { (ps : ValuePairs) → IsCanonical (map_value ps) → (k v w : Value) → HoldsPair ps k v → HoldsPair ps k w → v ≡ w }
+    ensures put { (k v : Value) (ps : ValuePairs) → IsCanonical k → IsCanonical v → IsCanonical (map_value ps) → IsCanonical (map_value (put_pair k v ps)) }
+    ensures put_holds { (k v : Value) (ps : ValuePairs) → IsCanonical (map_value ps) → (x y : Value) → HoldsPair (put_pair k v ps) x y ↔ (((x ≡ k) × (y ≡ v)) ⊎ ((x ≡ k → ⊥) × HoldsPair ps x y)) }
     ensures below { (d : ℕ) (s t : TypeAt d) → ((v : Value) → IsCanonical v → HasAt d v s → HasAt d v t) → BelowBy (HasAt d) s t }
 {}

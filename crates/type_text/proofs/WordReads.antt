@@ -22,7 +22,7 @@ use Rattle.type_trees.specs.View.{view, body_view, row_view, parts_view, cell_vi
 use Rattle.type_trees.proofs.Views.{fits_normal, view_any, view_of, of_fits}
 use Rattle.type_text.specs.Texts.{after, separated, text_at}
 use Rattle.type_text.specs.Words.{WordStop, TypeStop}
-use Rattle.type_text.specs.Starts.{is_number, begins_number, Lacks, NoName}
+use Rattle.type_text.specs.Starts.{is_number, begins_number, Lacks, NoTypeName}
 use Rattle.type_text.specs.WordTypes.{of_functions, of_list, of_tuples, IsWord, AreWords, spelled, joined_with, WordsOf}
 use Rattle.type_text.proofs.Prints.{any_is_all}
 use Rattle.type_text.proofs.LeafLaws.{word_stop}
@@ -341,7 +341,7 @@ pub no_number_there : (now : List ℕ) → begins_number now ≡ false → (b : 
 no_number_there now e b more is start = true≢false (sym (is_number-true b start) ∙ sym (ap begins_number is) ∙ e)
 
 -- the name of a word that begins with nothing else
-pub no_start : (now : List ℕ) → Lacks now (codes "'") → begins_number now ≡ false → Lacks now (codes "{") → Lacks now (codes "cons(") → Lacks now (codes "cons_any(") → NoName now → NoStart now
+pub no_start : (now : List ℕ) → Lacks now (codes "'") → begins_number now ≡ false → Lacks now (codes "{") → Lacks now (codes "cons(") → Lacks now (codes "cons_any(") → NoTypeName now → NoStart now
 no_start now quote number brace proper any name = record {
   number = no_number_there now number;
   quote = quote;
@@ -364,6 +364,6 @@ no_start now quote number brace proper any name = record {
   every_tuple = name.every_tuple;
 }
 
-pub name_found : (d : ℕ) (w rest : List ℕ) (u : TypeAt (suc d)) → IsWord d w u → (now : List ℕ) → now ≡ w ++ rest → (o : Option (Node × Bor (List ℕ))) → (NoName now → NoStart now) → MatchOption o (NoName now) (λ p. (view (suc d) p.0 ≡ u) × (p.1.now ≡ rest)) → Found (suc d) u rest o
+pub name_found : (d : ℕ) (w rest : List ℕ) (u : TypeAt (suc d)) → IsWord d w u → (now : List ℕ) → now ≡ w ++ rest → (o : Option (Node × Bor (List ℕ))) → (NoTypeName now → NoStart now) → MatchOption o (NoTypeName now) (λ p. (view (suc d) p.0 ≡ u) × (p.1.now ≡ rest)) → Found (suc d) u rest o
 name_found d w rest u i now e None f m = some_start w u i now rest e (f m)
 name_found d w rest u i now e (Some p) f m = m

@@ -37,7 +37,7 @@ pub record NoInterval (now : List ℕ) : Type 0 where
   pub range : Lacks now (codes "integer(")
 
 -- with none of these, and none for every tuple or every atom
-pub record NoName (now : List ℕ) : Type 0 where
+pub record NoTypeName (now : List ℕ) : Type 0 where
   pub every_tuple : Lacks now (codes "tuple()")
   pub every_atom : Lacks now (codes "atom()")
   pub flag : NoFlag now

@@ -13,7 +13,7 @@ ghost use Rattle.type_trees.specs.View.{view, body_view, row_view, Fits, EachNod
 ghost use Rattle.type_text.specs.Texts.{text_at, after, separated};
 ghost use Rattle.type_text.specs.Words.{TypeStop, WordStop};
 ghost use Rattle.type_text.specs.WordTypes.{IsWord, AreWords, spelled, joined_with, of_tuples, of_list, of_row, of_flags, of_bits, of_functions, of_ints};
-ghost use Rattle.type_text.specs.Starts.{begins_number, NoFlag, NoBits, NoFunction, NoInterval, NoName};
+ghost use Rattle.type_text.specs.Starts.{begins_number, NoFlag, NoBits, NoFunction, NoInterval, NoTypeName};
 
 use crate::leaves::{after_word, read_arity, read_integer, read_quoted, read_range};
 use std::alloc::Global;
@@ -323,7 +323,7 @@ fn read_number<'a>(alloc: Global, text: &'a [u8]) -> Option<(Node, &'a [u8])>
 fn read_name(alloc: Global, text: &[u8]) -> Option<(Node, &[u8])>
     ensures fits { IfSome result (λ p. (d : ℕ) → Fits (suc d) p.0) }
     ensures shorter { IfSome result (λ p. length p.1.now ≤ length text.now) }
-    ensures complete { (d : ℕ) (w rest : List ℕ) (u : TypeAt (suc d)) → IsWord d w u → text.now ≡ w ++ rest → MatchOption result (NoName text.now) (λ p. (view (suc d) p.0 ≡ u) × (p.1.now ≡ rest)) }
+    ensures complete { (d : ℕ) (w rest : List ℕ) (u : TypeAt (suc d)) → IsWord d w u → text.now ≡ w ++ rest → MatchOption result (NoTypeName text.now) (λ p. (view (suc d) p.0 ≡ u) × (p.1.now ≡ rest)) }
 {
     if let Some(rest) = after_word(text, b"tuple()") {
         return Some((every_tuple(), rest));

@@ -1,7 +1,7 @@
 use Rattle.std.proofs.Common.{ap}
 use Rattle.core_ast.specs.Model as m
 use Rattle.core_ast.specs.Tree.{all_defs}
-use Rattle.dialyze.proofs.ModuleExits.{module_it, nothing_left, once-Spells}
+use Rattle.dialyze.proofs.ModuleExits.{module_it, nothing_left, once-SpellsSmall}
 use Rattle.dialyze.proofs.FewTokens.{spelled_is_few}
 use Rattle.dialyze.proofs.Numbers.{spelled_is_numbered}
 use Rattle.dialyze.proofs.definitions.module_of.Goals as goal
@@ -16,7 +16,7 @@ pub returns-clause-numbered : goal.returns-clause-numbered
 returns-clause-numbered c = spelled_is_numbered (returns-clause-ok c)
 
 pub returns-clause-once : goal.returns-clause-once
-returns-clause-once c = λ x h. once-Spells h (returns-clause-ok c)
+returns-clause-once c = λ x h. once-SpellsSmall h (returns-clause-ok c)
 
 pub returns-clause-few_arguments : goal.returns-clause-few_arguments
 returns-clause-few_arguments c = spelled_is_few c.requires (returns-clause-ok c)
