@@ -1,0 +1,6 @@
+pub mod Build
+pub mod Grammar
+pub mod Labels
+pub mod Spells
+pub mod Begins
+pub mod steps

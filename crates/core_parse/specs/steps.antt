@@ -1,0 +1,13 @@
+pub mod Matches
+pub mod Track
+pub mod Faults
+pub mod Weights
+pub mod Readings
+pub mod Items
+pub mod Starters
+pub mod Chains
+pub mod Pairs
+pub mod Patterns
+pub mod Clauses
+pub mod Definitions
+pub mod Strings

@@ -1,0 +1,388 @@
+ghost use Rattle.std.specs.Prelude.{◌≡◌, ◌+◌, ◌^◌, ◌<◌, ◌≤◌, false, length, IfOk, IfErr};
+ghost use Rattle.core_ast.specs.Tree.{tree, all_pairs, pair_parts};
+ghost use Rattle.core_parse.specs.Grammar.{other_expression, pairs as pairs_of, pair as pair_of, bare_pair as bare_pair_of};
+ghost use Rattle.core_parse.specs.steps.Faults.{Starts, Refuses};
+ghost use Rattle.core_parse.specs.steps.Pairs.{ReadsMapPairs, ReadsBarePair, ReadsValueOf, RefusesValue, PairStart, NoPairStart, exact_sign, updated_tree};
+ghost use Rattle.core_parse.specs.steps.Readings.{ReadsOtherExpression, ReadsPair};
+ghost use Rattle.core_parse.specs.steps.Starters.{opens_with};
+ghost use Rattle.core_parse.specs.steps.Weights.{weight};
+
+use crate::annotations::annotation;
+use crate::expression_lists::pushed;
+use crate::expressions::{ReadExpression, bare_expression, expression};
+use crate::fault::Fault;
+use crate::leaves::{First, mark, next, take};
+use core_ast::{Expr, MapPair, discard, discard_pair, discard_pairs};
+use core_scan::{Sort, Token, same};
+use std::alloc::Global;
+use type_kinds::{List, Memory};
+
+/// The pairs of a map and the map that they update, and what follows the token that closes them.
+pub struct ReadPairs<'a> {
+    pub items: List<MapPair>,
+    pub updated: Option<Expr>,
+    pub rest: &'a [Token],
+    pub label: u32,
+}
+
+/// A pair, and what follows it.
+pub struct ReadPair<'a> {
+    pub pair: MapPair,
+    pub rest: &'a [Token],
+    pub label: u32,
+}
+
+/// ~{ pairs }~ and ~{ pairs | expression }~
+#[cycle(expressions)]
+pub fn map<'a>(
+    alloc: Global,
+    tokens: &'a [Token],
+    first: First<'a>,
+    depth: u32,
+    label: u32,
+) -> Result<ReadExpression<'a>, Fault>
+    requires shallow { depth ≤ 400 }
+    requires labels { label + weight tokens.now < 2 ^ 32 }
+    requires starts { Starts tokens.now first.token.now first.sort first.place first.rest.now }
+    requires shorter { length first.rest.now + 1 ≡ length tokens.now }
+    requires lighter { weight first.rest.now + 2 ≤ weight tokens.now }
+    requires sort { first.sort ≡ Sort.OpenMap }
+    ensures ok { IfOk result (λ r. ReadsOtherExpression depth label tokens.now (tree r.expr) r.rest.now r.label) }
+    ensures labels { IfOk result (λ r. r.label + weight r.rest.now ≤ label + weight tokens.now) }
+    ensures shorter { IfOk result (λ r. length r.rest.now < length tokens.now) }
+    ensures err { IfErr result (λ e. Refuses (other_expression depth) tokens.now e) }
+{
+    let mark = mark(label, first.place);
+    let ReadPairs {
+        items,
+        updated,
+        rest,
+        label,
+    } = match pairs(alloc, first.rest, depth + 1, label + 1) {
+        Ok(found) => found,
+        Err(fault) => return Err(fault),
+    };
+    let Some(updated) = updated else {
+        return Ok(ReadExpression {
+            expr: Expr::new_map(mark, items),
+            rest,
+            label,
+        });
+    };
+    match Expr::updated_map(alloc, mark, items, updated) {
+        Ok(expr) => Ok(ReadExpression { expr, rest, label }),
+        Err(Memory) => Err(Fault::Memory),
+    }
+}
+
+// Pairs with commas between them, the map that they update behind a bar, if any, and the token that
+// closes them.
+#[cycle(expressions)]
+fn pairs<'a>(
+    alloc: Global,
+    tokens: &'a [Token],
+    depth: u32,
+    label: u32,
+) -> Result<ReadPairs<'a>, Fault>
+    requires shallow { depth ≤ 401 }
+    requires labels { label + weight tokens.now < 2 ^ 32 }
+    ensures ok { IfOk result (λ r. ReadsMapPairs depth label tokens.now (all_pairs r.items) (updated_tree r.updated) r.rest.now r.label) }
+    ensures labels { IfOk result (λ r. r.label + weight r.rest.now ≤ label + weight tokens.now) }
+    ensures shorter { IfOk result (λ r. length r.rest.now < length tokens.now) }
+    ensures err { IfErr result (λ e. Refuses (pairs_of depth) tokens.now e) }
+{
+    let mut items = List::new(alloc);
+    let mut left = tokens;
+    let mut next_label = label;
+    loop {
+        let token = match next(left) {
+            Ok(found) => found,
+            Err(fault) => {
+                discard_pairs(items);
+                return Err(fault);
+            }
+        };
+        if same(token.sort, Sort::CloseMap) {
+            return Ok(ReadPairs {
+                items,
+                updated: None,
+                rest: token.rest,
+                label: next_label,
+            });
+        }
+        if same(token.sort, Sort::Bar) {
+            let ReadExpression { expr, rest, label } = match expression(
+                alloc, token.rest, depth, next_label,
+            ) {
+                Ok(found) => found,
+                Err(fault) => {
+                    discard_pairs(items);
+                    return Err(fault);
+                }
+            };
+            return match take(rest, Sort::CloseMap) {
+                Ok(rest) => Ok(ReadPairs {
+                    items,
+                    updated: Some(expr),
+                    rest,
+                    label,
+                }),
+                Err(fault) => {
+                    discard_pairs(items);
+                    discard(expr);
+                    Err(fault)
+                }
+            };
+        }
+        let start = match pair_start(left, token, items.is_empty()) {
+            Ok(found) => found,
+            Err(fault) => {
+                discard_pairs(items);
+                return Err(fault);
+            }
+        };
+        match pair(alloc, start, depth, next_label) {
+            Ok(ReadPair { pair, rest, label }) => {
+                if !pushed(&mut items, pair) {
+                    discard_pairs(items);
+                    return Err(Fault::Memory);
+                }
+                left = rest;
+                next_label = label;
+            }
+            Err(fault) => {
+                discard_pairs(items);
+                return Err(fault);
+            }
+        }
+    }
+}
+
+// Where the next pair starts: the first one at once, and any other behind a comma.
+fn pair_start<'a>(
+    tokens: &'a [Token],
+    token: First<'a>,
+    is_first: bool,
+) -> Result<&'a [Token], Fault>
+    requires shorter { length token.rest.now + 1 ≡ length tokens.now }
+    requires lighter { weight token.rest.now + 2 ≤ weight tokens.now }
+    ensures ok { IfOk result (λ r. PairStart is_first token.entry.sort tokens.now token.entry.rest.now r.now) }
+    ensures shorter { IfOk result (λ r. length r.now ≤ length tokens.now) }
+    ensures lighter { IfOk result (λ r. weight r.now ≤ weight tokens.now) }
+    ensures err { IfErr result (λ e. NoPairStart is_first token.entry.sort token.entry.place e) }
+{
+    if is_first {
+        return Ok(tokens);
+    }
+    if same(token.sort, Sort::Comma) {
+        Ok(token.rest)
+    } else {
+        Err(Fault::Syntax(token.place))
+    }
+}
+
+// A pair, with or without annotation brackets.
+#[cycle(expressions)]
+fn pair<'a>(
+    alloc: Global,
+    tokens: &'a [Token],
+    depth: u32,
+    label: u32,
+) -> Result<ReadPair<'a>, Fault>
+    requires shallow { depth ≤ 401 }
+    requires labels { label + weight tokens.now < 2 ^ 32 }
+    ensures ok { IfOk result (λ r. ReadsPair depth label tokens.now (pair_parts r.pair) r.rest.now r.label) }
+    ensures labels { IfOk result (λ r. r.label + weight r.rest.now ≤ label + weight tokens.now) }
+    ensures shorter { IfOk result (λ r. length r.rest.now < length tokens.now) }
+    ensures err { IfErr result (λ e. Refuses (pair_of depth) tokens.now e) }
+{
+    let first = match next(tokens) {
+        Ok(found) => found,
+        Err(fault) => return Err(fault),
+    };
+    if !same(first.sort, Sort::OpenRound) {
+        return match bare_pair(alloc, tokens, depth, label) {
+            Ok(found) => Ok(found),
+            Err(fault) => Err(fault),
+        };
+    }
+    let second = match next(first.rest) {
+        Ok(found) => found,
+        Err(fault) => return Err(fault),
+    };
+    if same(second.sort, Sort::OpenRound) {
+        let ReadPair { pair, rest, label } = match bare_pair(alloc, first.rest, depth, label) {
+            Ok(found) => found,
+            Err(fault) => return Err(fault),
+        };
+        return match annotation(alloc, rest) {
+            Ok(found) => Ok(ReadPair {
+                pair,
+                rest: found.rest,
+                label,
+            }),
+            Err(fault) => {
+                discard_pair(pair);
+                Err(fault)
+            }
+        };
+    }
+    match pair_in_brackets(alloc, tokens, first, depth, label) {
+        Ok(found) => Ok(found),
+        Err(fault) => Err(fault),
+    }
+}
+
+// A pair that begins with one bracket. It is the key's where an annotation follows the key, and else the
+// pair's.
+#[cycle(expressions)]
+fn pair_in_brackets<'a>(
+    alloc: Global,
+    tokens: &'a [Token],
+    first: First<'a>,
+    depth: u32,
+    label: u32,
+) -> Result<ReadPair<'a>, Fault>
+    requires shallow { depth ≤ 401 }
+    requires labels { label + weight tokens.now < 2 ^ 32 }
+    requires starts { Starts tokens.now first.token.now first.sort first.place first.rest.now }
+    requires shorter { length first.rest.now + 1 ≡ length tokens.now }
+    requires lighter { weight first.rest.now + 2 ≤ weight tokens.now }
+    requires sort { first.sort ≡ Sort.OpenRound }
+    requires once { opens_with (Sort.OpenRound) first.rest.now ≡ false }
+    ensures ok { IfOk result (λ r. ReadsPair depth label tokens.now (pair_parts r.pair) r.rest.now r.label) }
+    ensures labels { IfOk result (λ r. r.label + weight r.rest.now ≤ label + weight tokens.now) }
+    ensures shorter { IfOk result (λ r. length r.rest.now < length tokens.now) }
+    ensures err { IfErr result (λ e. Refuses (pair_of depth) tokens.now e) }
+{
+    let ReadExpression {
+        expr: key,
+        rest,
+        label,
+    } = match bare_expression(alloc, first.rest, depth, label) {
+        Ok(found) => found,
+        Err(fault) => return Err(fault),
+    };
+    let token = match next(rest) {
+        Ok(found) => found,
+        Err(fault) => {
+            discard(key);
+            return Err(fault);
+        }
+    };
+    if same(token.sort, Sort::Noted) {
+        return match annotation(alloc, rest) {
+            Ok(found) => {
+                let key = key.with_note(found.note);
+                match value_of_key(alloc, key, found.rest, depth, label) {
+                    Ok(found) => Ok(found),
+                    Err(fault) => Err(fault),
+                }
+            }
+            Err(fault) => {
+                discard(key);
+                Err(fault)
+            }
+        };
+    }
+    let ReadPair { pair, rest, label } = match value_of_key(alloc, key, rest, depth, label) {
+        Ok(found) => found,
+        Err(fault) => return Err(fault),
+    };
+    match annotation(alloc, rest) {
+        Ok(found) => Ok(ReadPair {
+            pair,
+            rest: found.rest,
+            label,
+        }),
+        Err(fault) => {
+            discard_pair(pair);
+            Err(fault)
+        }
+    }
+}
+
+// expression => expression, or expression := expression
+#[cycle(expressions)]
+fn bare_pair<'a>(
+    alloc: Global,
+    tokens: &'a [Token],
+    depth: u32,
+    label: u32,
+) -> Result<ReadPair<'a>, Fault>
+    requires shallow { depth ≤ 401 }
+    requires labels { label + weight tokens.now < 2 ^ 32 }
+    ensures ok { IfOk result (λ r. ReadsBarePair depth label tokens.now (pair_parts r.pair) r.rest.now r.label) }
+    ensures labels { IfOk result (λ r. r.label + weight r.rest.now ≤ label + weight tokens.now) }
+    ensures shorter { IfOk result (λ r. length r.rest.now < length tokens.now) }
+    ensures err { IfErr result (λ e. Refuses (bare_pair_of depth) tokens.now e) }
+{
+    let ReadExpression {
+        expr: key,
+        rest,
+        label,
+    } = match expression(alloc, tokens, depth, label) {
+        Ok(found) => found,
+        Err(fault) => return Err(fault),
+    };
+    match value_of_key(alloc, key, rest, depth, label) {
+        Ok(found) => Ok(found),
+        Err(fault) => Err(fault),
+    }
+}
+
+// Whether it is the sign of an exact pair, if it is the sign of a pair.
+fn exactness(sort: Sort) -> Option<bool>
+    ensures { result ≡ exact_sign sort }
+{
+    match sort {
+        Sort::Exact => Some(true),
+        Sort::Assoc => Some(false),
+        _ => None,
+    }
+}
+
+// The pair of this key, behind the key: => expression, or := expression.
+#[cycle(expressions)]
+fn value_of_key<'a>(
+    alloc: Global,
+    key: Expr,
+    tokens: &'a [Token],
+    depth: u32,
+    label: u32,
+) -> Result<ReadPair<'a>, Fault>
+    requires shallow { depth ≤ 401 }
+    requires labels { label + weight tokens.now < 2 ^ 32 }
+    ensures ok { IfOk result (λ r. ReadsValueOf depth label (tree key) tokens.now (pair_parts r.pair) r.rest.now r.label) }
+    ensures labels { IfOk result (λ r. r.label + weight r.rest.now ≤ label + weight tokens.now) }
+    ensures shorter { IfOk result (λ r. length r.rest.now < length tokens.now) }
+    ensures err { IfErr result (λ e. RefusesValue depth tokens.now e) }
+{
+    let token = match next(tokens) {
+        Ok(found) => found,
+        Err(fault) => {
+            discard(key);
+            return Err(fault);
+        }
+    };
+    let Some(exact) = exactness(token.sort) else {
+        discard(key);
+        return Err(Fault::Syntax(token.place));
+    };
+    let ReadExpression {
+        expr: value,
+        rest,
+        label,
+    } = match expression(alloc, token.rest, depth, label) {
+        Ok(found) => found,
+        Err(fault) => {
+            discard(key);
+            return Err(fault);
+        }
+    };
+    Ok(ReadPair {
+        pair: MapPair::new(exact, key, value),
+        rest,
+        label,
+    })
+}

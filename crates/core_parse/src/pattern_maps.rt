@@ -1,0 +1,342 @@
+ghost use Rattle.std.specs.Prelude.{◌≡◌, ◌+◌, ◌^◌, ◌<◌, ◌≤◌, false, length, IfOk, IfErr};
+ghost use Rattle.core_ast.specs.Tree.{tree, pattern_tree, all_pat_pairs, pat_pair_parts};
+ghost use Rattle.core_parse.specs.Grammar.{the, many, other_pattern, pattern_pair as pattern_pair_of, bare_pattern_pair as bare_pattern_pair_of};
+ghost use Rattle.core_parse.specs.steps.Faults.{Starts, Refuses};
+ghost use Rattle.core_parse.specs.steps.Pairs.{ReadsBarePatternPair, ReadsPatternValueOf, RefusesPatternValue};
+ghost use Rattle.core_parse.specs.steps.Patterns.{ReadsOtherPattern};
+ghost use Rattle.core_parse.specs.steps.Starters.{opens_with};
+ghost use Rattle.core_parse.specs.steps.Readings.{ReadsPatternPairs, ReadsPatternPair};
+ghost use Rattle.core_parse.specs.steps.Weights.{weight};
+
+use crate::annotations::annotation;
+use crate::expression_lists::pushed;
+use crate::expressions::{ReadExpression, bare_expression, expression};
+use crate::fault::Fault;
+use crate::leaves::{First, mark, next, take};
+use crate::patterns::{ReadPattern, pattern};
+use core_ast::{Expr, PatPair, Pattern, discard, discard_pattern_pair, discard_pattern_pairs};
+use core_scan::{Sort, Token, same};
+use std::alloc::Global;
+use type_kinds::List;
+
+/// The pairs of a map pattern, and what follows the token that closes them.
+pub struct ReadPatternPairs<'a> {
+    pub items: List<PatPair>,
+    pub rest: &'a [Token],
+    pub label: u32,
+}
+
+/// A pair of a map pattern, and what follows it.
+pub struct ReadPatternPair<'a> {
+    pub pair: PatPair,
+    pub rest: &'a [Token],
+    pub label: u32,
+}
+
+/// ~{ pairs }~
+#[cycle(expressions)]
+pub fn map_pattern<'a>(
+    alloc: Global,
+    tokens: &'a [Token],
+    first: First<'a>,
+    depth: u32,
+    label: u32,
+) -> Result<ReadPattern<'a>, Fault>
+    requires shallow { depth ≤ 400 }
+    requires labels { label + weight tokens.now < 2 ^ 32 }
+    requires starts { Starts tokens.now first.token.now first.sort first.place first.rest.now }
+    requires shorter { length first.rest.now + 1 ≡ length tokens.now }
+    requires lighter { weight first.rest.now + 2 ≤ weight tokens.now }
+    requires sort { first.sort ≡ Sort.OpenMap }
+    ensures ok { IfOk result (λ r. ReadsOtherPattern depth label tokens.now (pattern_tree r.pattern) r.rest.now r.label) }
+    ensures labels { IfOk result (λ r. r.label + weight r.rest.now ≤ label + weight tokens.now) }
+    ensures shorter { IfOk result (λ r. length r.rest.now < length tokens.now) }
+    ensures err { IfErr result (λ e. Refuses (other_pattern depth) tokens.now e) }
+{
+    let mark = mark(label, first.place);
+    let ReadPatternPairs { items, rest, label } = match pattern_pairs(
+        alloc,
+        first.rest,
+        depth + 1,
+        label + 1,
+    ) {
+        Ok(found) => found,
+        Err(fault) => return Err(fault),
+    };
+    Ok(ReadPattern {
+        pattern: Pattern::map(mark, items),
+        rest,
+        label,
+    })
+}
+
+// Pairs with commas between them, up to and with the token that closes them.
+#[cycle(expressions)]
+fn pattern_pairs<'a>(
+    alloc: Global,
+    tokens: &'a [Token],
+    depth: u32,
+    label: u32,
+) -> Result<ReadPatternPairs<'a>, Fault>
+    requires shallow { depth ≤ 401 }
+    requires labels { label + weight tokens.now < 2 ^ 32 }
+    ensures ok { IfOk result (λ r. ReadsPatternPairs depth label tokens.now (all_pat_pairs r.items) r.rest.now r.label) }
+    ensures labels { IfOk result (λ r. r.label + weight r.rest.now ≤ label + weight tokens.now) }
+    ensures shorter { IfOk result (λ r. length r.rest.now < length tokens.now) }
+    ensures err { IfErr result (λ e. Refuses (many (Sort.CloseMap) (the (pattern_pair_of depth))) tokens.now e) }
+{
+    let first = match next(tokens) {
+        Ok(found) => found,
+        Err(fault) => return Err(fault),
+    };
+    let mut items = List::new(alloc);
+    if same(first.sort, Sort::CloseMap) {
+        return Ok(ReadPatternPairs {
+            items,
+            rest: first.rest,
+            label,
+        });
+    }
+    let (mut left, mut next_label) = match pattern_pair(alloc, tokens, depth, label) {
+        Ok(ReadPatternPair { pair, rest, label }) => {
+            if !pushed(&mut items, pair) {
+                discard_pattern_pairs(items);
+                return Err(Fault::Memory);
+            }
+            (rest, label)
+        }
+        Err(fault) => {
+            discard_pattern_pairs(items);
+            return Err(fault);
+        }
+    };
+    loop {
+        let first = match next(left) {
+            Ok(found) => found,
+            Err(fault) => {
+                discard_pattern_pairs(items);
+                return Err(fault);
+            }
+        };
+        if same(first.sort, Sort::CloseMap) {
+            return Ok(ReadPatternPairs {
+                items,
+                rest: first.rest,
+                label: next_label,
+            });
+        }
+        if !same(first.sort, Sort::Comma) {
+            discard_pattern_pairs(items);
+            return Err(Fault::Syntax(first.place));
+        }
+        match pattern_pair(alloc, first.rest, depth, next_label) {
+            Ok(ReadPatternPair { pair, rest, label }) => {
+                if !pushed(&mut items, pair) {
+                    discard_pattern_pairs(items);
+                    return Err(Fault::Memory);
+                }
+                left = rest;
+                next_label = label;
+            }
+            Err(fault) => {
+                discard_pattern_pairs(items);
+                return Err(fault);
+            }
+        }
+    }
+}
+
+// A pair, with or without annotation brackets.
+#[cycle(expressions)]
+fn pattern_pair<'a>(
+    alloc: Global,
+    tokens: &'a [Token],
+    depth: u32,
+    label: u32,
+) -> Result<ReadPatternPair<'a>, Fault>
+    requires shallow { depth ≤ 401 }
+    requires labels { label + weight tokens.now < 2 ^ 32 }
+    ensures ok { IfOk result (λ r. ReadsPatternPair depth label tokens.now (pat_pair_parts r.pair) r.rest.now r.label) }
+    ensures labels { IfOk result (λ r. r.label + weight r.rest.now ≤ label + weight tokens.now) }
+    ensures shorter { IfOk result (λ r. length r.rest.now < length tokens.now) }
+    ensures err { IfErr result (λ e. Refuses (pattern_pair_of depth) tokens.now e) }
+{
+    let first = match next(tokens) {
+        Ok(found) => found,
+        Err(fault) => return Err(fault),
+    };
+    if !same(first.sort, Sort::OpenRound) {
+        return match bare_pattern_pair(alloc, tokens, depth, label) {
+            Ok(found) => Ok(found),
+            Err(fault) => Err(fault),
+        };
+    }
+    let second = match next(first.rest) {
+        Ok(found) => found,
+        Err(fault) => return Err(fault),
+    };
+    if same(second.sort, Sort::OpenRound) {
+        let ReadPatternPair { pair, rest, label } = match bare_pattern_pair(
+            alloc, first.rest, depth, label,
+        ) {
+            Ok(found) => found,
+            Err(fault) => return Err(fault),
+        };
+        return match annotation(alloc, rest) {
+            Ok(found) => Ok(ReadPatternPair {
+                pair,
+                rest: found.rest,
+                label,
+            }),
+            Err(fault) => {
+                discard_pattern_pair(pair);
+                Err(fault)
+            }
+        };
+    }
+    match pattern_pair_in_brackets(alloc, tokens, first, depth, label) {
+        Ok(found) => Ok(found),
+        Err(fault) => Err(fault),
+    }
+}
+
+// A pair that begins with one bracket. It is the key's where an annotation follows the key, and else the
+// pair's.
+#[cycle(expressions)]
+fn pattern_pair_in_brackets<'a>(
+    alloc: Global,
+    tokens: &'a [Token],
+    first: First<'a>,
+    depth: u32,
+    label: u32,
+) -> Result<ReadPatternPair<'a>, Fault>
+    requires shallow { depth ≤ 401 }
+    requires labels { label + weight tokens.now < 2 ^ 32 }
+    requires starts { Starts tokens.now first.token.now first.sort first.place first.rest.now }
+    requires shorter { length first.rest.now + 1 ≡ length tokens.now }
+    requires lighter { weight first.rest.now + 2 ≤ weight tokens.now }
+    requires sort { first.sort ≡ Sort.OpenRound }
+    requires once { opens_with (Sort.OpenRound) first.rest.now ≡ false }
+    ensures ok { IfOk result (λ r. ReadsPatternPair depth label tokens.now (pat_pair_parts r.pair) r.rest.now r.label) }
+    ensures labels { IfOk result (λ r. r.label + weight r.rest.now ≤ label + weight tokens.now) }
+    ensures shorter { IfOk result (λ r. length r.rest.now < length tokens.now) }
+    ensures err { IfErr result (λ e. Refuses (pattern_pair_of depth) tokens.now e) }
+{
+    let ReadExpression {
+        expr: key,
+        rest,
+        label,
+    } = match bare_expression(alloc, first.rest, depth, label) {
+        Ok(found) => found,
+        Err(fault) => return Err(fault),
+    };
+    let token = match next(rest) {
+        Ok(found) => found,
+        Err(fault) => {
+            discard(key);
+            return Err(fault);
+        }
+    };
+    if same(token.sort, Sort::Noted) {
+        return match annotation(alloc, rest) {
+            Ok(found) => {
+                let key = key.with_note(found.note);
+                match pattern_of_key(alloc, key, found.rest, depth, label) {
+                    Ok(found) => Ok(found),
+                    Err(fault) => Err(fault),
+                }
+            }
+            Err(fault) => {
+                discard(key);
+                Err(fault)
+            }
+        };
+    }
+    let ReadPatternPair { pair, rest, label } = match pattern_of_key(
+        alloc, key, rest, depth, label,
+    ) {
+        Ok(found) => found,
+        Err(fault) => return Err(fault),
+    };
+    match annotation(alloc, rest) {
+        Ok(found) => Ok(ReadPatternPair {
+            pair,
+            rest: found.rest,
+            label,
+        }),
+        Err(fault) => {
+            discard_pattern_pair(pair);
+            Err(fault)
+        }
+    }
+}
+
+// expression := pattern
+#[cycle(expressions)]
+fn bare_pattern_pair<'a>(
+    alloc: Global,
+    tokens: &'a [Token],
+    depth: u32,
+    label: u32,
+) -> Result<ReadPatternPair<'a>, Fault>
+    requires shallow { depth ≤ 401 }
+    requires labels { label + weight tokens.now < 2 ^ 32 }
+    ensures ok { IfOk result (λ r. ReadsBarePatternPair depth label tokens.now (pat_pair_parts r.pair) r.rest.now r.label) }
+    ensures labels { IfOk result (λ r. r.label + weight r.rest.now ≤ label + weight tokens.now) }
+    ensures shorter { IfOk result (λ r. length r.rest.now < length tokens.now) }
+    ensures err { IfErr result (λ e. Refuses (bare_pattern_pair_of depth) tokens.now e) }
+{
+    let ReadExpression {
+        expr: key,
+        rest,
+        label,
+    } = match expression(alloc, tokens, depth, label) {
+        Ok(found) => found,
+        Err(fault) => return Err(fault),
+    };
+    match pattern_of_key(alloc, key, rest, depth, label) {
+        Ok(found) => Ok(found),
+        Err(fault) => Err(fault),
+    }
+}
+
+// The pair of this key, behind the key: := pattern.
+#[cycle(expressions)]
+fn pattern_of_key<'a>(
+    alloc: Global,
+    key: Expr,
+    tokens: &'a [Token],
+    depth: u32,
+    label: u32,
+) -> Result<ReadPatternPair<'a>, Fault>
+    requires shallow { depth ≤ 401 }
+    requires labels { label + weight tokens.now < 2 ^ 32 }
+    ensures ok { IfOk result (λ r. ReadsPatternValueOf depth label (tree key) tokens.now (pat_pair_parts r.pair) r.rest.now r.label) }
+    ensures labels { IfOk result (λ r. r.label + weight r.rest.now ≤ label + weight tokens.now) }
+    ensures shorter { IfOk result (λ r. length r.rest.now < length tokens.now) }
+    ensures err { IfErr result (λ e. RefusesPatternValue depth tokens.now e) }
+{
+    let rest = match take(tokens, Sort::Exact) {
+        Ok(found) => found,
+        Err(fault) => {
+            discard(key);
+            return Err(fault);
+        }
+    };
+    let ReadPattern {
+        pattern,
+        rest,
+        label,
+    } = match pattern(alloc, rest, depth, label) {
+        Ok(found) => found,
+        Err(fault) => {
+            discard(key);
+            return Err(fault);
+        }
+    };
+    Ok(ReadPatternPair {
+        pair: PatPair::new(key, pattern),
+        rest,
+        label,
+    })
+}
