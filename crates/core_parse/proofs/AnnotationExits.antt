@@ -9,7 +9,7 @@ use Rattle.core_parse.specs.Build.{note_of}
 use Rattle.core_parse.specs.Grammar.{Nonterminal, a, the, many, annotation, constant}
 use Rattle.core_parse.specs.steps.Track.{Branch, Goes, itself}
 use Rattle.core_parse.specs.steps.Faults.{Refuses, Takes, Misses}
-use Rattle.core_parse.specs.steps.Weights.{weight}
+use Rattle.core_parse.specs.Weights.{weight}
 use Rattle.core_parse.specs.steps.Readings.{ReadsConstants, ReadsAnnotation}
 use Rattle.core_parse.proofs.Moves.{◌>>◌, expand}
 use Rattle.core_parse.proofs.Places.{through, refused, lacking, take_class}

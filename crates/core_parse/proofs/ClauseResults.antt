@@ -14,7 +14,7 @@ use Rattle.core_parse.specs.declared.fault.Fault.TheVariants.{Syntax, End, TooDe
 use Rattle.core_parse.specs.steps.Clauses.{ReadsHead, ReadsEither, RefusesEither, no_when_behind}
 use Rattle.core_parse.specs.steps.Faults.{Takes, Misses, MissesOrMemory}
 use Rattle.core_parse.specs.steps.Readings.{ReadsAnnotation}
-use Rattle.core_parse.specs.steps.Weights.{weight}
+use Rattle.core_parse.specs.Weights.{weight}
 
 pub single_head : (d n : ℕ) (ts us : List Token) (x : m.Pattern) (place : Place) (noted : Bool) (p : ℕ) → ((left : List Token) (made : m.Patterns) → made ≡ patterns (x ∷ []) → Takes s.When us left → ReadsHead d n ts made place noted left p)
     → (r : Result ReadHead Fault) → IfOk r (λ h. Takes s.When us h.rest.now) → IfOk r (λ h. all_patterns h.patterns ≡ patterns (x ∷ [])) → IfOk r (λ h. h.place ≡ place) → IfOk r (λ h. h.noted ≡ noted) → IfOk r (λ h. h.label ≡ p)

@@ -12,7 +12,7 @@ use Rattle.core_parse.specs.declared.fault.Fault.TheVariants.{Syntax, End, TooDe
 use Rattle.core_parse.specs.Build.{text}
 use Rattle.core_parse.specs.steps.Faults.{Starts, Takes, Lacks, Misses, MissesOrMemory, RanOut}
 use Rattle.core_parse.specs.steps.Readings.{ReadsAtom}
-use Rattle.core_parse.specs.steps.Weights.{kind_weight, weight}
+use Rattle.core_parse.specs.Weights.{kind_weight, weight}
 
 pub none_left : (ts : List Token) → length ts ≡ 0 → ts ≡ []
 none_left [] e = refl

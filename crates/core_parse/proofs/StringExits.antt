@@ -20,7 +20,7 @@ use Rattle.core_parse.specs.steps.Faults.{Starts}
 use Rattle.core_parse.specs.steps.Items.{number_each}
 use Rattle.core_parse.specs.steps.Readings.{mark}
 use Rattle.core_parse.specs.steps.Strings.{labelled_bytes, labelled_byte_patterns}
-use Rattle.core_parse.specs.steps.Weights.{kind_weight, weight}
+use Rattle.core_parse.specs.Weights.{kind_weight, weight}
 
 -- the table's nodes of the bytes, with labels
 pub bytes_each : (n : ℕ) (place : Place) (bs : List ℕ) → number_each number n (byte_trees place bs) ≡ (labelled_bytes n place bs, n + length bs)

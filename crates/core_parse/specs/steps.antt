@@ -1,7 +1,6 @@
 pub mod Matches
 pub mod Track
 pub mod Faults
-pub mod Weights
 pub mod Readings
 pub mod Items
 pub mod Starters

@@ -2,7 +2,7 @@ ghost use Rattle.std.specs.Prelude.{◌≡◌, ◌<◌, ◌≤◌, length, IfOk,
 ghost use Rattle.core_parse.specs.Grammar.{annotation as annotation_part};
 ghost use Rattle.core_parse.specs.steps.Faults.{Refuses};
 ghost use Rattle.core_parse.specs.steps.Readings.{ReadsAnnotation};
-ghost use Rattle.core_parse.specs.steps.Weights.{weight};
+ghost use Rattle.core_parse.specs.Weights.{weight};
 
 use crate::constants::constants;
 use crate::fault::Fault;

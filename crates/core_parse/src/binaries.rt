@@ -3,7 +3,7 @@ ghost use Rattle.core_ast.specs.Tree.{tree, all_segments, segment_parts};
 ghost use Rattle.core_parse.specs.Grammar.{the, many, other_expression, segment as segment_of};
 ghost use Rattle.core_parse.specs.steps.Faults.{Starts, Refuses};
 ghost use Rattle.core_parse.specs.steps.Readings.{ReadsOtherExpression, ReadsSegments, ReadsSegment};
-ghost use Rattle.core_parse.specs.steps.Weights.{weight};
+ghost use Rattle.core_parse.specs.Weights.{weight};
 
 use crate::expression_lists::pushed;
 use crate::expressions::{ReadExpression, ReadExpressions, expression, expressions};

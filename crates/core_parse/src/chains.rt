@@ -4,7 +4,7 @@ ghost use Rattle.core_parse.specs.Grammar.{other_expression};
 ghost use Rattle.core_parse.specs.steps.Chains.{ReadsStep, RefusesStep, ReadsSteps, BeginsStep};
 ghost use Rattle.core_parse.specs.steps.Faults.{Starts, Refuses};
 ghost use Rattle.core_parse.specs.steps.Readings.{chain_sort, opens_chain, ReadsOtherExpression};
-ghost use Rattle.core_parse.specs.steps.Weights.{weight};
+ghost use Rattle.core_parse.specs.Weights.{weight};
 
 use crate::annotations::annotation;
 use crate::expression_lists::pushed;

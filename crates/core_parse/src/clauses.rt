@@ -4,7 +4,7 @@ ghost use Rattle.core_parse.specs.Grammar.{clauses_to, clause as clause_of};
 ghost use Rattle.core_parse.specs.steps.Clauses.{ends_clauses, ReadsMoreClauses, ReadsHead, ReadsSeveral, RefusesSeveral, ReadsEither, RefusesEither};
 ghost use Rattle.core_parse.specs.steps.Faults.{Starts, Takes, MissesOrMemory, Refuses};
 ghost use Rattle.core_parse.specs.steps.Readings.{ReadsClause};
-ghost use Rattle.core_parse.specs.steps.Weights.{weight};
+ghost use Rattle.core_parse.specs.Weights.{weight};
 
 use crate::annotations::annotation;
 use crate::expression_lists::pushed;

@@ -3,7 +3,7 @@ ghost use Rattle.core_ast.specs.Tree.{tree};
 ghost use Rattle.core_parse.specs.Grammar.{other_expression};
 ghost use Rattle.core_parse.specs.steps.Faults.{Starts, Refuses};
 ghost use Rattle.core_parse.specs.steps.Readings.{ReadsOtherExpression};
-ghost use Rattle.core_parse.specs.steps.Weights.{weight};
+ghost use Rattle.core_parse.specs.Weights.{weight};
 
 use crate::clauses::{ReadClause, ReadClauses, clause, clauses};
 use crate::expression_lists::pushed;

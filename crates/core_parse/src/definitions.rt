@@ -5,7 +5,7 @@ ghost use Rattle.core_parse.specs.steps.Faults.{Refuses};
 ghost use Rattle.core_parse.specs.steps.Clauses.{ends_definitions};
 ghost use Rattle.core_parse.specs.steps.Definitions.{ReadsFunction, ReadsNotedFunction, RefusesNotedFunction};
 ghost use Rattle.core_parse.specs.steps.Readings.{ReadsDefinition, ReadsDefinitions};
-ghost use Rattle.core_parse.specs.steps.Weights.{weight};
+ghost use Rattle.core_parse.specs.Weights.{weight};
 
 use crate::annotations::annotation;
 use crate::expression_lists::pushed;

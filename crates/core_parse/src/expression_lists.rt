@@ -6,7 +6,7 @@ ghost use Rattle.core_ast.specs.Tree.{tree, all_trees};
 ghost use Rattle.core_parse.specs.Grammar.{bare_expression};
 ghost use Rattle.core_parse.specs.steps.Faults.{Starts, Refuses};
 ghost use Rattle.core_parse.specs.steps.Readings.{mark as unnoted, ReadsBareExpression, ReadsElements};
-ghost use Rattle.core_parse.specs.steps.Weights.{weight};
+ghost use Rattle.core_parse.specs.Weights.{weight};
 
 use crate::annotations::annotation;
 use crate::expressions::{ReadExpression, bare_expression, expression, other_expression};

@@ -4,7 +4,7 @@ ghost use Rattle.core_parse.specs.Grammar.{the, many, expression as expression_o
 ghost use Rattle.core_parse.specs.steps.Faults.{Starts, Refuses, closing};
 ghost use Rattle.core_parse.specs.steps.Readings.{ReadsExpression, ReadsBareExpression, ReadsOtherExpression, ReadsExpressions};
 ghost use Rattle.core_parse.specs.steps.Starters.{starts_expression, starts_literal};
-ghost use Rattle.core_parse.specs.steps.Weights.{weight};
+ghost use Rattle.core_parse.specs.Weights.{weight};
 
 use crate::annotations::annotation;
 use crate::binaries::binary;

@@ -4,7 +4,7 @@ ghost use Rattle.core_parse.specs.Grammar.{other_expression};
 ghost use Rattle.core_parse.specs.steps.Faults.{Starts, Takes, Refuses};
 ghost use Rattle.core_parse.specs.steps.Readings.{ReadsOtherExpression};
 ghost use Rattle.core_parse.specs.steps.Starters.{opens_with};
-ghost use Rattle.core_parse.specs.steps.Weights.{weight};
+ghost use Rattle.core_parse.specs.Weights.{weight};
 
 use crate::definitions::{ReadDefinitions, definitions};
 use crate::expressions::{ReadExpression, ReadExpressions, expression, expressions};

@@ -2,7 +2,7 @@ ghost use Rattle.std.specs.Prelude.{◌≡◌, ◌+◌, ◌≤◌, length, IfOk,
 ghost use Rattle.core_parse.specs.Build.{no_note as empty_note, text, value, arity};
 ghost use Rattle.core_parse.specs.steps.Faults.{Starts, Takes, Misses, MissesOrMemory, RanOut, too_deep};
 ghost use Rattle.core_parse.specs.steps.Readings.{mark as mark_at, ReadsAtom};
-ghost use Rattle.core_parse.specs.steps.Weights.{kind_weight, weight};
+ghost use Rattle.core_parse.specs.Weights.{kind_weight, weight};
 
 use crate::fault::Fault;
 use core_ast::{Mark, Note};

@@ -5,7 +5,7 @@ ghost use Rattle.core_parse.specs.steps.Faults.{Starts, Refuses};
 ghost use Rattle.core_parse.specs.steps.Pairs.{ReadsMapPairs, ReadsBarePair, ReadsValueOf, RefusesValue, PairStart, NoPairStart, exact_sign, updated_tree};
 ghost use Rattle.core_parse.specs.steps.Readings.{ReadsOtherExpression, ReadsPair};
 ghost use Rattle.core_parse.specs.steps.Starters.{opens_with};
-ghost use Rattle.core_parse.specs.steps.Weights.{weight};
+ghost use Rattle.core_parse.specs.Weights.{weight};
 
 use crate::annotations::annotation;
 use crate::expression_lists::pushed;

@@ -4,7 +4,7 @@ ghost use Rattle.core_parse.specs.Begins.{IsModule, Refused};
 ghost use Rattle.core_parse.specs.Grammar.{the, many, noted_, annotated_module as annotated_module_part, «module» as module_part, attribute as attribute_part, constant};
 ghost use Rattle.core_parse.specs.steps.Faults.{Refuses};
 ghost use Rattle.core_parse.specs.steps.Readings.{ReadsAnnotatedConstant, ReadsAttribute, ReadsAttributes, ReadsHeader, ReadsBareModule, ReadsModule};
-ghost use Rattle.core_parse.specs.steps.Weights.{weight};
+ghost use Rattle.core_parse.specs.Weights.{weight};
 
 use crate::annotations::annotation;
 use crate::constants::constant;

@@ -3,7 +3,7 @@ ghost use Rattle.core_parse.specs.Build.{fun_name};
 ghost use Rattle.core_parse.specs.Grammar.{a, A, the, noted_, many, function_name as function_name_part};
 ghost use Rattle.core_parse.specs.steps.Faults.{Refuses};
 ghost use Rattle.core_parse.specs.steps.Readings.{ReadsAnnotatedAtom, ReadsFunctionName, ReadsExport, ReadsExports};
-ghost use Rattle.core_parse.specs.steps.Weights.{weight};
+ghost use Rattle.core_parse.specs.Weights.{weight};
 
 use crate::annotations::annotation;
 use crate::fault::Fault;

@@ -4,7 +4,7 @@ ghost use Rattle.core_parse.specs.Grammar.{the, many, other_pattern, pattern_seg
 ghost use Rattle.core_parse.specs.steps.Faults.{Starts, Refuses};
 ghost use Rattle.core_parse.specs.steps.Patterns.{ReadsOtherPattern};
 ghost use Rattle.core_parse.specs.steps.Readings.{ReadsPatternSegments, ReadsPatternSegment};
-ghost use Rattle.core_parse.specs.steps.Weights.{weight};
+ghost use Rattle.core_parse.specs.Weights.{weight};
 
 use crate::expression_lists::pushed;
 use crate::expressions::{ReadExpressions, expressions};

@@ -6,7 +6,7 @@ ghost use Rattle.core_parse.specs.steps.Faults.{Starts, Takes, Refuses};
 ghost use Rattle.core_parse.specs.steps.Patterns.{ReadsNamed, ReadsInBrackets, RefusesInBrackets, ReadsNotedVariable, RefusesNotedVariable};
 ghost use Rattle.core_parse.specs.steps.Readings.{ReadsBarePattern};
 ghost use Rattle.core_parse.specs.steps.Starters.{opens_with};
-ghost use Rattle.core_parse.specs.steps.Weights.{weight};
+ghost use Rattle.core_parse.specs.Weights.{weight};
 
 use crate::annotations::annotation;
 use crate::fault::Fault;

@@ -5,7 +5,7 @@ ghost use Rattle.core_ast.specs.Tree.{pattern_tree, all_patterns};
 ghost use Rattle.core_parse.specs.Grammar.{bare_pattern};
 ghost use Rattle.core_parse.specs.steps.Faults.{Starts, Refuses};
 ghost use Rattle.core_parse.specs.steps.Readings.{mark as unnoted, ReadsBarePattern, ReadsPatternElements};
-ghost use Rattle.core_parse.specs.steps.Weights.{weight};
+ghost use Rattle.core_parse.specs.Weights.{weight};
 
 use crate::expression_lists::pushed;
 use crate::fault::Fault;

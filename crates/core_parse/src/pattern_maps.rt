@@ -6,7 +6,7 @@ ghost use Rattle.core_parse.specs.steps.Pairs.{ReadsBarePatternPair, ReadsPatter
 ghost use Rattle.core_parse.specs.steps.Patterns.{ReadsOtherPattern};
 ghost use Rattle.core_parse.specs.steps.Starters.{opens_with};
 ghost use Rattle.core_parse.specs.steps.Readings.{ReadsPatternPairs, ReadsPatternPair};
-ghost use Rattle.core_parse.specs.steps.Weights.{weight};
+ghost use Rattle.core_parse.specs.Weights.{weight};
 
 use crate::annotations::annotation;
 use crate::expression_lists::pushed;

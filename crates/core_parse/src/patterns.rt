@@ -5,7 +5,7 @@ ghost use Rattle.core_parse.specs.steps.Faults.{Starts, Refuses, closing};
 ghost use Rattle.core_parse.specs.steps.Patterns.{ReadsOtherPattern};
 ghost use Rattle.core_parse.specs.steps.Readings.{ReadsPattern, ReadsBarePattern, ReadsPatterns};
 ghost use Rattle.core_parse.specs.steps.Starters.{literal_sort, starts_pattern, opens_with};
-ghost use Rattle.core_parse.specs.steps.Weights.{weight};
+ghost use Rattle.core_parse.specs.Weights.{weight};
 
 use crate::expression_lists::pushed;
 use crate::expressions::is_literal;

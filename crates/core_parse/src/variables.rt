@@ -3,7 +3,7 @@ ghost use Rattle.core_parse.specs.Build.{text};
 ghost use Rattle.core_parse.specs.Grammar.{the, many, variable as variable_part, variables as variables_part};
 ghost use Rattle.core_parse.specs.steps.Faults.{Refuses, closing};
 ghost use Rattle.core_parse.specs.steps.Readings.{ReadsVariable, ReadsVariables, ReadsVariablesTo};
-ghost use Rattle.core_parse.specs.steps.Weights.{weight};
+ghost use Rattle.core_parse.specs.Weights.{weight};
 
 use crate::annotations::annotation;
 use crate::fault::Fault;

@@ -3,7 +3,7 @@ use Rattle.core_ast.specs.declared.syntax.Segment.{Segment}
 use Rattle.core_ast.specs.Tree.{segment_parts, tree, def_tree, all_trees, pat_segment_parts, pattern_tree, all_patterns, pat_pair_parts}
 use Rattle.core_parse.specs.Grammar.{segment, expression, pattern_segment, pattern_pair, pattern}
 use Rattle.core_parse.specs.steps.Items.{number_segment, number_pat_segment, number_pat_pair}
-use Rattle.core_parse.specs.steps.Weights.{weight}
+use Rattle.core_parse.specs.Weights.{weight}
 use Rattle.core_parse.proofs.ItemExits.{ItemsSoFar}
 use Rattle.core_parse.proofs.ChainExits.{Closing}
 use Rattle.core_parse.specs.steps.Chains.{ReadsSteps}

@@ -1,6 +1,6 @@
 use Rattle.std.proofs.Common.{◌≤◌, length}
 use Rattle.core_parse.specs.Grammar.{variable}
-use Rattle.core_parse.specs.steps.Weights.{weight}
+use Rattle.core_parse.specs.Weights.{weight}
 use Rattle.core_parse.proofs.Lists.{Before}
 use Rattle.core_parse.proofs.variables.variables_to.Given as goal
 
