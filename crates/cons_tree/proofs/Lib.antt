@@ -1,0 +1,9 @@
+mod CalleeLaws
+mod Copied
+mod LoopLaws
+mod NamedLaws
+mod PartLaws
+mod RowLaws
+mod SignatureLaws
+mod StepLaws
+mod TrailLaws
