@@ -12,7 +12,7 @@ pub fn copy_types(alloc: Global, types: &[Ty]) -> Result<List<Ty>, Memory>
 {
     let mut copies = List::new(alloc);
     for ty in types {
-        let copy = ty.copy(alloc)?;
+        let copy = ty.copy()?;
         copies.add(copy)?;
     }
     Ok(copies)
@@ -25,7 +25,7 @@ impl Sig {
         ensures { IfOk result (λ copy. copy ≡ self.now) }
     {
         let args = copy_types(alloc, self.args.as_slice())?;
-        let result = self.result.copy(alloc)?;
+        let result = self.result.copy()?;
         Ok(Sig { args, result })
     }
 }

@@ -17,7 +17,7 @@ fn atom_type(alloc: Global, bytes: &[u8]) -> Result<Ty, Memory>
 {
     let atom = Atom::new(alloc, bytes)?;
     let set = AtomSet::one(alloc, &atom)?;
-    Ok(Ty::atoms(alloc, set))
+    Ok(Ty::atoms(set))
 }
 
 /// The type of the atom `true`. `Memory` comes if allocation fails, here and below.
@@ -59,7 +59,7 @@ pub fn holds_integer(ty: &Ty) -> bool
 pub fn holds_float(alloc: Global, ty: &Ty) -> Result<bool, Memory>
     ensures { IfOk result (λ b. b ≡ has_float ty.now) }
 {
-    let float = Ty::kind(alloc, Kind::Float);
+    let float = Ty::kind(Kind::Float);
     let met = ty.meet(alloc, &float)?;
     let answer = !met.is_none();
     discard(met);
@@ -68,14 +68,14 @@ pub fn holds_float(alloc: Global, ty: &Ty) -> Result<bool, Memory>
 }
 
 // The type where the answer is yes, and else none. Takes no memory.
-fn kept_where(alloc: Global, so: bool, ty: Ty) -> Ty
+fn kept_where(so: bool, ty: Ty) -> Ty
     ensures { result ≡ where_so so ty }
 {
     if so {
         return ty;
     }
     discard(ty);
-    Ty::none(alloc)
+    Ty::none()
 }
 
 /// A type of integers where there are some, joined with the floats where there are some.
@@ -88,25 +88,25 @@ pub fn number_type(
 ) -> Result<Ty, Memory>
     ensures { IfOk result (λ t. t ≡ join (where_so some_integer whole) (where_so some_float floats)) }
 {
-    let left = kept_where(alloc, some_integer, whole);
-    let right = kept_where(alloc, some_float, Ty::kind(alloc, Kind::Float));
+    let left = kept_where(some_integer, whole);
+    let right = kept_where(some_float, Ty::kind(Kind::Float));
     left.join(alloc, &right)
 }
 
 /// All integers. Takes no memory.
 #[tactic(auto, unfolding(crate::specs::Named::integers))]
-pub fn integer_type(alloc: Global) -> Ty
+pub fn integer_type() -> Ty
     ensures { result ≡ integers }
 {
-    Ty::ints(alloc, IntSet::range(Low::Min, High::Max))
+    Ty::ints(IntSet::range(Low::Min, High::Max))
 }
 
 /// The integers from 0 on. Takes no memory.
 #[tactic(auto, unfolding(crate::specs::Named::naturals))]
-pub fn natural_type(alloc: Global) -> Ty
+pub fn natural_type() -> Ty
     ensures { result ≡ naturals }
 {
-    Ty::ints(alloc, IntSet::range(Low::Zero, High::Max))
+    Ty::ints(IntSet::range(Low::Zero, High::Max))
 }
 
 /// What the absolute value of a number of this type is.
@@ -115,7 +115,7 @@ pub fn absolute_type(alloc: Global, ty: &Ty) -> Result<Ty, Memory>
     ensures { IfOk result (λ t. t ≡ absolute ty.now) }
 {
     let some_float = holds_float(alloc, ty)?;
-    number_type(alloc, natural_type(alloc), holds_integer(ty), some_float)
+    number_type(alloc, natural_type(), holds_integer(ty), some_float)
 }
 
 // The places that a set of integers says: those of a list, and all where it is an interval.
@@ -153,7 +153,7 @@ pub fn tested_type(alloc: Global, tests: &Ty, ty: &Ty) -> Result<Ty, Memory>
     ensures { IfOk result (λ t. t ≡ tested tests.now ty.now) }
 {
     if ty.is_none() {
-        return Ok(Ty::none(alloc));
+        return Ok(Ty::none());
     }
     if !overlap(alloc, ty, tests)? {
         return false_type(alloc);

@@ -4,7 +4,6 @@ ghost use Rattle.type_lattice.specs.Types.{none, is_none};
 ghost use Rattle.cons_tree.specs.Signatures.{has_none, agreed};
 
 use crate::parts::Sig;
-use std::alloc::Global;
 use type_kinds::List;
 use type_lattice::{Ty, decision_laws};
 
@@ -19,12 +18,12 @@ pub fn any_none(types: &[Ty]) -> bool
 }
 
 // Makes all types none. Takes no memory.
-fn empty_all(alloc: Global, types: &mut List<Ty>)
+fn empty_all(types: &mut List<Ty>)
     ensures { types.new ≡ map (λ t. none) types.old }
 {
     let count = types.len();
     for at in 0..count {
-        discard(types.replace(at, Ty::none(alloc)));
+        discard(types.replace(at, Ty::none()));
     }
 }
 
@@ -38,7 +37,7 @@ fn some_none(returned: &Ty, args: &[Ty]) -> bool
 impl Sig {
     /// The signature of these argument types and of this result. Where one of them is none, all
     /// become none. Takes no memory.
-    pub fn new(alloc: Global, mut args: List<Ty>, returned: Ty) -> Sig
+    pub fn new(mut args: List<Ty>, returned: Ty) -> Sig
         ensures types { result.result ∷ result.args ≡ agreed (returned ∷ args) }
         ensures count { length result.args ≡ length args }
     {
@@ -51,10 +50,10 @@ impl Sig {
             };
         }
         discard(returned);
-        empty_all(alloc, &mut args);
+        empty_all(&mut args);
         Sig {
             args,
-            result: Ty::none(alloc),
+            result: Ty::none(),
         }
     }
 }

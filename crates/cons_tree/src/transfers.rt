@@ -88,7 +88,7 @@ impl Slots {
             Transfer::TestSome(ty) => self.test_some(alloc, ty, value, args),
             Transfer::Same => self.same(alloc, value, args),
             Transfer::Differ => self.differ(alloc, value, args),
-            Transfer::Never => self.lower_to(alloc, value, Ty::none(alloc)),
+            Transfer::Never => self.lower_to(alloc, value, Ty::none()),
         }
     }
 
@@ -98,7 +98,7 @@ impl Slots {
     {
         let some_float = self.any_float(alloc, args)?;
         let integers = self.all_integers(args);
-        let gives = number_type(alloc, integer_type(alloc), integers, some_float)?;
+        let gives = number_type(alloc, integer_type(), integers, some_float)?;
         self.lower_to(alloc, value, gives)
     }
 

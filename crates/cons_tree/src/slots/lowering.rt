@@ -55,7 +55,7 @@ impl Slots {
     {
         let mut types = List::new(alloc);
         for slot in slots {
-            let copy = self.at(*slot).copy(alloc)?;
+            let copy = self.at(*slot).copy()?;
             types.add(copy)?;
         }
         Ok(types)
