@@ -1,5 +1,6 @@
 mod CalleeLaws
 mod Copied
+mod FrameLaws
 mod LoopLaws
 mod NamedLaws
 mod PartLaws

@@ -2,6 +2,7 @@ pub mod Callees
 pub mod Constraints
 pub mod Environments
 pub mod Facts
+pub mod Frames
 pub mod Named
 pub mod Narrowing
 pub mod Satisfied

@@ -1,9 +1,10 @@
 //! The laws of narrowing, as functions that do nothing: who calls one has its clauses.
-ghost use Rattle.std.specs.Prelude.{◌≡◌, Some, false};
-ghost use Rattle.type_lattice.specs.Types.{AreBelow};
+ghost use Rattle.std.specs.Prelude.{◌≡◌, ℕ, Some, false, set};
+ghost use Rattle.type_lattice.specs.Types.{Type4, AreBelow};
 ghost use Rattle.cons_tree.specs.declared.parts.Part.{Part};
 ghost use Rattle.cons_tree.specs.Environments.{Types, Assignment, IsBelow, LiesIn, LiesInState};
 ghost use Rattle.cons_tree.specs.Facts.{TypeFacts};
+ghost use Rattle.cons_tree.specs.Frames.{IsNone, slots_of, with_slot};
 ghost use Rattle.cons_tree.specs.Narrowing.{narrowed};
 ghost use Rattle.cons_tree.specs.Satisfied.{SatPart};
 ghost use Rattle.cons_tree.specs.Signatures.{has_none};
@@ -40,3 +41,8 @@ pub fn narrowing_laws()
 {
     type_facts();
 }
+
+/// A slot that a part doesn't name is left alone, and what stands in it doesn't matter.
+pub fn frame_law()
+    ensures { (p : Part) (s : ℕ) (t : Type4) (xs : Types) → IsNone s (slots_of p) → narrowed p (set xs s t) ≡ with_slot s t (narrowed p xs) }
+{}

@@ -13,7 +13,7 @@ mod summaries;
 mod transfers;
 
 pub use copies::copy_types;
-pub use laws::{narrowing_laws, type_facts};
+pub use laws::{frame_law, narrowing_laws, type_facts};
 pub use narrowing::narrow;
 pub use parts::{Callee, Constraint, Env, Part, Sig, Slot, Summary, Transfer};
 pub use slots::{Former, Slots, discard_slots};
