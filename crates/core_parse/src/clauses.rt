@@ -7,19 +7,17 @@ ghost use Rattle.core_parse.specs.steps.Readings.{ReadsClause};
 ghost use Rattle.core_parse.specs.Weights.{weight};
 
 use crate::annotations::annotation;
-use crate::expression_lists::pushed;
+use crate::boxes::{discard, discard_clause, discard_pattern, noted_clause, noted_pattern, pushed};
 use crate::expressions::{ReadExpression, expression};
 use crate::fault::Fault;
 use crate::leaves::{DEEPEST, First, mark, next, no_note, take, text_of};
 use crate::pattern_brackets::{ReadInBrackets, in_brackets, named, noted_variable};
 use crate::patterns::{ReadPattern, ReadPatterns, bare_pattern, patterns};
-use core_ast::{
-    Clause, Pattern, VarName, discard, discard_clause, discard_clauses, discard_pattern,
-    discard_patterns,
-};
+use crate::{part_nodes, pattern_nodes};
+use core_ast::{Clause, Pattern, VarName, discard_clauses, discard_patterns};
 use core_scan::{Sort, Token, same};
 use std::alloc::Global;
-use type_kinds::{List, Memory, Place};
+use type_kinds::{Boxed, List, Memory, Place};
 
 /// Clauses, and what follows the token that closes them.
 pub struct ReadClauses<'a> {
@@ -30,7 +28,7 @@ pub struct ReadClauses<'a> {
 
 /// A clause, and what follows it.
 pub struct ReadClause<'a> {
-    pub clause: Clause,
+    pub clause: Boxed<Clause>,
     pub rest: &'a [Token],
     pub label: u32,
 }
@@ -161,7 +159,10 @@ pub fn clause<'a>(
             return Err(fault);
         }
     };
-    let clause = Clause::new(mark, patterns, guard, body);
+    let clause = match part_nodes::clause(alloc, mark, patterns, guard, body) {
+        Ok(clause) => clause,
+        Err(Memory) => return Err(Fault::Memory),
+    };
     if !noted {
         return Ok(ReadClause {
             clause,
@@ -170,11 +171,14 @@ pub fn clause<'a>(
         });
     }
     match annotation(alloc, rest) {
-        Ok(found) => Ok(ReadClause {
-            clause: clause.with_note(found.note),
-            rest: found.rest,
-            label,
-        }),
+        Ok(found) => match noted_clause(alloc, clause, found.note) {
+            Ok(clause) => Ok(ReadClause {
+                clause,
+                rest: found.rest,
+                label,
+            }),
+            Err(Memory) => Err(Fault::Memory),
+        },
         Err(fault) => {
             discard_clause(clause);
             Err(fault)
@@ -349,8 +353,12 @@ fn head_with_variable<'a>(
             Err(fault) => Err(fault),
         };
     }
+    let pattern = match pattern_nodes::variable(alloc, mark, name) {
+        Ok(pattern) => pattern,
+        Err(Memory) => return Err(Fault::Memory),
+    };
     let found = ReadPattern {
-        pattern: Pattern::variable(mark, name),
+        pattern,
         rest: second.rest,
         label: label + 1,
     };
@@ -437,8 +445,12 @@ fn either<'a>(
     }
     match annotation(alloc, rest) {
         Ok(found) => {
+            let pattern = match noted_pattern(alloc, pattern, found.note) {
+                Ok(pattern) => pattern,
+                Err(Memory) => return Err(Fault::Memory),
+            };
             let found = ReadPattern {
-                pattern: pattern.with_note(found.note),
+                pattern,
                 rest: found.rest,
                 label,
             };

@@ -5,13 +5,14 @@ ghost use Rattle.core_parse.specs.steps.Faults.{Starts, Refuses};
 ghost use Rattle.core_parse.specs.steps.Readings.{ReadsOtherExpression};
 ghost use Rattle.core_parse.specs.Weights.{weight};
 
+use crate::boxes::{discard, pushed};
 use crate::clauses::{ReadClause, ReadClauses, clause, clauses};
-use crate::expression_lists::pushed;
 use crate::expressions::{ReadExpression, expression};
 use crate::fault::Fault;
 use crate::leaves::{First, mark, take};
+use crate::nodes;
 use crate::variables::variables;
-use core_ast::{Expr, TryOf, discard, discard_clauses};
+use core_ast::{TryOf, discard_clauses};
 use core_scan::{Sort, Token};
 use std::alloc::Global;
 use type_kinds::{List, Memory};
@@ -83,7 +84,7 @@ pub fn case<'a>(
             return Err(fault);
         }
     };
-    match Expr::case(alloc, mark, argument, items) {
+    match nodes::case(alloc, mark, argument, items) {
         Ok(expr) => Ok(ReadExpression { expr, rest, label }),
         Err(Memory) => Err(Fault::Memory),
     }
@@ -186,19 +187,15 @@ pub fn try_expression<'a>(
             return Err(fault);
         }
     };
-    match TryOf::new(
-        alloc,
+    let parts = TryOf {
         arg,
-        vars.variables,
+        vars: vars.variables,
         body,
-        catch_vars.variables,
+        catch_vars: catch_vars.variables,
         handler,
-    ) {
-        Ok(parts) => Ok(ReadExpression {
-            expr: Expr::try_(mark, parts),
-            rest,
-            label,
-        }),
+    };
+    match nodes::try_(alloc, mark, parts) {
+        Ok(expr) => Ok(ReadExpression { expr, rest, label }),
         Err(Memory) => Err(Fault::Memory),
     }
 }
@@ -266,7 +263,7 @@ pub fn receive<'a>(
             return Err(fault);
         }
     };
-    match Expr::receive(alloc, mark, items, timeout, action) {
+    match nodes::receive(alloc, mark, items, timeout, action) {
         Ok(expr) => Ok(ReadExpression { expr, rest, label }),
         Err(Memory) => Err(Fault::Memory),
     }
@@ -301,7 +298,7 @@ pub fn catch<'a>(
         Ok(found) => found,
         Err(fault) => return Err(fault),
     };
-    match Expr::catch(alloc, mark, body) {
+    match nodes::catch(alloc, mark, body) {
         Ok(expr) => Ok(ReadExpression { expr, rest, label }),
         Err(Memory) => Err(Fault::Memory),
     }

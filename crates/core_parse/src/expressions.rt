@@ -8,22 +8,24 @@ ghost use Rattle.core_parse.specs.Weights.{weight};
 
 use crate::annotations::annotation;
 use crate::binaries::binary;
+use crate::boxes::{discard, noted, pushed};
 use crate::chains::chain;
 use crate::control_forms::{case, catch, receive, try_expression};
-use crate::expression_lists::{list, pushed, string};
+use crate::expression_lists::{list, string};
 use crate::fault::Fault;
 use crate::forms::{apply, call, fun_or_external, letrec, primop, tuple, values};
 use crate::leaves::{First, arity_of, is_too_deep, mark, next, take, text_of};
 use crate::literals::literal_of;
 use crate::maps::map;
-use core_ast::{Expr, FunName, Literal, discard, discard_all};
+use crate::nodes;
+use core_ast::{Expr, FunName, Literal, discard_all};
 use core_scan::{Sort, Token, same, sort_of};
 use std::alloc::Global;
-use type_kinds::{List, Memory};
+use type_kinds::{Boxed, List, Memory};
 
 /// An expression, what follows it, and the label that follows its last.
 pub struct ReadExpression<'a> {
-    pub expr: Expr,
+    pub expr: Boxed<Expr>,
     pub rest: &'a [Token],
     pub label: u32,
 }
@@ -112,11 +114,14 @@ pub fn expression<'a>(
         Err(fault) => return Err(fault),
     };
     match annotation(alloc, rest) {
-        Ok(found) => Ok(ReadExpression {
-            expr: expr.with_note(found.note),
-            rest: found.rest,
-            label: next_label,
-        }),
+        Ok(found) => match noted(alloc, expr, found.note) {
+            Ok(expr) => Ok(ReadExpression {
+                expr,
+                rest: found.rest,
+                label: next_label,
+            }),
+            Err(Memory) => Err(Fault::Memory),
+        },
         Err(fault) => {
             discard(expr);
             Err(fault)
@@ -189,21 +194,27 @@ pub fn other_expression<'a>(
     };
     if is_literal(first.sort) {
         return match literal_of(alloc, first.token) {
-            Ok(value) => Ok(ReadExpression {
-                expr: Expr::literal(mark(label, first.place), value),
-                rest: first.rest,
-                label: label + 1,
-            }),
+            Ok(value) => match nodes::literal(alloc, mark(label, first.place), value) {
+                Ok(expr) => Ok(ReadExpression {
+                    expr,
+                    rest: first.rest,
+                    label: label + 1,
+                }),
+                Err(Memory) => Err(Fault::Memory),
+            },
             Err(Memory) => Err(Fault::Memory),
         };
     }
     match first.sort {
         Sort::Variable => match text_of(alloc, first.token) {
-            Ok(name) => Ok(ReadExpression {
-                expr: Expr::variable(mark(label, first.place), name),
-                rest: first.rest,
-                label: label + 1,
-            }),
+            Ok(name) => match nodes::variable(alloc, mark(label, first.place), name) {
+                Ok(expr) => Ok(ReadExpression {
+                    expr,
+                    rest: first.rest,
+                    label: label + 1,
+                }),
+                Err(Memory) => Err(Fault::Memory),
+            },
             Err(Memory) => Err(Fault::Memory),
         },
         Sort::Atom => match atom_or_name(alloc, tokens, first, depth, label) {
@@ -211,11 +222,14 @@ pub fn other_expression<'a>(
             Err(fault) => Err(fault),
         },
         Sort::OpenSquare => match take(first.rest, Sort::CloseSquare) {
-            Ok(rest) => Ok(ReadExpression {
-                expr: Expr::literal(mark(label, first.place), Literal::Nil),
-                rest,
-                label: label + 1,
-            }),
+            Ok(rest) => match nodes::literal(alloc, mark(label, first.place), Literal::Nil) {
+                Ok(expr) => Ok(ReadExpression {
+                    expr,
+                    rest,
+                    label: label + 1,
+                }),
+                Err(Memory) => Err(Fault::Memory),
+            },
             Err(fault) => Err(fault),
         },
         Sort::OpenCurly => match tuple(alloc, tokens, first, depth, label) {
@@ -307,18 +321,24 @@ fn atom_or_name<'a>(
     };
     let mark = mark(label, first.place);
     let Some((second, after)) = first.rest.split_first() else {
-        return Ok(ReadExpression {
-            expr: Expr::literal(mark, Literal::Atom(name)),
-            rest: first.rest,
-            label: label + 1,
-        });
+        return match nodes::literal(alloc, mark, Literal::Atom(name)) {
+            Ok(expr) => Ok(ReadExpression {
+                expr,
+                rest: first.rest,
+                label: label + 1,
+            }),
+            Err(Memory) => Err(Fault::Memory),
+        };
     };
     if !same(sort_of(second), Sort::Slash) {
-        return Ok(ReadExpression {
-            expr: Expr::literal(mark, Literal::Atom(name)),
-            rest: first.rest,
-            label: label + 1,
-        });
+        return match nodes::literal(alloc, mark, Literal::Atom(name)) {
+            Ok(expr) => Ok(ReadExpression {
+                expr,
+                rest: first.rest,
+                label: label + 1,
+            }),
+            Err(Memory) => Err(Fault::Memory),
+        };
     }
     let third = match next(after) {
         Ok(found) => found,
@@ -331,11 +351,14 @@ fn atom_or_name<'a>(
         name,
         arity: arity_of(third.token),
     };
-    Ok(ReadExpression {
-        expr: Expr::local(mark, name),
-        rest: third.rest,
-        label: label + 1,
-    })
+    match nodes::local(alloc, mark, name) {
+        Ok(expr) => Ok(ReadExpression {
+            expr,
+            rest: third.rest,
+            label: label + 1,
+        }),
+        Err(Memory) => Err(Fault::Memory),
+    }
 }
 
 /// Expressions with commas between them, up to and with the token that closes them.
