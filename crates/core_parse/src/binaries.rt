@@ -31,6 +31,7 @@ pub struct ReadSegment<'a> {
 
 /// #{ segments }#
 #[cycle(expressions)]
+#[inline(never)]
 pub fn binary<'a>(
     alloc: Global,
     tokens: &'a [Token],
@@ -67,6 +68,7 @@ pub fn binary<'a>(
 
 // Segments with commas between them, up to and with the token that closes them.
 #[cycle(expressions)]
+#[inline(never)]
 fn segments<'a>(
     alloc: Global,
     tokens: &'a [Token],
@@ -155,6 +157,7 @@ fn segments<'a>(
 
 // #< expression > ( expressions )
 #[cycle(expressions)]
+#[inline(never)]
 fn segment<'a>(
     alloc: Global,
     tokens: &'a [Token],

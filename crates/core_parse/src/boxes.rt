@@ -8,6 +8,7 @@ use std::alloc::Global;
 use type_kinds::{Boxed, List, Memory};
 
 /// A value in a box. If allocation fails it is given up.
+#[inline(never)]
 pub fn boxed<T: Drop>(alloc: Global, value: T) -> Result<Boxed<T>, Memory>
     ensures { IfOk result (λ made. made ≡ value) }
 {
@@ -30,6 +31,7 @@ pub fn added<T: Drop>(items: &mut List<T>, item: T) -> bool
 
 /// Adds an item last, out of its box, and answers true. If allocation fails it gives the item up and
 /// answers false.
+#[inline(never)]
 pub fn pushed<T: Drop>(items: &mut List<T>, item: Boxed<T>) -> bool
     ensures added { OnTrue result (items.new ≡ items.old ++ item ∷ []) }
     ensures refused { OnFalse result (items.new ≡ items.old) }
@@ -38,36 +40,43 @@ pub fn pushed<T: Drop>(items: &mut List<T>, item: Boxed<T>) -> bool
 }
 
 /// Gives an expression up.
+#[inline(never)]
 pub fn discard(tree: Boxed<Expr>) {
     core_ast::discard(tree.into_inner());
 }
 
 /// Gives a pattern up.
+#[inline(never)]
 pub fn discard_pattern(pattern: Boxed<Pattern>) {
     core_ast::discard_pattern(pattern.into_inner());
 }
 
 /// Gives a clause up.
+#[inline(never)]
 pub fn discard_clause(clause: Boxed<Clause>) {
     core_ast::discard_clause(clause.into_inner());
 }
 
 /// Gives a step up.
+#[inline(never)]
 pub fn discard_step(step: Boxed<Step>) {
     core_ast::discard_step(step.into_inner());
 }
 
 /// Gives the pair of a map up.
+#[inline(never)]
 pub fn discard_pair(pair: Boxed<MapPair>) {
     core_ast::discard_pair(pair.into_inner());
 }
 
 /// Gives the pair of a map pattern up.
+#[inline(never)]
 pub fn discard_pattern_pair(pair: Boxed<PatPair>) {
     core_ast::discard_pattern_pair(pair.into_inner());
 }
 
 /// The expression with another note. If allocation fails it is given up.
+#[inline(never)]
 pub fn noted(alloc: Global, expr: Boxed<Expr>, note: Note) -> Result<Boxed<Expr>, Memory>
     ensures { IfOk result (λ made. tree made ≡ note_tree note (tree expr)) }
 {
@@ -78,6 +87,7 @@ pub fn noted(alloc: Global, expr: Boxed<Expr>, note: Note) -> Result<Boxed<Expr>
 }
 
 /// The pattern with another note. If allocation fails it is given up.
+#[inline(never)]
 pub fn noted_pattern(
     alloc: Global,
     pattern: Boxed<Pattern>,
@@ -92,6 +102,7 @@ pub fn noted_pattern(
 }
 
 /// The clause with another note. If allocation fails it is given up.
+#[inline(never)]
 pub fn noted_clause(
     alloc: Global,
     clause: Boxed<Clause>,
@@ -106,6 +117,7 @@ pub fn noted_clause(
 }
 
 /// The step with another note, out of its box.
+#[inline(never)]
 pub fn noted_step(step: Boxed<Step>, note: Note) -> Step
     ensures { step_tree result ≡ noted_step_tree note (step_tree step) }
 {

@@ -93,6 +93,7 @@ fn next_step<'a>(tokens: &'a [Token]) -> Option<StepWord<'a>>
 
 /// Steps, each a `let` or a `do`, and the expression that follows them.
 #[cycle(expressions)]
+#[inline(never)]
 pub fn chain<'a>(
     alloc: Global,
     tokens: &'a [Token],
@@ -181,6 +182,7 @@ fn reversed(done: List<Step>) -> List<Step>
 
 // The steps of a chain, up to the expression that follows them.
 #[cycle(expressions)]
+#[inline(never)]
 fn steps<'a>(
     alloc: Global,
     tokens: &'a [Token],
@@ -241,6 +243,7 @@ fn steps<'a>(
 
 // The step that begins with this word, behind the word: variables = expression in, or an expression.
 #[cycle(expressions)]
+#[inline(never)]
 fn step<'a>(alloc: Global, word: First<'a>, depth: u32, label: u32) -> Result<ReadStep<'a>, Fault>
     requires shallow { depth ≤ 400 }
     requires labels { label + 1 + weight word.rest.now < 2 ^ 32 }

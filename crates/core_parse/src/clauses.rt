@@ -45,6 +45,7 @@ struct ReadHead<'a> {
 
 /// These clauses and those that come, up to and with the token that closes them.
 #[cycle(expressions)]
+#[inline(never)]
 pub fn clauses<'a>(
     alloc: Global,
     tokens: &'a [Token],
@@ -104,6 +105,7 @@ pub fn clauses<'a>(
 
 /// The clause that comes first, with or without annotation brackets.
 #[cycle(expressions)]
+#[inline(never)]
 pub fn clause<'a>(
     alloc: Global,
     tokens: &'a [Token],
@@ -188,6 +190,7 @@ pub fn clause<'a>(
 
 // The patterns of a clause, up to and with the word `when`.
 #[cycle(expressions)]
+#[inline(never)]
 fn head<'a>(
     alloc: Global,
     tokens: &'a [Token],
@@ -226,6 +229,7 @@ fn head<'a>(
 // The same where brackets come first: those of the clause, of its pattern, or of the variable that names
 // its pattern.
 #[cycle(expressions)]
+#[inline(never)]
 fn head_in_brackets<'a>(
     alloc: Global,
     tokens: &'a [Token],
@@ -288,6 +292,7 @@ fn head_in_brackets<'a>(
 
 // The same where brackets and a variable come first.
 #[cycle(expressions)]
+#[inline(never)]
 fn head_with_variable<'a>(
     alloc: Global,
     tokens: &'a [Token],
@@ -367,6 +372,7 @@ fn head_with_variable<'a>(
 
 // < patterns > when, behind the first bracket.
 #[cycle(expressions)]
+#[inline(never)]
 fn several<'a>(
     alloc: Global,
     first: First<'a>,

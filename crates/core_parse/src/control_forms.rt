@@ -19,6 +19,7 @@ use type_kinds::{List, Memory};
 
 // case expression of clauses end, with a clause at least
 #[cycle(expressions)]
+#[inline(never)]
 pub fn case<'a>(
     alloc: Global,
     tokens: &'a [Token],
@@ -92,6 +93,7 @@ pub fn case<'a>(
 
 // try expression of variables -> expression catch variables -> expression
 #[cycle(expressions)]
+#[inline(never)]
 pub fn try_expression<'a>(
     alloc: Global,
     tokens: &'a [Token],
@@ -202,6 +204,7 @@ pub fn try_expression<'a>(
 
 // receive clauses after expression -> expression
 #[cycle(expressions)]
+#[inline(never)]
 pub fn receive<'a>(
     alloc: Global,
     tokens: &'a [Token],
@@ -271,6 +274,7 @@ pub fn receive<'a>(
 
 // catch expression
 #[cycle(expressions)]
+#[inline(never)]
 pub fn catch<'a>(
     alloc: Global,
     tokens: &'a [Token],

@@ -44,6 +44,7 @@ struct ReadFunction<'a> {
 
 /// Definitions up to and with the token that closes them.
 #[cycle(expressions)]
+#[inline(never)]
 pub fn definitions<'a>(
     alloc: Global,
     tokens: &'a [Token],
@@ -102,6 +103,7 @@ pub fn definitions<'a>(
 
 // function_name = fun, each with or without annotation brackets
 #[cycle(expressions)]
+#[inline(never)]
 fn definition<'a>(
     alloc: Global,
     tokens: &'a [Token],
@@ -147,6 +149,7 @@ fn definition<'a>(
 
 // The fun of a definition, with or without annotation brackets.
 #[cycle(expressions)]
+#[inline(never)]
 fn noted_function<'a>(
     alloc: Global,
     tokens: &'a [Token],
@@ -197,6 +200,7 @@ fn noted_function<'a>(
 
 // fun ( variables ) -> expression
 #[cycle(expressions)]
+#[inline(never)]
 fn function<'a>(
     alloc: Global,
     tokens: &'a [Token],

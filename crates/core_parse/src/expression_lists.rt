@@ -85,6 +85,7 @@ pub fn string<'a>(
 
 /// [ ], [ expressions ] and [ expressions | expression ].
 #[cycle(expressions)]
+#[inline(never)]
 pub fn list<'a>(
     alloc: Global,
     tokens: &'a [Token],
@@ -151,6 +152,7 @@ pub fn list<'a>(
 // The elements of a list and its tail, up to the brackets that close it. A tail that is a list without
 // annotation brackets goes into the list.
 #[cycle(expressions)]
+#[inline(never)]
 fn elements<'a>(
     alloc: Global,
     tokens: &'a [Token],

@@ -81,6 +81,7 @@ pub fn is_literal(sort: Sort) -> bool
 
 /// The expression that comes first, with or without annotation brackets.
 #[cycle(expressions)]
+#[inline(never)]
 pub fn expression<'a>(
     alloc: Global,
     tokens: &'a [Token],
@@ -131,6 +132,7 @@ pub fn expression<'a>(
 
 /// The expression that comes first, without annotation brackets.
 #[cycle(expressions)]
+#[inline(never)]
 pub fn bare_expression<'a>(
     alloc: Global,
     tokens: &'a [Token],
@@ -175,6 +177,7 @@ pub fn bare_expression<'a>(
 
 /// The expression that comes first, without annotation brackets, where it is no list with elements.
 #[cycle(expressions)]
+#[inline(never)]
 pub fn other_expression<'a>(
     alloc: Global,
     tokens: &'a [Token],
@@ -217,10 +220,7 @@ pub fn other_expression<'a>(
             },
             Err(Memory) => Err(Fault::Memory),
         },
-        Sort::Atom => match atom_or_name(alloc, tokens, first, depth, label) {
-            Ok(found) => Ok(found),
-            Err(fault) => Err(fault),
-        },
+        Sort::Atom => atom_or_name(alloc, tokens, first, depth, label),
         Sort::OpenSquare => match take(first.rest, Sort::CloseSquare) {
             Ok(rest) => match nodes::literal(alloc, mark(label, first.place), Literal::Nil) {
                 Ok(expr) => Ok(ReadExpression {
@@ -232,66 +232,21 @@ pub fn other_expression<'a>(
             },
             Err(fault) => Err(fault),
         },
-        Sort::OpenCurly => match tuple(alloc, tokens, first, depth, label) {
-            Ok(found) => Ok(found),
-            Err(fault) => Err(fault),
-        },
-        Sort::Less => match values(alloc, tokens, first, depth, label) {
-            Ok(found) => Ok(found),
-            Err(fault) => Err(fault),
-        },
-        Sort::OpenBinary => match binary(alloc, tokens, first, depth, label) {
-            Ok(found) => Ok(found),
-            Err(fault) => Err(fault),
-        },
-        Sort::OpenMap => match map(alloc, tokens, first, depth, label) {
-            Ok(found) => Ok(found),
-            Err(fault) => Err(fault),
-        },
-        Sort::Fun => match fun_or_external(alloc, tokens, first, depth, label) {
-            Ok(found) => Ok(found),
-            Err(fault) => Err(fault),
-        },
-        Sort::Let => match chain(alloc, tokens, first, depth, label) {
-            Ok(found) => Ok(found),
-            Err(fault) => Err(fault),
-        },
-        Sort::Do => match chain(alloc, tokens, first, depth, label) {
-            Ok(found) => Ok(found),
-            Err(fault) => Err(fault),
-        },
-        Sort::Case => match case(alloc, tokens, first, depth, label) {
-            Ok(found) => Ok(found),
-            Err(fault) => Err(fault),
-        },
-        Sort::Letrec => match letrec(alloc, tokens, first, depth, label) {
-            Ok(found) => Ok(found),
-            Err(fault) => Err(fault),
-        },
-        Sort::Apply => match apply(alloc, tokens, first, depth, label) {
-            Ok(found) => Ok(found),
-            Err(fault) => Err(fault),
-        },
-        Sort::Call => match call(alloc, tokens, first, depth, label) {
-            Ok(found) => Ok(found),
-            Err(fault) => Err(fault),
-        },
-        Sort::Primop => match primop(alloc, tokens, first, depth, label) {
-            Ok(found) => Ok(found),
-            Err(fault) => Err(fault),
-        },
-        Sort::Try => match try_expression(alloc, tokens, first, depth, label) {
-            Ok(found) => Ok(found),
-            Err(fault) => Err(fault),
-        },
-        Sort::Receive => match receive(alloc, tokens, first, depth, label) {
-            Ok(found) => Ok(found),
-            Err(fault) => Err(fault),
-        },
-        Sort::Catch => match catch(alloc, tokens, first, depth, label) {
-            Ok(found) => Ok(found),
-            Err(fault) => Err(fault),
-        },
+        Sort::OpenCurly => tuple(alloc, tokens, first, depth, label),
+        Sort::Less => values(alloc, tokens, first, depth, label),
+        Sort::Fun => fun_or_external(alloc, tokens, first, depth, label),
+        Sort::Letrec => letrec(alloc, tokens, first, depth, label),
+        Sort::Catch => catch(alloc, tokens, first, depth, label),
+        Sort::Primop => primop(alloc, tokens, first, depth, label),
+        Sort::Apply => apply(alloc, tokens, first, depth, label),
+        Sort::Call => call(alloc, tokens, first, depth, label),
+        Sort::Case => case(alloc, tokens, first, depth, label),
+        Sort::Try => try_expression(alloc, tokens, first, depth, label),
+        Sort::Receive => receive(alloc, tokens, first, depth, label),
+        Sort::Let => chain(alloc, tokens, first, depth, label),
+        Sort::Do => chain(alloc, tokens, first, depth, label),
+        Sort::OpenBinary => binary(alloc, tokens, first, depth, label),
+        Sort::OpenMap => map(alloc, tokens, first, depth, label),
         _ => Err(Fault::Syntax(first.place)),
     }
 }
@@ -363,6 +318,7 @@ fn atom_or_name<'a>(
 
 /// Expressions with commas between them, up to and with the token that closes them.
 #[cycle(expressions)]
+#[inline(never)]
 pub fn expressions<'a>(
     alloc: Global,
     tokens: &'a [Token],

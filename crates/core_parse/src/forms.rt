@@ -21,6 +21,7 @@ use type_kinds::Memory;
 
 // fun ( variables ) -> expression, or fun atom : function_name
 #[cycle(expressions)]
+#[inline(never)]
 pub fn fun_or_external<'a>(
     alloc: Global,
     tokens: &'a [Token],
@@ -51,6 +52,7 @@ pub fn fun_or_external<'a>(
 
 // fun ( variables ) -> expression, behind the bracket
 #[cycle(expressions)]
+#[inline(never)]
 fn fun<'a>(
     alloc: Global,
     tokens: &'a [Token],
@@ -139,6 +141,7 @@ fn external<'a>(
 
 // { expressions }
 #[cycle(expressions)]
+#[inline(never)]
 pub fn tuple<'a>(
     alloc: Global,
     tokens: &'a [Token],
@@ -176,6 +179,7 @@ pub fn tuple<'a>(
 
 // < expressions >
 #[cycle(expressions)]
+#[inline(never)]
 pub fn values<'a>(
     alloc: Global,
     tokens: &'a [Token],
@@ -213,6 +217,7 @@ pub fn values<'a>(
 
 // letrec definitions in expression
 #[cycle(expressions)]
+#[inline(never)]
 pub fn letrec<'a>(
     alloc: Global,
     tokens: &'a [Token],
@@ -261,6 +266,7 @@ pub fn letrec<'a>(
 
 // apply expression ( expressions )
 #[cycle(expressions)]
+#[inline(never)]
 pub fn apply<'a>(
     alloc: Global,
     tokens: &'a [Token],
@@ -314,6 +320,7 @@ pub fn apply<'a>(
 
 // call expression : expression ( expressions )
 #[cycle(expressions)]
+#[inline(never)]
 pub fn call<'a>(
     alloc: Global,
     tokens: &'a [Token],
@@ -387,6 +394,7 @@ pub fn call<'a>(
 
 // primop atom ( expressions )
 #[cycle(expressions)]
+#[inline(never)]
 pub fn primop<'a>(
     alloc: Global,
     tokens: &'a [Token],

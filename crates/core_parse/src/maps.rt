@@ -35,6 +35,7 @@ pub struct ReadPair<'a> {
 
 /// ~{ pairs }~ and ~{ pairs | expression }~
 #[cycle(expressions)]
+#[inline(never)]
 pub fn map<'a>(
     alloc: Global,
     tokens: &'a [Token],
@@ -78,6 +79,7 @@ pub fn map<'a>(
 // Pairs with commas between them, the map that they update behind a bar, if any, and the token that
 // closes them.
 #[cycle(expressions)]
+#[inline(never)]
 fn pairs<'a>(
     alloc: Global,
     tokens: &'a [Token],
@@ -183,6 +185,7 @@ fn pair_start<'a>(
 
 // A pair, with or without annotation brackets.
 #[cycle(expressions)]
+#[inline(never)]
 fn pair<'a>(
     alloc: Global,
     tokens: &'a [Token],
@@ -236,6 +239,7 @@ fn pair<'a>(
 // A pair that begins with one bracket. It is the key's where an annotation follows the key, and else the
 // pair's.
 #[cycle(expressions)]
+#[inline(never)]
 fn pair_in_brackets<'a>(
     alloc: Global,
     tokens: &'a [Token],
@@ -307,6 +311,7 @@ fn pair_in_brackets<'a>(
 
 // expression => expression, or expression := expression
 #[cycle(expressions)]
+#[inline(never)]
 fn bare_pair<'a>(
     alloc: Global,
     tokens: &'a [Token],
@@ -347,6 +352,7 @@ fn exactness(sort: Sort) -> Option<bool>
 
 // The pair of this key, behind the key: => expression, or := expression.
 #[cycle(expressions)]
+#[inline(never)]
 fn value_of_key<'a>(
     alloc: Global,
     key: Boxed<Expr>,

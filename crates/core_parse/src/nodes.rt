@@ -13,6 +13,7 @@ use std::alloc::Global;
 use type_kinds::{Atom, Boxed, List, Memory};
 
 /// A literal.
+#[inline(never)]
 pub fn literal(alloc: Global, mark: Mark, value: Literal) -> Result<Boxed<Expr>, Memory>
     ensures { IfOk result (λ made. tree made ≡ m.literal mark value) }
 {
@@ -23,6 +24,7 @@ pub fn literal(alloc: Global, mark: Mark, value: Literal) -> Result<Boxed<Expr>,
 }
 
 /// A variable.
+#[inline(never)]
 pub fn variable(alloc: Global, mark: Mark, name: Atom) -> Result<Boxed<Expr>, Memory>
     ensures { IfOk result (λ made. tree made ≡ m.variable mark name) }
 {
@@ -33,6 +35,7 @@ pub fn variable(alloc: Global, mark: Mark, name: Atom) -> Result<Boxed<Expr>, Me
 }
 
 /// A function's name.
+#[inline(never)]
 pub fn local(alloc: Global, mark: Mark, name: FunName) -> Result<Boxed<Expr>, Memory>
     ensures { IfOk result (λ made. tree made ≡ m.local mark name) }
 {
@@ -43,6 +46,7 @@ pub fn local(alloc: Global, mark: Mark, name: FunName) -> Result<Boxed<Expr>, Me
 }
 
 /// A function of a module, by both names.
+#[inline(never)]
 pub fn external(alloc: Global, mark: Mark, home: Atom, name: FunName) -> Result<Boxed<Expr>, Memory>
     ensures { IfOk result (λ made. tree made ≡ m.external mark home name) }
 {
@@ -53,6 +57,7 @@ pub fn external(alloc: Global, mark: Mark, home: Atom, name: FunName) -> Result<
 }
 
 /// A tuple.
+#[inline(never)]
 pub fn tuple(alloc: Global, mark: Mark, elements: List<Expr>) -> Result<Boxed<Expr>, Memory>
     ensures { IfOk result (λ made. tree made ≡ m.tuple mark (all_trees elements)) }
 {
@@ -63,6 +68,7 @@ pub fn tuple(alloc: Global, mark: Mark, elements: List<Expr>) -> Result<Boxed<Ex
 }
 
 /// A value list.
+#[inline(never)]
 pub fn values(alloc: Global, mark: Mark, elements: List<Expr>) -> Result<Boxed<Expr>, Memory>
     ensures { IfOk result (λ made. tree made ≡ m.values mark (all_trees elements)) }
 {
@@ -73,6 +79,7 @@ pub fn values(alloc: Global, mark: Mark, elements: List<Expr>) -> Result<Boxed<E
 }
 
 /// A binary.
+#[inline(never)]
 pub fn binary(alloc: Global, mark: Mark, segments: List<Segment>) -> Result<Boxed<Expr>, Memory>
     ensures { IfOk result (λ made. tree made ≡ m.binary mark (all_segments segments)) }
 {
@@ -83,6 +90,7 @@ pub fn binary(alloc: Global, mark: Mark, segments: List<Segment>) -> Result<Boxe
 }
 
 /// A map of these pairs alone.
+#[inline(never)]
 pub fn new_map(alloc: Global, mark: Mark, pairs: List<MapPair>) -> Result<Boxed<Expr>, Memory>
     ensures { IfOk result (λ made. tree made ≡ m.new_map mark (all_pairs pairs)) }
 {
@@ -93,6 +101,7 @@ pub fn new_map(alloc: Global, mark: Mark, pairs: List<MapPair>) -> Result<Boxed<
 }
 
 /// A primitive operation.
+#[inline(never)]
 pub fn primop(
     alloc: Global,
     mark: Mark,
@@ -109,6 +118,7 @@ pub fn primop(
 
 /// A fun.
 #[tactic(auto, using(core_ast::proofs::Trees::tree_equations))]
+#[inline(never)]
 pub fn function(
     alloc: Global,
     mark: Mark,
@@ -131,6 +141,7 @@ pub fn function(
 
 /// A list: its elements and its tail.
 #[tactic(auto, using(core_ast::proofs::Trees::tree_equations))]
+#[inline(never)]
 pub fn listed(
     alloc: Global,
     mark: Mark,
@@ -153,6 +164,7 @@ pub fn listed(
 
 /// A map that is updated by these pairs.
 #[tactic(auto, using(core_ast::proofs::Trees::tree_equations))]
+#[inline(never)]
 pub fn updated_map(
     alloc: Global,
     mark: Mark,
@@ -175,6 +187,7 @@ pub fn updated_map(
 
 /// A chain: its steps, and the expression that follows them.
 #[tactic(auto, using(core_ast::proofs::Trees::tree_equations))]
+#[inline(never)]
 pub fn chain(
     alloc: Global,
     mark: Mark,
@@ -197,6 +210,7 @@ pub fn chain(
 
 /// A `case`: its argument and its clauses.
 #[tactic(auto, using(core_ast::proofs::Trees::tree_equations))]
+#[inline(never)]
 pub fn case(
     alloc: Global,
     mark: Mark,
@@ -219,6 +233,7 @@ pub fn case(
 
 /// A `letrec`: its functions and its body.
 #[tactic(auto, using(core_ast::proofs::Trees::tree_equations))]
+#[inline(never)]
 pub fn letrec(
     alloc: Global,
     mark: Mark,
@@ -241,6 +256,7 @@ pub fn letrec(
 
 /// The application of an operator.
 #[tactic(auto, using(core_ast::proofs::Trees::tree_equations))]
+#[inline(never)]
 pub fn apply(
     alloc: Global,
     mark: Mark,
@@ -263,6 +279,7 @@ pub fn apply(
 
 /// The call of a function of a module.
 #[tactic(auto, using(core_ast::proofs::Trees::tree_equations))]
+#[inline(never)]
 pub fn call(
     alloc: Global,
     mark: Mark,
@@ -286,6 +303,7 @@ pub fn call(
 
 /// A `try`.
 #[tactic(auto, using(core_ast::proofs::Trees::tree_equations))]
+#[inline(never)]
 pub fn try_(alloc: Global, mark: Mark, parts: TryParts) -> Result<Boxed<Expr>, Memory>
     ensures { IfOk result (λ made. tree made ≡ m.try mark (tree parts.arg) parts.vars (tree parts.body) parts.catch_vars (tree parts.handler)) }
 {
@@ -303,6 +321,7 @@ pub fn try_(alloc: Global, mark: Mark, parts: TryParts) -> Result<Boxed<Expr>, M
 
 /// A `receive`: its clauses, how long it waits, and what it does then.
 #[tactic(auto, using(core_ast::proofs::Trees::tree_equations))]
+#[inline(never)]
 pub fn receive(
     alloc: Global,
     mark: Mark,
@@ -326,6 +345,7 @@ pub fn receive(
 
 /// A `catch`.
 #[tactic(auto, using(core_ast::proofs::Trees::tree_equations))]
+#[inline(never)]
 pub fn catch(alloc: Global, mark: Mark, body: Boxed<Expr>) -> Result<Boxed<Expr>, Memory>
     ensures { IfOk result (λ made. tree made ≡ m.catch mark (tree body)) }
 {

@@ -9,6 +9,7 @@ use std::alloc::Global;
 use type_kinds::{Boxed, List, Memory};
 
 /// A clause: its patterns, its guard and its body.
+#[inline(never)]
 pub fn clause(
     alloc: Global,
     mark: Mark,
@@ -28,6 +29,7 @@ pub fn clause(
 }
 
 /// A pair of a map, written with `:=` where it is exact.
+#[inline(never)]
 pub fn pair(
     alloc: Global,
     exact: bool,
@@ -46,6 +48,7 @@ pub fn pair(
 }
 
 /// A pair of a map pattern.
+#[inline(never)]
 pub fn pattern_pair(
     alloc: Global,
     key: Boxed<Expr>,
@@ -60,6 +63,7 @@ pub fn pattern_pair(
 }
 
 /// A segment of a binary.
+#[inline(never)]
 pub fn segment(
     alloc: Global,
     value: Boxed<Expr>,
@@ -74,6 +78,7 @@ pub fn segment(
 }
 
 /// A segment of a binary pattern.
+#[inline(never)]
 pub fn pattern_segment(
     alloc: Global,
     value: Boxed<Pattern>,
@@ -88,6 +93,7 @@ pub fn pattern_segment(
 }
 
 /// A step of a chain that is a `let`.
+#[inline(never)]
 pub fn let_step(
     alloc: Global,
     mark: Mark,
@@ -103,6 +109,7 @@ pub fn let_step(
 }
 
 /// A step of a chain that is a `do`.
+#[inline(never)]
 pub fn do_step(alloc: Global, mark: Mark, value: Boxed<Expr>) -> Result<Boxed<Step>, Memory>
     ensures { IfOk result (λ made. step_tree made ≡ do_of mark (tree value)) }
 {

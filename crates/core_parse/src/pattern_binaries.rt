@@ -33,6 +33,7 @@ pub struct ReadPatternSegment<'a> {
 
 /// #{ segments }#
 #[cycle(expressions)]
+#[inline(never)]
 pub fn binary_pattern<'a>(
     alloc: Global,
     tokens: &'a [Token],
@@ -73,6 +74,7 @@ pub fn binary_pattern<'a>(
 
 // Segments with commas between them, up to and with the token that closes them.
 #[cycle(expressions)]
+#[inline(never)]
 fn pattern_segments<'a>(
     alloc: Global,
     tokens: &'a [Token],
@@ -161,6 +163,7 @@ fn pattern_segments<'a>(
 
 // #< pattern > ( expressions )
 #[cycle(expressions)]
+#[inline(never)]
 fn pattern_segment<'a>(
     alloc: Global,
     tokens: &'a [Token],

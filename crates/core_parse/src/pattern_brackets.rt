@@ -31,6 +31,7 @@ pub struct ReadInBrackets<'a> {
 /// The pattern that begins with a bracket: the bracket of its annotation, or that of the variable's which
 /// names it.
 #[cycle(expressions)]
+#[inline(never)]
 pub fn in_brackets<'a>(
     alloc: Global,
     tokens: &'a [Token],
@@ -87,6 +88,7 @@ pub fn in_brackets<'a>(
 
 // ( variable = pattern -| [ constants ] ), or a variable in annotation brackets.
 #[cycle(expressions)]
+#[inline(never)]
 fn variable_in_brackets<'a>(
     alloc: Global,
     tokens: &'a [Token],
@@ -161,6 +163,7 @@ fn variable_in_brackets<'a>(
 /// A variable in annotation brackets, behind the variable, and the pattern that it names behind an equals
 /// sign, if one comes.
 #[cycle(expressions)]
+#[inline(never)]
 pub fn noted_variable<'a>(
     alloc: Global,
     name: Atom,
@@ -231,6 +234,7 @@ pub fn behind_equals<'a>(tokens: &'a [Token]) -> Option<&'a [Token]>
 
 /// The pattern that the variable names, behind the equals sign.
 #[cycle(expressions)]
+#[inline(never)]
 pub fn named<'a>(
     alloc: Global,
     mark: Mark,
@@ -266,6 +270,7 @@ pub fn named<'a>(
 
 /// ( variable -| [ constants ] ) = pattern
 #[cycle(expressions)]
+#[inline(never)]
 pub fn noted_alias<'a>(
     alloc: Global,
     tokens: &'a [Token],

@@ -84,6 +84,7 @@ pub fn string_pattern<'a>(
 
 /// [ ], [ patterns ] and [ patterns | pattern ].
 #[cycle(expressions)]
+#[inline(never)]
 pub fn pattern_list<'a>(
     alloc: Global,
     tokens: &'a [Token],
@@ -150,6 +151,7 @@ pub fn pattern_list<'a>(
 // The elements of a list and its tail, up to the brackets that close it. A tail that is a list without
 // annotation brackets goes into the list.
 #[cycle(expressions)]
+#[inline(never)]
 fn pattern_elements<'a>(
     alloc: Global,
     tokens: &'a [Token],

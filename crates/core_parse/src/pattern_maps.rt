@@ -36,6 +36,7 @@ pub struct ReadPatternPair<'a> {
 
 /// ~{ pairs }~
 #[cycle(expressions)]
+#[inline(never)]
 pub fn map_pattern<'a>(
     alloc: Global,
     tokens: &'a [Token],
@@ -76,6 +77,7 @@ pub fn map_pattern<'a>(
 
 // Pairs with commas between them, up to and with the token that closes them.
 #[cycle(expressions)]
+#[inline(never)]
 fn pattern_pairs<'a>(
     alloc: Global,
     tokens: &'a [Token],
@@ -152,6 +154,7 @@ fn pattern_pairs<'a>(
 
 // A pair, with or without annotation brackets.
 #[cycle(expressions)]
+#[inline(never)]
 fn pattern_pair<'a>(
     alloc: Global,
     tokens: &'a [Token],
@@ -207,6 +210,7 @@ fn pattern_pair<'a>(
 // A pair that begins with one bracket. It is the key's where an annotation follows the key, and else the
 // pair's.
 #[cycle(expressions)]
+#[inline(never)]
 fn pattern_pair_in_brackets<'a>(
     alloc: Global,
     tokens: &'a [Token],
@@ -280,6 +284,7 @@ fn pattern_pair_in_brackets<'a>(
 
 // expression := pattern
 #[cycle(expressions)]
+#[inline(never)]
 fn bare_pattern_pair<'a>(
     alloc: Global,
     tokens: &'a [Token],
@@ -309,6 +314,7 @@ fn bare_pattern_pair<'a>(
 
 // The pair of this key, behind the key: := pattern.
 #[cycle(expressions)]
+#[inline(never)]
 fn pattern_of_key<'a>(
     alloc: Global,
     key: Boxed<Expr>,

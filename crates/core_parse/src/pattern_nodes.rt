@@ -10,6 +10,7 @@ use std::alloc::Global;
 use type_kinds::{Atom, Boxed, List, Memory};
 
 /// A variable.
+#[inline(never)]
 pub fn variable(alloc: Global, mark: Mark, name: Atom) -> Result<Boxed<Pattern>, Memory>
     ensures { IfOk result (λ made. pattern_tree made ≡ m.binds mark name) }
 {
@@ -20,6 +21,7 @@ pub fn variable(alloc: Global, mark: Mark, name: Atom) -> Result<Boxed<Pattern>,
 }
 
 /// A literal.
+#[inline(never)]
 pub fn literal(alloc: Global, mark: Mark, value: Literal) -> Result<Boxed<Pattern>, Memory>
     ensures { IfOk result (λ made. pattern_tree made ≡ m.equals mark value) }
 {
@@ -30,6 +32,7 @@ pub fn literal(alloc: Global, mark: Mark, value: Literal) -> Result<Boxed<Patter
 }
 
 /// A tuple.
+#[inline(never)]
 pub fn tuple(alloc: Global, mark: Mark, elements: List<Pattern>) -> Result<Boxed<Pattern>, Memory>
     ensures { IfOk result (λ made. pattern_tree made ≡ m.tuple_of mark (all_patterns elements)) }
 {
@@ -40,6 +43,7 @@ pub fn tuple(alloc: Global, mark: Mark, elements: List<Pattern>) -> Result<Boxed
 }
 
 /// A map that has these pairs at least.
+#[inline(never)]
 pub fn map(alloc: Global, mark: Mark, pairs: List<PatPair>) -> Result<Boxed<Pattern>, Memory>
     ensures { IfOk result (λ made. pattern_tree made ≡ m.map_of mark (all_pat_pairs pairs)) }
 {
@@ -50,6 +54,7 @@ pub fn map(alloc: Global, mark: Mark, pairs: List<PatPair>) -> Result<Boxed<Patt
 }
 
 /// A binary.
+#[inline(never)]
 pub fn binary(
     alloc: Global,
     mark: Mark,
@@ -65,6 +70,7 @@ pub fn binary(
 
 /// A list: the patterns of its elements and of its tail.
 #[tactic(auto, using(core_ast::proofs::Trees::tree_equations))]
+#[inline(never)]
 pub fn listed(
     alloc: Global,
     mark: Mark,
@@ -87,6 +93,7 @@ pub fn listed(
 
 /// A pattern that a variable names.
 #[tactic(auto, using(core_ast::proofs::Trees::tree_equations))]
+#[inline(never)]
 pub fn alias(
     alloc: Global,
     mark: Mark,

@@ -64,6 +64,7 @@ fn is_single(sort: Sort) -> bool
 
 /// The pattern that comes first, with or without annotation brackets.
 #[cycle(expressions)]
+#[inline(never)]
 pub fn pattern<'a>(
     alloc: Global,
     tokens: &'a [Token],
@@ -107,6 +108,7 @@ pub fn pattern<'a>(
 
 /// The pattern that comes first, without annotation brackets.
 #[cycle(expressions)]
+#[inline(never)]
 pub fn bare_pattern<'a>(
     alloc: Global,
     tokens: &'a [Token],
@@ -157,6 +159,7 @@ pub fn bare_pattern<'a>(
 
 /// The pattern that comes first, without brackets before it, where it is no list with elements.
 #[cycle(expressions)]
+#[inline(never)]
 pub fn other_pattern<'a>(
     alloc: Global,
     tokens: &'a [Token],
@@ -189,10 +192,7 @@ pub fn other_pattern<'a>(
         };
     }
     match first.sort {
-        Sort::Variable => match variable_or_alias(alloc, tokens, first, depth, label) {
-            Ok(found) => Ok(found),
-            Err(fault) => Err(fault),
-        },
+        Sort::Variable => variable_or_alias(alloc, tokens, first, depth, label),
         Sort::OpenSquare => match take(first.rest, Sort::CloseSquare) {
             Ok(rest) => match pattern_nodes::literal(
                 alloc,
@@ -208,24 +208,16 @@ pub fn other_pattern<'a>(
             },
             Err(fault) => Err(fault),
         },
-        Sort::OpenCurly => match tuple_pattern(alloc, tokens, first, depth, label) {
-            Ok(found) => Ok(found),
-            Err(fault) => Err(fault),
-        },
-        Sort::OpenBinary => match binary_pattern(alloc, tokens, first, depth, label) {
-            Ok(found) => Ok(found),
-            Err(fault) => Err(fault),
-        },
-        Sort::OpenMap => match map_pattern(alloc, tokens, first, depth, label) {
-            Ok(found) => Ok(found),
-            Err(fault) => Err(fault),
-        },
+        Sort::OpenCurly => tuple_pattern(alloc, tokens, first, depth, label),
+        Sort::OpenBinary => binary_pattern(alloc, tokens, first, depth, label),
+        Sort::OpenMap => map_pattern(alloc, tokens, first, depth, label),
         _ => Err(Fault::Syntax(first.place)),
     }
 }
 
 // variable, or variable = pattern
 #[cycle(expressions)]
+#[inline(never)]
 fn variable_or_alias<'a>(
     alloc: Global,
     tokens: &'a [Token],
@@ -272,6 +264,7 @@ fn variable_or_alias<'a>(
 
 // { patterns }
 #[cycle(expressions)]
+#[inline(never)]
 fn tuple_pattern<'a>(
     alloc: Global,
     tokens: &'a [Token],
@@ -313,6 +306,7 @@ fn tuple_pattern<'a>(
 
 /// Patterns with commas between them, up to and with the token that closes them.
 #[cycle(expressions)]
+#[inline(never)]
 pub fn patterns<'a>(
     alloc: Global,
     tokens: &'a [Token],
