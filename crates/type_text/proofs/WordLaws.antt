@@ -35,7 +35,8 @@ use Rattle.type_model.proofs.TableLaws as tables
 use Rattle.type_model.proofs.PartsLaws.{shape_lattice}
 use Rattle.type_model.proofs.LevelLaws.{level_laws}
 use Rattle.type_text.specs.Texts.{separated, word_if, atom_words, range_word, int_words, bits_words, function_words, plain_words, cell_words, tuple_word, tag_words, body_words, size_words, tuples_words, parts_words, is_any, text_at}
-use Rattle.type_text.specs.WordTypes.{float_flag, pid_flag, port_flag, reference_flag, map_flag, nil_flag, of_ints, of_bits, of_flags, of_functions, of_cell, of_list, of_tuples, of_row, IsWordOf, one_atom, every_atom, one_int, ints_between, every_float, whole_bits, every_bits, every_pid, every_port, every_reference, every_map, every_function, one_arity, empty_list, proper_list, any_list, every_tuple, one_tuple, IsWord, AreWordsOf, spelled, joined_with, WordsOf}
+use Rattle.type_text.specs.WordTypes.{float_flag, pid_flag, port_flag, reference_flag, map_flag, nil_flag, of_ints, of_bits, of_flags, of_functions, of_cell, of_row, IsWordOf, one_atom, every_atom, one_int, ints_between, every_float, whole_bits, every_bits, every_pid, every_port, every_reference, every_map, every_function, one_arity, empty_list, proper_list, any_list, every_tuple, one_tuple, IsWord, AreWordsOf, spelled, joined_with, WordsOf}
+use Rattle.type_model.specs.Operations.{of_list, of_tuples}
 
 -- ---- a type joined with others, one after the other
 
