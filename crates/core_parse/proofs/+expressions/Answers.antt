@@ -1,6 +1,6 @@
 use Rattle.std.proofs.Common.{rules, ap, ◌∙◌, arith, refl, Bool, ◌+◌, subst, sym}
 use Rattle.core_ast.specs.Tree.{all_segments, segment_parts, all_patterns, pattern_tree, tree, all_pat_segments, pat_segment_parts, all_pat_pairs, pat_pair_parts}
-use Rattle.core_parse.proofs.MoreFormExits.{binary_bad, binary_ok, case_0_bad, case_1_bad, case_2_bad, case_3_bad, case_ok, one_clause, fun_end, fun_1_bad, fun_2_bad, fun_3_bad, fun_ok, fun_parts}
+use Rattle.core_parse.proofs.MoreFormExits.{binary_bad, binary_ok, case_0_bad, case_1_bad, case_2_bad, case_3_bad, case_ok, one_clause, fun_end, fun_1_bad, fun_2_bad, fun_3_bad, fun_ok}
 use Rattle.std.proofs.lemmas.Bool.{iff_false, OnTrue_at}
 use Rattle.core_parse.specs.steps.Items.{number_segment, number_pat_segment, number_pat_pair}
 use Rattle.core_parse.proofs.ItemExits.{closes_segments, segment_item, segments_of, items_nothing, items_empty, items_bad, items_first, items_end, items_close, items_worse, items_more, items_other, closes_expressions, expression_item, expressions_of, closes_pattern_segments, pattern_segment_item, pattern_segments_of, closes_pattern_pairs, pattern_pair_item, pattern_pairs_of, closes_patterns, patterns_of, pattern_item}
@@ -14,7 +14,7 @@ use Rattle.core_parse.proofs.ClauseResults.{clause_marked, single_head, head_lab
 use Rattle.std.proofs.lemmas.Result.{IfErr-weaker}
 use Rattle.core_parse.proofs.LeafExits.{two_at_least, first_shorter}
 use Rattle.core_parse.specs.steps.Patterns.{ReadsInBrackets}
-use Rattle.core_parse.proofs.FormExits.{try_parts, try_0_bad, try_1_bad, try_2_bad, try_3_bad, try_4_bad, try_5_bad, try_6_bad, try_7_bad, try_8_bad, try_ok, clauses_alone, receive_0_bad, receive_1_bad, receive_2_bad, receive_3_bad, receive_ok, catch_0_bad, catch_ok, tuple_0_bad, tuple_ok, values_0_bad, values_ok, letrec_0_bad, letrec_1_bad, letrec_ok, apply_0_bad, apply_1_bad, apply_2_bad, apply_ok, call_0_bad, call_1_bad, call_2_bad, call_3_bad, call_4_bad, call_ok, primop_0_bad, primop_1_bad, primop_2_bad, primop_ok}
+use Rattle.core_parse.proofs.FormExits.{try_0_bad, try_1_bad, try_2_bad, try_3_bad, try_4_bad, try_5_bad, try_6_bad, try_7_bad, try_8_bad, try_ok, clauses_alone, receive_0_bad, receive_1_bad, receive_2_bad, receive_3_bad, receive_ok, catch_0_bad, catch_ok, tuple_0_bad, tuple_ok, values_0_bad, values_ok, letrec_0_bad, letrec_1_bad, letrec_ok, apply_0_bad, apply_1_bad, apply_2_bad, apply_ok, call_0_bad, call_1_bad, call_2_bad, call_3_bad, call_4_bad, call_ok, primop_0_bad, primop_1_bad, primop_2_bad, primop_ok}
 use Rattle.core_parse.proofs.RunExits.{definitions_end, definitions_close, definitions_bad}
 use Rattle.core_parse.proofs.ExpressionListExits.{list_open_end, list_nil, list_unclosed, list_closes, list_done, list_first_bad, list_first_item, list_ran_out, list_stuck, list_shut, list_comma_bad, list_item, list_bar_end, list_text, list_inner_end, list_tail_nil, list_merge_bad, list_merge, list_round_bad, list_note_bad, list_noted, list_tail_bad, list_tailed, one_more, one_deeper, not_this_sort}
 use Rattle.core_parse.proofs.StringExits.{string_weight}
