@@ -1,0 +1,5 @@
+pub mod Names
+pub mod Asks
+pub mod Breaks
+pub mod Accepted
+pub mod Sets
