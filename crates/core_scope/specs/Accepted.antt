@@ -30,17 +30,17 @@ pub record IsAccepted (x : m.Module) : Type 0 where
 -- ---- the first break
 
 -- the number of a rule
-abbrev pub number : Rule → ℕ
-number BoundVariables = 8
-number DistinctVariables = 9
-number DefinedFunctions = 10
-number DistinctFunctions = 11
-number DefinedExports = 12
-number Degrees = 13
+abbrev pub rule_number : Rule → ℕ
+rule_number BoundVariables = 8
+rule_number DistinctVariables = 9
+rule_number DefinedFunctions = 10
+rule_number DistinctFunctions = 11
+rule_number DefinedExports = 12
+rule_number Degrees = 13
 
 -- One break comes before another: at an earlier place, or at its place with a lower number.
 abbrev pub IsBefore : Break → Break → Type 0
-IsBefore a b = (a.place.byte < b.place.byte) ⊎ ((a.place.byte ≡ b.place.byte) × (number a.rule < number b.rule))
+IsBefore a b = (a.place.byte < b.place.byte) ⊎ ((a.place.byte ≡ b.place.byte) × (rule_number a.rule < rule_number b.rule))
 
 -- The module breaks this, and nothing before it.
 pub record FirstBreak (x : m.Module) (b : Break) : Type 0 where

@@ -1,5 +1,5 @@
 -- How many values a place asks for, and how many an expression gives (Core Erlang 1.0.3, "degree").
-use Rattle.std.specs.Prelude.{ℕ, ◌+◌, Bool, true, false, ◌&&◌, if◌then◌else◌, List, [], ◌∷◌, codes, eqb, leb}
+use Rattle.std.specs.Prelude.{ℕ, Bool, true, ◌&&◌, if◌then◌else◌, List, [], ◌∷◌, codes, eqb, leb}
 use Rattle.type_kinds.specs.declared.atom.Atom.{Atom}
 use Rattle.core_ast.specs.declared.syntax.FunName.{FunName}
 use Rattle.core_ast.specs.declared.syntax.Literal.TheVariants as l
@@ -10,8 +10,8 @@ use Rattle.core_scope.specs.declared.ask.Ask.TheVariants.{AnyNumber, Exactly}
 use Rattle.core_scope.specs.Names.{same_atom, has_function}
 
 -- one value is asked, or given
-abbrev pub one : Ask
-one = Exactly 1
+abbrev pub one_value : Ask
+one_value = Exactly 1
 
 -- the module of the built-in functions
 abbrev pub erlang : Atom
@@ -32,8 +32,8 @@ never_returns home name n = same_atom home erlang && has_function never_returnin
 
 -- A call of these gives one value, and one that never returns gives whatever is asked.
 abbrev pub call_gives : (home name : m.Tree) → ℕ → Ask
-call_gives (m.literal i (l.Atom home)) (m.literal j (l.Atom name)) n = if never_returns home name n then AnyNumber else one
-call_gives t u n = one
+call_gives (m.literal i (l.Atom home)) (m.literal j (l.Atom name)) n = if never_returns home name n then AnyNumber else one_value
+call_gives t u n = one_value
 
 -- How many values an expression gives: a value list as many as it has, a form that hands what is asked
 -- on to its parts, a primop and a call that never returns whatever is asked, and every other one.
@@ -46,24 +46,23 @@ gives (m.call k t u ts) = call_gives t u (how_many ts)
 gives (m.primop k x ts) = AnyNumber
 gives (m.try k t xs u ys w) = AnyNumber
 gives (m.receive k cs t u) = AnyNumber
-gives t = one
+gives t = one_value
 
 -- the greatest number that a place may ask for
 abbrev pub most_asked : ℕ
 most_asked = 255
 
 -- A place that asks for so many is satisfied by an expression that gives so many.
-abbrev pub fits : (ask given : Ask) → Bool
-fits AnyNumber given = true
-fits (Exactly n) AnyNumber = leb n most_asked
-fits (Exactly n) (Exactly k) = eqb n k && leb n most_asked
+abbrev pub suffices : (ask given : Ask) → Bool
+suffices AnyNumber given = true
+suffices (Exactly n) AnyNumber = leb n most_asked
+suffices (Exactly n) (Exactly k) = eqb n k && leb n most_asked
 
 -- How many values are asked of an expression. Where its place asks for any number the form says it: a
--- value list gives its own, a form that hands what is asked on to its parts sets none, and every other
--- gives one, a primop and a call that never returns among them.
+-- value list and the forms that hand what is asked on to their parts set none, every other one value.
 abbrev pub asked : Ask → m.Tree → ℕ
 asked (Exactly n) t = n
-asked AnyNumber (m.values k ts) = how_many ts
+asked AnyNumber (m.values k ts) = 0
 asked AnyNumber (m.chain k ss t) = 0
 asked AnyNumber (m.case k t cs) = 0
 asked AnyNumber (m.letrec k ds t) = 0

@@ -1,5 +1,5 @@
 -- The rules of scopes and degrees (Core Erlang 1.0.3, "Static semantics"): all that a module breaks.
-use Rattle.std.specs.Prelude.{ℕ, Bool, true, false, not, ◌||◌, if◌then◌else◌, List, [], ◌∷◌, ◌++◌, length, eqb}
+use Rattle.std.specs.Prelude.{ℕ, Bool, true, false, not, ◌||◌, List, [], ◌∷◌, ◌++◌, length, eqb}
 use Rattle.type_kinds.specs.declared.atom.Atom.{Atom}
 use Rattle.type_kinds.specs.declared.place.Place.{Place}
 use Rattle.core_ast.specs.declared.syntax.Mark.{Mark}
@@ -13,8 +13,8 @@ use Rattle.core_scope.specs.declared.ask.Ask.TheVariants.{AnyNumber, Exactly}
 use Rattle.core_scope.specs.declared.fault.Rule.{Rule}
 use Rattle.core_scope.specs.declared.fault.Rule.TheVariants.{BoundVariables, DistinctVariables, DefinedFunctions, DistinctFunctions, DefinedExports, Degrees}
 use Rattle.core_scope.specs.declared.fault.Break.{Break}
-use Rattle.core_scope.specs.Names.{has_variable, has_function, bound, bound_by, pattern_bound, patterns_bound, pairs_bound, segments_bound, steps_bound, names, Scope, with_variables, with_functions, module_scope}
-use Rattle.core_scope.specs.Asks.{one, gives, fits, width}
+use Rattle.core_scope.specs.Names.{has_variable, has_function, bound, bound_by, pattern_bound, patterns_bound, steps_bound, defined_names, Scope, with_variables, with_functions, module_scope}
+use Rattle.core_scope.specs.Asks.{one_value, gives, suffices, width}
 
 -- Where the test fails, the rule is broken at the place.
 abbrev pub unless : Bool → Rule → Place → List Break
@@ -25,7 +25,7 @@ unless false rule place = record { place = place; rule = rule } ∷ []
 
 -- An expression gives what its place asks for.
 abbrev pub degree : Ask → Mark → m.Tree → List Break
-degree k mark t = unless (fits k (gives t)) Degrees mark.place
+degree k mark t = unless (suffices k (gives t)) Degrees mark.place
 
 abbrev pub use_of_variable : Scope → Atom → Place → List Break
 use_of_variable s x place = unless (has_variable s.variables x) BoundVariables place
@@ -67,38 +67,38 @@ abbrev mutual
   breaks s k (m.local i f) = degree k i (m.local i f) ++ use_of_function s f i.place
   breaks s k (m.external i x f) = degree k i (m.external i x f)
   breaks s k (m.literal i l) = degree k i (m.literal i l)
-  breaks s k (m.function i xs t) = degree k i (m.function i xs t) ++ new_variables [] xs ++ breaks (with_variables s (bound_by xs)) one t
-  breaks s k (m.listed i ts t) = degree k i (m.listed i ts t) ++ all_breaks s ts ++ breaks s one t
+  breaks s k (m.function i xs t) = degree k i (m.function i xs t) ++ new_variables [] xs ++ breaks (with_variables s (bound_by xs)) one_value t
+  breaks s k (m.listed i ts t) = degree k i (m.listed i ts t) ++ all_breaks s ts ++ breaks s one_value t
   breaks s k (m.tuple i ts) = degree k i (m.tuple i ts) ++ all_breaks s ts
   breaks s k (m.new_map i ps) = degree k i (m.new_map i ps) ++ pair_breaks s ps
-  breaks s k (m.updated_map i ps t) = degree k i (m.updated_map i ps t) ++ pair_breaks s ps ++ breaks s one t
+  breaks s k (m.updated_map i ps t) = degree k i (m.updated_map i ps t) ++ pair_breaks s ps ++ breaks s one_value t
   breaks s k (m.binary i ss) = degree k i (m.binary i ss) ++ segment_breaks s ss
   breaks s k (m.values i ts) = degree k i (m.values i ts) ++ all_breaks s ts
   breaks s k (m.chain i ss t) = degree k i (m.chain i ss t) ++ step_breaks s ss ++ breaks (with_variables s (steps_bound ss)) k t
   breaks s k (m.case i t cs) = degree k i (m.case i t cs) ++ breaks s (Exactly (width cs)) t ++ clause_breaks s k (width cs) cs
-  breaks s k (m.letrec i ds t) = degree k i (m.letrec i ds t) ++ new_functions [] ds ++ def_breaks (with_functions s (names ds)) ds ++ breaks (with_functions s (names ds)) k t
-  breaks s k (m.apply i t ts) = degree k i (m.apply i t ts) ++ breaks s one t ++ all_breaks s ts
-  breaks s k (m.call i t u ts) = degree k i (m.call i t u ts) ++ breaks s one t ++ breaks s one u ++ all_breaks s ts
+  breaks s k (m.letrec i ds t) = degree k i (m.letrec i ds t) ++ new_functions [] ds ++ def_breaks (with_functions s (defined_names ds)) ds ++ breaks (with_functions s (defined_names ds)) k t
+  breaks s k (m.apply i t ts) = degree k i (m.apply i t ts) ++ breaks s one_value t ++ all_breaks s ts
+  breaks s k (m.call i t u ts) = degree k i (m.call i t u ts) ++ breaks s one_value t ++ breaks s one_value u ++ all_breaks s ts
   breaks s k (m.primop i x ts) = degree k i (m.primop i x ts) ++ all_breaks s ts
   breaks s k (m.try i t xs u ys w) =
       degree k i (m.try i t xs u ys w) ++ catches i ys ++ breaks s (Exactly (length xs)) t
       ++ new_variables [] xs ++ breaks (with_variables s (bound_by xs)) k u
       ++ new_variables [] ys ++ breaks (with_variables s (bound_by ys)) k w
-  breaks s k (m.receive i cs t u) = degree k i (m.receive i cs t u) ++ clause_breaks s k 1 cs ++ breaks s one t ++ breaks s k u
-  breaks s k (m.catch i t) = degree k i (m.catch i t) ++ breaks s one t
+  breaks s k (m.receive i cs t u) = degree k i (m.receive i cs t u) ++ clause_breaks s k 1 cs ++ breaks s one_value t ++ breaks s k u
+  breaks s k (m.catch i t) = degree k i (m.catch i t) ++ breaks s one_value t
 
   -- Expressions of each of which one value is asked.
   pub all_breaks : Scope → m.Trees → List Break
   all_breaks s m.no_tree = []
-  all_breaks s (m.and_tree t ts) = breaks s one t ++ all_breaks s ts
+  all_breaks s (m.and_tree t ts) = breaks s one_value t ++ all_breaks s ts
 
   pub pair_breaks : Scope → m.Pairs → List Break
   pair_breaks s m.no_pair = []
-  pair_breaks s (m.and_pair exact key value ps) = breaks s one key ++ breaks s one value ++ pair_breaks s ps
+  pair_breaks s (m.and_pair exact key value ps) = breaks s one_value key ++ breaks s one_value value ++ pair_breaks s ps
 
   pub segment_breaks : Scope → m.Segments → List Break
   segment_breaks s m.no_segment = []
-  segment_breaks s (m.and_segment value args ss) = breaks s one value ++ all_breaks s args ++ segment_breaks s ss
+  segment_breaks s (m.and_segment value args ss) = breaks s one_value value ++ all_breaks s args ++ segment_breaks s ss
 
   -- Steps, each of which sees what those before it bind. Of the expression of a `let` as many values are
   -- asked as it has variables, and of the first expression of a `do` any number.
@@ -111,13 +111,13 @@ abbrev mutual
   pub clause_breaks : Scope → Ask → ℕ → m.Clauses → List Break
   clause_breaks s k n m.no_clause = []
   clause_breaks s k n (m.and_clause i ps guard t cs) =
-      width_of n i ps ++ patterns_breaks s [] ps ++ breaks (with_variables s (patterns_bound ps)) one guard
+      width_of n i ps ++ patterns_breaks s [] ps ++ breaks (with_variables s (patterns_bound ps)) one_value guard
       ++ breaks (with_variables s (patterns_bound ps)) k t ++ clause_breaks s k n cs
 
   -- Definitions. Of the body of a fun one value is asked.
   pub def_breaks : Scope → m.Defs → List Break
   def_breaks s m.no_def = []
-  def_breaks s (m.and_def f i xs t ds) = arity_of f i xs ++ new_variables [] xs ++ breaks (with_variables s (bound_by xs)) one t ++ def_breaks s ds
+  def_breaks s (m.and_def f i xs t ds) = arity_of f i xs ++ new_variables [] xs ++ breaks (with_variables s (bound_by xs)) one_value t ++ def_breaks s ds
 
   -- A pattern of a clause that stands in the scope, after patterns that bind these. The arguments of a
   -- segment and the key of a pair see the variables around the clause and those that stand before them,
@@ -137,7 +137,7 @@ abbrev mutual
 
   pub pat_pair_breaks : Scope → (before : List Atom) → m.PatPairs → List Break
   pat_pair_breaks s before m.no_pat_pair = []
-  pat_pair_breaks s before (m.and_pat_pair key p ps) = breaks (with_variables s before) one key ++ pattern_breaks s before p ++ pat_pair_breaks s (before ++ pattern_bound p) ps
+  pat_pair_breaks s before (m.and_pat_pair key p ps) = breaks (with_variables s before) one_value key ++ pattern_breaks s before p ++ pat_pair_breaks s (before ++ pattern_bound p) ps
 
   pub pat_segment_breaks : Scope → (before : List Atom) → m.PatSegments → List Break
   pat_segment_breaks s before m.no_pat_segment = []
@@ -162,4 +162,4 @@ export_breaks functions [] places = []
 export_breaks functions (f ∷ fs) places = unless (has_function functions f) DefinedExports (next_place places) ++ export_breaks functions fs (other_places places)
 
 abbrev pub module_breaks : m.Module → List Break
-module_breaks x = export_breaks (names x.defs) x.exports x.export_places ++ new_functions [] x.defs ++ def_breaks (module_scope x) x.defs
+module_breaks x = new_functions [] x.defs ++ export_breaks (defined_names x.defs) x.exports x.export_places ++ def_breaks (module_scope x) x.defs

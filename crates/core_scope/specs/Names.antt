@@ -1,5 +1,5 @@
 -- Names in scope: which variables are bound, and which functions are defined.
-use Rattle.std.specs.Prelude.{ℕ, Bool, ◌&&◌, if◌then◌else◌, List, [], ◌∷◌, ◌++◌, Contains, codes, nat_eq}
+use Rattle.std.specs.Prelude.{Bool, ◌&&◌, if◌then◌else◌, List, [], ◌∷◌, ◌++◌, Contains, codes, nat_eq}
 use Rattle.std.specs.List.{list_any}
 use Rattle.std.specs.Cmp.Lexicographic.{pointwise}
 use Rattle.type_kinds.specs.declared.atom.Atom.{Atom}
@@ -75,9 +75,9 @@ steps_bound (m.and_do k t ss) = steps_bound ss
 -- ---- functions that are defined
 
 -- The names of definitions, in the order of the text.
-abbrev pub names : m.Defs → List FunName
-names m.no_def = []
-names (m.and_def f k xs t ds) = f ∷ names ds
+abbrev pub defined_names : m.Defs → List FunName
+defined_names m.no_def = []
+defined_names (m.and_def f k xs t ds) = f ∷ defined_names ds
 
 -- ---- a scope
 
@@ -95,4 +95,4 @@ with_functions s fs = record { variables = s.variables; functions = s.functions 
 
 -- What the funs of a module see.
 abbrev pub module_scope : m.Module → Scope
-module_scope x = record { variables = []; functions = names x.defs }
+module_scope x = record { variables = []; functions = defined_names x.defs }

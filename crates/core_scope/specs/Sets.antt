@@ -1,5 +1,5 @@
 -- Modules together: their names are distinct.
-use Rattle.std.specs.Prelude.{◌≡◌, ℕ, ◌<◌, List, length, slice_get, Some}
+use Rattle.std.specs.Prelude.{◌≡◌, ℕ, ◌<◌, List, length, slice_get}
 use Rattle.type_kinds.specs.declared.atom.Atom.{Atom}
 
 -- The name at a position stands at an earlier one too.
