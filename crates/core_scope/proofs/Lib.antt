@@ -6,3 +6,6 @@ mod ExpressionExits
 mod WalkExits
 mod PatternExits
 mod CheckExits
+pub mod Unbroken
+pub mod SpelledLaws
+mod CheckedLaws
