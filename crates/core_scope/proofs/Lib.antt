@@ -1,0 +1,8 @@
+mod Examples
+mod Tables
+mod States
+mod GivesExits
+mod ExpressionExits
+mod WalkExits
+mod PatternExits
+mod CheckExits
