@@ -4,6 +4,7 @@
 #![tactic(auto)]
 
 mod expressions;
+mod laws;
 mod leaves;
 mod lists;
 mod modules;
@@ -12,4 +13,5 @@ mod patterns;
 #[cfg(test)]
 mod tests;
 
+pub use laws::line_lexed;
 pub use modules::print;
