@@ -3,3 +3,5 @@ pub mod Forms
 pub mod Names
 pub mod Items
 mod NotedTrees
+mod Bare
+mod BareForms

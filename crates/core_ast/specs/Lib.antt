@@ -3,3 +3,5 @@ pub mod Tree
 pub mod Named
 pub mod Lengths
 pub mod Notes
+pub mod Same
+pub mod steps

@@ -4,6 +4,8 @@
 //! at each node that has one. `specs/Tree.antt` leads from the types here to the model.
 #![tactic(auto)]
 
+mod comparing;
+mod comparing_trees;
 mod drops;
 mod expression_makers;
 mod notes;
@@ -12,6 +14,7 @@ mod pattern_makers;
 mod readers;
 mod syntax;
 
+pub use comparing::same;
 pub use drops::{
     discard, discard_all, discard_clause, discard_clauses, discard_definition, discard_definitions,
     discard_fun, discard_functions, discard_module, discard_pair, discard_pairs, discard_pattern,

@@ -39,3 +39,4 @@ mod VariableExits
 mod StringExits
 mod ModuleExits
 mod LexedWeights
+mod Whole

@@ -1,5 +1,10 @@
 // What holds of the definitions, for every text.
-ghost use Rattle.std.specs.Prelude.{ℕ, ◌*◌, ◌≤◌, List, length};
+ghost use Rattle.std.specs.Prelude.{◌≡◌, ℕ, ◌*◌, ◌≤◌, List, length};
+ghost use Rattle.core_ast.specs.Model.{Module as ModuleTree};
+ghost use Rattle.core_parse.specs.Begins.{depth_limit, Refused};
+ghost use Rattle.core_parse.specs.Spells.{SpellsTo};
+ghost use Rattle.core_parse.specs.declared.fault.ParseFault.{ParseFault};
+ghost use Rattle.core_parse.specs.declared.fault.ParseFault.TheVariants as faults;
 ghost use Rattle.type_kinds.specs.declared.place.Place.{Place};
 ghost use Rattle.core_scan.specs.declared.token.Token.{Token};
 ghost use Rattle.core_scan.specs.Lexed.{Lexed};
@@ -9,4 +14,11 @@ ghost use Rattle.core_parse.specs.Weights.{weight};
 #[tactic(auto, using(crate::proofs::LexedWeights::lexed_weight))]
 pub fn lexed_weight()
     ensures { (place : Place) (bytes : List ℕ) (ts : List Token) → Lexed place bytes ts → weight ts ≤ 2 * length bytes }
+{}
+
+/// Tokens that spell a module, within the depth limit, are refused for want of memory alone: a text is
+/// never both a module and at fault.
+#[tactic(auto, using(crate::proofs::Whole::module_is_no_fault))]
+pub fn module_is_no_fault()
+    ensures { (ts : List Token) (x : ModuleTree) → SpellsTo depth_limit ts x → (end : Place) (fault : ParseFault) → Refused ts end fault → fault ≡ faults.Memory }
 {}

@@ -7,22 +7,22 @@ use Rattle.core_ast.specs.declared.syntax.Mark.{Mark}
 use Rattle.core_ast.specs.Model as m
 use Rattle.dialyze.specs.declared.sites.Site.{Site}
 use Rattle.dialyze.specs.Dead.{Dead}
-use Rattle.dialyze.specs.Report.{Finding, no_return, never_returns, line_of, lines_of}
+use Rattle.dialyze.specs.Report.{SmallFinding, no_return, never_returns, line_of, lines_of}
 use Rattle.dialyze.specs.steps.Found.{AreJudged, IsLost, SitesFound, no_site, lost_site, kept_site, dead_function_found, live_function_found, AddsSites, AddsFunction}
 use Rattle.dialyze.proofs.LostExits.{lost_from, never_from, tested_false}
 
-pub lines-append : (home : Atom) (fs gs : List Finding) → lines_of home (fs ++ gs) ≡ lines_of home fs ++ lines_of home gs
+pub lines-append : (home : Atom) (fs gs : List SmallFinding) → lines_of home (fs ++ gs) ≡ lines_of home fs ++ lines_of home gs
 lines-append home [] gs = refl
 lines-append home (f ∷ fs) gs = ap (λ z. line_of home f ++ z) (lines-append home fs gs) ∙ sym (append_assoc (line_of home f) (lines_of home fs) (lines_of home gs))
 
-pub lines_further : (home : Atom) (fs gs : List Finding) (o p q : List ℕ) → p ≡ o ++ lines_of home fs → q ≡ p ++ lines_of home gs → q ≡ o ++ lines_of home (fs ++ gs)
+pub lines_further : (home : Atom) (fs gs : List SmallFinding) (o p q : List ℕ) → p ≡ o ++ lines_of home fs → q ≡ p ++ lines_of home gs → q ≡ o ++ lines_of home (fs ++ gs)
 lines_further home fs gs o p q first second =
     second
     ∙ ap (λ z. z ++ lines_of home gs) first
     ∙ append_assoc o (lines_of home fs) (lines_of home gs)
     ∙ ap (λ z. o ++ z) (sym (lines-append home fs gs))
 
-one_line : (home : Atom) (f : Finding) (o p : List ℕ) → p ≡ o ++ line_of home f → p ≡ o ++ lines_of home (f ∷ [])
+one_line : (home : Atom) (f : SmallFinding) (o p : List ℕ) → p ≡ o ++ line_of home f → p ≡ o ++ lines_of home (f ∷ [])
 one_line home f o p e = e ∙ ap (λ z. o ++ z) (sym (append-nil (line_of home f)))
 
 -- one site
@@ -42,8 +42,8 @@ site_kept x i s b o p no_ test same = record {
 
 -- Sites one after another: the findings so far, which those of the rest complete.
 pub record SitesSoFar (x : m.Module) (i : ℕ) (ss : List Site) (old now : List ℕ) (at : ℕ) : Type 0 where
-  pub findings : List Finding
-  pub completes : (fs : List Finding) → SitesFound x i (drop at ss) fs → SitesFound x i ss (findings ++ fs)
+  pub findings : List SmallFinding
+  pub completes : (fs : List SmallFinding) → SitesFound x i (drop at ss) fs → SitesFound x i ss (findings ++ fs)
   pub written : now ≡ old ++ lines_of x.name findings
 
 pub sites_begun : (x : m.Module) (i : ℕ) (ss : List Site) (old : List ℕ) → SitesSoFar x i ss old old 0
@@ -52,7 +52,7 @@ sites_begun x i ss old = record { findings = []; completes = λ fs h. h; written
 next_item : {X : Type 0} (xs : List X) (i : ℕ) (d : X) → i < length xs → drop i xs ≡ get_or xs i d ∷ drop (i + 1) xs
 next_item xs i d within = rw (add-one, drop-cons xs i d)
 
-found-append : {x : m.Module} {i : ℕ} {ss ts : List Site} {fs gs : List Finding} → SitesFound x i ss fs → SitesFound x i ts gs → SitesFound x i (ss ++ ts) (fs ++ gs)
+found-append : {x : m.Module} {i : ℕ} {ss ts : List Site} {fs gs : List SmallFinding} → SitesFound x i ss fs → SitesFound x i ts gs → SitesFound x i (ss ++ ts) (fs ++ gs)
 found-append no_site rest = rest
 found-append (lost_site is lost h) rest = lost_site is lost (found-append h rest)
 found-append (kept_site other h) rest = kept_site other (found-append h rest)
@@ -63,7 +63,7 @@ sites_further x i ss old now more at s so_far within is added = record {
   completes = λ fs h.
       let left : drop at ss ≡ s ∷ drop (at + 1) ss = next_item ss at s within ∙ ap (λ (z : Site). z ∷ drop (at + 1) ss) (sym is) in
       let P : List Site → Type 0 = λ z. SitesFound x i z (added.findings ++ fs) in
-      let Q : List Finding → Type 0 = λ z. SitesFound x i ss z in
+      let Q : List SmallFinding → Type 0 = λ z. SitesFound x i ss z in
       subst Q (sym (append_assoc so_far.findings added.findings fs)) (so_far.completes (added.findings ++ fs) (subst P (sym left) (found-append added.found h)));
   written = lines_further x.name so_far.findings added.findings old now more so_far.written added.written;
 }
@@ -71,7 +71,7 @@ sites_further x i ss old now more at s so_far within is added = record {
 pub sites_done : (x : m.Module) (i : ℕ) (ss : List Site) (old now : List ℕ) (at : ℕ) → SitesSoFar x i ss old now at → length ss ≤ at → AddsSites x i ss old now
 sites_done x i ss old now at so_far end =
     let P : List Site → Type 0 = λ z. SitesFound x i z [] in
-    let Q : List Finding → Type 0 = λ z. SitesFound x i ss z in
+    let Q : List SmallFinding → Type 0 = λ z. SitesFound x i ss z in
     record {
       findings = so_far.findings;
       found = subst Q (append-nil so_far.findings) (so_far.completes [] (subst P (sym (drop_all at ss end)) no_site));

@@ -11,43 +11,43 @@ use Rattle.da_shelf.specs.Told.{Files}
 use Rattle.dialyze.specs.declared.status.Status.{Status}
 use Rattle.dialyze.specs.Words.{IsCheck}
 use Rattle.dialyze.specs.Grammar.{SpellsSmall}
-use Rattle.dialyze.specs.Report.{Finding, StandsBefore, AreFindings, lines_of, IsReport}
+use Rattle.dialyze.specs.Report.{SmallFinding, StandsBefore, AreFindings, lines_of, IsReport}
 use Rattle.dialyze.specs.Outcome.{IsBuilt, Judged, refused, clean, warned, Outcome, usage, lacking, judged, missing_line}
 use Rattle.dialyze.proofs.ModuleExits.{once-SpellsSmall}
 use Rattle.dialyze.proofs.FoundLemmas.{first_or_later, first_in, later_in, in_nothing}
 
 -- lists in one strict order with the same items are one
-irreflexive : (f : Finding) → StandsBefore f f → ⊥
+irreflexive : (f : SmallFinding) → StandsBefore f f → ⊥
 irreflexive f (inl a) = omega arith
 irreflexive f (inr a) = let b : f.kind < f.kind = a.1 in omega arith
 
-not_both : (f g : Finding) → StandsBefore f g → StandsBefore g f → ⊥
+not_both : (f g : SmallFinding) → StandsBefore f g → StandsBefore g f → ⊥
 not_both f g (inl a) (inl b) = omega arith
 not_both f g (inl a) (inr b) = let c : g.label ≡ f.label = b.0 in omega arith
 not_both f g (inr a) (inl b) = let c : f.label ≡ g.label = a.0 in omega arith
 not_both f g (inr a) (inr b) = let c : f.kind < g.kind = a.1 in let d : g.kind < f.kind = b.1 in omega arith
 
-before_all : (f : Finding) (fs : List Finding) → AllPairs StandsBefore (f ∷ fs) → (g : Finding) → Contains fs g → StandsBefore f g
+before_all : (f : SmallFinding) (fs : List SmallFinding) → AllPairs StandsBefore (f ∷ fs) → (g : SmallFinding) → Contains fs g → StandsBefore f g
 before_all f fs pairs g h = subst (StandsBefore f) h.2 (pairs 0 (suc h.0) g (omega arith) (let within : h.0 < length fs = h.1 in omega arith))
 
-others : (f : Finding) (fs : List Finding) → AllPairs StandsBefore (f ∷ fs) → AllPairs StandsBefore fs
+others : (f : SmallFinding) (fs : List SmallFinding) → AllPairs StandsBefore (f ∷ fs) → AllPairs StandsBefore fs
 others f fs pairs i j d before within = pairs (suc i) (suc j) d (omega arith) (omega arith)
 
-first_of : (f g : Finding) (fs gs : List Finding) → AllPairs StandsBefore (f ∷ fs) → AllPairs StandsBefore (g ∷ gs) → (g ≡ f) ⊎ Contains gs f → (f ≡ g) ⊎ Contains fs g → f ≡ g
+first_of : (f g : SmallFinding) (fs gs : List SmallFinding) → AllPairs StandsBefore (f ∷ fs) → AllPairs StandsBefore (g ∷ gs) → (g ≡ f) ⊎ Contains gs f → (f ≡ g) ⊎ Contains fs g → f ≡ g
 first_of f g fs gs p q (inl same) other = sym same
 first_of f g fs gs p q (inr later) (inl same) = same
 first_of f g fs gs p q (inr later) (inr other) = absurd (not_both f g (before_all f fs p g other) (before_all g gs q f later))
 
-in_others : (f g h : Finding) (fs gs : List Finding) → AllPairs StandsBefore (f ∷ fs) → f ≡ g → Contains fs h → (g ≡ h) ⊎ Contains gs h → Contains gs h
+in_others : (f g h : SmallFinding) (fs gs : List SmallFinding) → AllPairs StandsBefore (f ∷ fs) → f ≡ g → Contains fs h → (g ≡ h) ⊎ Contains gs h → Contains gs h
 in_others f g h fs gs p same one (inr later) = later
 in_others f g h fs gs p same one (inl first) =
-    let P : Finding → Type 0 = λ z. StandsBefore f z in
+    let P : SmallFinding → Type 0 = λ z. StandsBefore f z in
     absurd (irreflexive f (subst P (sym (same ∙ first)) (before_all f fs p h one)))
 
-two : {f g : Finding} {fs gs : List Finding} → f ≡ g → fs ≡ gs → (f ∷ fs) ≡ (g ∷ gs)
+two : {f g : SmallFinding} {fs gs : List SmallFinding} → f ≡ g → fs ≡ gs → (f ∷ fs) ≡ (g ∷ gs)
 two e h = cc
 
-pub one_order : (fs gs : List Finding) → AllPairs StandsBefore fs → AllPairs StandsBefore gs → ((f : Finding) → Contains fs f → Contains gs f) → ((f : Finding) → Contains gs f → Contains fs f) → fs ≡ gs
+pub one_order : (fs gs : List SmallFinding) → AllPairs StandsBefore fs → AllPairs StandsBefore gs → ((f : SmallFinding) → Contains fs f → Contains gs f) → ((f : SmallFinding) → Contains gs f → Contains fs f) → fs ≡ gs
 one_order [] [] p q to from = refl
 one_order [] (g ∷ gs) p q to from = absurd (in_nothing g (from g (first_in g g gs refl)))
 one_order (f ∷ fs) [] p q to from = absurd (in_nothing f (to f (first_in f f fs refl)))
@@ -57,7 +57,7 @@ one_order (f ∷ fs) (g ∷ gs) p q to from =
     (λ h one. in_others f g h fs gs p same one (first_or_later g h gs (to h (later_in f h fs one))))
     (λ h one. in_others g f h gs fs q (sym same) one (first_or_later f h fs (from h (later_in g h gs one)))))
 
-one_list : {x : m.Module} {fs gs : List Finding} → AreFindings x fs → AreFindings x gs → fs ≡ gs
+one_list : {x : m.Module} {fs gs : List SmallFinding} → AreFindings x fs → AreFindings x gs → fs ≡ gs
 one_list {fs = fs} {gs = gs} a b = one_order fs gs a.in_order b.in_order (λ f h. (b.exact f).1 ((a.exact f).0 h)) (λ f h. (a.exact f).1 ((b.exact f).0 h))
 
 report_of : {x y : m.Module} {bytes : List ℕ} → x ≡ y → IsReport x bytes → IsReport y bytes

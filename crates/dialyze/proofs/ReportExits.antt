@@ -13,7 +13,7 @@ use Rattle.dialyze.specs.Scope.{IsAccepted}
 use Rattle.dialyze.specs.Sites.{sites, def_sites}
 use Rattle.dialyze.specs.steps.Numbered.{IsNumbered}
 use Rattle.dialyze.specs.Dead.{Dead}
-use Rattle.dialyze.specs.Report.{Finding, lines_of, IsReport}
+use Rattle.dialyze.specs.Report.{SmallFinding, lines_of, IsReport}
 use Rattle.dialyze.specs.steps.Found.{AreJudged, DefsFound, no_def_found, next_def_found, AddsFunction}
 use Rattle.dialyze.proofs.FoundLemmas.{are_findings}
 use Rattle.dialyze.proofs.LineExits.{lines_further}
@@ -43,8 +43,8 @@ judged_by x ns dead accepted named few as_many right = record { accepted = accep
 
 -- Definitions one after another: the findings so far, which those of the rest complete.
 pub record ReportSoFar (x : m.Module) (ds : List (FunDefOf Expr)) (now : List ℕ) (at : ℕ) : Type 0 where
-  pub findings : List Finding
-  pub completes : (fs : List Finding) → DefsFound x at (all_defs (drop at ds)) fs → DefsFound x 0 (all_defs ds) (findings ++ fs)
+  pub findings : List SmallFinding
+  pub completes : (fs : List SmallFinding) → DefsFound x at (all_defs (drop at ds)) fs → DefsFound x 0 (all_defs ds) (findings ++ fs)
   pub written : now ≡ lines_of x.name findings
 
 pub report_begun : (x : m.Module) (ds : List (FunDefOf Expr)) (now : List ℕ) → now ≡ [] → ReportSoFar x ds now 0
@@ -55,7 +55,7 @@ further x ds now more at d so_far within added = record {
   findings = so_far.findings ++ added.findings;
   completes = λ fs h.
       let P : m.Defs → Type 0 = λ z. DefsFound x at z (added.findings ++ fs) in
-      let Q : List Finding → Type 0 = λ z. DefsFound x 0 (all_defs ds) z in
+      let Q : List SmallFinding → Type 0 = λ z. DefsFound x 0 (all_defs ds) z in
       subst Q (sym (append_assoc so_far.findings added.findings fs)) (so_far.completes (added.findings ++ fs) (subst P (sym (all_defs-next ds at d within)) (next_def_found added.found refl h refl)));
   written = lines_further x.name so_far.findings added.findings [] now more so_far.written added.written;
 }
@@ -75,7 +75,7 @@ read_through xs i d e same is = let P : _ → Type 0 = λ z. z ≡ get_or xs i z
 pub report_done : (x : m.Module) (ds : List (FunDefOf Expr)) (now : List ℕ) (at : ℕ) → x.defs ≡ all_defs ds → IsNumbered x → ReportSoFar x ds now at → length ds ≤ at → IsReport x now
 report_done x ds now at same numbered so_far end =
     let P : List (FunDefOf Expr) → Type 0 = λ z. DefsFound x at (all_defs z) [] in
-    let Q : List Finding → Type 0 = λ z. DefsFound x 0 (all_defs ds) z in
+    let Q : List SmallFinding → Type 0 = λ z. DefsFound x 0 (all_defs ds) z in
     let R : m.Defs → Type 0 = λ z. DefsFound x 0 z so_far.findings in
     let all : DefsFound x 0 (all_defs ds) so_far.findings = subst Q (append-nil so_far.findings) (so_far.completes [] (subst P (sym (drop_all at ds end)) no_def_found)) in
     record {

@@ -1,12 +1,12 @@
 -- The elements of a tree's tuples against the model.
-use Rattle.std.proofs.Common.{◌≡◌, ℕ, zero, suc, pos, ◌<◌, ◌≤◌, true, false, cond, List, [], ◌∷◌, ◌++◌, length, drop, None, refl, sym, ap, ◌∙◌, subst, arith}
+use Rattle.std.proofs.Common.{◌≡◌, ℕ, zero, suc, pos, ◌<◌, ◌≤◌, true, false, cond, List, [], ◌∷◌, ◌++◌, length, drop, refl, sym, ap, ◌∙◌, subst, arith}
 use Rattle.std.specs.Prelude.{slice_index_or}
 use Rattle.type_sets.specs.Numbers as numbers
 use Rattle.type_sets.specs.Numbers.{Numbers}
 use Rattle.type_sets.specs.declared.ends.Low.TheVariants.{Min}
 use Rattle.type_sets.specs.declared.ends.High.TheVariants.{Max}
 use Rattle.type_model.specs.Shapes.{PlainParts, sizes, all_tuples, TypeAt}
-use Rattle.type_model.specs.Operations.{ops, elements, plain_none}
+use Rattle.type_model.specs.Operations.{ops, elements, of_plain, plain_none}
 use Rattle.type_model.specs.Cut.{cut}
 use Rattle.type_model.specs.Elements.{at_places, sizes_at, with_elements, tuples_at}
 use Rattle.type_trees.specs.declared.node.Node.{Node}
@@ -17,7 +17,7 @@ use Rattle.type_trees.specs.declared.node.TuplesOf.TheVariants.{Sizes}
 use Rattle.type_trees.specs.View.{view, row_view, body_view, sizes_view, Fits, SizesFit}
 use Rattle.type_lattice.specs.Types.{Type4, same_type, any}
 use Rattle.type_lattice.specs.Elements.{ints_of, elements_at}
-use Rattle.type_lattice.proofs.TypeModels.{tuples_of_fit, plain_view}
+use Rattle.type_lattice.proofs.TypeModels.{tuples_of_fit}
 
 -- ---- what is left of a list
 
@@ -114,6 +114,6 @@ unfolding ints_of
 ints_there t p e = sym e
 
 -- the tree of none
-pub none_tree : (p : PlainParts) (ss : List (SizeOf Node)) → p ≡ plain_none → ss ≡ [] → view 4 (v.Of (record { plain = p; cell = None; tuples = Sizes ss })) ≡ (ops 4).none
+pub none_tree : (p : PlainParts) (n : Node) → p ≡ plain_none → view 4 n ≡ of_plain (ops 3) p → view 4 n ≡ (ops 4).none
 unfolding ops
-none_tree p ss e f = plain_view p ss f ∙ ap (λ q. record { plain = q; cell = None; tuples = sizes [] }) e
+none_tree p n e f = f ∙ ap (of_plain (ops 3)) e

@@ -1,18 +1,18 @@
 -- What the makers of types make.
 use Rattle.std.proofs.Common.{◌≡◌, ℕ, zero, suc, ◌+◌, ◌<◌, ◌≤◌, Bool, true, false, ◌&&◌, ◌||◌, List, [], ◌∷◌, ◌++◌, map, length, take, get_or, Option, Some, None, refl, sym, ap, ◌∙◌, subst, true≢false, arith}
-use Rattle.std.specs.Prelude.{◌↔◌, IsTrue, cond, nat_lt, slice_index_or, slice_get, option_map}
+use Rattle.std.specs.Prelude.{◌↔◌, IsTrue, cond, nat_lt, slice_index_or, slice_get}
 use borrow.Author.Tests.{lt-ltb}
 use Rattle.std.proofs.lemmas.List.{take_more, take_all, map-append, length-map}
 use Rattle.type_sets.specs.Names as names
 use Rattle.type_sets.specs.Numbers as numbers
 use Rattle.type_sets.specs.declared.bits.Bits.TheVariants.{No}
-use Rattle.type_model.specs.Shapes.{no_function, PlainParts, TypeAt, sizes, all_tuples}
-use Rattle.type_model.specs.Operations.{Ops, ops, has_none, body_of, elements, of_plain, plain_none, plain_all, is_no_plain, is_empty, no_tuples}
-use Rattle.type_model.specs.Normal.{NormalFunctions, IsElement, NormalTuples, NormalParts, NormalAt}
+use Rattle.type_model.specs.Shapes.{no_function, PlainParts, Body, TypeAt, sizes, all_tuples}
+use Rattle.type_model.specs.Operations.{Ops, ops, has_none, body_of, elements, of_plain, of_tuples, plain_none, plain_all, is_no_plain, is_empty, no_tuples}
+use Rattle.type_model.specs.Normal.{AreElements, NormalParts, NormalAt}
 use Rattle.type_model.specs.Parts.{AreNormal, product_of, without_nil, proper_cell, is_list, element_with, flags_of_nil, tail_parts}
 use Rattle.type_model.proofs.LevelLaws.{level_laws}
 use Rattle.type_model.proofs.BodyLaws.{elements_normal}
-use Rattle.type_model.proofs.MadeLaws.{product_normal, tail_normal}
+use Rattle.type_model.proofs.MadeLaws.{are_elements, tail_normal}
 use Rattle.type_trees.specs.declared.node.Node.{Node}
 use Rattle.type_trees.specs.declared.node.Node.TheVariants as v
 use Rattle.type_trees.specs.declared.node.PartsOf.{PartsOf}
@@ -22,7 +22,8 @@ use Rattle.type_trees.specs.declared.node.TuplesOf.TheVariants.{All, Sizes}
 use Rattle.type_trees.specs.declared.node.SizeOf.{SizeOf}
 use Rattle.type_trees.specs.declared.node.BodyOf.{BodyOf}
 use Rattle.type_trees.specs.View.{view, row_view, body_view, sizes_view, tuples_view, cell_view, parts_view, Fits, EachNode, EachInBody, EachInCell, EachInTuples, BodyFits, CellFits, PartsFit}
-use Rattle.type_trees.proofs.Views.{fits_normal, view_any, view_of, fits_of, of_fits}
+use Rattle.type_trees.proofs.MadeTrees.{row_body}
+use Rattle.type_trees.proofs.Views.{fits_normal, view_any, view_of, fits_of}
 
 -- ---- whether one of some types has no value
 
@@ -49,13 +50,6 @@ module _ {E : Type 0} (o : Ops E) where
 
     pub none_at_all : (xs : List A) (i : ℕ) → length xs ≤ i → has_none o (map f (take i xs)) ≡ false → has_none o (map f xs) ≡ false
     none_at_all xs i h k = ap (λ ys. has_none o (map f ys)) (sym (take_all i xs h)) ∙ k
-
--- ---- which types stand for one in normal form
-
--- parts without a plain value aren't all full
-not_full : (d : ℕ) (p : PartsOf Node) → p.plain ≡ plain_none → parts_view d p ≡ (ops (suc d)).any → ⊥
-unfolding ops
-not_full d p e h = true≢false (sym (ap (λ t. t.plain.flags.nil) h) ∙ ap (λ t. t.flags.nil) e)
 
 -- ---- lists
 
@@ -135,41 +129,13 @@ some_element d h t p c x e f g =
 pub cell_fits : (d : ℕ) (t : Node) (p : PartsOf Node) (c : CellOf Node) (x : Node) → t ≡ v.Of p → p.cell ≡ Some c → x ≡ c.element → Fits (suc d) t → Fits d x
 cell_fits d t p c x e f g h = subst (λ y. Fits d y) (sym g) (subst (λ y. EachInCell (Fits d) y) f (fits_of t p e d h).0.each.0)
 
--- ---- the lists of an element type
-
-module _ (d : ℕ) (p : PlainParts) (x y : Node) (b : Bool) (ss : List (SizeOf Node)) where
-  abbrev made_cell : PartsOf Node
-  made_cell = record { plain = p; cell = Some (record { element = x; is_proper = b }); tuples = Sizes ss }
-
-  pub cell_alone-view : p ≡ plain_none → x ≡ y → ss ≡ [] → view (suc d) (v.Of made_cell) ≡ record { plain = plain_none; cell = Some (record { element = view d y; is_proper = b }); tuples = sizes [] }
-  cell_alone-view e f g = view_of (v.Of made_cell) made_cell refl d ∙ λ n. record { plain = e n; cell = Some (record { element = view d (f n); is_proper = b }); tuples = tuples_view d (Sizes (g n)) }
-
-  pub cell_alone-fits : p ≡ plain_none → x ≡ y → ss ≡ [] → Fits d y → (ops d).is_none (view d y) ≡ false → Fits (suc d) (v.Of made_cell)
-  cell_alone-fits e f g h k =
-      of_fits (v.Of made_cell) made_cell refl d (record {
-        normal = (
-          subst (λ z. NormalFunctions z.functions) (sym e) tt,
-          subst (λ z. IsElement (NormalAt d) (ops d) (view d z)) (sym f) (fits_normal d y h, k),
-          subst (λ z. NormalTuples (NormalAt d) (ops d) (tuples_view d (Sizes z))) (sym g) (refl, refl, tt),
-        );
-        each = (subst (λ z. Fits d z) (sym f) h, subst (λ z. EachInTuples (Fits d) (Sizes z)) (sym g) tt);
-      }) (not_full d made_cell e)
-
 -- ---- an element of a tuple
 
 -- what stands at a place stands for the type there
-slice_get-map : {A B : Type 0} (f : A → B) (xs : List A) (i : ℕ) (x : A) → slice_get xs i ≡ Some x → Some (f x) ≡ slice_get (map f xs) i
-slice_get-map f [] i x h = absurd cc
-slice_get-map f (y ∷ xs) zero x h = sym (ap (option_map f) h)
-slice_get-map f (y ∷ xs) (suc i) x h = slice_get-map f xs i x h
-
-each_got : (P : Node → Type 0) (ns : List Node) → EachNode P ns → (i : ℕ) (x : Node) → slice_get ns i ≡ Some x → P x
-each_got P [] k i x h = absurd cc
-each_got P (n ∷ ns) k zero x h = subst P (same n x h) k.0
-  where
-    same : (a b : Node) → Some a ≡ Some b → a ≡ b
-    same a b q = cc
-each_got P (n ∷ ns) k (suc i) x h = each_got P ns k.1 i x h
+place_of : {A B : Type 0} (f : A → B) (xs : List A) (i : ℕ) (x : A) → i < length xs → x ≡ slice_index_or xs i x → Some (f x) ≡ slice_get (map f xs) i
+place_of f [] i x h e = absurd (omega arith)
+place_of f (y ∷ xs) zero x h e = ap (λ z. Some (f z)) e
+place_of f (y ∷ xs) (suc i) x h e = place_of f xs i x (omega arith) e
 
 -- a row of the types of a body's elements has a type at each place
 pub place_there : (d : ℕ) (b : BodyOf Node) (ns : List Node) (i : ℕ) → ((n : ℕ) × (BodyFits d n b × (i < n))) → row_view d ns ≡ elements (ops d) (body_view d b) → i < length ns
@@ -177,11 +143,8 @@ place_there d b ns i w e =
     let k = (elements_normal (level_laws d) w.0 (body_view d b) w.1.0.normal).0 in
     subst (λ n. i < n) (sym (sym (length-map ns (view d)) ∙ ap length e ∙ k)) w.1.1
 
-pub place_fits : (d : ℕ) (ns : List Node) (i : ℕ) (x : Node) → EachNode (Fits d) ns → slice_get ns i ≡ Some x → Fits d x
-place_fits d ns i x k h = each_got (Fits d) ns k i x h
-
-pub place_view : (d : ℕ) (b : BodyOf Node) (ns : List Node) (i : ℕ) (x y : Node) → y ≡ x → slice_get ns i ≡ Some x → row_view d ns ≡ elements (ops d) (body_view d b) → Some (view d y) ≡ slice_get (elements (ops d) (body_view d b)) i
-place_view d b ns i x y g h e = ap (λ z. Some (view d z)) g ∙ slice_get-map (view d) ns i x h ∙ ap (λ es. slice_get es i) e
+pub place_view : (d : ℕ) (b : BodyOf Node) (ns : List Node) (i : ℕ) (x : Node) → i < length ns → x ≡ slice_index_or ns i x → row_view d ns ≡ elements (ops d) (body_view d b) → Some (view d x) ≡ slice_get (elements (ops d) (body_view d b)) i
+place_view d b ns i x h g e = place_of (view d) ns i x h g ∙ ap (λ es. slice_get es i) e
 
 -- ---- what may follow the head of a list
 
@@ -219,36 +182,15 @@ row_view-more d f xs i a ns ms x h k e q g =
 pub row_view-all : {A : Type 0} (d : ℕ) (f : A → TypeAt d) (xs : List A) (i : ℕ) (ns : List Node) → length xs ≤ i → row_view d ns ≡ map f (take i xs) → row_view d ns ≡ map f xs
 row_view-all d f xs i ns h k = k ∙ ap (map f) (take_all i xs h)
 
--- tuples of one size, which is small enough
-sole_tuples : (d : ℕ) (es : List (TypeAt d)) (p : PartsOf Node) (s : SizeOf Node) → p.tuples ≡ Sizes (s ∷ []) → s.size ≡ length es → body_view d s.body ≡ body_of (ops d) es → length es < 65 → tuples_view d p.tuples ≡ cond (nat_lt (length es) 65) (sizes ((length es, body_of (ops d) es) ∷ [])) all_tuples
-sole_tuples d es p s e f g h =
-    ap (tuples_view d) e
-    ∙ (λ n. sizes ((f n, g n) ∷ []))
-    ∙ ap (λ b. cond b (sizes ((length es, body_of (ops d) es) ∷ [])) all_tuples) (sym (lt-ltb (length es) 65 h))
+-- the tuples of some types, of which none is none, as those of one size
+pub product_type : (d : ℕ) (es : List (TypeAt d)) (n : ℕ) (b : Body (TypeAt d)) (t : TypeAt (suc d)) → n ≡ length es → b ≡ body_of (ops d) es → length es < 65 → has_none (ops d) es ≡ false → t ≡ of_tuples (ops d) (sizes ((n, b) ∷ [])) → t ≡ product_of (ops d) es
+product_type d es n b t e f small k g =
+    g
+    ∙ (λ i. of_tuples (ops d) (sizes ((e i, f i) ∷ [])))
+    ∙ ap (λ c. of_tuples (ops d) (cond c (sizes ((length es, body_of (ops d) es) ∷ [])) all_tuples)) (sym (lt-ltb (length es) 65 small))
+    ∙ ap (λ c. cond c (of_plain (ops d) plain_none) (of_tuples (ops d) (cond (nat_lt (length es) 65) (sizes ((length es, body_of (ops d) es) ∷ [])) all_tuples))) (sym k)
 
-product_parts : (d : ℕ) (es : List (TypeAt d)) (p : PartsOf Node) (s : SizeOf Node) → p.plain ≡ plain_none → p.cell ≡ None → p.tuples ≡ Sizes (s ∷ []) → s.size ≡ length es → body_view d s.body ≡ body_of (ops d) es → length es < 65 → has_none (ops d) es ≡ false → parts_view d p ≡ product_of (ops d) es
-product_parts d es p s e f g h i j k =
-    (λ n. record { plain = e n; cell = cell_view d (f n); tuples = sole_tuples d es p s g h i j n })
-    ∙ ap (λ b. cond b (of_plain (ops d) plain_none) (record { plain = plain_none; cell = None; tuples = cond (nat_lt (length es) 65) (sizes ((length es, body_of (ops d) es) ∷ [])) all_tuples })) (sym k)
-
-sole : (old ss : List (SizeOf Node)) (s : SizeOf Node) → old ≡ [] → ss ≡ old ++ s ∷ [] → ss ≡ s ∷ []
-sole old ss s e f = f ∙ ap (λ l. l ++ s ∷ []) e
-
--- a tree of tuples of one size, where the body stands for a product of some types
-module _ {A : Type 0} (d : ℕ) (f : A → TypeAt d) (xs : List A) (p : PlainParts) (old ss : List (SizeOf Node)) (b : BodyOf Node) where
-  abbrev made_product : PartsOf Node
-  made_product = record { plain = p; cell = None; tuples = Sizes ss }
-
-  product_parts-made : p ≡ plain_none → old ≡ [] → ss ≡ old ++ record { size = length xs; body = b } ∷ [] → body_view d b ≡ body_of (ops d) (map f xs) → length xs < 65 → has_none (ops d) (map f xs) ≡ false → parts_view d made_product ≡ product_of (ops d) (map f xs)
-  product_parts-made e g h i j k =
-      product_parts d (map f xs) made_product (record { size = length xs; body = b }) e refl (ap Sizes (sole old ss (record { size = length xs; body = b }) g h)) (sym (length-map xs f)) i (subst (λ n. n < 65) (sym (length-map xs f)) j) k
-
-  pub product_view : p ≡ plain_none → old ≡ [] → ss ≡ old ++ record { size = length xs; body = b } ∷ [] → body_view d b ≡ body_of (ops d) (map f xs) → length xs < 65 → has_none (ops d) (map f xs) ≡ false → view (suc d) (v.Of made_product) ≡ product_of (ops d) (map f xs)
-  product_view e g h i j k = view_of (v.Of made_product) made_product refl d ∙ product_parts-made e g h i j k
-
-  pub product_fits : p ≡ plain_none → old ≡ [] → ss ≡ old ++ record { size = length xs; body = b } ∷ [] → body_view d b ≡ body_of (ops d) (map f xs) → length xs < 65 → has_none (ops d) (map f xs) ≡ false → AreNormal (NormalAt d) (map f xs) → EachInBody (Fits d) b → Fits (suc d) (v.Of made_product)
-  product_fits e g h i j k l m =
-      of_fits (v.Of made_product) made_product refl d (record {
-        normal = subst (λ x. NormalParts (NormalAt d) (ops d) x) (sym (product_parts-made e g h i j k)) (product_normal (level_laws d) (map f xs) l);
-        each = (tt, subst (λ y. EachInTuples (Fits d) (Sizes y)) (sym (sole old ss (record { size = length xs; body = b }) g h)) (m, tt));
-      }) (not_full d made_product e)
+-- the body of a row that stands for them
+pub product_row : {A : Type 0} (d : ℕ) (f : A → TypeAt d) (xs : List A) (row : List Node) (n : ℕ) (b : BodyOf Node) → n ≡ length xs → row_view d row ≡ map f xs → AreNormal (NormalAt d) (map f xs) → has_none (ops d) (map f xs) ≡ false → body_view d b ≡ body_of (ops d) (row_view d row) → EachInBody (Fits d) b → BodyFits d n b
+product_row d f xs row n b e r k h is each =
+    row_body d row n b (e ∙ sym (length-map xs f) ∙ sym (ap length r) ∙ length-map row (view d)) (subst (AreElements (NormalAt d) (ops d)) (sym r) (are_elements (level_laws d) (map f xs) k h)) is each

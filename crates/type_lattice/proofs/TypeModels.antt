@@ -4,12 +4,12 @@ use Rattle.std.specs.Prelude.{◌↔◌, ◌⊎◌, IsTrue, not, nat_lt, slice_g
 use Rattle.std.proofs.lemmas.Bool.{lt-ltb, le-ltb}
 use Rattle.std.proofs.lemmas.List.{length-map}
 use Rattle.type_model.specs.Tables.{find}
-use Rattle.type_model.specs.Shapes.{PlainParts, Parts, Body, Tuples, sizes, all_tuples, TypeAt}
+use Rattle.type_model.specs.Shapes.{PlainParts, Body, Tuples, sizes, all_tuples, TypeAt}
 use Rattle.type_model.specs.HasType.{HasAt}
 use Rattle.type_model.specs.Operations.{ops, plain_none, is_empty, has_none, body_of, elements}
 use Rattle.type_model.specs.Cut as levels
 use Rattle.type_model.specs.Parts.{elem_at, tail_at, lifted, element_of, tail_parts, element_at, element_with, is_list, product_of}
-use Rattle.type_model.specs.Normal.{NormalAt, NormalFunctions, NormalBody, NormalTuples}
+use Rattle.type_model.specs.Normal.{NormalAt, NormalBody}
 use Rattle.type_model.specs.Laws.{BelowBy}
 use Rattle.type_model.proofs.CutLaws.{size_found}
 use Rattle.type_trees.specs.declared.node.Node.{Node}
@@ -17,7 +17,7 @@ use Rattle.type_trees.specs.declared.node.Node.TheVariants as v
 use Rattle.type_trees.specs.declared.node.PartsOf.{PartsOf}
 use Rattle.type_trees.specs.declared.node.CellOf.{CellOf}
 use Rattle.type_trees.specs.declared.node.TuplesOf.{TuplesOf}
-use Rattle.type_trees.specs.declared.node.TuplesOf.TheVariants.{All, Sizes}
+use Rattle.type_trees.specs.declared.node.TuplesOf.TheVariants.{Sizes}
 use Rattle.type_trees.specs.declared.node.SizeOf.{SizeOf}
 use Rattle.type_trees.specs.declared.node.BodyOf.{BodyOf}
 use Rattle.type_lattice.specs.declared.kinds.Ends.{Ends}
@@ -25,8 +25,8 @@ use Rattle.type_lattice.specs.declared.kinds.Ends.TheVariants.{Proper, Free}
 use Rattle.type_lattice.specs.contracts.kinds.EndsPartialEq.TheImpl as ends
 use Rattle.type_lattice.specs.Kinds.{asks_proper}
 use Rattle.type_lattice.specs.Types.{Type4, same_type, HasType, Below, none, any, is_none, meet, join, cut, elem, tail, project, tuple, cons, every_tuple}
-use Rattle.type_trees.specs.View.{view, parts_view, tuples_view, sizes_view, body_view, cell_view, Fits, EachSize, EachInBody, EachInTuples, BodyFits, TuplesFit, CellFits, PartsFit}
-use Rattle.type_trees.proofs.Views.{view_any, view_of, any_fits, of_fits, below_fits, normal_parts}
+use Rattle.type_trees.specs.View.{view, parts_view, tuples_view, sizes_view, body_view, cell_view, Fits, EachSize, EachInBody, BodyFits, TuplesFit, CellFits}
+use Rattle.type_trees.proofs.Views.{view_any, view_of, any_fits, below_fits, normal_parts}
 use Rattle.type_trees.proofs.Lifts.{lift}
 
 -- ---- a tree that fits stands for a type in normal form
@@ -36,39 +36,6 @@ use Rattle.type_trees.proofs.Lifts.{lift}
 pub any_type : (t : Type4) (n : Node) → n ≡ v.Any → t.ty ≡ view 4 n → t ≡ any
 unfolding any
 any_type t n e f = same_type t any (f ∙ view_any n e 4)
-
--- a tree of these plain values and tuples and no list
-alone_normal : (p : PlainParts) (t : TuplesOf Node) → NormalFunctions p.functions → NormalTuples (NormalAt 3) (ops 3) (tuples_view 3 t) → EachInTuples (Fits 3) t → PartsFit 3 (record { plain = p; cell = None; tuples = t })
-alone_normal p t k n e = record { normal = (k, tt, n); each = (tt, e) }
-
--- where there is no list it isn't every value
-not_any : (p : Parts (TypeAt 3)) → p.cell ≡ None → p ≡ (ops 4).any → ⊥
-unfolding ops
-not_any p e f = let g = sym e ∙ ap (λ q. q.cell) f in cc
-
-pub alone_fits : (p : PlainParts) (t : TuplesOf Node) → NormalFunctions p.functions → NormalTuples (NormalAt 3) (ops 3) (tuples_view 3 t) → EachInTuples (Fits 3) t → Fits 4 (v.Of (record { plain = p; cell = None; tuples = t }))
-alone_fits p t k n e =
-    let q : PartsOf Node = record { plain = p; cell = None; tuples = t } in
-    of_fits (v.Of q) q refl 3 (alone_normal p t k n e) (not_any (parts_view 3 q) refl)
-
-pub alone_view : (p : PlainParts) (t : TuplesOf Node) → view 4 (v.Of (record { plain = p; cell = None; tuples = t })) ≡ record { plain = p; cell = None; tuples = tuples_view 3 t }
-alone_view p t = view_of (v.Of (record { plain = p; cell = None; tuples = t })) (record { plain = p; cell = None; tuples = t }) refl 3
-
-pub plain_fits : (p : PlainParts) (ss : List (SizeOf Node)) → ss ≡ [] → NormalFunctions p.functions → Fits 4 (v.Of (record { plain = p; cell = None; tuples = Sizes ss }))
-plain_fits p ss e k =
-    subst (λ x. Fits 4 (v.Of (record { plain = p; cell = None; tuples = Sizes x }))) (sym e) (alone_fits p (Sizes []) k (refl, refl, tt) tt)
-
-pub plain_view : (p : PlainParts) (ss : List (SizeOf Node)) → ss ≡ [] → view 4 (v.Of (record { plain = p; cell = None; tuples = Sizes ss })) ≡ record { plain = p; cell = None; tuples = sizes [] }
-plain_view p ss e =
-    alone_view p (Sizes ss) ∙ ap (λ x. record { plain = p; cell = None; tuples = sizes (sizes_view 3 x) }) e
-
-pub tuples_fit : (p : PlainParts) → p ≡ plain_none → Fits 4 (v.Of (record { plain = p; cell = None; tuples = All }))
-tuples_fit p e = alone_fits p All (subst (λ q. NormalFunctions q.functions) (sym e) tt) tt tt
-
-pub tuples_type : (t : Type4) (p : PlainParts) → p ≡ plain_none → t.ty ≡ view 4 (v.Of (record { plain = p; cell = None; tuples = All })) → t ≡ every_tuple
-unfolding every_tuple
-tuples_type t p e f =
-    same_type t every_tuple (f ∙ alone_view p All ∙ ap (λ q. record { plain = q; cell = None; tuples = all_tuples }) e)
 
 pub none_type : (t : Type4) (p : PlainParts) → p ≡ plain_none → t.ty ≡ record { plain = p; cell = None; tuples = sizes [] } → t ≡ none
 unfolding none ops

@@ -12,9 +12,9 @@ ghost use Rattle.type_trees.specs.View.{view, Fits, row_view, body_view, sizes_v
 
 use crate::types::Ty;
 use std::alloc::Global;
-use type_kinds::{List, Memory};
+use type_kinds::Memory;
 use type_sets::{High, IntSet, Low};
-use type_trees::{BodyOf, Node, PartsOf, Plain, SizeOf, TuplesOf, elements_of, join};
+use type_trees::{BodyOf, Node, Plain, SizeOf, TuplesOf, elements_of, join, plain_alone};
 
 impl Ty {
     /// The integers of the type. Takes no memory.
@@ -50,7 +50,7 @@ fn with_sizes(alloc: Global, sizes: &[SizeOf<Node>], places: &IntSet) -> Result<
     ensures fits { IfOk result (λ n. Fits 4 n) }
     ensures value { IfOk result (λ n. view 4 n ≡ with_elements 3 (ops 4).none (sizes_at (ops 3) places.now (sizes_view 3 sizes.now))) }
 {
-    let mut t = no_value(alloc);
+    let mut t = plain_alone(Plain::none());
     for size in sizes {
         t = with_body(alloc, t, &size.body, places)?;
     }
@@ -92,16 +92,4 @@ fn with_element(alloc: Global, t: Node, element: &Node) -> Result<Node, Memory>
     ensures value { IfOk result (λ n. view 4 n ≡ (ops 4).join (view 4 t) (cut 3 4 (view 3 element.now))) }
 {
     join(alloc, 4, &t, element)
-}
-
-// The tree of none. Takes no memory.
-fn no_value(alloc: Global) -> Node
-    ensures fits { Fits 4 result }
-    ensures value { view 4 result ≡ (ops 4).none }
-{
-    Node::Of(PartsOf {
-        plain: Plain::none(),
-        cell: None,
-        tuples: TuplesOf::Sizes(List::new(alloc)),
-    })
 }

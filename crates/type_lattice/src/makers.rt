@@ -11,11 +11,12 @@ ghost use Rattle.type_trees.specs.View.{view, Fits, body_view, cell_view, parts_
 use crate::kinds::{Kind, plain_kind};
 use crate::types::Ty;
 use std::alloc::Global;
-use type_kinds::{Boxed, List, Memory};
+use type_kinds::{List, Memory};
 use type_model::MAX_ELEMENTS;
+use type_sets::SharedList;
 use type_trees::{
-    BodyOf, CellOf, Node, PartsOf, Plain, SizeOf, TuplesOf, copy, discard, elements_of, join,
-    product_body,
+    BodyOf, CellOf, Node, PartsOf, Plain, TuplesOf, copy, discard, elements_of, join, product_body,
+    tuples_of,
 };
 
 /// Whether one of the types has no value.
@@ -39,20 +40,10 @@ pub fn product(alloc: Global, types: &[Ty]) -> Result<Node, Memory>
 {
     let mut row = List::new(alloc);
     for t in types {
-        let node = copy(alloc, 4, t.node())?;
-        row.add(node)?;
+        row.add(copy(t.node())?)?;
     }
-    let body = product_body(alloc, 4, row)?;
-    let mut sizes = List::new(alloc);
-    sizes.add(SizeOf {
-        size: types.len() as u8,
-        body,
-    })?;
-    Ok(Node::Of(PartsOf {
-        plain: Plain::none(),
-        cell: None,
-        tuples: TuplesOf::Sizes(sizes),
-    }))
+    let body = product_body(alloc, 4, SharedList::new(alloc, row)?)?;
+    tuples_of(alloc, types.len() as u8, body)
 }
 
 /// Whether each value of the type is a proper list.
@@ -94,26 +85,6 @@ pub fn element_with(alloc: Global, head: Node, tail: &Node) -> Result<Node, Memo
     }
 }
 
-/// The lists of an element type that has a value.
-pub fn cell_alone(alloc: Global, element: Node, is_proper: bool) -> Result<Node, Memory>
-    requires fits { Fits 3 element }
-    requires filled { (ops 3).is_none (view 3 element) ≡ false }
-    ensures fits { IfOk result (λ n. Fits 4 n) }
-    ensures value { IfOk result (λ n. view 4 n ≡ record { plain = plain_none; cell = Some (record { element = view 3 element; is_proper = is_proper }); tuples = sizes [] }) }
-{
-    match Boxed::new(alloc, element) {
-        Ok(element) => Ok(Node::Of(PartsOf {
-            plain: Plain::none(),
-            cell: Some(CellOf { element, is_proper }),
-            tuples: TuplesOf::Sizes(List::new(alloc)),
-        })),
-        Err((element, Memory)) => {
-            discard(element);
-            Err(Memory)
-        }
-    }
-}
-
 /// The type of an element of a body's tuples, the first at 0.
 pub fn element(alloc: Global, level: u32, body: &BodyOf<Node>, at: usize) -> Result<Node, Memory>
     requires { (n : ℕ) × (BodyFits level n body.now × (at < n)) }
@@ -121,28 +92,24 @@ pub fn element(alloc: Global, level: u32, body: &BodyOf<Node>, at: usize) -> Res
     ensures value { IfOk result (λ n. Some (view level n) ≡ slice_get (elements (ops level) (body_view level body.now)) at) }
 {
     let row = elements_of(alloc, level, body)?;
-    copy(alloc, level, row.at(at))
+    copy(&row.as_slice()[at])
 }
 
 /// What may follow the head of a list.
-pub fn tail_parts(alloc: Global, cell: &CellOf<Node>) -> Result<PartsOf<Node>, Memory>
+pub fn tail_parts(cell: &CellOf<Node>) -> Result<PartsOf<Node>, Memory>
     requires { CellFits 3 (Some cell.now) }
     ensures fits { IfOk result (λ p. PartsFit 3 p) }
     ensures value { IfOk result (λ p. parts_view 3 p ≡ after_head (ops 3) (cell_view 3 (Some cell.now))) }
 {
-    let element = copy(alloc, 3, cell.element.get())?;
     let is_proper = cell.is_proper;
-    match Boxed::new(alloc, element) {
-        Ok(element) => Ok(PartsOf {
-            plain: tail_plain(is_proper),
-            cell: Some(CellOf { element, is_proper }),
-            tuples: tail_tuples(alloc, is_proper),
+    Ok(PartsOf {
+        plain: tail_plain(is_proper),
+        cell: Some(CellOf {
+            element: cell.element.share()?,
+            is_proper,
         }),
-        Err((element, Memory)) => {
-            discard(element);
-            Err(Memory)
-        }
-    }
+        tuples: tail_tuples(is_proper),
+    })
 }
 
 // The plain values at the end of a list.
@@ -157,12 +124,12 @@ fn tail_plain(is_proper: bool) -> Plain
 }
 
 // The tuples at the end of a list.
-fn tail_tuples(alloc: Global, is_proper: bool) -> TuplesOf<Node>
+fn tail_tuples(is_proper: bool) -> TuplesOf<Node>
     ensures value { (d : ℕ) → tuples_view d result ≡ cond is_proper (sizes []) all_tuples }
     ensures each { (d : ℕ) → EachInTuples (Fits d) result }
 {
     if is_proper {
-        TuplesOf::Sizes(List::new(alloc))
+        TuplesOf::Sizes(SharedList::empty())
     } else {
         TuplesOf::All
     }

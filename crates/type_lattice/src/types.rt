@@ -11,14 +11,15 @@ ghost use Rattle.type_lattice.specs.Kinds.{HasAtom, HasInt, IsKind, of_kind, ask
 ghost use Rattle.type_trees.specs.View.{view, Fits};
 
 use crate::kinds::{Ends, Kind, plain_kind};
-use crate::makers::{any_none, cell_alone, element, element_with, is_list, product, tail_parts};
+use crate::makers::{any_none, element, element_with, is_list, product, tail_parts};
 use std::alloc::Global;
 use std::marker::Model;
-use type_kinds::{List, Memory};
+use type_kinds::Memory;
 use type_model::MAX_ELEMENTS;
 use type_sets::{AtomSet, IntSet};
 use type_trees::{
-    Node, PartsOf, Plain, TuplesOf, copy, cut, find_size, is_none, join, leq, made, meet,
+    Node, Plain, TuplesOf, copy, cut, every_tuple, find_size, is_none, join, leq, lists_of, made,
+    meet, plain_alone,
 };
 
 /// A type: a set of values, in its one normal form of level 4. The type `none` has no value, and
@@ -49,11 +50,11 @@ impl Model for Ty {
 
 impl Ty {
     /// No value. Takes no memory.
-    pub fn none(alloc: Global) -> Ty
+    pub fn none() -> Ty
         ensures value { result ≡ none }
         ensures empty { (v : Value) → HasType v result → ⊥ }
     {
-        Ty::of_plain(alloc, Plain::none())
+        Ty::of_plain(Plain::none())
     }
 
     /// Every value. Takes no memory.
@@ -65,36 +66,33 @@ impl Ty {
     }
 
     /// These atoms. Takes no memory.
-    pub fn atoms(alloc: Global, set: AtomSet) -> Ty
+    pub fn atoms(set: AtomSet) -> Ty
         ensures value { result ≡ of_atoms set }
         ensures only { (v : Value) → HasType v result ↔ HasAtom v set }
     {
-        Ty::of_plain(alloc, Plain::of_atoms(set))
+        Ty::of_plain(Plain::of_atoms(set))
     }
 
     /// These integers. Takes no memory.
-    pub fn ints(alloc: Global, set: IntSet) -> Ty
+    pub fn ints(set: IntSet) -> Ty
         ensures value { result ≡ of_ints set }
         ensures only { (v : Value) → HasType v result ↔ HasInt v set }
     {
-        Ty::of_plain(
-            alloc,
-            Plain {
-                ints: set,
-                ..Plain::none()
-            },
-        )
+        Ty::of_plain(Plain {
+            ints: set,
+            ..Plain::none()
+        })
     }
 
     /// The values of a kind. Takes no memory.
-    pub fn kind(alloc: Global, kind: Kind) -> Ty
+    pub fn kind(kind: Kind) -> Ty
         ensures value { result ≡ of_kind kind }
         ensures only { (v : Value) → HasType v result ↔ IsKind kind v }
     {
         if let Kind::AnyTuple = kind {
             return Ty::every_tuple();
         }
-        Ty::of_plain(alloc, plain_kind(kind))
+        Ty::of_plain(plain_kind(kind))
     }
 
     /// The least type of level 4 that has the tuples of elements of these types: none where one of
@@ -105,7 +103,7 @@ impl Ty {
         ensures least { IfOk result (λ t. (u : Type4) → ((vs : Values) → HasTypes vs parts.now → HasType (tuple_value vs) u) → Below t u) }
     {
         if any_none(parts) {
-            return Ok(Ty::none(alloc));
+            return Ok(Ty::none());
         }
         if parts.len() > MAX_ELEMENTS {
             return Ok(Ty::every_tuple());
@@ -123,19 +121,20 @@ impl Ty {
         ensures least { IfOk result (λ t. ends ≡ Proper → (u : Type4) → ((x y : Value) → HasType x head.now → HasType y tail.now → HasType (cons_value x y) u) → Below t u) }
     {
         if head.is_none() || tail.is_none() {
-            return Ok(Ty::none(alloc));
+            return Ok(Ty::none());
         }
         let low = cut(alloc, 4, 3, &head.kept.node)?;
         let is_proper = ends == Ends::Proper && is_list(&tail.kept.node);
         let element = element_with(alloc, low, &tail.kept.node)?;
-        Ok(Ty::of_node(cell_alone(alloc, element, is_proper)?))
+        Ok(Ty::of_node(lists_of(alloc, element, is_proper)?))
     }
 
-    /// A second type of the same values.
-    pub fn copy(&self, alloc: Global) -> Result<Ty, Memory>
+    /// A second type of the same values, which shares what lies below its top with this one. `Memory`
+    /// where a count of owners can rise no further.
+    pub fn copy(&self) -> Result<Ty, Memory>
         ensures { IfOk result (λ t. t ≡ self.now) }
     {
-        Ok(Ty::of_node(copy(alloc, 4, &self.kept.node)?))
+        Ok(Ty::of_node(copy(&self.kept.node)?))
     }
 
     /// Whether the type has no value. Takes no memory.
@@ -154,7 +153,7 @@ impl Ty {
         leq(4, &self.kept.node, &other.kept.node)
     }
 
-    /// The type whose values are those of both.
+    /// The type whose values are those of both. Where one is part of the other it is shared.
     pub fn meet(&self, alloc: Global, other: &Ty) -> Result<Ty, Memory>
         ensures value { IfOk result (λ t. t ≡ meet self.now other.now) }
         ensures both { IfOk result (λ t. (v : Value) → HasType v t ↔ (HasType v self.now × HasType v other.now)) }
@@ -162,7 +161,8 @@ impl Ty {
         Ok(Ty::of_node(meet(alloc, 4, &self.kept.node, &other.kept.node)?))
     }
 
-    /// The least type of level 4 that has the values of both.
+    /// The least type of level 4 that has the values of both. Where one is part of the other, the other
+    /// is shared.
     pub fn join(&self, alloc: Global, other: &Ty) -> Result<Ty, Memory>
         ensures value { IfOk result (λ t. t ≡ join self.now other.now) }
         ensures left { IfOk result (λ t. Below self.now t) }
@@ -181,7 +181,7 @@ impl Ty {
         ensures least { IfOk result (λ t. (u : Type4) → IsOfLevel level u → Below self.now u → Below t u) }
     {
         if level == 0 && self.is_none() {
-            return Ok(Ty::none(alloc));
+            return Ok(Ty::none());
         }
         Ok(Ty::of_node(cut(alloc, 4, level, &self.kept.node)?))
     }
@@ -202,12 +202,12 @@ impl Ty {
         };
         if size > MAX_ELEMENTS as u32 {
             if sizes.is_empty() {
-                return Ok(Ty::none(alloc));
+                return Ok(Ty::none());
             }
             return Ok(Ty::any());
         }
         match find_size(sizes.as_slice(), size as u8) {
-            None => Ok(Ty::none(alloc)),
+            None => Ok(Ty::none()),
             Some(body) => Ok(Ty::of_node(element(alloc, 3, body, place as usize - 1)?)),
         }
     }
@@ -221,8 +221,8 @@ impl Ty {
             return Ok(Ty::any());
         };
         match &parts.cell {
-            None => Ok(Ty::none(alloc)),
-            Some(cell) => Ok(Ty::of_node(copy(alloc, 3, cell.element.get())?)),
+            None => Ok(Ty::none()),
+            Some(cell) => Ok(Ty::of_node(copy(cell.element.get())?)),
         }
     }
 
@@ -235,9 +235,9 @@ impl Ty {
             return Ok(Ty::any());
         };
         match &parts.cell {
-            None => Ok(Ty::none(alloc)),
+            None => Ok(Ty::none()),
             Some(cell) => {
-                let after = tail_parts(alloc, cell)?;
+                let after = tail_parts(cell)?;
                 Ok(Ty::of_node(made(after)))
             }
         }
@@ -265,22 +265,14 @@ impl Ty {
     fn every_tuple() -> Ty
         ensures { result ≡ every_tuple }
     {
-        Ty::of_node(Node::Of(PartsOf {
-            plain: Plain::none(),
-            cell: None,
-            tuples: TuplesOf::All,
-        }))
+        Ty::of_node(every_tuple())
     }
 
     // The type of these plain values and nothing else. Takes no memory.
-    fn of_plain(alloc: Global, plain: Plain) -> Ty
+    fn of_plain(plain: Plain) -> Ty
         requires { NormalFunctions plain.functions }
         ensures { result.ty ≡ record { plain = plain; cell = None; tuples = sizes [] } }
     {
-        Ty::of_node(Node::Of(PartsOf {
-            plain,
-            cell: None,
-            tuples: TuplesOf::Sizes(List::new(alloc)),
-        }))
+        Ty::of_node(plain_alone(plain))
     }
 }

@@ -221,6 +221,13 @@ module _ {E : Type 0} (o : Ops E) where
   abbrev pub of_atoms : Names → Parts E
   of_atoms s = of_plain (record { atoms = s; ints = numbers.none; bits = No; flags = no_flags; functions = no_function })
 
+  -- lists of one element type, and tuples
+  abbrev pub of_list : E → Bool → Parts E
+  of_list e proper = record { plain = plain_none; cell = Some (record { element = e; is_proper = proper }); tuples = sizes [] }
+
+  abbrev pub of_tuples : Tuples E → Parts E
+  of_tuples t = record { plain = plain_none; cell = None; tuples = t }
+
   abbrev pub parts_any : Parts E
   parts_any = record { plain = plain_all; cell = Some (record { element = o.any; is_proper = false }); tuples = all_tuples }
 

@@ -1,49 +1,43 @@
 -- What the code's set of atoms stands for, by its kinds.
-use Rattle.std.proofs.Common.{◌≡◌, ◌↔◌, IsTrue, Result, IfOk, ℕ, ◌≤◌, ◌<◌, ◌+◌, Bool, true, false, not, Less, Equal, Greater, ◌&&◌, ◌||◌, List, [], ◌∷◌, length, filter, take, get_or, refl, sym, ap, ◌∙◌, subst, arith, true≢false}
+use Rattle.std.proofs.Common.{◌≡◌, ◌↔◌, IsTrue, Result, IfOk, ℕ, ◌≤◌, ◌<◌, ◌+◌, Bool, true, false, not, Less, Equal, Greater, ◌&&◌, ◌||◌, ◌==◌, List, [], ◌∷◌, Option, Some, None, is_some, length, filter, take, get_or, refl, sym, ap, ◌∙◌, subst, arith, true≢false}
 use Rattle.std.proofs.lemmas.Result.{IfOk-weaker}
 use Rattle.std.proofs.lemmas.List.{take_all}
 use Rattle.std.proofs.lemmas.List.Folds.{list_any_at, list_any_more}
 use Rattle.std.specs.declared.cmp.Ordering.{Ordering}
 use Rattle.std.specs.Ordering.{is_lt, is_ge, eq_by_cmp}
 use Rattle.std.specs.List.{list_all}
+use Rattle.std.specs.Option.{option_copied}
+use denote.Bor.{Bor}
+use borrow.Author.Tests.{eqb-true}
 use Rattle.type_sets.specs.declared.atom_set.Kind.{Kind}
-use Rattle.type_sets.specs.declared.atom_set.Kind.TheVariants.{Nothing, Listed, Every}
+use Rattle.type_sets.specs.declared.atom_set.Kind.TheVariants.{Listed}
 use Rattle.type_sets.specs.declared.limits.TheConstants.{MAX_MEMBERS}
 use Rattle.type_sets.specs.Ascending.{has_item, merged}
-use Rattle.type_sets.specs.Names.{Name, Names, name_cmp, some, every, are_listed, has, Below, none, or_else, listed, meet, join, is_none, or_else-yes}
+use Rattle.type_sets.specs.Names.{Name, Names, name_cmp, some, every, are_listed, has, Below, none, or_else, listed, meet, join, is_none, members_of, or_else-yes}
 use Rattle.type_sets.specs.steps.AtomKinds.{names_of, IsKept}
-use Rattle.type_sets.proofs.Truths.{is_false}
+use Rattle.type_sets.proofs.Truths.{both, first, second, is_false}
 use Rattle.type_sets.proofs.AscendingLaws as ascending
-use Rattle.type_sets.proofs.NameLaws.{name_total, name_same, not_listed, listed-filter, listed-few, listed-merged, or_else-no, has-meet, join-left, join-right, join-least, is_none-is, same_by, same_names}
+use Rattle.type_sets.proofs.NameLaws.{name_total, name_same, not_listed, listed-filter, listed-few, listed-merged, or_else-no, has-meet, join-left, join-right, join-least, is_none-is, same_names}
 
 pub listed_kind : (k : Kind) (v : List Name) (s : Names) → names_of k ≡ s → IsKept k → k ≡ Listed v → (e : are_listed v ≡ true) × (s ≡ some v e)
 listed_kind k v s view kept is =
-    let e : (are_listed v ≡ true) × (v ≡ [] → ⊥) = subst IsKept is kept in
-    (e.0, sym view ∙ ap names_of is ∙ or_else-yes v none e.0)
+    let e : are_listed v ≡ true = subst IsKept is kept in
+    (e, sym view ∙ ap names_of is ∙ or_else-yes v none e)
 
-filled : (v : List Name) (e : are_listed v ≡ true) → (v ≡ [] → ⊥) → false ≡ is_none (some v e)
-filled [] e h = absurd (h refl)
-filled (x ∷ xs) e h = refl
+-- what the members tell of a set
+pub listed_set : (s : Names) (v : List Name) → (are_listed v ≡ true) × (s ≡ listed v) → (e : are_listed v ≡ true) × (s ≡ some v e)
+listed_set s v k = (k.0, k.1 ∙ or_else-yes v none k.0)
 
-pub filled_kind : (k : Kind) (v : List Name) (s : Names) → names_of k ≡ s → IsKept k → k ≡ Listed v → false ≡ is_none s
-filled_kind k v s view kept is =
-    let e : (are_listed v ≡ true) × (v ≡ [] → ⊥) = subst IsKept is kept in
-    filled v e.0 e.1 ∙ ap is_none (sym (sym view ∙ ap names_of is ∙ or_else-yes v none e.0))
-
-pub nothing_kind : (k : Kind) (s : Names) → names_of k ≡ s → k ≡ Nothing → s ≡ none
-nothing_kind k s view is = sym view ∙ ap names_of is
-
-pub every_kind : (k : Kind) (s : Names) → names_of k ≡ s → k ≡ Every → s ≡ every
-every_kind k s view is = sym view ∙ ap names_of is
-
-pub nothing_listed : (s : Names) → s ≡ none → s ≡ listed []
-nothing_listed s is = is ∙ sym (or_else-yes [] none refl)
-
-pub none-listed : (s : Names) (v : List Name) → s ≡ none → v ≡ [] → s ≡ listed v
-none-listed s v is empty = is ∙ sym (ap listed empty ∙ or_else-yes [] none refl)
+pub every_set : (s : Names) → None ≡ members_of s → s ≡ every
+every_set (some xs e) h = absurd (cc h)
+every_set every h = refl
 
 pub empty_when : (r : Bool) (s : Names) → r ≡ is_none s → IsTrue r ↔ (s ≡ none)
 empty_when r s e = (λ h. is_none-is s (sym e ∙ h), λ h. e ∙ ap is_none h)
+
+pub no_item : (s : Names) (v : List Name) (e : are_listed v ≡ true) (r : Bool) → s ≡ some v e → r ≡ (length v == 0) → r ≡ is_none s
+no_item s [] e r is h = h ∙ sym (ap is_none is)
+no_item s (x ∷ xs) e r is h = h ∙ is_false (length (x ∷ xs) == 0) (λ k. absurd (let z = eqb-true (length (x ∷ xs)) 0 k in omega (arith, z))) ∙ sym (ap is_none is)
 
 -- ---- membership
 
@@ -67,17 +61,16 @@ below_listed s t xs e r is all = (
   λ f. all ∙ ascending.all-from_items name_total name_same (has t) xs (λ q m. f q (ap (λ u. has u q) is ∙ m)),
 )
 
-pub every-not_listed : (s t : Names) (ys : List Name) (e : are_listed ys ≡ true) → s ≡ every → t ≡ some ys e → IsTrue false ↔ Below s t
-every-not_listed s t ys e is it = (
-  λ x. absurd (true≢false (sym x)),
-  λ p. absurd (not_listed ys e (λ q. sym (ap (λ u. has u q) it) ∙ p q (ap (λ u. has u q) is))),
+-- all atoms are part of all atoms alone
+pub below_every : (s t : Names) (o : Option (Bor (List Name))) (r : Bool) → s ≡ every → option_copied o ≡ members_of t → is_some o ≡ not r → IsTrue r ↔ Below s t
+below_every s (some ys e) None r is m h = absurd (cc m)
+below_every s (some ys e) (Some b) r is m h = (
+  λ x. absurd (true≢false (h ∙ ap not x)),
+  λ p. absurd (not_listed ys e (λ q. p q (ap (λ u. has u q) is))),
 )
-
-pub every-not_none : (s t : Names) → s ≡ every → t ≡ none → IsTrue false ↔ Below s t
-every-not_none s t is it = every-not_listed s t [] refl is it
-
-pub none-below : (s t : Names) → s ≡ none → IsTrue true ↔ Below s t
-none-below s t is = (λ _ q m. absurd (true≢false (sym m ∙ ap (λ u. has u q) is)), λ _. refl)
+below_every s every None true is m h = (λ _ q k. refl, λ _. refl)
+below_every s every None false is m h = absurd (true≢false (sym h))
+below_every s every (Some b) r is m h = absurd (cc m)
 
 -- ---- the meet, by the kinds
 
@@ -88,12 +81,12 @@ pub meet_listed : (s t : Names) (xs : List Name) (e : are_listed xs ≡ true) (r
 unfolding meet
 meet_listed s t xs e r is h = h ∙ sym (ap (λ u. meet u t) is)
 
-pub meet_every : (s t r : Names) → s ≡ every → r ≡ t → r ≡ meet s t
-unfolding meet
-meet_every s t r is h = h ∙ sym (ap (λ u. meet u t) is)
+-- where one set is part of the other, it is the meet
+pub meet_below : (s t r : Names) → Below s t → r ≡ s → r ≡ meet s t
+meet_below s t r f h = h ∙ same_names s (meet s t) (λ q m. has-meet s t q ∙ both (has s q) (has t q) m (f q m)) (λ q m. first (has s q) (has t q) (sym (has-meet s t q) ∙ m))
 
-pub meet_none : (s t r : Names) → s ≡ none → r ≡ none → r ≡ meet s t
-meet_none s t r is h = h ∙ same_by none (meet s t) (λ q. sym (has-meet s t q ∙ ap (λ u. has u q && has t q) is))
+pub meet_above : (s t r : Names) → Below t s → r ≡ t → r ≡ meet s t
+meet_above s t r f h = h ∙ same_names t (meet s t) (λ q m. has-meet s t q ∙ both (has s q) (has t q) (f q m) m) (λ q m. second (has s q) (has t q) (sym (has-meet s t q) ∙ m))
 
 pub has_meet : (s t r : Names) → r ≡ meet s t → (q : Name) → has r q ≡ (has s q && has t q)
 has_meet s t r is q = ap (λ u. has u q) is ∙ has-meet s t q
@@ -118,14 +111,6 @@ join_short xs ys e i le zs is few =
     let d : are_listed (merged name_cmp xs ys) ≡ true = listed-merged xs ys e short in
     (ap are_listed whole ∙ d, ap listed whole ∙ or_else-yes (merged name_cmp xs ys) none d ∙ sym (or_else-yes (merged name_cmp xs ys) every d))
 
-pub join_with_every : (s t : Names) (xs : List Name) (e : are_listed xs ≡ true) (r : Names) → s ≡ some xs e → t ≡ every → r ≡ every → r ≡ join s t
-unfolding join
-join_with_every s t xs e r is it h = h ∙ sym (λ i. join (is i) (it i))
-
-pub join_every : (s t r : Names) → s ≡ every → r ≡ every → r ≡ join s t
-unfolding join
-join_every s t r is h = h ∙ sym (ap (λ u. join u t) is)
-
 pub above_left : (s t r : Names) → r ≡ join s t → Below s r
 above_left s t r is q h = ap (λ u. has u q) is ∙ join-left s t q h
 
@@ -135,14 +120,12 @@ above_right s t r is q h = ap (λ u. has u q) is ∙ join-right s t q h
 pub least_above : (s t r : Names) → r ≡ join s t → (u : Names) → Below s u → Below t u → Below r u
 least_above s t r is u f g q h = join-least s t u f g q (sym (ap (λ v. has v q) is) ∙ h)
 
-none-part : (s t : Names) → s ≡ none → Below s t
-none-part s t is q m = absurd (true≢false (sym m ∙ ap (λ u. has u q) is))
+-- where one set is part of the other, the other is the join
+pub join_below : (s t r : Names) → Below s t → r ≡ t → r ≡ join s t
+join_below s t r f h = h ∙ same_names t (join s t) (join-right s t) (join-least s t t f (λ q m. m))
 
-pub join_none_left : (s t r : Names) → s ≡ none → r ≡ t → r ≡ join s t
-join_none_left s t r is h = h ∙ same_names t (join s t) (join-right s t) (join-least s t t (none-part s t is) (λ q m. m))
-
-pub join_none_right : (s t r : Names) → t ≡ none → r ≡ s → r ≡ join s t
-join_none_right s t r is h = h ∙ same_names s (join s t) (join-left s t) (join-least s t s (λ q m. m) (none-part t s is))
+pub join_above : (s t r : Names) → Below t s → r ≡ s → r ≡ join s t
+join_above s t r f h = h ∙ same_names s (join s t) (join-left s t) (join-least s t s (λ q m. m) f)
 
 -- what follows from what is known of the value
 pub ok_then : {X E : Type 0} (r : Result X E) {P Q : X → Type 0} → IfOk r P → ((x : X) → P x → Q x) → IfOk r Q

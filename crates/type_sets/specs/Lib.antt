@@ -5,4 +5,6 @@ pub mod Few
 pub mod Heights
 pub mod Names
 pub mod Numbers
+pub mod SharedLists
+pub mod formers
 pub mod steps

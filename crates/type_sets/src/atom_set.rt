@@ -6,21 +6,21 @@ ghost use Rattle.type_sets.specs.Ascending.{is_ascending, has_item, placed, merg
 ghost use Rattle.type_sets.specs.Names.{Name, Names, every, name_cmp, are_listed, has, Below, none, or_else, listed, meet, join, is_none, members_of};
 
 use crate::limits::MAX_MEMBERS;
+use crate::shared_list::SharedList;
 use std::alloc::Global;
 use std::cmp::Ordering;
 use std::marker::Model;
-use type_kinds::{Atom, List, Memory};
+use type_kinds::{Atom, List, Memory, Shared};
 
-// No atom, atoms in strictly ascending order, of which there is one at least, or all.
-#[derive(Debug, Drop)]
+// Atoms in strictly ascending order, or all.
+#[derive(Drop)]
 enum Kind {
-    Nothing,
-    Listed(List<Atom>),
+    Listed(SharedList<Shared<Atom>>),
     Every,
 }
 
-/// A set of atoms: at most `MAX_MEMBERS`, or all.
-#[derive(Debug, Drop)]
+/// A set of atoms: at most `MAX_MEMBERS`, or all. The list is shared, and so is each atom of it.
+#[derive(Drop)]
 pub struct AtomSet {
     kind: Kind,
 }
@@ -44,7 +44,7 @@ impl AtomSet {
         ensures { result ≡ none }
     {
         AtomSet {
-            kind: Kind::Nothing,
+            kind: Kind::Listed(SharedList::empty()),
         }
     }
 
@@ -61,17 +61,19 @@ impl AtomSet {
         ensures only { IfOk result (λ set. (q : Name) → IsTrue (has set q) ↔ (q ≡ atom.now)) }
     {
         let mut atoms = List::new(alloc);
-        atoms.add(atom.copy(alloc)?)?;
-        Ok(AtomSet::listed(atoms))
+        atoms.add(Shared::new(alloc, atom.copy(alloc)?)?)?;
+        AtomSet::listed(alloc, atoms)
     }
 
-    /// A second set of the same atoms.
-    pub fn copy(&self, alloc: Global) -> Result<AtomSet, Memory>
+    /// A second set of the same atoms, which are shared. `Memory` where the count of owners can rise
+    /// no further.
+    pub fn copy(&self) -> Result<AtomSet, Memory>
         ensures { IfOk result (λ set. set ≡ self.now) }
     {
         match &self.kind {
-            Kind::Nothing => Ok(AtomSet::none()),
-            Kind::Listed(atoms) => Ok(AtomSet::listed(copied(alloc, atoms.as_slice())?)),
+            Kind::Listed(atoms) => Ok(AtomSet {
+                kind: Kind::Listed(atoms.share()?),
+            }),
             Kind::Every => Ok(AtomSet::all()),
         }
     }
@@ -80,10 +82,9 @@ impl AtomSet {
     pub fn contains(&self, atom: &Atom) -> bool
         ensures { result ≡ has self.now atom.now }
     {
-        match &self.kind {
-            Kind::Nothing => false,
-            Kind::Listed(atoms) => holds(atoms.as_slice(), atom),
-            Kind::Every => true,
+        match self.members() {
+            Some(atoms) => holds(atoms, atom),
+            None => true,
         }
     }
 
@@ -92,20 +93,18 @@ impl AtomSet {
         ensures value { result ≡ is_none self.now }
         ensures empty { IsTrue result ↔ (self.now ≡ none) }
     {
-        match &self.kind {
-            Kind::Nothing => true,
-            Kind::Listed(_) => false,
-            Kind::Every => false,
+        match self.members() {
+            Some(atoms) => atoms.is_empty(),
+            None => false,
         }
     }
 
     /// The atoms in ascending order, or `None` for all. Takes no memory.
-    pub fn members(&self) -> Option<&[Atom]>
+    pub fn members(&self) -> Option<&[Shared<Atom>]>
         ensures value { option_copied result ≡ members_of self.now }
         ensures some { IfSome result (λ xs. IsTrue (are_listed xs.now) × (self.now ≡ listed xs.now)) }
     {
         match &self.kind {
-            Kind::Nothing => Some(&[]),
             Kind::Listed(atoms) => Some(atoms.as_slice()),
             Kind::Every => None,
         }
@@ -115,51 +114,55 @@ impl AtomSet {
     pub fn leq(&self, other: &AtomSet) -> bool
         ensures { IsTrue result ↔ Below self.now other.now }
     {
-        match &self.kind {
-            Kind::Nothing => true,
-            Kind::Listed(atoms) => all_in(atoms.as_slice(), other),
-            Kind::Every => match &other.kind {
-                Kind::Nothing => false,
-                Kind::Listed(_) => false,
-                Kind::Every => true,
-            },
+        match self.members() {
+            Some(atoms) => all_in(atoms, other),
+            None => other.members().is_none(),
         }
     }
 
-    /// The atoms of both sets.
+    /// The atoms of both sets. Where one is part of the other it is shared.
     pub fn meet(&self, alloc: Global, other: &AtomSet) -> Result<AtomSet, Memory>
         ensures value { IfOk result (λ set. set ≡ meet self.now other.now) }
         ensures both { IfOk result (λ set. (q : Name) → has set q ≡ (has self.now q && has other.now q)) }
     {
-        match &self.kind {
-            Kind::Nothing => Ok(AtomSet::none()),
-            Kind::Listed(atoms) => kept(alloc, atoms.as_slice(), other),
-            Kind::Every => other.copy(alloc),
+        if self.leq(other) {
+            return self.copy();
+        }
+        if other.leq(self) {
+            return other.copy();
+        }
+        match self.members() {
+            Some(atoms) => kept(alloc, atoms, other),
+            None => other.copy(),
         }
     }
 
     /// The smallest set of this kind that contains both: their atoms alone where there are at most
-    /// `MAX_MEMBERS`, and else all.
+    /// `MAX_MEMBERS`, and else all. Where one is part of the other, the other is shared.
     pub fn join(&self, alloc: Global, other: &AtomSet) -> Result<AtomSet, Memory>
         ensures value { IfOk result (λ set. set ≡ join self.now other.now) }
         ensures left { IfOk result (λ set. Below self.now set) }
         ensures right { IfOk result (λ set. Below other.now set) }
         ensures least { IfOk result (λ set. (u : Names) → Below self.now u → Below other.now u → Below set u) }
     {
-        match &self.kind {
-            Kind::Nothing => other.copy(alloc),
-            Kind::Listed(atoms) => match &other.kind {
-                Kind::Nothing => self.copy(alloc),
-                Kind::Listed(others) => both(alloc, atoms.as_slice(), others.as_slice()),
-                Kind::Every => Ok(AtomSet::all()),
-            },
-            Kind::Every => Ok(AtomSet::all()),
+        if self.leq(other) {
+            return other.copy();
+        }
+        if other.leq(self) {
+            return self.copy();
+        }
+        let Some(atoms) = self.members() else {
+            return Ok(AtomSet::all());
+        };
+        match other.members() {
+            Some(others) => both(alloc, atoms, others),
+            None => Ok(AtomSet::all()),
         }
     }
 
     /// Whether a set can list the atoms: they ascend strictly, and are at most
     /// `MAX_MEMBERS`.
-    pub fn can_list(atoms: &[Atom]) -> bool
+    pub fn can_list(atoms: &[Shared<Atom>]) -> bool
         ensures { result ≡ are_listed atoms.now }
     {
         if atoms.len() > MAX_MEMBERS {
@@ -168,28 +171,24 @@ impl AtomSet {
         ascend(atoms)
     }
 
-    /// The set of the atoms, which a set has to be able to list. Takes no memory.
-    pub fn listed(atoms: List<Atom>) -> AtomSet
+    /// The set of the atoms, which a set has to be able to list.
+    pub fn listed(alloc: Global, atoms: List<Shared<Atom>>) -> Result<AtomSet, Memory>
         requires { IsTrue (are_listed atoms) }
-        ensures value { result ≡ listed atoms }
-        ensures only { (q : Name) → has result q ≡ has_item name_cmp atoms q }
+        ensures value { IfOk result (λ set. set ≡ listed atoms) }
+        ensures only { IfOk result (λ set. (q : Name) → has set q ≡ has_item name_cmp atoms q) }
     {
-        if atoms.is_empty() {
-            AtomSet::none()
-        } else {
-            AtomSet {
-                kind: Kind::Listed(atoms),
-            }
-        }
+        Ok(AtomSet {
+            kind: Kind::Listed(SharedList::new(alloc, atoms)?),
+        })
     }
 }
 
 // Whether the atom is in the list.
-fn holds(atoms: &[Atom], atom: &Atom) -> bool
+fn holds(atoms: &[Shared<Atom>], atom: &Atom) -> bool
     ensures { result ≡ has_item name_cmp atoms.now atom.now }
 {
     for other in atoms {
-        if atom.is(other) {
+        if atom.is(other.get()) {
             return true;
         }
     }
@@ -197,11 +196,11 @@ fn holds(atoms: &[Atom], atom: &Atom) -> bool
 }
 
 // Whether each atom is below the next.
-fn ascend(atoms: &[Atom]) -> bool
+fn ascend(atoms: &[Shared<Atom>]) -> bool
     ensures { result ≡ is_ascending name_cmp atoms.now }
 {
     for at in 1..atoms.len() {
-        if atoms[at - 1] >= atoms[at] {
+        if atoms[at - 1].get() >= atoms[at].get() {
             return false;
         }
     }
@@ -209,49 +208,49 @@ fn ascend(atoms: &[Atom]) -> bool
 }
 
 // Whether each atom of the list is in the set.
-fn all_in(atoms: &[Atom], set: &AtomSet) -> bool
+fn all_in(atoms: &[Shared<Atom>], set: &AtomSet) -> bool
     ensures { result ≡ list_all (has set.now) atoms.now }
 {
     for atom in atoms {
-        if !set.contains(atom) {
+        if !set.contains(atom.get()) {
             return false;
         }
     }
     true
 }
 
-// Copies of the atoms.
-fn copied(alloc: Global, atoms: &[Atom]) -> Result<List<Atom>, Memory>
+// The same atoms, which are shared.
+fn copied(alloc: Global, atoms: &[Shared<Atom>]) -> Result<List<Shared<Atom>>, Memory>
     ensures { IfOk result (λ list. list ≡ atoms.now) }
 {
     let mut out = List::new(alloc);
     for atom in atoms {
-        out.add(atom.copy(alloc)?)?;
+        out.add(atom.share()?)?;
     }
     Ok(out)
 }
 
 // The atoms of the list that are in the set.
-fn kept(alloc: Global, atoms: &[Atom], set: &AtomSet) -> Result<AtomSet, Memory>
+fn kept(alloc: Global, atoms: &[Shared<Atom>], set: &AtomSet) -> Result<AtomSet, Memory>
     requires { IsTrue (are_listed atoms.now) }
     ensures { IfOk result (λ s. s ≡ listed (filter (has set.now) atoms.now)) }
 {
     let mut out = List::new(alloc);
     for atom in atoms {
-        if set.contains(atom) {
-            out.add(atom.copy(alloc)?)?;
+        if set.contains(atom.get()) {
+            out.add(atom.share()?)?;
         }
     }
-    Ok(AtomSet::listed(out))
+    AtomSet::listed(alloc, out)
 }
 
 // Where the atom goes in an ascending list, and `None` where it is there.
-fn place_of(atoms: &[Atom], atom: &Atom) -> Option<usize>
+fn place_of(atoms: &[Shared<Atom>], atom: &Atom) -> Option<usize>
     ensures some { IfSome result (λ at. (at ≤ length atoms.now) × (placed name_cmp atom.now atoms.now ≡ insert atoms.now at atom.now)) }
     ensures none { IfNone result (placed name_cmp atom.now atoms.now ≡ atoms.now) }
 {
     for (at, other) in atoms.iter().enumerate() {
-        match atom.cmp(other) {
+        match atom.cmp(other.get()) {
             Ordering::Less => return Some(at),
             Ordering::Equal => return None,
             Ordering::Greater => {}
@@ -260,28 +259,28 @@ fn place_of(atoms: &[Atom], atom: &Atom) -> Option<usize>
     Some(atoms.len())
 }
 
-// Puts a copy of the atom into an ascending list.
-fn put(alloc: Global, atoms: &mut List<Atom>, atom: &Atom) -> Result<(), Memory>
+// Puts the atom into an ascending list.
+fn put(atoms: &mut List<Shared<Atom>>, atom: &Shared<Atom>) -> Result<(), Memory>
     ensures { OnOk result (atoms.new ≡ placed name_cmp atom.now atoms.old) }
 {
-    match place_of(atoms.as_slice(), atom) {
-        Some(at) => atoms.insert(at, atom.copy(alloc)?),
+    match place_of(atoms.as_slice(), atom.get()) {
+        Some(at) => atoms.insert(at, atom.share()?),
         None => Ok(()),
     }
 }
 
 // The set of the atoms of two ascending lists, and all atoms where they are more than
 // `MAX_MEMBERS`.
-fn both(alloc: Global, atoms: &[Atom], others: &[Atom]) -> Result<AtomSet, Memory>
+fn both(alloc: Global, atoms: &[Shared<Atom>], others: &[Shared<Atom>]) -> Result<AtomSet, Memory>
     requires { IsTrue (are_listed atoms.now) }
     ensures { IfOk result (λ set. set ≡ or_else (merged name_cmp atoms.now others.now) every) }
 {
     let mut out = copied(alloc, atoms)?;
     for atom in others {
-        put(alloc, &mut out, atom)?;
+        put(&mut out, atom)?;
         if out.len() > MAX_MEMBERS {
             return Ok(AtomSet::all());
         }
     }
-    Ok(AtomSet::listed(out))
+    AtomSet::listed(alloc, out)
 }

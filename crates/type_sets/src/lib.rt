@@ -9,6 +9,7 @@ mod ends;
 mod int_set;
 mod laws;
 mod limits;
+mod shared_list;
 #[cfg(test)]
 mod tests;
 
@@ -20,3 +21,4 @@ pub use laws::{
     atom_set_heights, atom_set_laws, bits_heights, bits_laws, int_set_heights, int_set_laws,
 };
 pub use limits::MAX_MEMBERS;
+pub use shared_list::SharedList;

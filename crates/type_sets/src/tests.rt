@@ -2,7 +2,7 @@ use super::*;
 use std::alloc::Global;
 use std::process::Abort;
 use std::test::Fail;
-use type_kinds::{Atom, List, Memory};
+use type_kinds::{Atom, List, Memory, Shared};
 
 fn ints(rt: &impl Abort, numbers: &[i128]) -> IntSet {
     assert!(rt; IntSet::can_list(numbers), "the numbers can be listed");
@@ -174,7 +174,7 @@ fn atoms_are_listed_in_order(rt: HostRuntime) -> Result<(), Fail> {
     assert_eq!(rt; members.len(), 4);
     let in_order: [&[u8]; 4] = [b"", b"a", b"aa", b"b"];
     for i in 0..4 {
-        assert!(rt; members[i].bytes() == in_order[i], "atom {i}");
+        assert!(rt; members[i].get().bytes() == in_order[i], "atom {i}");
     }
     assert!(rt; AtomSet::can_list(members));
     Ok(())
@@ -202,7 +202,7 @@ fn all_atoms_and_no_atom(rt: HostRuntime) -> Result<(), Fail> {
     assert!(rt; same_atoms(&set.join(alloc, &AtomSet::none())?, &set));
     assert!(rt; set.leq(&AtomSet::all()) && !AtomSet::all().leq(&set));
     assert!(rt; AtomSet::none().leq(&set) && AtomSet::none().is_none() && !set.is_none());
-    assert!(rt; same_atoms(&set.copy(alloc)?, &set));
+    assert!(rt; same_atoms(&set.copy()?, &set));
     Ok(())
 }
 
@@ -214,9 +214,9 @@ fn an_atom_is_in_a_set(rt: HostRuntime) -> Result<(), Fail> {
     let b = Atom::new(alloc, b"b")?;
     assert!(rt; set.contains(&c) && !set.contains(&b) && AtomSet::all().contains(&b));
     let mut one = List::new(alloc);
-    one.push(c)?;
+    one.add(Shared::new(alloc, c)?)?;
     assert!(rt; AtomSet::can_list(one.as_slice()));
-    assert!(rt; AtomSet::listed(one).leq(&set));
+    assert!(rt; AtomSet::listed(alloc, one)?.leq(&set));
     Ok(())
 }
 

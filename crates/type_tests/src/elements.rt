@@ -58,7 +58,7 @@ fn integers_of_a_type(rt: HostRuntime) -> Result<(), TextFault> {
 fn types_are_equal_by_their_values(rt: HostRuntime) -> Result<(), TextFault> {
     let alloc = rt.alloc();
     let a = read(alloc, b"{'ok',1} | {'ok',2,3}")?;
-    let b = a.copy(alloc)?;
+    let b = a.copy()?;
     let c = read(alloc, b"{'ok',1}")?;
     assert!(rt; a == b);
     assert!(rt; a != c);

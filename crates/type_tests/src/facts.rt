@@ -41,7 +41,7 @@ pub fn are_equal(a: &Ty, b: &Ty) -> bool
 fn facts_hold(rt: HostRuntime) -> Result<(), Memory> {
     let alloc = rt.alloc();
     let a = Ty::any();
-    let b = Ty::none(alloc);
+    let b = Ty::none();
     meet_is_below(alloc, &a, &b)?;
     join_is_above(alloc, &a, &b)?;
     inclusion_is_transitive(&b, &b, &a);

@@ -292,7 +292,7 @@ fn elements_of_wide_tuples(rt: HostRuntime) -> Result<(), Memory> {
     let some = wide(alloc, 1)?;
     let element = some.project(alloc, 65, 65)?;
     assert!(rt; is(alloc, &element, b"any()")?);
-    let none = Ty::kind(alloc, Kind::Nil).project(alloc, 65, 1)?;
+    let none = Ty::kind(Kind::Nil).project(alloc, 65, 1)?;
     assert!(rt; none.is_none());
     Ok(())
 }
@@ -320,7 +320,7 @@ fn maps(rt: HostRuntime) -> Result<(), TextFault> {
     let mut pairs = List::new(alloc);
     pairs.add((Value::Int(1), Value::Nil))?;
     let map = Value::Map(pairs);
-    let every = Ty::kind(alloc, Kind::Map);
+    let every = Ty::kind(Kind::Map);
     assert!(rt; is(alloc, &every, b"map()")?);
     assert!(rt; value_in(&map, &every));
     assert!(rt; value_in(&map, &Ty::any()));

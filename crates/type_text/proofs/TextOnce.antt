@@ -18,7 +18,8 @@ use Rattle.type_lattice.specs.Types.{Type4, same_type}
 use Rattle.type_text.specs.Starts.{Lacks}
 use Rattle.type_text.specs.Words.{WordStop, TypeStop}
 use Rattle.type_text.specs.Texts.{after, separated, low_text, high_text, range_word, is_any, text_at, text_of}
-use Rattle.type_text.specs.WordTypes.{of_ints, of_functions, of_list, of_row, IsWord, AreWords, spelled, joined_with, one_atom, every_atom, one_int, ints_between, every_float, whole_bits, every_bits, every_pid, every_port, every_reference, every_map, every_function, one_arity, empty_list, proper_list, any_list, every_tuple, one_tuple}
+use Rattle.type_text.specs.WordTypes.{of_ints, of_functions, of_row, IsWord, AreWords, spelled, joined_with, one_atom, every_atom, one_int, ints_between, every_float, whole_bits, every_bits, every_pid, every_port, every_reference, every_map, every_function, one_arity, empty_list, proper_list, any_list, every_tuple, one_tuple}
+use Rattle.type_model.specs.Operations.{of_list}
 use Rattle.type_text.proofs.Prints.{any_is_all}
 use Rattle.type_text.proofs.WordStarts.{begins, signed-start, at_every_atom, at_float, at_whole_bits, at_every_bits, at_pid, at_port, at_reference, at_map, at_nil, at_every_tuple, at_every_int, at_every_function, at_quote, at_number, at_range, at_arity, at_proper_list, at_any_list, at_tuple}
 use Rattle.type_text.proofs.TypeStarts.{text_any, text_none, at_any, at_none, at_words, not_at_end}

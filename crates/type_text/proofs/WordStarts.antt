@@ -25,7 +25,8 @@ use Rattle.type_model.specs.Operations.{Ops, of_atoms}
 use Rattle.type_model.specs.Normal.{IsElement, AreElements}
 use Rattle.type_text.specs.Starts.{is_number, begins_number, Lacks}
 use Rattle.type_text.specs.Texts.{separated, low_text, high_text, range_word}
-use Rattle.type_text.specs.WordTypes.{float_flag, pid_flag, port_flag, reference_flag, map_flag, nil_flag, of_ints, of_bits, of_flags, of_functions, of_list, of_tuples, of_row, IsWordOf, one_atom, every_atom, one_int, ints_between, every_float, whole_bits, every_bits, every_pid, every_port, every_reference, every_map, every_function, one_arity, empty_list, proper_list, any_list, every_tuple, one_tuple}
+use Rattle.type_text.specs.WordTypes.{float_flag, pid_flag, port_flag, reference_flag, map_flag, nil_flag, of_ints, of_bits, of_flags, of_functions, of_row, IsWordOf, one_atom, every_atom, one_int, ints_between, every_float, whole_bits, every_bits, every_pid, every_port, every_reference, every_map, every_function, one_arity, empty_list, proper_list, any_list, every_tuple, one_tuple}
+use Rattle.type_model.specs.Operations.{of_list, of_tuples}
 
 -- a minus or a digit
 abbrev pub IsNumberStart : ℕ → Type 0

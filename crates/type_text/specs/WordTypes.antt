@@ -1,5 +1,5 @@
 -- The words of a type. Each word stands for a type of its own, and the type that is written is the join of these.
-use Rattle.std.specs.Prelude.{◌≡◌, ℕ, suc, ◌+◌, ◌^◌, ℤ, Bool, true, false, nat_lt, List, [], ◌∷◌, ◌++◌, length, map, Option, Some, None, codes}
+use Rattle.std.specs.Prelude.{◌≡◌, ℕ, suc, ◌+◌, ◌^◌, ℤ, true, false, nat_lt, List, [], ◌∷◌, ◌++◌, length, map, Option, codes}
 use Rattle.std.specs.Fmt.{decimal, signed_decimal}
 use Rattle.type_kinds.specs.Quoted.{quoted}
 use Rattle.type_sets.specs.Names as names
@@ -12,8 +12,8 @@ use Rattle.type_sets.specs.declared.ends.High.{High}
 use Rattle.type_sets.specs.declared.bits.Bits.{Bits}
 use Rattle.type_sets.specs.declared.bits.Bits.TheVariants.{No, Whole, Any}
 use Rattle.type_model.specs.declared.limits.TheConstants.{MAX_ELEMENTS}
-use Rattle.type_model.specs.Shapes.{Flags, Functions, no_function, of_arity, all_functions, Cell, Tuples, sizes, all_tuples, Parts, TypeAt}
-use Rattle.type_model.specs.Operations.{Ops, no_flags, plain_none, body_of, of_plain, of_atoms, ops}
+use Rattle.type_model.specs.Shapes.{Flags, Functions, no_function, of_arity, all_functions, Cell, sizes, all_tuples, Parts, TypeAt}
+use Rattle.type_model.specs.Operations.{Ops, no_flags, plain_none, body_of, of_plain, of_atoms, of_list, of_tuples, ops}
 use Rattle.type_model.specs.Normal.{IsElement, AreElements, NormalAt}
 use Rattle.type_text.specs.Texts.{after, range_word, tuple_word, text_at}
 
@@ -53,15 +53,9 @@ module _ {E : Type 0} (o : Ops E) where
   abbrev pub of_cell : Option (Cell E) → Parts E
   of_cell c = record { plain = plain_none; cell = c; tuples = sizes [] }
 
-  abbrev pub of_list : E → Bool → Parts E
-  of_list e proper = of_cell (Some (record { element = e; is_proper = proper }))
-
-  abbrev pub of_tuples : Tuples E → Parts E
-  of_tuples t = record { plain = plain_none; cell = None; tuples = t }
-
   -- the tuples of these element types
   abbrev pub of_row : List E → Parts E
-  of_row es = of_tuples (sizes ((length es, body_of o es) ∷ []))
+  of_row es = of_tuples o (sizes ((length es, body_of o es) ∷ []))
 
 -- ---- words
 

@@ -7,7 +7,7 @@ ghost use Rattle.type_text.specs.Adds.{row_text, Adds};
 ghost use Rattle.type_trees.specs.Plains.{functions_of};
 ghost use Rattle.type_trees.specs.View.{view, Fits, row_view, tags_view, body_view, sizes_view, tuples_view, cell_view, EachNode, EachTag, EachInBody, EachSize, EachInTuples, EachInCell};
 
-use type_kinds::{Atom, Bytes, Memory};
+use type_kinds::{Atom, Bytes, Memory, Shared};
 use type_lattice::Ty;
 use type_sets::{AtomSet, Bits, High, IntSet, Low};
 use type_trees::{BodyOf, CellOf, FunSet, Node, Plain, SizeOf, TagOf, TuplesOf, is_none};
@@ -163,7 +163,7 @@ fn append_tag(level: u32, tag: &TagOf<Node>, some: &mut bool, out: &mut Bytes) -
 {
     separate(b" | ", some, out)?;
     out.append(b"{")?;
-    tag.atom.text(out)?;
+    tag.atom.get().text(out)?;
     append_row(level, tag.rest.as_slice(), true, out)?;
     out.append(b"}")
 }
@@ -212,13 +212,13 @@ fn append_atoms(atoms: &AtomSet, some: &mut bool, out: &mut Bytes) -> Result<(),
 }
 
 // Appends a word for each atom.
-fn append_members(members: &[Atom], some: &mut bool, out: &mut Bytes) -> Result<(), Memory>
+fn append_members(members: &[Shared<Atom>], some: &mut bool, out: &mut Bytes) -> Result<(), Memory>
     ensures ok { OnOk result (Adds (codes " | ") (map quoted members.now) some.old some.new out.old out.new) }
     ensures front { take (length out.old) out.new ≡ out.old }
 {
     for atom in members {
         separate(b" | ", some, out)?;
-        atom.text(out)?;
+        atom.get().text(out)?;
     }
     Ok(())
 }

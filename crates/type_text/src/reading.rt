@@ -45,7 +45,7 @@ fn whole(alloc: Global, text: &[u8]) -> Result<Option<Ty>, Memory>
     ensures { IfOk result (λ r. (t : Type4) → text.now ≡ text_of t → r ≡ Some t) }
 {
     match after_word(text, b"none()") {
-        Some(_) => Ok(Some(Ty::none(alloc))),
+        Some(_) => Ok(Some(Ty::none())),
         None => with_values(alloc, text),
     }
 }

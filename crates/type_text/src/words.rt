@@ -12,17 +12,18 @@ ghost use Rattle.type_trees.specs.Plains.{flags_of, functions_of};
 ghost use Rattle.type_trees.specs.View.{view, body_view, row_view, Fits, EachNode, BodyFits};
 ghost use Rattle.type_text.specs.Texts.{text_at, after, separated};
 ghost use Rattle.type_text.specs.Words.{TypeStop, WordStop};
-ghost use Rattle.type_text.specs.WordTypes.{IsWord, AreWords, spelled, joined_with, of_tuples, of_list, of_row, of_flags, of_bits, of_functions, of_ints};
+ghost use Rattle.type_text.specs.WordTypes.{IsWord, AreWords, spelled, joined_with, of_row, of_flags, of_bits, of_functions, of_ints};
+ghost use Rattle.type_model.specs.Operations.{of_tuples, of_list};
 ghost use Rattle.type_text.specs.Starts.{begins_number, NoFlag, NoBits, NoFunction, NoInterval, NoTypeName};
 
 use crate::leaves::{after_word, read_arity, read_integer, read_quoted, read_range};
 use std::alloc::Global;
-use type_kinds::{Boxed, List, Memory};
+use type_kinds::{List, Memory};
 use type_model::MAX_ELEMENTS;
-use type_sets::{AtomSet, Bits, High, IntSet, Low};
+use type_sets::{AtomSet, Bits, High, IntSet, Low, SharedList};
 use type_trees::{
-    BodyOf, CellOf, FlagSet, FunSet, Node, PartsOf, Plain, SizeOf, TuplesOf, discard, is_none,
-    join, product_body,
+    FlagSet, FunSet, Node, Plain, discard, every_tuple, is_none, join, lists_of, plain_alone,
+    product_body, tuples_of,
 };
 
 /// The type of a level, which has a value, that the text begins with, and what is left.
@@ -102,7 +103,7 @@ fn read_word<'a>(
         return read_atom(alloc, text);
     }
     if is_number(text) {
-        return Ok(read_number(alloc, text));
+        return Ok(read_number(text));
     }
     if let Some(rest) = after_word(text, b"{") {
         return read_tuple(alloc, level, rest);
@@ -113,7 +114,7 @@ fn read_word<'a>(
     if let Some(rest) = after_word(text, b"cons_any(") {
         return read_list(alloc, level, false, rest);
     }
-    Ok(read_name(alloc, text))
+    Ok(read_name(text))
 }
 
 // Whether the text begins as a number does.
@@ -163,28 +164,10 @@ fn read_list<'a>(
         return Ok(None);
     };
     match after_word(rest, b")") {
-        Some(rest) => Ok(Some((list_of(alloc, element, is_proper)?, rest))),
+        Some(rest) => Ok(Some((lists_of(alloc, element, is_proper)?, rest))),
         None => {
             discard(element);
             Ok(None)
-        }
-    }
-}
-
-// The lists of an element type.
-fn list_of(alloc: Global, element: Node, is_proper: bool) -> Result<Node, Memory>
-    ensures fits { IfOk result (λ t. (d : ℕ) → Fits d element → (ops d).is_none (view d element) ≡ false → Fits (suc d) t) }
-    ensures value { IfOk result (λ t. (d : ℕ) → view (suc d) t ≡ of_list (ops d) (view d element) is_proper) }
-{
-    match Boxed::new(alloc, element) {
-        Ok(element) => Ok(Node::Of(PartsOf {
-            plain: Plain::none(),
-            cell: Some(CellOf { element, is_proper }),
-            tuples: TuplesOf::Sizes(List::new(alloc)),
-        })),
-        Err((element, Memory)) => {
-            discard(element);
-            Err(Memory)
         }
     }
 }
@@ -207,13 +190,13 @@ fn read_tuple<'a>(
         discard_row(row);
         return Ok(None);
     }
-    Ok(Some((tuples_of(alloc, level, row)?, rest)))
+    Ok(Some((tuples_with(alloc, level, row)?, rest)))
 }
 
 fn discard_row(_row: List<Node>) {}
 
 // The tuples of these element types.
-fn tuples_of(alloc: Global, level: u32, row: List<Node>) -> Result<Node, Memory>
+fn tuples_with(alloc: Global, level: u32, row: List<Node>) -> Result<Node, Memory>
     requires few { length row ≤ MAX_ELEMENTS }
     requires each { EachNode (Fits level) row }
     requires some { AreElements (NormalAt level) (ops level) (row_view level row) }
@@ -221,8 +204,8 @@ fn tuples_of(alloc: Global, level: u32, row: List<Node>) -> Result<Node, Memory>
     ensures value { IfOk result (λ t. view (suc level) t ≡ of_row (ops level) (row_view level row)) }
 {
     let size = row.len() as u8;
-    let body = product_body(alloc, level, row)?;
-    one_size(alloc, size, body)
+    let body = product_body(alloc, level, SharedList::new(alloc, row)?)?;
+    tuples_of(alloc, size, body)
 }
 
 // Element types up to the closing bracket, which is gone then too.
@@ -282,20 +265,6 @@ fn read_later<'a>(
     }
 }
 
-// The tuples of one size.
-fn one_size(alloc: Global, size: u8, body: BodyOf<Node>) -> Result<Node, Memory>
-    ensures fits { IfOk result (λ t. (d : ℕ) → size ≤ MAX_ELEMENTS → BodyFits d size body → Fits (suc d) t) }
-    ensures value { IfOk result (λ t. (d : ℕ) → view (suc d) t ≡ of_tuples (ops d) (sizes ((size, body_view d body) ∷ []))) }
-{
-    let mut sizes = List::new(alloc);
-    sizes.add(SizeOf { size, body })?;
-    Ok(Node::Of(PartsOf {
-        plain: Plain::none(),
-        cell: None,
-        tuples: TuplesOf::Sizes(sizes),
-    }))
-}
-
 // One atom.
 fn read_atom<'a>(alloc: Global, text: &'a [u8]) -> Result<Option<(Node, &'a [u8])>, Memory>
     ensures fits { IfOk result (λ r. IfSome r (λ p. (d : ℕ) → Fits (suc d) p.0)) }
@@ -306,21 +275,21 @@ fn read_atom<'a>(alloc: Global, text: &'a [u8]) -> Result<Option<(Node, &'a [u8]
         return Ok(None);
     };
     let set = AtomSet::one(alloc, &atom)?;
-    Ok(Some((plain_alone(alloc, Plain::of_atoms(set)), rest)))
+    Ok(Some((plain_alone(Plain::of_atoms(set)), rest)))
 }
 
 // One integer.
-fn read_number<'a>(alloc: Global, text: &'a [u8]) -> Option<(Node, &'a [u8])>
+fn read_number(text: &[u8]) -> Option<(Node, &[u8])>
     ensures fits { IfSome result (λ p. (d : ℕ) → Fits (suc d) p.0) }
     ensures shorter { IfSome result (λ p. length p.1.now ≤ length text.now) }
     ensures complete { (n : ℤ) (rest : List ℕ) → IsTrue (is_narrow n) → WordStop rest → text.now ≡ signed_decimal n ++ rest → MatchOption result ⊥ (λ p. ((d : ℕ) → view (suc d) p.0 ≡ of_ints (ops d) (numbers.listed (n ∷ []))) × (p.1.now ≡ rest)) }
 {
     let (n, rest) = read_integer(text)?;
-    Some((ints_alone(alloc, IntSet::one(n)), rest))
+    Some((ints_alone(IntSet::one(n)), rest))
 }
 
 // A word that begins with a name, or the empty list.
-fn read_name(alloc: Global, text: &[u8]) -> Option<(Node, &[u8])>
+fn read_name(text: &[u8]) -> Option<(Node, &[u8])>
     ensures fits { IfSome result (λ p. (d : ℕ) → Fits (suc d) p.0) }
     ensures shorter { IfSome result (λ p. length p.1.now ≤ length text.now) }
     ensures complete { (d : ℕ) (w rest : List ℕ) (u : TypeAt (suc d)) → IsWord d w u → text.now ≡ w ++ rest → MatchOption result (NoTypeName text.now) (λ p. (view (suc d) p.0 ≡ u) × (p.1.now ≡ rest)) }
@@ -329,19 +298,19 @@ fn read_name(alloc: Global, text: &[u8]) -> Option<(Node, &[u8])>
         return Some((every_tuple(), rest));
     }
     if let Some(rest) = after_word(text, b"atom()") {
-        return Some((plain_alone(alloc, Plain::of_atoms(AtomSet::all())), rest));
+        return Some((plain_alone(Plain::of_atoms(AtomSet::all())), rest));
     }
     if let Some((flags, rest)) = read_flags(text) {
-        return Some((flags_alone(alloc, flags), rest));
+        return Some((flags_alone(flags), rest));
     }
     if let Some((bits, rest)) = read_bits(text) {
-        return Some((bits_alone(alloc, bits), rest));
+        return Some((bits_alone(bits), rest));
     }
     if let Some((functions, rest)) = read_functions(text) {
-        return Some((functions_alone(alloc, functions), rest));
+        return Some((functions_alone(functions), rest));
     }
     let (ints, rest) = read_interval(text)?;
-    Some((ints_alone(alloc, ints), rest))
+    Some((ints_alone(ints), rest))
 }
 
 // A part that is no or yes.
@@ -426,80 +395,43 @@ fn read_interval(text: &[u8]) -> Option<(IntSet, &[u8])>
     }
 }
 
-// Every tuple.
-fn every_tuple() -> Node
-    ensures fits { (d : ℕ) → Fits (suc d) result }
-    ensures value { (d : ℕ) → view (suc d) result ≡ of_tuples (ops d) all_tuples }
-{
-    Node::Of(PartsOf {
-        plain: Plain::none(),
-        cell: None,
-        tuples: TuplesOf::All,
-    })
-}
-
-fn flags_alone(alloc: Global, flags: FlagSet) -> Node
+fn flags_alone(flags: FlagSet) -> Node
     ensures fits { (d : ℕ) → Fits (suc d) result }
     ensures value { (d : ℕ) → view (suc d) result ≡ of_flags (ops d) (flags_of flags) }
 {
-    plain_alone(
-        alloc,
-        Plain {
-            flags,
-            ..Plain::none()
-        },
-    )
+    plain_alone(Plain {
+        flags,
+        ..Plain::none()
+    })
 }
 
-fn bits_alone(alloc: Global, bits: Bits) -> Node
+fn bits_alone(bits: Bits) -> Node
     ensures fits { (d : ℕ) → Fits (suc d) result }
     ensures value { (d : ℕ) → view (suc d) result ≡ of_bits (ops d) bits }
 {
-    plain_alone(
-        alloc,
-        Plain {
-            bits,
-            ..Plain::none()
-        },
-    )
+    plain_alone(Plain {
+        bits,
+        ..Plain::none()
+    })
 }
 
-fn functions_alone(alloc: Global, functions: FunSet) -> Node
+fn functions_alone(functions: FunSet) -> Node
     requires { NormalFunctions (functions_of functions) }
     ensures fits { (d : ℕ) → Fits (suc d) result }
     ensures value { (d : ℕ) → view (suc d) result ≡ of_functions (ops d) (functions_of functions) }
 {
-    plain_alone(
-        alloc,
-        Plain {
-            functions,
-            ..Plain::none()
-        },
-    )
+    plain_alone(Plain {
+        functions,
+        ..Plain::none()
+    })
 }
 
-fn ints_alone(alloc: Global, ints: IntSet) -> Node
+fn ints_alone(ints: IntSet) -> Node
     ensures fits { (d : ℕ) → Fits (suc d) result }
     ensures value { (d : ℕ) → view (suc d) result ≡ of_ints (ops d) ints }
 {
-    plain_alone(
-        alloc,
-        Plain {
-            ints,
-            ..Plain::none()
-        },
-    )
-}
-
-// These plain values and nothing else.
-fn plain_alone(alloc: Global, plain: Plain) -> Node
-    requires { NormalFunctions plain.functions }
-    ensures fits { (d : ℕ) → Fits (suc d) result }
-    ensures value { (d : ℕ) → view (suc d) result ≡ of_plain (ops d) plain }
-{
-    Node::Of(PartsOf {
-        plain,
-        cell: None,
-        tuples: TuplesOf::Sizes(List::new(alloc)),
+    plain_alone(Plain {
+        ints,
+        ..Plain::none()
     })
 }

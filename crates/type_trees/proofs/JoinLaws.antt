@@ -1,5 +1,5 @@
 -- What the joins of the code stand for, and that it fits.
-use Rattle.std.proofs.Common.{◌≡◌, ℕ, zero, suc, ◌+◌, ◌-◌, ◌<◌, ◌≤◌, true, false, cond, List, [], ◌∷◌, ◌++◌, map, length, take, Some, None, slice_index_or, slice_set, refl, sym, ap, ◌∙◌, subst, true≢false, Less, Equal, Greater, arith}
+use Rattle.std.proofs.Common.{◌≡◌, ℕ, zero, suc, ◌+◌, ◌-◌, ◌<◌, ◌≤◌, true, false, cond, List, [], ◌∷◌, ◌++◌, map, length, take, Some, slice_index_or, slice_set, refl, sym, ap, ◌∙◌, subst, true≢false, Less, Equal, Greater, arith}
 use Rattle.std.specs.Prelude.{nat_lt}
 use Rattle.std.specs.Ordering.{is_lt, is_eq, nat_cmp}
 use Rattle.std.specs.declared.cmp.Ordering.{Ordering}
@@ -14,14 +14,16 @@ use Rattle.type_sets.specs.Names.{Name, Names, name_cmp, every, none, are_listed
 use Rattle.type_sets.proofs.NameLaws.{or_else-no, name_total, name_same}
 use Rattle.type_sets.specs.Numbers as numbers
 use Rattle.type_sets.specs.declared.bits.Bits.TheVariants.{No}
-use Rattle.type_model.specs.Shapes.{TypeAt, PlainParts, no_function, Parts, Tuples, all_tuples, Body, product, tags, sizes}
+use Rattle.type_model.specs.Shapes.{TypeAt, PlainParts, no_function, all_tuples, Body, product, tags, sizes}
 use Rattle.type_model.specs.Tables.{keys, held, is_table, put, united}
-use Rattle.type_model.specs.Operations.{Ops, ops, zip, is_empty, row_join, rows_join, all_rows_join, tags_join, body_join, elements, capped_tags, capped_sizes, no_flags, of_atoms, parts_join}
+use Rattle.type_model.specs.Operations.{Ops, ops, zip, is_empty, row_join, rows_join, all_rows_join, tags_join, body_join, elements, capped_tags, capped_sizes, no_flags, of_plain, of_atoms, parts_join}
 use Rattle.type_model.specs.Normal.{NormalAt, NormalRow, NormalRows, AreTags, NormalBody, NormalSizes, NormalParts}
 use Rattle.type_model.proofs.TableLaws.{same_some, table-put, table-united}
 use Rattle.type_model.proofs.RowLaws.{length-zip, row_lattice}
 use Rattle.type_model.proofs.BodyLaws.{body_lattice, elements_normal}
-use Rattle.type_model.specs.HasType.{HasAt}
+use Rattle.type_model.specs.HasType.{HasAt, HasRow}
+use Rattle.type_model.specs.Laws.{BelowBy}
+use Rattle.type_model.proofs.LatticeLaws.{join-below, join-above}
 use Rattle.type_model.proofs.PartsLaws.{parts_lattice}
 use Rattle.type_model.proofs.LevelLaws.{level_laws}
 use Rattle.type_trees.specs.declared.node.Node.{Node}
@@ -34,7 +36,7 @@ use Rattle.type_trees.specs.declared.node.BodyOf.TheVariants.{Product, Tags}
 use Rattle.type_trees.specs.declared.node.TuplesOf.TheVariants.{Sizes}
 use Rattle.type_trees.specs.View.{view, row_view, tags_view, body_view, sizes_view, tuples_view, parts_view, Fits, EachNode, EachTag, EachInBody, EachSize, RowFits, TagsFit, BodyFits, SizesFit, EachInParts, PartsFit}
 use Rattle.type_trees.specs.Places.{StandsAt, GoesAt}
-use Rattle.type_trees.proofs.Views.{fits_normal, view_any, view_of, of_fits, one_more, tag_at, size_at}
+use Rattle.type_trees.proofs.Views.{fits_normal, view_any, view_of, one_more, tag_at, size_at}
 use Rattle.type_trees.proofs.PlaceLaws.{atom_of}
 
 -- ---- the views of lists
@@ -150,26 +152,9 @@ same_length d n a b j k =
 
 -- ---- the type of the atoms of tags
 
-sizes-not_all : {E : Type 0} (t : Tuples E) (m : List (ℕ × Body E)) → t ≡ sizes m → t ≡ all_tuples → ⊥
-sizes-not_all t m e f = cc
-
--- a type of some atoms and nothing else
-atoms_part : (s : Names) (q : PlainParts) (ss : List (SizeOf Node)) → q ≡ record { atoms = s; ints = numbers.none; bits = No; flags = no_flags; functions = no_function } → ss ≡ [] → (d : ℕ) → parts_view d (record { plain = q; cell = None; tuples = Sizes ss }) ≡ of_atoms (ops d) s
-atoms_part s q ss e f d = λ n. record { plain = e n; cell = None; tuples = sizes (sizes_view d (f n)) }
-
-pub atoms_fit : (t : Node) (s : Names) (q : PlainParts) (ss : List (SizeOf Node)) → t ≡ v.Of (record { plain = q; cell = None; tuples = Sizes ss }) → q ≡ record { atoms = s; ints = numbers.none; bits = No; flags = no_flags; functions = no_function } → ss ≡ [] → (d : ℕ) → Fits (suc d) t
+pub atoms_value : (t : Node) (s : Names) (q : PlainParts) (ts : List (TagOf Node)) → q ≡ record { atoms = s; ints = numbers.none; bits = No; flags = no_flags; functions = no_function } → ((d : ℕ) → view (suc d) t ≡ of_plain (ops d) q) → ((d : ℕ) → s ≡ or_else (keys (tags_view d ts)) every) → (d : ℕ) → view (suc d) t ≡ (ops (suc d)).of_names (keys (tags_view (suc d) ts))
 unfolding ops
-atoms_fit t s q ss i e f d =
-    let whole = atoms_part s q ss e f d in
-    of_fits t (record { plain = q; cell = None; tuples = Sizes ss }) i d (record {
-      normal = subst (NormalParts (NormalAt d) (ops d)) (sym whole) (tt, tt, (refl, refl, tt));
-      each = (tt, subst (EachSize (Fits d)) (sym f) tt);
-    }) (λ h. sizes-not_all (tuples_view d (Sizes ss)) (sizes_view d ss) refl (ap (λ (p : Parts (TypeAt d)). p.tuples) h))
-
-pub atoms_value : (t : Node) (s : Names) (q : PlainParts) (ss : List (SizeOf Node)) (ts : List (TagOf Node)) → t ≡ v.Of (record { plain = q; cell = None; tuples = Sizes ss }) → q ≡ record { atoms = s; ints = numbers.none; bits = No; flags = no_flags; functions = no_function } → ss ≡ [] → ((d : ℕ) → s ≡ or_else (keys (tags_view d ts)) every) → (d : ℕ) → view (suc d) t ≡ (ops (suc d)).of_names (keys (tags_view (suc d) ts))
-unfolding ops
-atoms_value t s q ss ts i e f g d =
-    view_of t (record { plain = q; cell = None; tuples = Sizes ss }) i d ∙ atoms_part s q ss e f d ∙ ap (of_atoms (ops d)) (g (suc d))
+atoms_value t s q ts e f g d = f d ∙ ap (of_plain (ops d)) e ∙ ap (of_atoms (ops d)) (g (suc d))
 
 -- ---- the least product that contains some tags
 
@@ -436,16 +421,13 @@ tag_found d ts i t there rest s h e v =
     ∙ sym (s.1.1 (row_join (ops d)) (row_view d t.rest))
 
 -- the same of sizes
-pub size_missing : (d : ℕ) (ss new : List (SizeOf Node)) (i : ℕ) (s : SizeOf Node) (b : BodyOf Node) → GoesAt nat_cmp s.size (sizes_view d ss) i → b ≡ s.body → new ≡ insert ss i (record { size = s.size; body = b }) → sizes_view d new ≡ put nat_cmp (body_join (ops d)) s.size (body_view d s.body) (sizes_view d ss)
-size_missing d ss new i s b g e n =
-    ap (sizes_view d) n
-    ∙ ap (λ w. sizes_view d (insert ss i (record { size = s.size; body = w }))) e
-    ∙ sizes-insert d ss i s
-    ∙ sym (g (body_join (ops d)) (body_view d s.body))
+pub size_missing : (d : ℕ) (ss new : List (SizeOf Node)) (i : ℕ) (s u : SizeOf Node) → GoesAt nat_cmp s.size (sizes_view d ss) i → u ≡ s → new ≡ insert ss i u → sizes_view d new ≡ put nat_cmp (body_join (ops d)) s.size (body_view d s.body) (sizes_view d ss)
+size_missing d ss new i s u g e n =
+    ap (sizes_view d) n ∙ ap (λ w. sizes_view d (insert ss i w)) e ∙ sizes-insert d ss i s ∙ sym (g (body_join (ops d)) (body_view d s.body))
 
-pub size_missing_each : (d : ℕ) (ss new : List (SizeOf Node)) (i : ℕ) (s : SizeOf Node) (b : BodyOf Node) → EachSize (Fits d) ss → EachInBody (Fits d) s.body → b ≡ s.body → new ≡ insert ss i (record { size = s.size; body = b }) → EachSize (Fits d) new
-size_missing_each d ss new i s b k p e n =
-    subst (EachSize (Fits d)) (sym n) (subst (λ w. EachSize (Fits d) (insert ss i (record { size = s.size; body = w }))) (sym e) (each_size-insert (Fits d) ss i s k p))
+pub size_missing_each : (d : ℕ) (ss new : List (SizeOf Node)) (i : ℕ) (s u : SizeOf Node) → EachSize (Fits d) ss → EachInBody (Fits d) s.body → u ≡ s → new ≡ insert ss i u → EachSize (Fits d) new
+size_missing_each d ss new i s u k p e n =
+    subst (EachSize (Fits d)) (sym n) (subst (λ w. EachSize (Fits d) (insert ss i w)) (sym e) (each_size-insert (Fits d) ss i s k p))
 
 -- the size that stands at the place is equal
 pub size_same : (d : ℕ) (ss : List (SizeOf Node)) (i k : ℕ) (there : SizeOf Node) → StandsAt nat_cmp k (sizes_view d ss) i → i < length ss → there ≡ slice_index_or ss i there → there.size ≡ k
@@ -508,24 +490,32 @@ tags_elements (suc d) ts first rest row h f r e = ap (row_view (suc d)) e ∙ (�
 
 -- ---- types
 
--- every value joined with any
-pub any_joined : (d : ℕ) (x y : TypeAt d) → NormalAt d x → NormalAt d y → x ≡ (ops d).any → (ops d).any ≡ (ops d).join x y
-any_joined d x y j k e =
-    let l = level_laws d in
-    l.lattice.same (ops d).any ((ops d).join x y) l.any_normal (l.lattice.join_normal x y j k) (λ u h. l.lattice.join_left x y j k u (subst (HasAt d u) (sym e) h)) (λ u h. l.any_in u)
+-- where one is part of the other, the other is the join
+pub joined_below : (d : ℕ) (a b j : Node) → Fits d a → Fits d b → BelowBy (HasAt d) (view d a) (view d b) → j ≡ b → view d j ≡ (ops d).join (view d a) (view d b)
+joined_below d a b j f g h e = ap (view d) e ∙ join-below (level_laws d).lattice (view d a) (view d b) (fits_normal d a f) (fits_normal d b g) h
 
-pub joined_any : (d : ℕ) (x y : TypeAt d) → NormalAt d x → NormalAt d y → y ≡ (ops d).any → (ops d).any ≡ (ops d).join x y
-joined_any d x y j k e =
-    let l = level_laws d in
-    l.lattice.same (ops d).any ((ops d).join x y) l.any_normal (l.lattice.join_normal x y j k) (λ u h. l.lattice.join_right x y j k u (subst (HasAt d u) (sym e) h)) (λ u h. l.any_in u)
+pub joined_above : (d : ℕ) (a b j : Node) → Fits d a → Fits d b → BelowBy (HasAt d) (view d b) (view d a) → j ≡ a → view d j ≡ (ops d).join (view d a) (view d b)
+joined_above d a b j f g h e = ap (view d) e ∙ join-above (level_laws d).lattice (view d a) (view d b) (fits_normal d a f) (fits_normal d b g) h
+
+some_row : {E : Type 0} {xs ys : List E} → Some xs ≡ Some ys → xs ≡ ys
+some_row {E} {xs} {ys} e = same_some xs ys e
+
+module _ (d n : ℕ) (a b x y j : List Node) (f : RowFits d n a) (g : RowFits d n b) (p : x ≡ a) (q : y ≡ b) where
+  pub rows_below : BelowBy (HasRow (HasAt d)) (Some (row_view d x)) (Some (row_view d y)) → j ≡ b → row_view d j ≡ row_join (ops d) (row_view d a) (row_view d b)
+  rows_below h e =
+      ap (row_view d) e ∙ some_row (join-below (row_lattice (level_laws d) n) (Some (row_view d a)) (Some (row_view d b)) f.normal g.normal (subst (λ (z : List Node × List Node). BelowBy (HasRow (HasAt d)) (Some (row_view d z.0)) (Some (row_view d z.1))) (λ i. (p i, q i)) h))
+
+  pub rows_above : BelowBy (HasRow (HasAt d)) (Some (row_view d y)) (Some (row_view d x)) → j ≡ a → row_view d j ≡ row_join (ops d) (row_view d a) (row_view d b)
+  rows_above h e =
+      ap (row_view d) e ∙ some_row (join-above (row_lattice (level_laws d) n) (Some (row_view d a)) (Some (row_view d b)) f.normal g.normal (subst (λ (z : List Node × List Node). BelowBy (HasRow (HasAt d)) (Some (row_view d z.1)) (Some (row_view d z.0))) (λ i. (p i, q i)) h))
 
 pub any_left : (d : ℕ) (a b : Node) → Fits d a → Fits d b → a ≡ v.Any → view d v.Any ≡ (ops d).join (view d a) (view d b)
 any_left d a b j k e =
-    view_any v.Any refl d ∙ any_joined d (view d a) (view d b) (fits_normal d a j) (fits_normal d b k) (view_any a e d)
+    joined_above d a b v.Any j k (λ u h. subst (HasAt d u) (sym (view_any a e d)) ((level_laws d).any_in u)) (sym e)
 
 pub any_right : (d : ℕ) (a b : Node) → Fits d a → Fits d b → b ≡ v.Any → view d v.Any ≡ (ops d).join (view d a) (view d b)
 any_right d a b j k e =
-    view_any v.Any refl d ∙ joined_any d (view d a) (view d b) (fits_normal d a j) (fits_normal d b k) (view_any b e d)
+    joined_below d a b v.Any j k (λ u h. subst (HasAt d u) (sym (view_any b e d)) ((level_laws d).any_in u)) (sym e)
 
 pub parts_fit : (d : ℕ) (p q j : PartsOf Node) → PartsFit d p → PartsFit d q → parts_view d j ≡ parts_join (ops d) (parts_view d p) (parts_view d q) → EachInParts (Fits d) j → PartsFit d j
 parts_fit d p q j k m v e = record {

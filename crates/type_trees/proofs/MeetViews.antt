@@ -5,11 +5,13 @@ use Rattle.std.specs.Ordering.{nat_cmp}
 use Rattle.std.proofs.lemmas.List.{append_assoc, append-nil, length-map, map-append, drop_all, at_drop_more}
 use Rattle.type_sets.specs.Names.{Name}
 use Rattle.type_model.specs.Shapes.{TypeAt, Body, tags, sizes}
-use Rattle.type_model.specs.HasType.{HasAt}
+use Rattle.type_model.specs.HasType.{HasAt, HasRow}
 use Rattle.type_model.specs.Operations.{Ops, ops, zip, or_none, met_with, has_none, row_meet, row_at, some_tags, tags_meet, body_meet, sizes_meet, parts_meet, tuples_meet}
 use Rattle.type_model.specs.Tables.{all_hold, and_entry, chosen, find}
 use Rattle.type_model.specs.Normal.{NormalAt, NormalRow, NormalRows, NormalBody, NormalSizes, NormalTuples}
-use Rattle.type_model.specs.Laws.{Laws}
+use Rattle.type_model.specs.Laws.{BelowBy, Laws}
+use Rattle.type_model.proofs.LatticeLaws.{meet-below, meet-above}
+use Rattle.type_model.proofs.RowLaws.{row_lattice}
 use Rattle.type_model.proofs.BodyLaws.{row_at_normal}
 use Rattle.type_model.proofs.TupleLaws.{normal_at, tuples_lattice}
 use Rattle.type_model.proofs.LevelLaws.{level_laws}
@@ -26,16 +28,16 @@ use Rattle.type_trees.proofs.Views.{fits_normal, of_above, of_fits, fits_of, vie
 
 -- ---- types
 
--- every value, and those of a type, are those of the type
-any_meet : (d : ℕ) (t : TypeAt d) → NormalAt d t → (ops d).meet (ops d).any t ≡ t
-any_meet d t k =
-    let l : Laws (HasAt d) (NormalAt d) (ops d) = level_laws d in
-    l.lattice.same ((ops d).meet (ops d).any t) t (l.lattice.meet_normal (ops d).any t l.any_normal k) k (l.lattice.meet_right (ops d).any t l.any_normal k) (λ v h. l.lattice.meet_in (ops d).any t l.any_normal k v (l.any_in v) h)
+-- where one is part of the other, it is the meet
+pub met_below : (d : ℕ) (a b m : Node) → Fits d a → Fits d b → BelowBy (HasAt d) (view d a) (view d b) → m ≡ a → view d m ≡ (ops d).meet (view d a) (view d b)
+met_below d a b m f g h e = ap (view d) e ∙ meet-below (level_laws d).lattice (view d a) (view d b) (fits_normal d a f) (fits_normal d b g) h
 
-meet_any : (d : ℕ) (t : TypeAt d) → NormalAt d t → (ops d).meet t (ops d).any ≡ t
-meet_any d t k =
-    let l : Laws (HasAt d) (NormalAt d) (ops d) = level_laws d in
-    l.lattice.same ((ops d).meet t (ops d).any) t (l.lattice.meet_normal t (ops d).any k l.any_normal) k (l.lattice.meet_left t (ops d).any k l.any_normal) (λ v h. l.lattice.meet_in t (ops d).any k l.any_normal v h (l.any_in v))
+pub met_above : (d : ℕ) (a b m : Node) → Fits d a → Fits d b → BelowBy (HasAt d) (view d b) (view d a) → m ≡ b → view d m ≡ (ops d).meet (view d a) (view d b)
+met_above d a b m f g h e = ap (view d) e ∙ meet-above (level_laws d).lattice (view d a) (view d b) (fits_normal d a f) (fits_normal d b g) h
+
+pub row_below : (d n : ℕ) (a b x j : List Node) → RowFits d n a → RowFits d n b → x ≡ a → BelowBy (HasRow (HasAt d)) (Some (row_view d x)) (Some (row_view d b)) → j ≡ a → Some (row_view d j) ≡ row_meet (ops d) (row_view d a) (row_view d b)
+row_below d n a b x j f g p h e =
+    ap (λ r. Some (row_view d r)) e ∙ meet-below (row_lattice (level_laws d) n) (Some (row_view d a)) (Some (row_view d b)) f.normal g.normal (subst (λ z. BelowBy (HasRow (HasAt d)) (Some (row_view d z)) (Some (row_view d b))) p h)
 
 -- where the first of two types isn't every value, their meet isn't
 meet-not_any : (d : ℕ) (s t : TypeAt d) → NormalAt d s → NormalAt d t → (s ≡ (ops d).any → ⊥) → (ops d).meet s t ≡ (ops d).any → ⊥
@@ -44,11 +46,11 @@ meet-not_any d s t j k f e =
     f (l.lattice.same s (ops d).any j l.any_normal (λ v h. l.any_in v) (λ v h. l.lattice.meet_left s t j k v (subst (HasAt d v) (sym e) (l.any_in v))))
 
 -- the meet of a tree that is every value, and of another
-pub meet_of_any : (d : ℕ) (a b m : Node) → a ≡ v.Any → Fits d b → m ≡ b → view d m ≡ (ops d).meet (view d a) (view d b)
-meet_of_any d a b m e h k = ap (view d) k ∙ sym (any_meet d (view d b) (fits_normal d b h)) ∙ ap (λ t. (ops d).meet t (view d b)) (sym (view_any a e d))
+pub meet_of_any : (d : ℕ) (a b m : Node) → a ≡ v.Any → Fits d a → Fits d b → m ≡ b → view d m ≡ (ops d).meet (view d a) (view d b)
+meet_of_any d a b m e f g k = met_above d a b m f g (λ u h. subst (HasAt d u) (sym (view_any a e d)) ((level_laws d).any_in u)) k
 
-pub meet_with_any : (d : ℕ) (a b m : Node) → b ≡ v.Any → Fits d a → m ≡ a → view d m ≡ (ops d).meet (view d a) (view d b)
-meet_with_any d a b m e h k = ap (view d) k ∙ sym (meet_any d (view d a) (fits_normal d a h)) ∙ ap (λ t. (ops d).meet (view d a) t) (sym (view_any b e d))
+pub meet_with_any : (d : ℕ) (a b m : Node) → b ≡ v.Any → Fits d a → Fits d b → m ≡ a → view d m ≡ (ops d).meet (view d a) (view d b)
+meet_with_any d a b m e f g k = met_below d a b m f g (λ u h. subst (HasAt d u) (sym (view_any b e d)) ((level_laws d).any_in u)) k
 
 -- the meet of two trees that have parts
 parts_value : (a b m : Node) (p q r : PartsOf Node) → a ≡ v.Of p → b ≡ v.Of q → m ≡ v.Of r → (d : ℕ) → parts_view d r ≡ parts_meet (ops d) (parts_view d p) (parts_view d q) → view (suc d) m ≡ (ops (suc d)).meet (view (suc d) a) (view (suc d) b)

@@ -1,143 +1,102 @@
-//! Second types of the same values.
+//! Second types of the same values. What lies below their top is shared, so they take no memory;
+//! `Memory` comes where a count of owners can rise no further.
 ghost use Rattle.std.specs.Prelude.{◌≡◌, IfOk};
-ghost use Rattle.type_trees.specs.View.{Fits, EachNode, EachTag, EachInBody, EachSize, EachInTuples, EachInCell};
 
-use crate::node::{BodyOf, CellOf, Node, PartsOf, SizeOf, TagOf, TuplesOf, discard};
+use crate::node::{BodyOf, CellOf, Node, PartsOf, SizeOf, TagOf, TuplesOf};
 use std::alloc::Global;
-use type_kinds::{Boxed, List, Memory};
+use type_kinds::{List, Memory};
 
 /// A second type of the same values.
-#[cycle(copy)]
-pub fn copy(alloc: Global, level: u32, t: &Node) -> Result<Node, Memory>
-    requires { Fits level t.now }
+pub fn copy(t: &Node) -> Result<Node, Memory>
     ensures { IfOk result (λ n. n ≡ t.now) }
 {
     match t {
         Node::Any => Ok(Node::Any),
-        Node::Of(parts) => {
-            let cell = copy_cell(alloc, level - 1, &parts.cell)?;
-            let tuples = copy_tuples(alloc, level - 1, &parts.tuples)?;
-            let plain = parts.plain.copy(alloc)?;
-            Ok(Node::Of(PartsOf {
-                plain,
-                cell,
-                tuples,
-            }))
-        }
+        Node::Of(parts) => Ok(Node::Of(PartsOf {
+            plain: parts.plain.copy()?,
+            cell: copy_cell(&parts.cell)?,
+            tuples: copy_tuples(&parts.tuples)?,
+        })),
     }
 }
 
-#[cycle(copy)]
-pub fn copy_cell(
-    alloc: Global,
-    level: u32,
-    cell: &Option<CellOf<Node>>,
-) -> Result<Option<CellOf<Node>>, Memory>
-    requires { EachInCell (Fits level) cell.now }
+pub fn copy_cell(cell: &Option<CellOf<Node>>) -> Result<Option<CellOf<Node>>, Memory>
     ensures { IfOk result (λ c. c ≡ cell.now) }
 {
     match cell {
         None => Ok(None),
-        Some(c) => {
-            let element = copy(alloc, level, c.element.get())?;
-            match Boxed::new(alloc, element) {
-                Ok(element) => Ok(Some(CellOf {
-                    element,
-                    is_proper: c.is_proper,
-                })),
-                Err((element, Memory)) => {
-                    discard(element);
-                    Err(Memory)
-                }
-            }
-        }
+        Some(c) => Ok(Some(CellOf {
+            element: c.element.share()?,
+            is_proper: c.is_proper,
+        })),
     }
 }
 
-#[cycle(copy)]
-pub fn copy_row(alloc: Global, level: u32, row: &[Node]) -> Result<List<Node>, Memory>
-    requires { EachNode (Fits level) row.now }
-    ensures { IfOk result (λ list. list ≡ row.now) }
-{
-    let mut out = List::new(alloc);
-    for element in row {
-        let copied = copy(alloc, level, element)?;
-        out.add(copied)?;
-    }
-    Ok(out)
-}
-
-#[cycle(copy)]
-pub fn copy_tag(alloc: Global, level: u32, tag: &TagOf<Node>) -> Result<TagOf<Node>, Memory>
-    requires { EachNode (Fits level) tag.now.rest }
-    ensures { IfOk result (λ copied. copied ≡ tag.now) }
-{
-    let rest = copy_row(alloc, level, tag.rest.as_slice())?;
-    let atom = tag.atom.copy(alloc)?;
-    Ok(TagOf { atom, rest })
-}
-
-#[cycle(copy)]
-pub fn copy_tags(
-    alloc: Global,
-    level: u32,
-    tags: &[TagOf<Node>],
-) -> Result<List<TagOf<Node>>, Memory>
-    requires { EachTag (Fits level) tags.now }
-    ensures { IfOk result (λ list. list ≡ tags.now) }
-{
-    let mut out = List::new(alloc);
-    for tag in tags {
-        let copied = copy_tag(alloc, level, tag)?;
-        out.add(copied)?;
-    }
-    Ok(out)
-}
-
-#[cycle(copy)]
-pub fn copy_body(alloc: Global, level: u32, body: &BodyOf<Node>) -> Result<BodyOf<Node>, Memory>
-    requires { EachInBody (Fits level) body.now }
-    ensures { IfOk result (λ copied. copied ≡ body.now) }
-{
-    match body {
-        BodyOf::Product(row) => Ok(BodyOf::Product(copy_row(alloc, level, row.as_slice())?)),
-        BodyOf::Tags(tags) => Ok(BodyOf::Tags(copy_tags(alloc, level, tags.as_slice())?)),
-    }
-}
-
-#[cycle(copy)]
-pub fn copy_sizes(
-    alloc: Global,
-    level: u32,
-    sizes: &[SizeOf<Node>],
-) -> Result<List<SizeOf<Node>>, Memory>
-    requires { EachSize (Fits level) sizes.now }
-    ensures { IfOk result (λ list. list ≡ sizes.now) }
-{
-    let mut out = List::new(alloc);
-    for size in sizes {
-        let body = copy_body(alloc, level, &size.body)?;
-        out.add(SizeOf {
-            size: size.size,
-            body,
-        })?;
-    }
-    Ok(out)
-}
-
-#[cycle(copy)]
-pub fn copy_tuples(
-    alloc: Global,
-    level: u32,
-    tuples: &TuplesOf<Node>,
-) -> Result<TuplesOf<Node>, Memory>
-    requires { EachInTuples (Fits level) tuples.now }
+pub fn copy_tuples(tuples: &TuplesOf<Node>) -> Result<TuplesOf<Node>, Memory>
     ensures { IfOk result (λ copied. copied ≡ tuples.now) }
 {
     match tuples {
         TuplesOf::All => Ok(TuplesOf::All),
-        TuplesOf::Sizes(sizes) => {
-            Ok(TuplesOf::Sizes(copy_sizes(alloc, level, sizes.as_slice())?))
-        }
+        TuplesOf::Sizes(sizes) => Ok(TuplesOf::Sizes(sizes.share()?)),
     }
+}
+
+pub fn copy_body(body: &BodyOf<Node>) -> Result<BodyOf<Node>, Memory>
+    ensures { IfOk result (λ copied. copied ≡ body.now) }
+{
+    match body {
+        BodyOf::Product(row) => Ok(BodyOf::Product(row.share()?)),
+        BodyOf::Tags(tags) => Ok(BodyOf::Tags(tags.share()?)),
+    }
+}
+
+pub fn copy_size(size: &SizeOf<Node>) -> Result<SizeOf<Node>, Memory>
+    ensures { IfOk result (λ copied. copied ≡ size.now) }
+{
+    Ok(SizeOf {
+        size: size.size,
+        body: copy_body(&size.body)?,
+    })
+}
+
+pub fn copy_tag(tag: &TagOf<Node>) -> Result<TagOf<Node>, Memory>
+    ensures { IfOk result (λ copied. copied ≡ tag.now) }
+{
+    Ok(TagOf {
+        atom: tag.atom.share()?,
+        rest: tag.rest.share()?,
+    })
+}
+
+/// A list of its own of the same types.
+pub fn copy_row(alloc: Global, row: &[Node]) -> Result<List<Node>, Memory>
+    ensures { IfOk result (λ list. list ≡ row.now) }
+{
+    let mut out = List::new(alloc);
+    for element in row {
+        out.add(copy(element)?)?;
+    }
+    Ok(out)
+}
+
+/// A list of its own of the same tags.
+pub fn copy_tags(alloc: Global, tags: &[TagOf<Node>]) -> Result<List<TagOf<Node>>, Memory>
+    ensures { IfOk result (λ list. list ≡ tags.now) }
+{
+    let mut out = List::new(alloc);
+    for tag in tags {
+        out.add(copy_tag(tag)?)?;
+    }
+    Ok(out)
+}
+
+/// A list of its own of the same sizes.
+pub fn copy_sizes(alloc: Global, sizes: &[SizeOf<Node>]) -> Result<List<SizeOf<Node>>, Memory>
+    ensures { IfOk result (λ list. list ≡ sizes.now) }
+{
+    let mut out = List::new(alloc);
+    for size in sizes {
+        out.add(copy_size(size)?)?;
+    }
+    Ok(out)
 }

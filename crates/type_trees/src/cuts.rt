@@ -7,9 +7,10 @@ ghost use Rattle.type_model.specs.Tables.{mapped};
 ghost use Rattle.type_trees.specs.View.{view, Fits, row_view, tags_view, body_view, sizes_view, tuples_view, cell_view, parts_view, EachNode, EachTag, EachInBody, EachSize, EachInTuples, EachInCell, RowFits, TagsFit, BodyFits, SizesFit, TuplesFit, CellFits, PartsFit};
 
 use crate::joins::elements_of_tags;
-use crate::node::{BodyOf, CellOf, Node, PartsOf, SizeOf, TagOf, TuplesOf, discard, made};
+use crate::node::{BodyOf, CellOf, Node, PartsOf, SizeOf, TagOf, TuplesOf, made};
 use std::alloc::Global;
-use type_kinds::{Boxed, List, Memory};
+use type_kinds::{List, Memory, Shared};
+use type_sets::SharedList;
 
 /// The least type of level `to` that has the values of a type of level `from`. For level 0 the type
 /// has to have a value.
@@ -43,7 +44,7 @@ fn cut_parts(
 {
     let cell = cut_cell(alloc, from, to, &parts.cell)?;
     let tuples = cut_tuples(alloc, from, to, &parts.tuples)?;
-    let plain = parts.plain.copy(alloc)?;
+    let plain = parts.plain.copy()?;
     Ok(PartsOf {
         plain,
         cell,
@@ -66,22 +67,16 @@ fn cut_cell(
         None => Ok(None),
         Some(c) => {
             let element = cut(alloc, from, to, c.element.get())?;
-            match Boxed::new(alloc, element) {
-                Ok(element) => Ok(Some(CellOf {
-                    element,
-                    is_proper: c.is_proper,
-                })),
-                Err((element, Memory)) => {
-                    discard(element);
-                    Err(Memory)
-                }
-            }
+            Ok(Some(CellOf {
+                element: Shared::new(alloc, element)?,
+                is_proper: c.is_proper,
+            }))
         }
     }
 }
 
 #[cycle(cuts)]
-fn cut_row(alloc: Global, from: u32, to: u32, row: &[Node]) -> Result<List<Node>, Memory>
+fn cut_row(alloc: Global, from: u32, to: u32, row: &[Node]) -> Result<SharedList<Node>, Memory>
     requires { (n : ℕ) × RowFits from n row.now }
     ensures value { IfOk result (λ c. row_view to c ≡ row_lower (levels.cut from to) (ops from) (ops to) (row_view from row.now)) }
     ensures each { IfOk result (λ c. EachNode (Fits to) c) }
@@ -91,7 +86,7 @@ fn cut_row(alloc: Global, from: u32, to: u32, row: &[Node]) -> Result<List<Node>
         let cut = cut(alloc, from, to, element)?;
         out.add(cut)?;
     }
-    Ok(out)
+    SharedList::new(alloc, out)
 }
 
 #[cycle(cuts)]
@@ -108,7 +103,7 @@ fn cut_tags(
     let mut out = List::new(alloc);
     for tag in tags {
         let rest = cut_row(alloc, from, to, tag.rest.as_slice())?;
-        let atom = tag.atom.copy(alloc)?;
+        let atom = tag.atom.share()?;
         out.add(TagOf { atom, rest })?;
     }
     Ok(out)
@@ -125,7 +120,8 @@ fn cut_body(alloc: Global, from: u32, to: u32, body: &BodyOf<Node>) -> Result<Bo
         BodyOf::Product(row) => Ok(BodyOf::Product(cut_row(alloc, from, to, row.as_slice())?)),
         BodyOf::Tags(tags) => {
             if to > 0 {
-                return Ok(BodyOf::Tags(cut_tags(alloc, from, to, tags.as_slice())?));
+                let tags = cut_tags(alloc, from, to, tags.as_slice())?;
+                return Ok(BodyOf::Tags(SharedList::new(alloc, tags)?));
             }
             let row = elements_of_tags(alloc, from, tags.as_slice())?;
             Ok(BodyOf::Product(cut_row(alloc, from, to, row.as_slice())?))
@@ -170,7 +166,7 @@ fn cut_tuples(
         TuplesOf::All => Ok(TuplesOf::All),
         TuplesOf::Sizes(sizes) => {
             let cut = cut_sizes(alloc, from, to, sizes.as_slice())?;
-            Ok(TuplesOf::Sizes(cut))
+            Ok(TuplesOf::Sizes(SharedList::new(alloc, cut)?))
         }
     }
 }

@@ -7,16 +7,18 @@ ghost use Rattle.type_model.specs.Tables.{keys, held, put, united};
 ghost use Rattle.type_model.specs.Shapes.{tags as tagged};
 ghost use Rattle.type_trees.specs.View.{view, Fits, row_view, tags_view, body_view, sizes_view, tuples_view, cell_view, parts_view, EachNode, EachTag, EachInBody, EachSize, EachInTuples, EachInCell, RowFits, TagsFit, BodyFits, SizesFit, TuplesFit, CellFits, PartsFit};
 
-use crate::copies::{copy_body, copy_cell, copy_row, copy_sizes, copy_tag, copy_tags};
-use crate::node::{BodyOf, CellOf, Node, PartsOf, SizeOf, TagOf, TuplesOf, discard, made};
+use crate::copies::{copy, copy_cell, copy_row, copy_size, copy_sizes, copy_tag, copy_tags};
+use crate::inclusion::{leq, leq_row};
+use crate::makers::plain_alone;
+use crate::node::{BodyOf, CellOf, Node, PartsOf, SizeOf, TagOf, TuplesOf, made};
 use crate::places::{insert_size, insert_tag, place_of_size, place_of_tag};
 use crate::plain::Plain;
 use std::alloc::Global;
-use type_kinds::{Boxed, List, Memory};
+use type_kinds::{List, Memory, Shared};
 use type_model::MAX_SIZES;
-use type_sets::{AtomSet, MAX_MEMBERS};
+use type_sets::{AtomSet, MAX_MEMBERS, SharedList};
 
-/// The least type that contains both.
+/// The least type that contains both. Where one is part of the other, the other is shared.
 #[cycle(joins)]
 pub fn join(alloc: Global, level: u32, a: &Node, b: &Node) -> Result<Node, Memory>
     requires a { Fits level a.now }
@@ -24,6 +26,12 @@ pub fn join(alloc: Global, level: u32, a: &Node, b: &Node) -> Result<Node, Memor
     ensures fits { IfOk result (λ j. Fits level j) }
     ensures value { IfOk result (λ j. view level j ≡ (ops level).join (view level a.now) (view level b.now)) }
 {
+    if leq(level, a, b) {
+        return copy(b);
+    }
+    if leq(level, b, a) {
+        return copy(a);
+    }
     match a {
         Node::Any => Ok(Node::Any),
         Node::Of(parts) => match b {
@@ -69,21 +77,15 @@ fn join_cell(
     ensures each { IfOk result (λ j. EachInCell (Fits level) j) }
 {
     match a {
-        None => copy_cell(alloc, level, b),
+        None => copy_cell(b),
         Some(one) => match b {
-            None => copy_cell(alloc, level, a),
+            None => copy_cell(a),
             Some(two) => {
                 let element = join(alloc, level, one.element.get(), two.element.get())?;
-                match Boxed::new(alloc, element) {
-                    Ok(element) => Ok(Some(CellOf {
-                        element,
-                        is_proper: one.is_proper && two.is_proper,
-                    })),
-                    Err((element, Memory)) => {
-                        discard(element);
-                        Err(Memory)
-                    }
-                }
+                Ok(Some(CellOf {
+                    element: Shared::new(alloc, element)?,
+                    is_proper: one.is_proper && two.is_proper,
+                }))
             }
         },
     }
@@ -104,6 +106,29 @@ fn join_row(alloc: Global, level: u32, a: &[Node], b: &[Node]) -> Result<List<No
     Ok(out)
 }
 
+// The same of two shared rows: where one is part of the other, the other is shared.
+#[cycle(joins)]
+fn join_rest(
+    alloc: Global,
+    level: u32,
+    a: &SharedList<Node>,
+    b: &SharedList<Node>,
+) -> Result<SharedList<Node>, Memory>
+    requires { (n : ℕ) × (RowFits level n a.now × RowFits level n b.now) }
+    ensures value { IfOk result (λ j. row_view level j ≡ row_join (ops level) (row_view level a.now) (row_view level b.now)) }
+    ensures each { IfOk result (λ j. EachNode (Fits level) j) }
+{
+    let one = a.as_slice();
+    let two = b.as_slice();
+    if leq_row(level, two, one) {
+        return a.share();
+    }
+    if leq_row(level, one, two) {
+        return b.share();
+    }
+    SharedList::new(alloc, join_row(alloc, level, one, two)?)
+}
+
 // The least product that contains the rests of the tags, of which there is one at least.
 #[cycle(joins)]
 fn join_rests(alloc: Global, level: u32, tags: &[TagOf<Node>]) -> Result<List<Node>, Memory>
@@ -111,7 +136,7 @@ fn join_rests(alloc: Global, level: u32, tags: &[TagOf<Node>]) -> Result<List<No
     ensures value { IfOk result (λ j. row_view level j ≡ all_rows_join (ops level) (held (tags_view level tags.now))) }
     ensures each { IfOk result (λ j. EachNode (Fits level) j) }
 {
-    let mut out = copy_row(alloc, level, tags[0].rest.as_slice())?;
+    let mut out = copy_row(alloc, tags[0].rest.as_slice())?;
     for i in 1..tags.len() {
         out = join_row(alloc, level, out.as_slice(), tags[i].rest.as_slice())?;
     }
@@ -138,14 +163,20 @@ pub fn elements_of_tags(
 
 // The element types of the least product that contains a body.
 #[cycle(joins)]
-pub fn elements_of(alloc: Global, level: u32, body: &BodyOf<Node>) -> Result<List<Node>, Memory>
+pub fn elements_of(
+    alloc: Global,
+    level: u32,
+    body: &BodyOf<Node>,
+) -> Result<SharedList<Node>, Memory>
     requires { (n : ℕ) × BodyFits level n body.now }
     ensures value { IfOk result (λ j. row_view level j ≡ elements (ops level) (body_view level body.now)) }
     ensures each { IfOk result (λ j. EachNode (Fits level) j) }
 {
     match body {
-        BodyOf::Product(row) => copy_row(alloc, level, row.as_slice()),
-        BodyOf::Tags(tags) => elements_of_tags(alloc, level, tags.as_slice()),
+        BodyOf::Product(row) => row.share(),
+        BodyOf::Tags(tags) => {
+            SharedList::new(alloc, elements_of_tags(alloc, level, tags.as_slice())?)
+        }
     }
 }
 
@@ -164,11 +195,11 @@ fn put_tag(
 {
     match place_of_tag(tags.as_slice(), &tag.atom) {
         Err(at) => {
-            let copied = copy_tag(alloc, level, tag)?;
+            let copied = copy_tag(tag)?;
             insert_tag(tags, at, copied)
         }
         Ok(at) => {
-            let rest = join_row(alloc, level, tags[at].rest.as_slice(), tag.rest.as_slice())?;
+            let rest = join_rest(alloc, level, &tags[at].rest, &tag.rest)?;
             tags[at].rest = rest;
             Ok(())
         }
@@ -187,7 +218,7 @@ fn join_tags(
     ensures value { IfOk result (λ j. tags_view level j ≡ tags_join (ops level) (tags_view level a.now) (tags_view level b.now)) }
     ensures each { IfOk result (λ j. EachTag (Fits level) j) }
 {
-    let mut out = copy_tags(alloc, level, a)?.into_vec();
+    let mut out = copy_tags(alloc, a)?.into_vec();
     for tag in b {
         put_tag(alloc, level, &mut out, tag)?;
     }
@@ -203,10 +234,10 @@ fn cap_tags(alloc: Global, level: u32, tags: List<TagOf<Node>>) -> Result<BodyOf
     ensures each { IfOk result (λ j. EachInBody (Fits level) j) }
 {
     if tags.len() <= MAX_MEMBERS {
-        return Ok(BodyOf::Tags(tags));
+        return Ok(BodyOf::Tags(SharedList::new(alloc, tags)?));
     }
     let row = elements_of_tags(alloc, level, tags.as_slice())?;
-    Ok(BodyOf::Product(row))
+    Ok(BodyOf::Product(SharedList::new(alloc, row)?))
 }
 
 #[cycle(joins)]
@@ -228,12 +259,12 @@ fn join_body(
             }
             BodyOf::Product(row) => {
                 let elements = elements_of(alloc, level, a)?;
-                Ok(BodyOf::Product(join_row(alloc, level, elements.as_slice(), row.as_slice())?))
+                Ok(BodyOf::Product(join_rest(alloc, level, &elements, row)?))
             }
         },
         BodyOf::Product(row) => {
             let elements = elements_of(alloc, level, b)?;
-            Ok(BodyOf::Product(join_row(alloc, level, row.as_slice(), elements.as_slice())?))
+            Ok(BodyOf::Product(join_rest(alloc, level, row, &elements)?))
         }
     }
 }
@@ -253,15 +284,8 @@ fn put_size(
 {
     match place_of_size(sizes.as_slice(), size.size) {
         Err(at) => {
-            let body = copy_body(alloc, level, &size.body)?;
-            insert_size(
-                sizes,
-                at,
-                SizeOf {
-                    size: size.size,
-                    body,
-                },
-            )
+            let copied = copy_size(size)?;
+            insert_size(sizes, at, copied)
         }
         Ok(at) => {
             let body = join_body(alloc, level, &sizes[at].body, &size.body)?;
@@ -284,7 +308,7 @@ fn join_sizes(
     ensures value { IfOk result (λ j. sizes_view level j ≡ united nat_cmp (body_join (ops level)) (sizes_view level a.now) (sizes_view level b.now)) }
     ensures each { IfOk result (λ j. EachSize (Fits level) j) }
 {
-    let mut out = copy_sizes(alloc, level, a)?.into_vec();
+    let mut out = copy_sizes(alloc, a)?.into_vec();
     for size in b {
         put_size(alloc, level, &mut out, size)?;
     }
@@ -309,21 +333,21 @@ fn join_tuples(
             TuplesOf::All => Ok(TuplesOf::All),
             TuplesOf::Sizes(others) => {
                 let joined = join_sizes(alloc, level, sizes.as_slice(), others.as_slice())?;
-                Ok(cap_sizes(joined))
+                cap_sizes(alloc, joined)
             }
         },
     }
 }
 
 // The sizes, or all tuples if they are more than `MAX_SIZES`.
-fn cap_sizes(sizes: List<SizeOf<Node>>) -> TuplesOf<Node>
-    ensures value { (d : ℕ) → tuples_view d result ≡ capped_sizes (ops d) (sizes_view d sizes) }
-    ensures each { (d : ℕ) → EachSize (Fits d) sizes → EachInTuples (Fits d) result }
+fn cap_sizes(alloc: Global, sizes: List<SizeOf<Node>>) -> Result<TuplesOf<Node>, Memory>
+    ensures value { IfOk result (λ t. (d : ℕ) → tuples_view d t ≡ capped_sizes (ops d) (sizes_view d sizes)) }
+    ensures each { IfOk result (λ t. (d : ℕ) → EachSize (Fits d) sizes → EachInTuples (Fits d) t) }
 {
     if sizes.len() <= MAX_SIZES {
-        TuplesOf::Sizes(sizes)
+        Ok(TuplesOf::Sizes(SharedList::new(alloc, sizes)?))
     } else {
-        TuplesOf::All
+        Ok(TuplesOf::All)
     }
 }
 
@@ -332,12 +356,7 @@ fn atoms_of(alloc: Global, tags: &[TagOf<Node>]) -> Result<Node, Memory>
     ensures fits { IfOk result (λ t. (d : ℕ) → Fits (suc d) t) }
     ensures value { IfOk result (λ t. (d : ℕ) → view (suc d) t ≡ (ops (suc d)).of_names (keys (tags_view (suc d) tags.now))) }
 {
-    let atoms = tag_atoms(alloc, tags)?;
-    Ok(Node::Of(PartsOf {
-        plain: Plain::of_atoms(atoms),
-        cell: None,
-        tuples: TuplesOf::Sizes(List::new(alloc)),
-    }))
+    Ok(plain_alone(Plain::of_atoms(tag_atoms(alloc, tags)?)))
 }
 
 // The atoms of the tags, and all atoms where a set can't list them.
@@ -346,11 +365,10 @@ fn tag_atoms(alloc: Global, tags: &[TagOf<Node>]) -> Result<AtomSet, Memory>
 {
     let mut atoms = List::new(alloc);
     for tag in tags {
-        let atom = tag.atom.copy(alloc)?;
-        atoms.add(atom)?;
+        atoms.add(tag.atom.share()?)?;
     }
     if AtomSet::can_list(atoms.as_slice()) {
-        Ok(AtomSet::listed(atoms))
+        AtomSet::listed(alloc, atoms)
     } else {
         Ok(AtomSet::all())
     }

@@ -6,6 +6,7 @@ mod copies;
 mod cuts;
 mod inclusion;
 mod joins;
+mod makers;
 mod meets;
 mod node;
 mod places;
@@ -15,6 +16,7 @@ pub use copies::copy;
 pub use cuts::cut;
 pub use inclusion::leq;
 pub use joins::{elements_of, join};
+pub use makers::{every_tuple, lists_of, plain_alone, tuples_of};
 pub use meets::{meet, product_body};
 pub use node::{
     BodyOf, CellOf, Node, PartsOf, SizeOf, TagOf, TuplesOf, discard, find_size, find_tag, is_none,

@@ -5,14 +5,16 @@ ghost use Rattle.type_model.specs.Tables.{all_hold};
 ghost use Rattle.type_trees.specs.View.{view, Fits, row_view, tags_view, body_view, sizes_view, tuples_view, cell_view, parts_view, EachNode, EachTag, EachInBody, EachSize, RowFits, TagsFit, BodyFits, SizesFit, TuplesFit, CellFits, PartsFit};
 
 use crate::copies::{copy, copy_row, copy_tuples};
+use crate::inclusion::{leq, leq_row};
 use crate::node::{
     BodyOf, CellOf, Node, PartsOf, SizeOf, TagOf, TuplesOf, discard, find_size, is_none,
     only_atoms, rest_after,
 };
 use std::alloc::Global;
-use type_kinds::{Atom, Boxed, List, Memory};
+use type_kinds::{Atom, List, Memory, Shared};
+use type_sets::SharedList;
 
-/// The type whose values are those of both.
+/// The type whose values are those of both. Where one is part of the other it is shared.
 #[cycle(meets)]
 pub fn meet(alloc: Global, level: u32, a: &Node, b: &Node) -> Result<Node, Memory>
     requires a { Fits level a.now }
@@ -20,10 +22,16 @@ pub fn meet(alloc: Global, level: u32, a: &Node, b: &Node) -> Result<Node, Memor
     ensures fits { IfOk result (λ m. Fits level m) }
     ensures value { IfOk result (λ m. view level m ≡ (ops level).meet (view level a.now) (view level b.now)) }
 {
+    if leq(level, a, b) {
+        return copy(a);
+    }
+    if leq(level, b, a) {
+        return copy(b);
+    }
     match a {
-        Node::Any => copy(alloc, level, b),
+        Node::Any => copy(b),
         Node::Of(parts) => match b {
-            Node::Any => copy(alloc, level, a),
+            Node::Any => copy(a),
             Node::Of(others) => Ok(Node::Of(meet_parts(alloc, level - 1, parts, others)?)),
         },
     }
@@ -85,13 +93,10 @@ fn some_cell(alloc: Global, element: Node, is_proper: bool) -> Result<Option<Cel
         discard(element);
         return Ok(None);
     }
-    match Boxed::new(alloc, element) {
-        Ok(element) => Ok(Some(CellOf { element, is_proper })),
-        Err((element, Memory)) => {
-            discard(element);
-            Err(Memory)
-        }
-    }
+    Ok(Some(CellOf {
+        element: Shared::new(alloc, element)?,
+        is_proper,
+    }))
 }
 
 // The types of two products, place by place: none where some place has no value.
@@ -113,8 +118,34 @@ fn meet_row(alloc: Global, level: u32, a: &[Node], b: &[Node]) -> Result<Option<
     Ok(Some(out))
 }
 
+// The same of two shared rows: the first is shared where it is part of the second.
+#[cycle(meets)]
+fn meet_rest(
+    alloc: Global,
+    level: u32,
+    a: &SharedList<Node>,
+    b: &[Node],
+) -> Result<Option<SharedList<Node>>, Memory>
+    requires { (n : ℕ) × (RowFits level n a.now × RowFits level n b.now) }
+    ensures value { IfOk result (λ m. option_map (row_view level) m ≡ row_meet (ops level) (row_view level a.now) (row_view level b.now)) }
+    ensures each { IfOk result (λ m. IfSome m (λ r. EachNode (Fits level) r)) }
+{
+    let row = a.as_slice();
+    if leq_row(level, row, b) {
+        return Ok(Some(a.share()?));
+    }
+    match meet_row(alloc, level, row, b)? {
+        None => Ok(None),
+        Some(row) => Ok(Some(SharedList::new(alloc, row)?)),
+    }
+}
+
 /// A product in normal form: where the first type is a set of at most thirteen atoms, each is a tag.
-pub fn product_body(alloc: Global, level: u32, row: List<Node>) -> Result<BodyOf<Node>, Memory>
+pub fn product_body(
+    alloc: Global,
+    level: u32,
+    row: SharedList<Node>,
+) -> Result<BodyOf<Node>, Memory>
     requires { EachNode (Fits level) row }
     ensures value { IfOk result (λ b. body_view level b ≡ body_of (ops level) (row_view level row)) }
     ensures each { IfOk result (λ b. EachInBody (Fits level) b) }
@@ -125,25 +156,28 @@ pub fn product_body(alloc: Global, level: u32, row: List<Node>) -> Result<BodyOf
     let Some(atoms) = only_atoms(first) else {
         return Ok(BodyOf::Product(row));
     };
-    Ok(BodyOf::Tags(spread(alloc, level, atoms, rest)?))
+    let tags = spread(alloc, level, atoms, rest)?;
+    Ok(BodyOf::Tags(SharedList::new(alloc, tags)?))
 }
 
 // The same types after each of the atoms.
 fn spread(
     alloc: Global,
     level: u32,
-    atoms: &[Atom],
+    atoms: &[Shared<Atom>],
     rest: &[Node],
 ) -> Result<List<TagOf<Node>>, Memory>
     requires { EachNode (Fits level) rest.now }
     ensures value { IfOk result (λ tags. tags_view level tags ≡ all_hold atoms.now (row_view level rest.now)) }
     ensures each { IfOk result (λ tags. EachTag (Fits level) tags) }
 {
+    let shared = SharedList::new(alloc, copy_row(alloc, rest)?)?;
     let mut out = List::new(alloc);
     for atom in atoms {
-        let rest = copy_row(alloc, level, rest)?;
-        let atom = atom.copy(alloc)?;
-        out.add(TagOf { atom, rest })?;
+        out.add(TagOf {
+            atom: atom.share()?,
+            rest: shared.share()?,
+        })?;
     }
     Ok(out)
 }
@@ -163,8 +197,8 @@ fn meet_tags(
     let mut out = List::new(alloc);
     for tag in a {
         if let Some(other) = rest_after(b, &tag.atom) {
-            if let Some(rest) = meet_row(alloc, level, tag.rest.as_slice(), other)? {
-                let atom = tag.atom.copy(alloc)?;
+            if let Some(rest) = meet_rest(alloc, level, &tag.rest, other)? {
+                let atom = tag.atom.share()?;
                 out.add(TagOf { atom, rest })?;
             }
         }
@@ -172,7 +206,7 @@ fn meet_tags(
     if out.is_empty() {
         Ok(None)
     } else {
-        Ok(Some(BodyOf::Tags(out)))
+        Ok(Some(BodyOf::Tags(SharedList::new(alloc, out)?)))
     }
 }
 
@@ -192,7 +226,7 @@ fn meet_body(
         BodyOf::Product(row) => match b {
             BodyOf::Tags(tags) => meet_tags(alloc, level, tags.as_slice(), a),
             BodyOf::Product(other) => {
-                match meet_row(alloc, level, row.as_slice(), other.as_slice())? {
+                match meet_rest(alloc, level, row, other.as_slice())? {
                     None => Ok(None),
                     Some(row) => Ok(Some(product_body(alloc, level, row)?)),
                 }
@@ -240,12 +274,12 @@ fn meet_tuples(
     ensures value { IfOk result (λ m. tuples_view level m ≡ tuples_meet (ops level) (tuples_view level a.now) (tuples_view level b.now)) }
 {
     match a {
-        TuplesOf::All => copy_tuples(alloc, level, b),
+        TuplesOf::All => copy_tuples(b),
         TuplesOf::Sizes(sizes) => match b {
-            TuplesOf::All => copy_tuples(alloc, level, a),
+            TuplesOf::All => copy_tuples(a),
             TuplesOf::Sizes(others) => {
                 let met = meet_sizes(alloc, level, sizes.as_slice(), others.as_slice())?;
-                Ok(TuplesOf::Sizes(met))
+                Ok(TuplesOf::Sizes(SharedList::new(alloc, met)?))
             }
         },
     }

@@ -8,10 +8,11 @@ ghost use Rattle.type_sets.specs.Names.{name_cmp};
 ghost use Rattle.type_trees.specs.View.{view, row_view, tags_view, body_view, sizes_view, parts_view, Fits, EachNode, EachTag, EachSize, EachInBody, PartsFit};
 
 use crate::plain::Plain;
-use type_kinds::{Atom, Boxed, List, Memory};
+use type_kinds::{Atom, Memory, Shared};
+use type_sets::SharedList;
 
 /// A type, or the type of an element: every value, or what its parts have. It is no deeper than its
-/// level, and what recursion goes by is the level.
+/// level, and what recursion goes by is the level. What lies below its top is shared.
 #[derive(Drop)]
 pub enum Node {
     Any,
@@ -28,7 +29,7 @@ pub struct PartsOf<E> {
 /// Lists that aren't empty.
 #[derive(Drop)]
 pub struct CellOf<E> {
-    pub element: Boxed<E>,
+    pub element: Shared<E>,
     pub is_proper: bool,
 }
 
@@ -36,7 +37,7 @@ pub struct CellOf<E> {
 pub enum TuplesOf<E> {
     All,
     /// Sizes in ascending order.
-    Sizes(List<SizeOf<E>>),
+    Sizes(SharedList<SizeOf<E>>),
 }
 
 #[derive(Drop)]
@@ -48,15 +49,15 @@ pub struct SizeOf<E> {
 /// The tuples of one size.
 #[derive(Drop)]
 pub enum BodyOf<E> {
-    Product(List<E>),
+    Product(SharedList<E>),
     /// Tags in ascending order.
-    Tags(List<TagOf<E>>),
+    Tags(SharedList<TagOf<E>>),
 }
 
 #[derive(Drop)]
 pub struct TagOf<E> {
-    pub atom: Atom,
-    pub rest: List<E>,
+    pub atom: Shared<Atom>,
+    pub rest: SharedList<E>,
 }
 
 pub fn discard(_t: Node) {}
@@ -79,17 +80,17 @@ fn has_no_part(parts: &PartsOf<Node>) -> bool
 }
 
 /// Whether the type has the atom.
-pub fn has_atom(t: &Node, atom: &Atom) -> bool
+pub fn has_atom(t: &Node, atom: &Shared<Atom>) -> bool
     ensures { (d : ℕ) → Fits d t.now → result ≡ (ops d).has_atom (view d t.now) atom.now }
 {
     match t {
         Node::Any => true,
-        Node::Of(parts) => parts.plain.atoms.contains(atom),
+        Node::Of(parts) => parts.plain.atoms.contains(atom.get()),
     }
 }
 
 /// The atoms of a type that has at most thirteen of them and nothing else.
-pub fn only_atoms(t: &Node) -> Option<&[Atom]>
+pub fn only_atoms(t: &Node) -> Option<&[Shared<Atom>]>
     ensures { (d : ℕ) → Fits d t.now → option_copied result ≡ (ops d).only (view d t.now) }
 {
     match t {
@@ -134,18 +135,18 @@ pub fn find_size(sizes: &[SizeOf<Node>], size: u8) -> Option<&BodyOf<Node>>
 }
 
 /// The types of what follows a first element that is this atom.
-pub fn rest_after<'a>(body: &'a BodyOf<Node>, atom: &Atom) -> Option<&'a [Node]>
+pub fn rest_after<'a>(body: &'a BodyOf<Node>, atom: &Shared<Atom>) -> Option<&'a [Node]>
     ensures value { (d : ℕ) → EachInBody (Fits d) body.now → option_map (row_view d) (option_copied result) ≡ row_at (ops d) (body_view d body.now) atom.now }
     ensures each { (d : ℕ) → EachInBody (Fits d) body.now → IfSome result (λ r. EachNode (Fits d) r.now) }
 {
     match body {
         BodyOf::Product(row) => rest_of_product(row.as_slice(), atom),
-        BodyOf::Tags(tags) => find_tag(tags.as_slice(), atom),
+        BodyOf::Tags(tags) => find_tag(tags.as_slice(), atom.get()),
     }
 }
 
 // The types after the first, where it has the atom.
-fn rest_of_product<'a>(row: &'a [Node], atom: &Atom) -> Option<&'a [Node]>
+fn rest_of_product<'a>(row: &'a [Node], atom: &Shared<Atom>) -> Option<&'a [Node]>
     ensures value { (d : ℕ) → EachNode (Fits d) row.now → option_map (row_view d) (option_copied result) ≡ row_at (ops d) (product (row_view d row.now)) atom.now }
     ensures each { (d : ℕ) → EachNode (Fits d) row.now → IfSome result (λ r. EachNode (Fits d) r.now) }
 {
@@ -163,7 +164,7 @@ pub fn find_tag<'a>(tags: &'a [TagOf<Node>], atom: &Atom) -> Option<&'a [Node]>
     ensures each { (d : ℕ) → EachTag (Fits d) tags.now → IfSome result (λ r. EachNode (Fits d) r.now) }
 {
     for tag in tags {
-        if tag.atom.is(atom) {
+        if tag.atom.get().is(atom) {
             return Some(tag.rest.as_slice());
         }
     }

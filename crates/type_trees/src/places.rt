@@ -8,17 +8,17 @@ ghost use Rattle.type_trees.specs.View.{tags_view, sizes_view};
 
 use crate::node::{Node, SizeOf, TagOf};
 use std::cmp::Ordering;
-use type_kinds::{Atom, Memory};
+use type_kinds::{Atom, Memory, Shared};
 
 /// Where the tag with this atom is, or, as an error, where one would go.
-pub fn place_of_tag(tags: &[TagOf<Node>], atom: &Atom) -> Result<usize, usize>
+pub fn place_of_tag(tags: &[TagOf<Node>], atom: &Shared<Atom>) -> Result<usize, usize>
     ensures found_within { IfOk result (λ at. at < length tags.now) }
     ensures found { IfOk result (λ at. (d : ℕ) → StandsAt name_cmp atom.now (tags_view d tags.now) at) }
     ensures missing_within { IfErr result (λ at. at ≤ length tags.now) }
     ensures missing { IfErr result (λ at. (d : ℕ) → GoesAt name_cmp atom.now (tags_view d tags.now) at) }
 {
     for (at, tag) in tags.iter().enumerate() {
-        match atom.bytes().cmp(tag.atom.bytes()) {
+        match atom.get().bytes().cmp(tag.atom.get().bytes()) {
             Ordering::Less => return Err(at),
             Ordering::Equal => return Ok(at),
             Ordering::Greater => {}

@@ -252,11 +252,11 @@ impl Plain {
     }
 
     /// A second one of the same values.
-    pub fn copy(&self, alloc: Global) -> Result<Plain, Memory>
+    pub fn copy(&self) -> Result<Plain, Memory>
         ensures { IfOk result (λ p. p ≡ self.now) }
     {
         Ok(Plain {
-            atoms: self.atoms.copy(alloc)?,
+            atoms: self.atoms.copy()?,
             ints: self.ints.copy(),
             bits: self.bits,
             flags: self.flags,

@@ -3,7 +3,7 @@ use Rattle.type_sets.specs.declared.limits.TheConstants.{MAX_MEMBERS}
 use Rattle.type_sets.specs.Ascending.{placed, merged}
 use Rattle.type_sets.specs.Names.{name_cmp}
 use Rattle.type_sets.proofs.AscendingLaws.{merged-more}
-use Rattle.type_sets.proofs.AtomViews.{join_long, join_short}
+use Rattle.type_sets.proofs.AtomViews.{ok_then, join_long, join_short}
 use Rattle.type_sets.proofs.atom_set.both.Goals as goal
 
 pub returns-then-len-gt-MAX_MEMBERS : goal.returns-then-len-gt-MAX_MEMBERS
@@ -26,5 +26,4 @@ listed-requires c =
 
 pub returns : goal.returns
 returns c =
-    c.listed.ensures.value
-    ∙ (join_short c.args.atoms.now c.args.others.now c.requires c.loop-atom.atom-index c.loop-atom-test.false c.loop-atom.out c.loop-atom.invariant.merged c.loop-atom.invariant.few).1
+    ok_then c.listed.result c.listed.ensures.value (λ r h. h ∙ (join_short c.args.atoms.now c.args.others.now c.requires c.loop-atom.atom-index c.loop-atom-test.false c.loop-atom.out c.loop-atom.invariant.merged c.loop-atom.invariant.few).1)

@@ -39,7 +39,7 @@ pub cut_body-cut_tags-requires : goal.cut_body-cut_tags-requires
 cut_body-cut_tags-requires t c = (omega (arith, c.decreases), subst (λ r. (n : ℕ) × TagsFit c.args.from n r) (sym c.as_slice-then-to-gt0.ensures) (tags_of c.args.from c.args.body.now c.in-Tags.tags c.in-Tags.is c.requires).0)
 
 pub cut_body-returns-then-to-gt0-clause-value : goal.cut_body-returns-then-to-gt0-clause-value
-cut_body-returns-then-to-gt0-clause-value t c = tags_kept c.args.from c.args.to c.args.body.now c.in-Tags.tags c.in_ok-cut_tags-in-Tags.field-0 c.in-Tags.is c.if-to-gt0.true (c.in_ok-cut_tags-in-Tags.ensures.value ∙ ap (λ r. mapped (row_lower (levels.cut c.args.from c.args.to) (ops c.args.from) (ops c.args.to)) (tags_view c.args.from r)) c.as_slice-then-to-gt0.ensures)
+cut_body-returns-then-to-gt0-clause-value t c = ap (λ ts. tags (tags_view c.args.to ts)) c.in_ok-new-in-Tags.ensures ∙ tags_kept c.args.from c.args.to c.args.body.now c.in-Tags.tags c.in_ok-tags-in-Tags.tags c.in-Tags.is c.if-to-gt0.true (c.in_ok-tags-in-Tags.ensures.value ∙ ap (λ r. mapped (row_lower (levels.cut c.args.from c.args.to) (ops c.args.from) (ops c.args.to)) (tags_view c.args.from r)) c.as_slice-then-to-gt0.ensures)
 
 pub cut_body-elements_of_tags-requires-clause-fits : goal.cut_body-elements_of_tags-requires-clause-fits
 cut_body-elements_of_tags-requires-clause-fits t c = subst (λ r. (n : ℕ) × TagsFit c.args.from n r) (sym c.as_slice-in-Tags.ensures) (tags_of c.args.from c.args.body.now c.in-Tags.tags c.in-Tags.is c.requires).0

@@ -2,27 +2,27 @@ use Rattle.std.proofs.Common.{ℕ, ◌<◌, length, sym, ap, ◌∙◌, subst, a
 use Rattle.std.specs.Ordering.{nat_cmp}
 use Rattle.std.proofs.lemmas.Result.{IfOk-weaker}
 use Rattle.type_sets.specs.Names.{name_cmp}
-use Rattle.type_model.specs.Shapes.{tags as tagged}
+use Rattle.type_model.specs.Shapes.{product, tags as tagged}
 use Rattle.type_model.specs.Operations.{ops, elements, row_join, tags_join, body_join}
 use Rattle.type_trees.specs.declared.node.Node.{Node}
 use Rattle.type_trees.specs.declared.node.TagOf.{TagOf}
 use Rattle.type_trees.specs.View.{row_view, tags_view, body_view, sizes_view, Fits, EachNode, TagsFit, BodyFits}
 use Rattle.type_trees.specs.Places.{StandsAt, GoesAt}
 use Rattle.type_trees.proofs.Views.{of_above, below_fits}
-use Rattle.type_trees.proofs.JoinLaws.{few_tags, many_tags, row_step, row_end, each_push, same_length, rests_step, rests_end, rests_fit, same_item, tag_row, tags_so_far, tags_joined, sizes_so_far, size_body, tags_step, tags_end, sizes_step, sizes_end, tag_missing, tag_missing_each, tag_found, each_tag-set, size_missing, size_missing_each, size_same, size_found, each_size-set, tags_of_body, tags_of_bodies, product_of_body, elements_fit, row_is, tags_elements, any_left, any_right, parts_fit, made_join, made_fit}
+use Rattle.type_trees.proofs.JoinLaws.{few_tags, many_tags, row_step, row_end, each_push, same_length, rests_step, rests_end, rests_fit, same_item, tag_row, tags_so_far, tags_joined, sizes_so_far, size_body, tags_step, tags_end, sizes_step, sizes_end, tag_missing, tag_missing_each, tag_found, each_tag-set, size_missing, size_missing_each, size_same, size_found, each_size-set, tags_of_body, tags_of_bodies, product_of_body, elements_fit, row_is, tags_elements, any_left, any_right, joined_below, joined_above, rows_below, rows_above, parts_fit, made_join, made_fit}
 use Rattle.type_trees.proofs.joins.+joins.Goals as goal
 
 pub cap_tags-returns-then-len-le-MAX_MEMBERS-clause-value : goal.cap_tags-returns-then-len-le-MAX_MEMBERS-clause-value
-cap_tags-returns-then-len-le-MAX_MEMBERS-clause-value t c = few_tags c.args.level c.args.tags (omega arith)
+cap_tags-returns-then-len-le-MAX_MEMBERS-clause-value t c = ap (λ ts. tagged (tags_view c.args.level ts)) c.in_ok-new.ensures ∙ few_tags c.args.level c.args.tags (omega arith)
 
 pub cap_tags-returns-clause-value : goal.cap_tags-returns-clause-value
 cap_tags-returns-clause-value t c =
-    many_tags c.args.level c.args.tags c.in_ok-row.row (omega arith) (c.in_ok-row.ensures.value ∙ ap (λ ts. elements (ops c.args.level) (tagged (tags_view c.args.level ts))) c.as_slice.ensures)
+    ap (λ es. product (row_view c.args.level es)) c.in_ok-new-2.ensures ∙ many_tags c.args.level c.args.tags c.in_ok-row.row (omega arith) (c.in_ok-row.ensures.value ∙ ap (λ ts. elements (ops c.args.level) (tagged (tags_view c.args.level ts))) c.as_slice.ensures)
 
 pub elements_of-elements_of_tags-requires : goal.elements_of-elements_of_tags-requires
 elements_of-elements_of_tags-requires t c =
     let k = tags_of_body c.args.level c.requires.0 c.args.body.now c.in-Tags.tags c.requires.1 c.in-Tags.is in
-    (omega (arith, c.decreases), (subst (λ ts. (m : ℕ) × TagsFit c.args.level m ts) (sym c.as_slice-in-Tags.ensures) k.0, k.1))
+    (omega (arith, c.decreases), (subst (λ ts. (m : ℕ) × TagsFit c.args.level m ts) (sym c.as_slice.ensures) k.0, k.1))
 
 pub elements_of_tags-returns-clause-value : goal.elements_of_tags-returns-clause-value
 elements_of_tags-returns-clause-value t c =
@@ -74,26 +74,26 @@ join_body-cap_tags-requires t c =
     let k = tags_of_bodies c.args.level c.requires.0 c.args.a.now c.args.b.now c.in-Tags.tags c.in-Tags-b.others c.requires.1.0 c.requires.1.1 c.in-Tags.is c.in-Tags-b.is in
     (omega (arith, c.decreases), ((k.0, tags_joined c.args.level k.0 c.in-Tags.tags c.in-Tags-b.others c.in_ok-joined-in-Tags-b.joined k.1.0 k.1.1 (c.in_ok-joined-in-Tags-b.ensures.value ∙ (λ n. tags_join (ops c.args.level) (tags_view c.args.level (c.as_slice.ensures n)) (tags_view c.args.level (c.as_slice-in-Tags-b.ensures n)))) c.in_ok-joined-in-Tags-b.ensures.each), (tags_of_body c.args.level c.requires.0 c.args.a.now c.in-Tags.tags c.requires.1.0 c.in-Tags.is).1))
 
-pub join_body-join_row-requires : goal.join_body-join_row-requires
-join_body-join_row-requires t c = (
+pub join_body-join_rest-requires : goal.join_body-join_rest-requires
+join_body-join_rest-requires t c = (
   omega (arith, c.decreases),
   (
     c.requires.0,
     (
-      row_is c.args.level c.requires.0 _ _ c.as_slice-in-Product-b.ensures (elements_fit c.args.level c.requires.0 c.args.a.now c.in_ok-elements-in-Product-b.elements c.requires.1.0 c.in_ok-elements-in-Product-b.ensures.value c.in_ok-elements-in-Product-b.ensures.each),
-      row_is c.args.level c.requires.0 _ _ c.as_slice-in-Product-b-2.ensures (product_of_body c.args.level c.requires.0 c.args.b.now c.in-Product-b.row c.requires.1.1 c.in-Product-b.is),
+      elements_fit c.args.level c.requires.0 c.args.a.now c.in_ok-elements-in-Product-b.elements c.requires.1.0 c.in_ok-elements-in-Product-b.ensures.value c.in_ok-elements-in-Product-b.ensures.each,
+      product_of_body c.args.level c.requires.0 c.args.b.now c.in-Product-b.row c.requires.1.1 c.in-Product-b.is,
     ),
   ),
 )
 
-pub join_body-join_row-requires-in-Product : goal.join_body-join_row-requires-in-Product
-join_body-join_row-requires-in-Product t c = (
+pub join_body-join_rest-requires-in-Product : goal.join_body-join_rest-requires-in-Product
+join_body-join_rest-requires-in-Product t c = (
   omega (arith, c.decreases),
   (
     c.requires.0,
     (
-      row_is c.args.level c.requires.0 _ _ c.as_slice-in-Product.ensures (product_of_body c.args.level c.requires.0 c.args.a.now c.in-Product.row c.requires.1.0 c.in-Product.is),
-      row_is c.args.level c.requires.0 _ _ c.as_slice-in-Product-2.ensures (elements_fit c.args.level c.requires.0 c.args.b.now c.in_ok-elements-in-Product.elements c.requires.1.1 c.in_ok-elements-in-Product.ensures.value c.in_ok-elements-in-Product.ensures.each),
+      product_of_body c.args.level c.requires.0 c.args.a.now c.in-Product.row c.requires.1.0 c.in-Product.is,
+      elements_fit c.args.level c.requires.0 c.args.b.now c.in_ok-elements-in-Product.elements c.requires.1.1 c.in_ok-elements-in-Product.ensures.value c.in_ok-elements-in-Product.ensures.each,
     ),
   ),
 )
@@ -101,6 +101,26 @@ join_body-join_row-requires-in-Product t c = (
 pub join_parts-returns-clause-fits : goal.join_parts-returns-clause-fits
 join_parts-returns-clause-fits t c =
     parts_fit c.args.level c.args.a.now c.args.b.now _ c.requires.a c.requires.b (λ n. record { plain = c.in_ok-plain.ensures n; cell = c.in_ok-cell.ensures.value n; tuples = c.in_ok-tuples.ensures.value n }) (c.in_ok-cell.ensures.each, c.in_ok-tuples.ensures.each)
+
+pub join-returns-then-leq-clause-value : goal.join-returns-then-leq-clause-value
+join-returns-then-leq-clause-value t c = IfOk-weaker c.copy.result _ _ (λ j e. joined_below c.args.level c.args.a.now c.args.b.now j c.requires.a c.requires.b (c.leq.ensures.0 c.if-leq.true) e) c.copy.ensures
+
+pub join-returns-then-leq-2-clause-value : goal.join-returns-then-leq-2-clause-value
+join-returns-then-leq-2-clause-value t c = IfOk-weaker c.copy-then-leq-2.result _ _ (λ j e. joined_above c.args.level c.args.a.now c.args.b.now j c.requires.a c.requires.b (c.leq-2.ensures.0 c.if-leq-2.true) e) c.copy-then-leq-2.ensures
+
+pub join_rest-returns-then-leq_row-clause-value : goal.join_rest-returns-then-leq_row-clause-value
+join_rest-returns-then-leq_row-clause-value t c =
+    IfOk-weaker c.share.result _ _ (λ j e. rows_above c.args.level c.requires.0 c.args.a.now c.args.b.now c.as_slice-one.result.now c.as_slice-two.result.now j c.requires.1.0 c.requires.1.1 c.as_slice-one.ensures c.as_slice-two.ensures (c.leq_row.ensures.0 c.if-leq_row.true) e) c.share.ensures
+
+pub join_rest-returns-then-leq_row-2-clause-value : goal.join_rest-returns-then-leq_row-2-clause-value
+join_rest-returns-then-leq_row-2-clause-value t c =
+    IfOk-weaker c.share-then-leq_row-2.result _ _ (λ j e. rows_below c.args.level c.requires.0 c.args.a.now c.args.b.now c.as_slice-one.result.now c.as_slice-two.result.now j c.requires.1.0 c.requires.1.1 c.as_slice-one.ensures c.as_slice-two.ensures (c.leq_row-2.ensures.0 c.if-leq_row-2.true) e) c.share-then-leq_row-2.ensures
+
+pub join_rest-join_row-requires : goal.join_rest-join_row-requires
+join_rest-join_row-requires t c = (
+  omega (arith, c.decreases),
+  (c.requires.0, (row_is c.args.level c.requires.0 _ _ c.as_slice-one.ensures c.requires.1.0, row_is c.args.level c.requires.0 _ _ c.as_slice-two.ensures c.requires.1.1)),
+)
 
 pub join_rests-join_row-requires : goal.join_rests-join_row-requires
 join_rests-join_row-requires t c = (
@@ -176,7 +196,7 @@ join_tags-returns-clause-value t c =
 
 pub join_tuples-returns-in_ok-joined-in-Sizes-b-clause-each :
     goal.join_tuples-returns-in_ok-joined-in-Sizes-b-clause-each
-join_tuples-returns-in_ok-joined-in-Sizes-b-clause-each t c = c.cap_sizes.ensures.each c.args.level c.in_ok-joined-in-Sizes-b.ensures.each
+join_tuples-returns-in_ok-joined-in-Sizes-b-clause-each t c = IfOk-weaker c.cap_sizes.result _ _ (λ _ f. f c.args.level c.in_ok-joined-in-Sizes-b.ensures.each) c.cap_sizes.ensures.each
 
 pub put_size-join_body-requires : goal.put_size-join_body-requires
 put_size-join_body-requires t c =
@@ -194,16 +214,16 @@ put_size-join_body-requires t c =
       ),
     )
 
-pub put_size-returns-in_ok-body-in-Err-clause-value :
-    goal.put_size-returns-in_ok-body-in-Err-clause-value
-put_size-returns-in_ok-body-in-Err-clause-value t c =
+pub put_size-returns-in_ok-copied-in-Err-clause-value :
+    goal.put_size-returns-in_ok-copied-in-Err-clause-value
+put_size-returns-in_ok-copied-in-Err-clause-value t c =
     let goes = subst (λ ss. GoesAt nat_cmp c.args.size.now.size (sizes_view c.args.level ss) c.in-Err.at) c.as_slice.ensures.value (c.in-Err.ensures.missing c.args.level) in
-    IfOk-weaker c.insert_size.result _ _ (λ _ e. size_missing c.args.level c.args.sizes.now.items c.insert_size.new.sizes.items c.in-Err.at c.args.size.now c.in_ok-body-in-Err.body goes c.in_ok-body-in-Err.ensures e) c.insert_size.ensures
+    IfOk-weaker c.insert_size.result _ _ (λ _ e. size_missing c.args.level c.args.sizes.now.items c.insert_size.new.sizes.items c.in-Err.at c.args.size.now c.in_ok-copied-in-Err.copied goes c.in_ok-copied-in-Err.ensures e) c.insert_size.ensures
 
-pub put_size-returns-in_ok-body-in-Err-clause-each :
-    goal.put_size-returns-in_ok-body-in-Err-clause-each
-put_size-returns-in_ok-body-in-Err-clause-each t c =
-    IfOk-weaker c.insert_size.result _ _ (λ _ e. size_missing_each c.args.level c.args.sizes.now.items c.insert_size.new.sizes.items c.in-Err.at c.args.size.now c.in_ok-body-in-Err.body c.requires.sizes.each c.requires.size.each c.in_ok-body-in-Err.ensures e) c.insert_size.ensures
+pub put_size-returns-in_ok-copied-in-Err-clause-each :
+    goal.put_size-returns-in_ok-copied-in-Err-clause-each
+put_size-returns-in_ok-copied-in-Err-clause-each t c =
+    IfOk-weaker c.insert_size.result _ _ (λ _ e. size_missing_each c.args.level c.args.sizes.now.items c.insert_size.new.sizes.items c.in-Err.at c.args.size.now c.in_ok-copied-in-Err.copied c.requires.sizes.each c.requires.size.each c.in_ok-copied-in-Err.ensures e) c.insert_size.ensures
 
 pub put_size-returns-in_ok-body-in-Ok-clause-value :
     goal.put_size-returns-in_ok-body-in-Ok-clause-value
@@ -219,18 +239,12 @@ pub put_size-returns-in_ok-body-in-Ok-clause-each :
 put_size-returns-in_ok-body-in-Ok-clause-each t c =
     each_size-set (Fits c.args.level) c.args.sizes.now.items c.in-Ok.at (record { size = c.index_mut.result.now.size; body = c.in_ok-body-in-Ok.body }) c.requires.sizes.each c.in_ok-body-in-Ok.ensures.each
 
-pub put_tag-join_row-requires : goal.put_tag-join_row-requires
-put_tag-join_row-requires t c =
+pub put_tag-join_rest-requires : goal.put_tag-join_rest-requires
+put_tag-join_rest-requires t c =
     let items = c.args.tags.now.items in
     let within = subst (λ ts. c.in-Ok.at < length ts) c.as_slice.ensures.value c.in-Ok.ensures.found_within in (
       omega (arith, c.decreases),
-      (
-        c.requires.0,
-        (
-          row_is c.args.level c.requires.0 _ _ c.as_slice-in-Ok.ensures (tag_row c.args.level c.requires.0 items c.in-Ok.at c.index.result.now c.requires.1.0 within c.index.ensures),
-          row_is c.args.level c.requires.0 _ _ c.as_slice-in-Ok-2.ensures c.requires.1.1,
-        ),
-      ),
+      (c.requires.0, (tag_row c.args.level c.requires.0 items c.in-Ok.at c.index.result.now c.requires.1.0 within c.index.ensures, c.requires.1.1)),
     )
 
 pub put_tag-returns-in_ok-copied-in-Err-clause-value :
@@ -251,7 +265,7 @@ put_tag-returns-in_ok-rest-in-Ok-clause-value t c =
     let within = subst (λ ts. c.in-Ok.at < length ts) c.as_slice.ensures.value c.in-Ok.ensures.found_within in
     let stands = subst (λ ts. StandsAt name_cmp c.args.tag.now.atom (tags_view c.args.level ts) c.in-Ok.at) c.as_slice.ensures.value (c.in-Ok.ensures.found c.args.level) in
     let read = same_item items c.in-Ok.at c.index.result.now c.index_mut.result.now within c.index.ensures c.index_mut.ensures.value in
-    tag_found c.args.level items c.in-Ok.at c.args.tag.now c.index_mut.result.now c.in_ok-rest-in-Ok.rest stands within c.index_mut.ensures.value (c.in_ok-rest-in-Ok.ensures.value ∙ (λ n. row_join (ops c.args.level) (row_view c.args.level (c.as_slice-in-Ok.ensures n)) (row_view c.args.level (c.as_slice-in-Ok-2.ensures n))) ∙ (λ n. row_join (ops c.args.level) (row_view c.args.level (read n).rest) (row_view c.args.level c.args.tag.now.rest)))
+    tag_found c.args.level items c.in-Ok.at c.args.tag.now c.index_mut.result.now c.in_ok-rest-in-Ok.rest stands within c.index_mut.ensures.value (c.in_ok-rest-in-Ok.ensures.value ∙ (λ n. row_join (ops c.args.level) (row_view c.args.level (read n).rest) (row_view c.args.level c.args.tag.now.rest)))
 
 pub put_tag-returns-in_ok-rest-in-Ok-clause-each :
     goal.put_tag-returns-in_ok-rest-in-Ok-clause-each

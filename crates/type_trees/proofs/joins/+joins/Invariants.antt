@@ -17,6 +17,9 @@ decreases-join_cell l = 10 * l.level + 1
 abbrev pub decreases-join_row : goal.decreases-join_row
 decreases-join_row l = 10 * l.level + 1
 
+abbrev pub decreases-join_rest : goal.decreases-join_rest
+decreases-join_rest l = 10 * l.level + 2
+
 abbrev pub decreases-join_rests : goal.decreases-join_rests
 decreases-join_rests l = 10 * l.level + 2
 
@@ -27,10 +30,10 @@ abbrev pub decreases-elements_of : goal.decreases-elements_of
 decreases-elements_of l = 10 * l.level + 4
 
 abbrev pub decreases-put_tag : goal.decreases-put_tag
-decreases-put_tag l = 10 * l.level + 2
+decreases-put_tag l = 10 * l.level + 3
 
 abbrev pub decreases-join_tags : goal.decreases-join_tags
-decreases-join_tags l = 10 * l.level + 3
+decreases-join_tags l = 10 * l.level + 4
 
 abbrev pub decreases-cap_tags : goal.decreases-cap_tags
 decreases-cap_tags l = 10 * l.level + 4

@@ -1,11 +1,13 @@
-use Rattle.std.proofs.Common.{◌∙◌, sym, subst, ap, arith, refl, true≢false, length, drop, ◌+◌, ◌<◌}
+use Rattle.std.proofs.Common.{◌∙◌, Some, sym, subst, ap, arith, refl, true≢false, length, drop, ◌+◌, ◌<◌}
 use Rattle.std.specs.Prelude.{IfSome, option_map}
 use Rattle.std.proofs.lemmas.Result.{IfOk-weaker}
+use Rattle.type_model.specs.Shapes.{tags as tagged}
 use Rattle.type_model.specs.Operations.{ops, met_with, row_meet, body_meet}
-use Rattle.type_trees.specs.View.{Fits, row_view, body_view, sizes_view, RowFits, EachNode, EachTag, EachInBody, EachSize}
+use Rattle.type_trees.specs.View.{Fits, row_view, tags_view, body_view, sizes_view, TuplesFit, RowFits, EachNode, EachTag, EachInBody, EachSize}
 use Rattle.type_trees.specs.declared.node.TuplesOf.TheVariants.{Sizes}
 use Rattle.type_trees.proofs.Views.{of_above, below_fits}
-use Rattle.type_trees.proofs.MeetViews.{meet_of_any, meet_with_any, meet_of_parts, meet_of_parts_fits, drop_item, same_length, row_more, row_none, filled_more, each_more, each_tag_more, each_size_more, rest_fits, after_fits, tags_more, tags_fewer, size_fits, found_fits, sizes_more, sizes_fewer, tags_left, sizes_fit}
+use Rattle.type_trees.proofs.MeetViews.{met_below, met_above, row_below, meet_of_any, meet_with_any, meet_of_parts, meet_of_parts_fits, drop_item, same_length, row_more, row_none, filled_more, each_more, each_tag_more, each_size_more, rest_fits, after_fits, tags_more, tags_fewer, size_fits, found_fits, sizes_more, sizes_fewer, tags_left, sizes_fit}
+use Rattle.type_trees.proofs.JoinLaws.{product_of_body}
 use Rattle.type_trees.proofs.meets.+meets.Goals as goal
 use Rattle.type_trees.proofs.meets.+meets.Goals.{meet_sizes-in-Some+in_ok-body+in-Some-2+in_ok-add, meet_sizes-in-Some+in_ok-body+in_default-2, meet_sizes-in_default, meet_tags-in-Some+in_ok-rest+in-Some-2+in_ok-atom+in_ok-add, meet_tags-in-Some+in_ok-rest+in_default-2, meet_tags-in_default}
 
@@ -19,10 +21,10 @@ meet-meet_parts-requires t c = (
 )
 
 pub meet-returns-in-Any-clause-value : goal.meet-returns-in-Any-clause-value
-meet-returns-in-Any-clause-value t c = IfOk-weaker c.copy.result _ _ (λ m e. meet_of_any c.args.level c.args.a.now c.args.b.now m c.in-Any.is c.requires.b e) c.copy.ensures
+meet-returns-in-Any-clause-value t c = IfOk-weaker c.copy-in-Any.result _ _ (λ m e. meet_of_any c.args.level c.args.a.now c.args.b.now m c.in-Any.is c.requires.a c.requires.b e) c.copy-in-Any.ensures
 
 pub meet-returns-in-Any-b-clause-value : goal.meet-returns-in-Any-b-clause-value
-meet-returns-in-Any-b-clause-value t c = IfOk-weaker c.copy-in-Any-b.result _ _ (λ m e. meet_with_any c.args.level c.args.a.now c.args.b.now m c.in-Any-b.is c.requires.a e) c.copy-in-Any-b.ensures
+meet-returns-in-Any-b-clause-value t c = IfOk-weaker c.copy-in-Any-b.result _ _ (λ m e. meet_with_any c.args.level c.args.a.now c.args.b.now m c.in-Any-b.is c.requires.a c.requires.b e) c.copy-in-Any-b.ensures
 
 pub meet-returns-in_ok-meet_parts-in-Of-b-clause-fits :
     goal.meet-returns-in_ok-meet_parts-in-Of-b-clause-fits
@@ -33,6 +35,12 @@ pub meet-returns-in_ok-meet_parts-in-Of-b-clause-value :
     goal.meet-returns-in_ok-meet_parts-in-Of-b-clause-value
 meet-returns-in_ok-meet_parts-in-Of-b-clause-value t c =
     meet_of_parts c.args.a.now c.args.b.now _ c.in-Of.parts c.in-Of-b.others c.in_ok-meet_parts-in-Of-b.field-0 c.in-Of.is c.in-Of-b.is refl c.args.level c.requires.a c.in_ok-meet_parts-in-Of-b.ensures.value
+
+pub meet-returns-then-leq-clause-value : goal.meet-returns-then-leq-clause-value
+meet-returns-then-leq-clause-value t c = IfOk-weaker c.copy.result _ _ (λ m e. met_below c.args.level c.args.a.now c.args.b.now m c.requires.a c.requires.b (c.leq.ensures.0 c.if-leq.true) e) c.copy.ensures
+
+pub meet-returns-then-leq-2-clause-value : goal.meet-returns-then-leq-2-clause-value
+meet-returns-then-leq-2-clause-value t c = IfOk-weaker c.copy-then-leq-2.result _ _ (λ m e. met_above c.args.level c.args.a.now c.args.b.now m c.requires.a c.requires.b (c.leq-2.ensures.0 c.if-leq-2.true) e) c.copy-then-leq-2.ensures
 
 pub meet_row-returns-then-is_none-clause-value : goal.meet_row-returns-then-is_none-clause-value
 meet_row-returns-then-is_none-clause-value t c =
@@ -91,8 +99,27 @@ meet_sizes-loop-size-preserved t c =
       }
     ]
 
-pub meet_tags-meet_row-requires : goal.meet_tags-meet_row-requires
-meet_tags-meet_row-requires t c =
+pub meet_rest-returns-then-leq_row-clause-value : goal.meet_rest-returns-then-leq_row-clause-value
+meet_rest-returns-then-leq_row-clause-value t c =
+    row_below c.args.level c.requires.0 c.args.a.now c.args.b.now c.as_slice-row.result.now c.in_ok-share.field-0 c.requires.1.0 c.requires.1.1 c.as_slice-row.ensures (c.leq_row.ensures.0 c.if-leq_row.true) c.in_ok-share.ensures
+
+pub meet_rest-meet_row-requires : goal.meet_rest-meet_row-requires
+meet_rest-meet_row-requires t c = (omega (arith, c.decreases), (c.requires.0, (subst (RowFits c.args.level c.requires.0) (sym c.as_slice-row.ensures) c.requires.1.0, c.requires.1.1)))
+
+pub meet_body-meet_rest-requires : goal.meet_body-meet_rest-requires
+meet_body-meet_rest-requires t c = (
+  omega (arith, c.decreases),
+  (
+    c.requires.0,
+    (
+      product_of_body c.args.level c.requires.0 c.args.a.now c.in-Product.row c.requires.1.0 c.in-Product.is,
+      subst (RowFits c.args.level c.requires.0) (sym c.as_slice-in-Product-b.ensures) (product_of_body c.args.level c.requires.0 c.args.b.now c.in-Product-b.other c.requires.1.1 c.in-Product-b.is),
+    ),
+  ),
+)
+
+pub meet_tags-meet_rest-requires : goal.meet_tags-meet_rest-requires
+meet_tags-meet_rest-requires t c =
     let d = c.args.level in
     let n = c.requires.0 in
     let b = c.requires.1.1 in (
@@ -100,7 +127,7 @@ meet_tags-meet_row-requires t c =
       (
         n,
         (
-          subst (RowFits d n) (sym c.as_slice.ensures) (rest_fits d n c.args.a.now c.requires.1.0 c.loop-tag.tag-index c.tag-item.result c.loop-tag-test.true c.tag-item.is),
+          rest_fits d n c.args.a.now c.requires.1.0 c.loop-tag.tag-index c.tag-item.result c.loop-tag-test.true c.tag-item.is,
           after_fits d n c.args.b.now c.tag-item.result.atom c.in-Some.other.now b (c.in-Some.ensures.value d b.each) (c.in-Some.ensures.each d b.each),
         ),
       ),
@@ -117,11 +144,11 @@ meet_tags-loop-tag-preserved t c =
     let later = drop_item a i g c.loop-tag-test.true c.tag-item.is in
     elim c.match-rest_after.branch [
       | meet_tags-in-Some+in_ok-rest+in-Some-2+in_ok-atom+in_ok-add k ↦ record {
-        value = tags_more d c.match-rest_after.out c.loop-tag.out (drop i a) (drop (i + 1) a) g _ b (row_view d k.in-Some.other.now) (k.out-is ∙ k.in_ok-add.ensures.ok) later k.in_ok-atom.ensures (k.in-Some.ensures.value d j) (sym (ap (option_map (row_view d)) k.in-Some-2.is) ∙ k.in_ok-rest.ensures.value ∙ ap (λ l. row_meet (ops d) (row_view d l) (row_view d k.in-Some.other.now)) k.as_slice.ensures) ∙ c.loop-tag.invariant.value;
+        value = tags_more d c.match-rest_after.out c.loop-tag.out (drop i a) (drop (i + 1) a) g _ b (row_view d k.in-Some.other.now) (k.out-is ∙ k.in_ok-add.ensures.ok) later k.in_ok-atom.ensures (k.in-Some.ensures.value d j) (sym (ap (option_map (row_view d)) k.in-Some-2.is) ∙ k.in_ok-rest.ensures.value) ∙ c.loop-tag.invariant.value;
         each = each_tag_more (Fits d) c.match-rest_after.out c.loop-tag.out _ (k.out-is ∙ k.in_ok-add.ensures.ok) c.loop-tag.invariant.each (subst (λ o. IfSome o (EachNode (Fits d))) k.in-Some-2.is k.in_ok-rest.ensures.each);
       }
       | meet_tags-in-Some+in_ok-rest+in_default-2 k ↦ record {
-        value = tags_fewer d c.match-rest_after.out c.loop-tag.out (drop i a) (drop (i + 1) a) g b k.out-is later (sym (ap (option_map (row_view d)) k.in_default-2.is) ∙ k.in_ok-rest.ensures.value ∙ ap (λ l. row_meet (ops d) (row_view d l) (row_view d k.in-Some.other.now)) k.as_slice.ensures ∙ ap (met_with (row_meet (ops d) (row_view d g.rest))) (k.in-Some.ensures.value d j)) ∙ c.loop-tag.invariant.value;
+        value = tags_fewer d c.match-rest_after.out c.loop-tag.out (drop i a) (drop (i + 1) a) g b k.out-is later (sym (ap (option_map (row_view d)) k.in_default-2.is) ∙ k.in_ok-rest.ensures.value ∙ ap (met_with (row_meet (ops d) (row_view d g.rest))) (k.in-Some.ensures.value d j)) ∙ c.loop-tag.invariant.value;
         each = subst (EachTag (Fits d)) (sym k.out-is) c.loop-tag.invariant.each;
       }
       | meet_tags-in_default k ↦ record {
@@ -130,13 +157,12 @@ meet_tags-loop-tag-preserved t c =
       }
     ]
 
-pub meet_tags-returns-else-is_empty-clause-value :
-    goal.meet_tags-returns-else-is_empty-clause-value
-meet_tags-returns-else-is_empty-clause-value t c =
-    tags_left c.args.level c.loop-tag.out c.args.a.now c.loop-tag.tag-index (body_view c.args.level c.args.b.now) _ (λ e. true≢false (sym (c.is_empty.ensures.1 e) ∙ c.if-is_empty.false)) c.loop-tag-test.false c.loop-tag.invariant.value
+pub meet_tags-returns-in_ok-new-clause-value : goal.meet_tags-returns-in_ok-new-clause-value
+meet_tags-returns-in_ok-new-clause-value t c =
+    ap (λ ts. Some (tagged (tags_view c.args.level ts))) c.in_ok-new.ensures ∙ tags_left c.args.level c.loop-tag.out c.args.a.now c.loop-tag.tag-index (body_view c.args.level c.args.b.now) _ (λ e. true≢false (sym (c.is_empty.ensures.1 e) ∙ c.if-is_empty.false)) c.loop-tag-test.false c.loop-tag.invariant.value
 
-pub meet_tuples-returns-in_ok-met-in-Sizes-b-clause-fits :
-    goal.meet_tuples-returns-in_ok-met-in-Sizes-b-clause-fits
-meet_tuples-returns-in_ok-met-in-Sizes-b-clause-fits t c =
+pub meet_tuples-returns-in_ok-new-in-Sizes-b-clause-fits :
+    goal.meet_tuples-returns-in_ok-new-in-Sizes-b-clause-fits
+meet_tuples-returns-in_ok-new-in-Sizes-b-clause-fits t c =
     let d = c.args.level in
-    sizes_fit d c.args.a.now c.args.b.now c.as_slice.result.now c.as_slice-in-Sizes-b.result.now c.in_ok-met-in-Sizes-b.met (c.in-Sizes.is ∙ ap Sizes (sym c.as_slice.ensures)) (c.in-Sizes-b.is ∙ ap Sizes (sym c.as_slice-in-Sizes-b.ensures)) c.requires.a c.requires.b c.in_ok-met-in-Sizes-b.ensures.value c.in_ok-met-in-Sizes-b.ensures.each
+    subst (λ ss. TuplesFit d (Sizes ss)) (sym c.in_ok-new-in-Sizes-b.ensures) (sizes_fit d c.args.a.now c.args.b.now c.as_slice.result.now c.as_slice-in-Sizes-b.result.now c.in_ok-met-in-Sizes-b.met (c.in-Sizes.is ∙ ap Sizes (sym c.as_slice.ensures)) (c.in-Sizes-b.is ∙ ap Sizes (sym c.as_slice-in-Sizes-b.ensures)) c.requires.a c.requires.b c.in_ok-met-in-Sizes-b.ensures.value c.in_ok-met-in-Sizes-b.ensures.each)

@@ -7,4 +7,4 @@ pub returns-in-Any : goal.returns-in-Any
 returns-in-Any c = λ d h. any_has_atom c.args.t.now c.in-Any.is c.args.atom.now d
 
 pub returns-in-Of : goal.returns-in-Of
-returns-in-Of c = of_has_atom c.args.t.now c.in-Of.parts c.in-Of.is c.args.atom.now c.contains.result (c.contains.ensures ∙ ap (λ p. has p.plain.atoms c.args.atom.now) c.parts.view_is)
+returns-in-Of c = of_has_atom c.args.t.now c.in-Of.parts c.in-Of.is c.args.atom.now c.contains.result (c.contains.ensures ∙ ap (has _) c.get.ensures ∙ ap (λ p. has p.plain.atoms c.args.atom.now) c.parts.view_is)

@@ -17,9 +17,9 @@ returns-then-is_none-clause-value c =
       | then-is_none-via-else-is_none+then-is_none-2 w ↦ cons_none_tail c.args.head.now c.args.tail.now c.none.result (asks_proper c.args.ends) (sym c.is_none.ensures.value ∙ w.if-is_none.false) (sym w.is_none-else-is_none.ensures.value ∙ w.if-is_none-2.true) c.none.ensures.value
     ]
 
-pub cell_alone-requires-clause-filled : goal.cell_alone-requires-clause-filled
-cell_alone-requires-clause-filled c =
-    element_filled c.args.head.now c.args.tail.now c.head.inside.kept.node c.tail.inside.kept.node c.in_ok-low.low c.in_ok-element.element (ap (λ t. t.ty) c.head.view_is) (ap (λ t. t.ty) c.tail.view_is) (sym c.is_none.ensures.value ∙ c.if-is_none.false) (sym c.is_none-else-is_none.ensures.value ∙ c.if-is_none-2.false) c.in_ok-low.ensures.value c.in_ok-element.ensures.value
+pub of_node-requires : goal.of_node-requires
+of_node-requires c =
+    c.in_ok-lists_of.ensures.fits 3 c.in_ok-element.ensures.fits (element_filled c.args.head.now c.args.tail.now c.head.inside.kept.node c.tail.inside.kept.node c.in_ok-low.low c.in_ok-element.element (ap (λ t. t.ty) c.head.view_is) (ap (λ t. t.ty) c.tail.view_is) (sym c.is_none.ensures.value ∙ c.if-is_none.false) (sym c.is_none-else-is_none.ensures.value ∙ c.if-is_none-2.false) c.in_ok-low.ensures.value c.in_ok-element.ensures.value)
 
 pub returns-clause-value : goal.returns-clause-value
 returns-clause-value c =
@@ -29,7 +29,7 @@ returns-clause-value c =
       | then-eq w ↦ proper_asked c.args.ends c.eq.result c.if-eq.is_proper lists c.eq.ensures w.if-eq.true (w.is_proper-is ∙ w.is_list-is_proper.ensures)
       | else-eq w ↦ free_asked c.args.ends c.eq.result c.if-eq.is_proper lists c.eq.ensures w.if-eq.false w.is_proper-is
     ] in
-    cons_type c.args.head.now c.args.tail.now c.of_node.result (asks_proper c.args.ends) c.if-eq.is_proper c.head.inside.kept.node c.tail.inside.kept.node c.in_ok-low.low c.in_ok-element.element c.in_ok-cell_alone.field-0 (ap (λ t. t.ty) c.head.view_is) (ap (λ t. t.ty) c.tail.view_is) (sym c.is_none.ensures.value ∙ c.if-is_none.false) (sym c.is_none-else-is_none.ensures.value ∙ c.if-is_none-2.false) c.in_ok-low.ensures.value c.in_ok-element.ensures.value ends c.in_ok-cell_alone.ensures.value c.of_node.ensures
+    cons_type c.args.head.now c.args.tail.now c.of_node.result (asks_proper c.args.ends) c.if-eq.is_proper c.head.inside.kept.node c.tail.inside.kept.node c.in_ok-low.low c.in_ok-element.element c.in_ok-lists_of.field-0 (ap (λ t. t.ty) c.head.view_is) (ap (λ t. t.ty) c.tail.view_is) (sym c.is_none.ensures.value ∙ c.if-is_none.false) (sym c.is_none-else-is_none.ensures.value ∙ c.if-is_none-2.false) c.in_ok-low.ensures.value c.in_ok-element.ensures.value ends (c.in_ok-lists_of.ensures.value 3) c.of_node.ensures
 
 pub returns-clause-above : goal.returns-clause-above
 returns-clause-above c = λ x y f g.

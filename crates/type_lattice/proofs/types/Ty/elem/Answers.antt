@@ -10,10 +10,6 @@ pub returns-in_default-clause-value : goal.returns-in_default-clause-value
 returns-in_default-clause-value c =
     elem_any c.args.self.now c.any.result (any_is c.args.self.now c.self.inside.kept.node c.in_default.is (ap (λ t. t.ty) c.self.view_is)) c.any.ensures.value
 
-pub copy-requires : goal.copy-requires
-copy-requires c =
-    subst (Fits 3) (sym c.get.ensures) (cell_fits c.self.inside.kept.node c.in-Of.parts c.in-Some.cell c.in-Of.is c.self.invariant c.in-Some.is).each
-
 pub of_node-requires : goal.of_node-requires
 of_node-requires c =
     let n = c.in_ok-copy-in-Some.field-0 in

@@ -1,8 +1,10 @@
-use Rattle.type_lattice.proofs.TypeModels.{tuples_fit, tuples_type}
+use Rattle.std.proofs.Common.{◌∙◌}
+use Rattle.type_lattice.specs.Types.{same_type, every_tuple}
 use Rattle.type_lattice.proofs.types.Ty.every_tuple.Goals as goal
 
 pub of_node-requires : goal.of_node-requires
-of_node-requires c = tuples_fit c.none.result c.none.ensures
+of_node-requires c = c.every_tuple.ensures.fits 3
 
 pub returns : goal.returns
-returns c = tuples_type c.of_node.result c.none.result c.none.ensures c.of_node.ensures
+unfolding every_tuple
+returns c = same_type c.of_node.result every_tuple (c.of_node.ensures ∙ c.every_tuple.ensures.value 3)

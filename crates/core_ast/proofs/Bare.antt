@@ -1,0 +1,251 @@
+-- Equality apart from places: item by item of lists, and form by form of trees.
+use Rattle.std.proofs.Common.{◌≡◌, ℕ, suc, true≢false, ◌+◌, ◌<◌, ◌≤◌, ◌↔◌, List, [], ◌∷◌, map, length, drop, get_or, Bool, true, false, IsTrue, refl, sym, ap, ◌∙◌, subst, add-one, drop-cons}
+use mathlib.Core.Bool.{not, beq}
+use denote.Param.Weighed.{most, at_most}
+use Rattle.std.proofs.lemmas.List.{drop_all, length-map, map-id}
+use Rattle.core_ast.specs.declared.syntax.FunDefOf.{FunDefOf}
+use Rattle.core_ast.specs.declared.syntax.StepOf.{StepOf}
+use Rattle.core_ast.specs.declared.syntax.StepOf.TheVariants.{Let, Do}
+use Rattle.core_ast.specs.declared.syntax.Expr.{Expr}
+use Rattle.core_ast.specs.declared.syntax.Clause.{Clause}
+use Rattle.core_ast.specs.declared.syntax.MapPair.{MapPair}
+use Rattle.core_ast.specs.declared.syntax.PatPair.{PatPair}
+use Rattle.core_ast.specs.declared.syntax.Segment.{Segment}
+use Rattle.core_ast.specs.declared.syntax.PatSegment.{PatSegment}
+use Rattle.core_ast.specs.declared.syntax.Pattern.{Pattern}
+use Rattle.core_ast.specs.Model as m
+use Rattle.core_ast.specs.Tree.{ClauseParts, PairParts, PatPairParts, SegmentParts, PatSegmentParts, trees, patterns, pairs, pat_pairs, segments, pat_segments, clauses, steps, defs, tree, pattern_tree, clause_parts, pair_parts, pat_pair_parts, segment_parts, pat_segment_parts, step_tree, def_tree, all_trees, all_patterns, all_clauses, all_pairs, all_pat_pairs, all_segments, all_pat_segments, all_steps, all_defs}
+use Rattle.core_ast.specs.Same.{bare_mark, bare_variable, bare, bare_all, bare_pairs, bare_segments, bare_steps, bare_clauses, bare_defs, bare_pattern, bare_patterns, bare_pat_pairs, bare_pat_segments}
+use Rattle.core_ast.specs.steps.Comparing.{bare_pair, bare_segment, bare_step, bare_clause, bare_def, bare_pat_pair, bare_pat_segment}
+
+-- ---- tests
+
+pub no_way : {P : Type 0} → (P → ⊥) → IsTrue false ↔ P
+no_way never = (λ h. absurd (true≢false (sym h)), λ p. absurd (never p))
+
+pub surely : {P : Type 0} → P → IsTrue true ↔ P
+surely p = (λ h. p, λ q. refl)
+
+pub through : {P Q : Type 0} (r : Bool) → (P ↔ Q) → (IsTrue r ↔ P) → IsTrue r ↔ Q
+through r both tells = (λ h. both.0 (tells.0 h), λ q. tells.1 (both.1 q))
+
+pub fails : {P : Type 0} (r : Bool) → r ≡ false → (IsTrue r ↔ P) → P → ⊥
+fails r not tells p = true≢false (sym (tells.1 p) ∙ not)
+
+-- what a test of two truth values says
+pub flags_differ : (a b : Bool) → not (beq a b) ≡ true → a ≡ b → ⊥
+flags_differ true true h e = true≢false (sym h)
+flags_differ false false h e = true≢false (sym h)
+flags_differ true false h e = true≢false e
+flags_differ false true h e = true≢false (sym e)
+
+pub flags_same : (a b : Bool) → not (beq a b) ≡ false → a ≡ b
+flags_same true true h = refl
+flags_same false false h = refl
+flags_same true false h = absurd (true≢false h)
+flags_same false true h = absurd (true≢false h)
+
+-- ---- lists, item by item
+
+-- the lists are as long as each other, and they are the same where what is left is
+pub record SoFar {X Y : Type 0} (f : X → Y) (xs ys : List X) (i : ℕ) : Type 0 where
+  pub lengths : length xs ≡ length ys
+  pub left : (map f xs ≡ map f ys) ↔ (map f (drop i xs) ≡ map f (drop i ys))
+
+left_from : {X Y : Type 0} (f : X → Y) (xs : List X) (i : ℕ) (x : X) → i < length xs → x ≡ get_or xs i x → map f (drop i xs) ≡ f x ∷ map f (drop (i + 1) xs)
+left_from f xs i x within is = ap (map f) (drop-cons xs i x within) ∙ ap (λ y. f y ∷ map f (drop (suc i) xs)) (sym is) ∙ ap (λ n. f x ∷ map f (drop n xs)) (sym (add-one i))
+
+heads : {Y : Type 0} (a b : Y) (ps qs : List Y) → a ∷ ps ≡ b ∷ qs → a ≡ b
+heads a b ps qs e = cc
+
+tails : {Y : Type 0} (a b : Y) (ps qs : List Y) → a ∷ ps ≡ b ∷ qs → ps ≡ qs
+tails a b ps qs e = cc
+
+pub begun : {X Y : Type 0} (f : X → Y) (xs ys : List X) → length xs ≡ length ys → SoFar f xs ys 0
+begun f xs ys e = record { lengths = e; left = (λ h. h, λ h. h) }
+
+pub one_more : {X Y : Type 0} (f : X → Y) (xs ys : List X) (i : ℕ) (x y : X) (r : Bool) → i < length xs → SoFar f xs ys i → x ≡ get_or xs i x → y ≡ get_or ys i y → (IsTrue r ↔ (f x ≡ f y)) → r ≡ true → SoFar f xs ys (i + 1)
+one_more f xs ys i x y r within so is js tells same =
+    let a = left_from f xs i x within is in
+    let b = left_from f ys i y (subst (λ n. i < n) so.lengths within) js in
+    let e : f x ≡ f y = tells.0 same in
+    record {
+      lengths = so.lengths;
+      left = (λ h. tails _ _ _ _ (sym a ∙ so.left.0 h ∙ b), λ h. so.left.1 (a ∙ ap (λ z. z ∷ map f (drop (i + 1) xs)) e ∙ ap (λ zs. f y ∷ zs) h ∙ sym b));
+    }
+
+pub unlike : {X Y : Type 0} (f : X → Y) (xs ys : List X) (i : ℕ) (x y : X) (r : Bool) → i < length xs → SoFar f xs ys i → x ≡ get_or xs i x → y ≡ get_or ys i y → (IsTrue r ↔ (f x ≡ f y)) → r ≡ false → IsTrue false ↔ (map f xs ≡ map f ys)
+unlike f xs ys i x y r within so is js tells differs =
+    let a = left_from f xs i x within is in
+    let b = left_from f ys i y (subst (λ n. i < n) so.lengths within) js in
+    no_way (λ h. fails r differs tells (heads _ _ _ _ (sym a ∙ so.left.0 h ∙ b)))
+
+nothing_left : {X Y : Type 0} (f : X → Y) (xs : List X) (i : ℕ) → length xs ≤ i → map f (drop i xs) ≡ []
+nothing_left f xs i past = ap (map f) (drop_all i xs past)
+
+pub alike : {X Y : Type 0} (f : X → Y) (xs ys : List X) (i : ℕ) → SoFar f xs ys i → length xs ≤ i → IsTrue true ↔ (map f xs ≡ map f ys)
+alike f xs ys i so past = surely (so.left.1 (nothing_left f xs i past ∙ sym (nothing_left f ys i (subst (λ n. n ≤ i) so.lengths past))))
+
+pub other_length : {X Y : Type 0} (f : X → Y) (xs ys : List X) → (length xs ≡ length ys → ⊥) → IsTrue false ↔ (map f xs ≡ map f ys)
+other_length f xs ys differ = no_way (λ h. differ (sym (length-map xs f) ∙ ap length h ∙ length-map ys f))
+
+-- an item of a list weighs no more than the heaviest
+pub no_heavier : {X : Type 0} (μ : X → ℕ) (xs : List X) (i : ℕ) (x : X) → i < length xs → x ≡ get_or xs i x → μ x ≤ most μ xs
+no_heavier μ xs i x within is = subst (λ z. μ z ≤ most μ xs) (sym is) (at_most μ xs i x within)
+
+pub names_same : {X : Type 0} (xs ys : List X) → (map (λ (x : X). x) xs ≡ map (λ (x : X). x) ys) ↔ (xs ≡ ys)
+names_same xs ys = (λ h. sym (map-id xs) ∙ h ∙ map-id ys, λ h. map-id xs ∙ h ∙ sym (map-id ys))
+
+-- ---- lists of the model
+
+-- a list of the model is made of its items, and has them
+by_items : {X Y M : Type 0} (f : X → Y) (view : List X → M) (pack : List Y → M) (unpack : M → List Y) → ((xs : List X) → view xs ≡ pack (map f xs)) → ((ys : List Y) → unpack (pack ys) ≡ ys) → (xs ys : List X) → (map f xs ≡ map f ys) ↔ (view xs ≡ view ys)
+by_items f view pack unpack made has xs ys =
+    (λ h. made xs ∙ ap pack h ∙ sym (made ys), λ h. sym (has (map f xs)) ∙ ap unpack (sym (made xs) ∙ h ∙ made ys) ∙ has (map f ys))
+
+un_trees : m.Trees → List m.Tree
+un_trees m.no_tree = []
+un_trees (m.and_tree t ts) = t ∷ un_trees ts
+
+un_trees-has : (ys : List m.Tree) → un_trees (trees ys) ≡ ys
+unfolding un_trees
+un_trees-has [] = refl
+un_trees-has (y ∷ ys) = ap (λ zs. y ∷ zs) (un_trees-has ys)
+
+all-made : (xs : List Expr) → bare_all (all_trees xs) ≡ trees (map (λ e. bare (tree e)) xs)
+all-made [] = refl
+all-made (x ∷ xs) = ap (m.and_tree (bare (tree x))) (all-made xs)
+
+pub all_same : (xs ys : List Expr) → (map (λ e. bare (tree e)) xs ≡ map (λ e. bare (tree e)) ys) ↔ (bare_all (all_trees xs) ≡ bare_all (all_trees ys))
+all_same = by_items (λ e. bare (tree e)) (λ xs. bare_all (all_trees xs)) trees un_trees all-made un_trees-has
+
+un_pairs : m.Pairs → List PairParts
+un_pairs m.no_pair = []
+un_pairs (m.and_pair e k v ps) = (record { exact = e; key = k; value = v }) ∷ un_pairs ps
+
+un_pairs-has : (ys : List PairParts) → un_pairs (pairs ys) ≡ ys
+unfolding un_pairs
+un_pairs-has [] = refl
+un_pairs-has (y ∷ ys) = ap (λ zs. y ∷ zs) (un_pairs-has ys)
+
+pairs-made : (xs : List MapPair) → bare_pairs (all_pairs xs) ≡ pairs (map (λ e. bare_pair (pair_parts e)) xs)
+pairs-made [] = refl
+pairs-made (x ∷ xs) = ap (m.and_pair (pair_parts x).exact (bare (pair_parts x).key) (bare (pair_parts x).value)) (pairs-made xs)
+
+pub pairs_same : (xs ys : List MapPair) → (map (λ e. bare_pair (pair_parts e)) xs ≡ map (λ e. bare_pair (pair_parts e)) ys) ↔ (bare_pairs (all_pairs xs) ≡ bare_pairs (all_pairs ys))
+pairs_same = by_items (λ e. bare_pair (pair_parts e)) (λ xs. bare_pairs (all_pairs xs)) pairs un_pairs pairs-made un_pairs-has
+
+un_segments : m.Segments → List SegmentParts
+un_segments m.no_segment = []
+un_segments (m.and_segment v args ss) = (record { value = v; args = args }) ∷ un_segments ss
+
+un_segments-has : (ys : List SegmentParts) → un_segments (segments ys) ≡ ys
+unfolding un_segments
+un_segments-has [] = refl
+un_segments-has (y ∷ ys) = ap (λ zs. y ∷ zs) (un_segments-has ys)
+
+segments-made : (xs : List Segment) → bare_segments (all_segments xs) ≡ segments (map (λ e. bare_segment (segment_parts e)) xs)
+segments-made [] = refl
+segments-made (x ∷ xs) = ap (m.and_segment (bare (segment_parts x).value) (bare_all (segment_parts x).args)) (segments-made xs)
+
+pub segments_same : (xs ys : List Segment) → (map (λ e. bare_segment (segment_parts e)) xs ≡ map (λ e. bare_segment (segment_parts e)) ys) ↔ (bare_segments (all_segments xs) ≡ bare_segments (all_segments ys))
+segments_same = by_items (λ e. bare_segment (segment_parts e)) (λ xs. bare_segments (all_segments xs)) segments un_segments segments-made un_segments-has
+
+un_clauses : m.Clauses → List ClauseParts
+un_clauses m.no_clause = []
+un_clauses (m.and_clause k ps g b cs) = (record { mark = k; patterns = ps; guard = g; body = b }) ∷ un_clauses cs
+
+un_clauses-has : (ys : List ClauseParts) → un_clauses (clauses ys) ≡ ys
+unfolding un_clauses
+un_clauses-has [] = refl
+un_clauses-has (y ∷ ys) = ap (λ zs. y ∷ zs) (un_clauses-has ys)
+
+clauses-made : (xs : List Clause) → bare_clauses (all_clauses xs) ≡ clauses (map (λ e. bare_clause (clause_parts e)) xs)
+clauses-made [] = refl
+clauses-made (x ∷ xs) = ap (m.and_clause (bare_mark (clause_parts x).mark) (bare_patterns (clause_parts x).patterns) (bare (clause_parts x).guard) (bare (clause_parts x).body)) (clauses-made xs)
+
+pub clauses_same : (xs ys : List Clause) → (map (λ e. bare_clause (clause_parts e)) xs ≡ map (λ e. bare_clause (clause_parts e)) ys) ↔ (bare_clauses (all_clauses xs) ≡ bare_clauses (all_clauses ys))
+clauses_same = by_items (λ e. bare_clause (clause_parts e)) (λ xs. bare_clauses (all_clauses xs)) clauses un_clauses clauses-made un_clauses-has
+
+un_defs : m.Defs → List (FunDefOf m.Tree)
+un_defs m.no_def = []
+un_defs (m.and_def n k vs b ds) = (record { name = n; mark = k; fun = record { params = vs; body = b } }) ∷ un_defs ds
+
+un_defs-has : (ys : List (FunDefOf m.Tree)) → un_defs (defs ys) ≡ ys
+unfolding un_defs
+un_defs-has [] = refl
+un_defs-has (y ∷ ys) = ap (λ zs. y ∷ zs) (un_defs-has ys)
+
+defs-made : (xs : List (FunDefOf Expr)) → bare_defs (all_defs xs) ≡ defs (map (λ e. bare_def (def_tree e)) xs)
+defs-made [] = refl
+defs-made (x ∷ xs) = ap (m.and_def x.name (bare_mark x.mark) (map bare_variable x.fun.params) (bare (tree x.fun.body))) (defs-made xs)
+
+pub defs_same : (xs ys : List (FunDefOf Expr)) → (map (λ e. bare_def (def_tree e)) xs ≡ map (λ e. bare_def (def_tree e)) ys) ↔ (bare_defs (all_defs xs) ≡ bare_defs (all_defs ys))
+defs_same = by_items (λ e. bare_def (def_tree e)) (λ xs. bare_defs (all_defs xs)) defs un_defs defs-made un_defs-has
+
+un_patterns : m.Patterns → List m.Pattern
+un_patterns m.no_pattern = []
+un_patterns (m.and_pattern t ts) = t ∷ un_patterns ts
+
+un_patterns-has : (ys : List m.Pattern) → un_patterns (patterns ys) ≡ ys
+unfolding un_patterns
+un_patterns-has [] = refl
+un_patterns-has (y ∷ ys) = ap (λ zs. y ∷ zs) (un_patterns-has ys)
+
+patterns-made : (xs : List Pattern) → bare_patterns (all_patterns xs) ≡ patterns (map (λ e. bare_pattern (pattern_tree e)) xs)
+patterns-made [] = refl
+patterns-made (x ∷ xs) = ap (m.and_pattern (bare_pattern (pattern_tree x))) (patterns-made xs)
+
+pub patterns_same : (xs ys : List Pattern) → (map (λ e. bare_pattern (pattern_tree e)) xs ≡ map (λ e. bare_pattern (pattern_tree e)) ys) ↔ (bare_patterns (all_patterns xs) ≡ bare_patterns (all_patterns ys))
+patterns_same = by_items (λ e. bare_pattern (pattern_tree e)) (λ xs. bare_patterns (all_patterns xs)) patterns un_patterns patterns-made un_patterns-has
+
+un_pat_pairs : m.PatPairs → List PatPairParts
+un_pat_pairs m.no_pat_pair = []
+un_pat_pairs (m.and_pat_pair k v ps) = (record { key = k; value = v }) ∷ un_pat_pairs ps
+
+un_pat_pairs-has : (ys : List PatPairParts) → un_pat_pairs (pat_pairs ys) ≡ ys
+unfolding un_pat_pairs
+un_pat_pairs-has [] = refl
+un_pat_pairs-has (y ∷ ys) = ap (λ zs. y ∷ zs) (un_pat_pairs-has ys)
+
+pat_pairs-made : (xs : List PatPair) → bare_pat_pairs (all_pat_pairs xs) ≡ pat_pairs (map (λ e. bare_pat_pair (pat_pair_parts e)) xs)
+pat_pairs-made [] = refl
+pat_pairs-made (x ∷ xs) = ap (m.and_pat_pair (bare (pat_pair_parts x).key) (bare_pattern (pat_pair_parts x).value)) (pat_pairs-made xs)
+
+pub pat_pairs_same : (xs ys : List PatPair) → (map (λ e. bare_pat_pair (pat_pair_parts e)) xs ≡ map (λ e. bare_pat_pair (pat_pair_parts e)) ys) ↔ (bare_pat_pairs (all_pat_pairs xs) ≡ bare_pat_pairs (all_pat_pairs ys))
+pat_pairs_same = by_items (λ e. bare_pat_pair (pat_pair_parts e)) (λ xs. bare_pat_pairs (all_pat_pairs xs)) pat_pairs un_pat_pairs pat_pairs-made un_pat_pairs-has
+
+un_pat_segments : m.PatSegments → List PatSegmentParts
+un_pat_segments m.no_pat_segment = []
+un_pat_segments (m.and_pat_segment v args ss) = (record { value = v; args = args }) ∷ un_pat_segments ss
+
+un_pat_segments-has : (ys : List PatSegmentParts) → un_pat_segments (pat_segments ys) ≡ ys
+unfolding un_pat_segments
+un_pat_segments-has [] = refl
+un_pat_segments-has (y ∷ ys) = ap (λ zs. y ∷ zs) (un_pat_segments-has ys)
+
+pat_segments-made : (xs : List PatSegment) → bare_pat_segments (all_pat_segments xs) ≡ pat_segments (map (λ e. bare_pat_segment (pat_segment_parts e)) xs)
+pat_segments-made [] = refl
+pat_segments-made (x ∷ xs) = ap (m.and_pat_segment (bare_pattern (pat_segment_parts x).value) (bare_all (pat_segment_parts x).args)) (pat_segments-made xs)
+
+pub pat_segments_same : (xs ys : List PatSegment) → (map (λ e. bare_pat_segment (pat_segment_parts e)) xs ≡ map (λ e. bare_pat_segment (pat_segment_parts e)) ys) ↔ (bare_pat_segments (all_pat_segments xs) ≡ bare_pat_segments (all_pat_segments ys))
+pat_segments_same = by_items (λ e. bare_pat_segment (pat_segment_parts e)) (λ xs. bare_pat_segments (all_pat_segments xs)) pat_segments un_pat_segments pat_segments-made un_pat_segments-has
+
+un_steps : m.Steps → List (StepOf m.Tree)
+un_steps m.no_step = []
+un_steps (m.and_let k xs t ss) = Let k xs t ∷ un_steps ss
+un_steps (m.and_do k t ss) = Do k t ∷ un_steps ss
+
+un_steps-has : (ys : List (StepOf m.Tree)) → un_steps (steps ys) ≡ ys
+unfolding un_steps
+un_steps-has [] = refl
+un_steps-has (Let k xs t ∷ ys) = ap (λ zs. Let k xs t ∷ zs) (un_steps-has ys)
+un_steps-has (Do k t ∷ ys) = ap (λ zs. Do k t ∷ zs) (un_steps-has ys)
+
+steps-made : (xs : List (StepOf Expr)) → bare_steps (all_steps xs) ≡ steps (map (λ e. bare_step (step_tree e)) xs)
+steps-made [] = refl
+steps-made (Let k vs e ∷ xs) = ap (m.and_let (bare_mark k) (map bare_variable vs) (bare (tree e))) (steps-made xs)
+steps-made (Do k e ∷ xs) = ap (m.and_do (bare_mark k) (bare (tree e))) (steps-made xs)
+
+pub steps_same : (xs ys : List (StepOf Expr)) → (map (λ e. bare_step (step_tree e)) xs ≡ map (λ e. bare_step (step_tree e)) ys) ↔ (bare_steps (all_steps xs) ≡ bare_steps (all_steps ys))
+steps_same = by_items (λ e. bare_step (step_tree e)) (λ xs. bare_steps (all_steps xs)) steps un_steps steps-made un_steps-has

@@ -1,0 +1,4 @@
+mod LineTexts
+mod OneOrder
+mod Parts
+mod Sorting
