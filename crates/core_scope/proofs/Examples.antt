@@ -7,8 +7,8 @@ use Rattle.core_ast.specs.declared.syntax.VarName.{VarName}
 use Rattle.core_ast.specs.declared.syntax.Literal.TheVariants as l
 use Rattle.core_ast.specs.Model as m
 use Rattle.core_scope.specs.declared.ask.Ask.TheVariants.{AnyNumber, Exactly}
-use Rattle.core_scope.specs.declared.fault.Rule.{Rule}
-use Rattle.core_scope.specs.declared.fault.Rule.TheVariants.{BoundVariables, DistinctVariables, DefinedFunctions, DistinctFunctions, DefinedExports, Degrees}
+use Rattle.core_scope.specs.declared.fault.ScopeRule.{ScopeRule}
+use Rattle.core_scope.specs.declared.fault.ScopeRule.TheVariants.{BoundVariables, DistinctVariables, DefinedFunctions, DistinctFunctions, DefinedExports, Degrees}
 use Rattle.core_scope.specs.declared.fault.Break.{Break}
 use Rattle.core_scope.specs.Names.{Scope}
 use Rattle.core_scope.specs.Asks.{one_value, function_name}
@@ -25,7 +25,7 @@ at byte = record { label = 0; place = place byte; note = record { line = None; g
 abbrev named : ℕ → Atom → VarName
 named byte x = record { name = x; place = place byte; note = record { line = None; generated = false } }
 
-abbrev broken : ℕ → Rule → Break
+abbrev broken : ℕ → ScopeRule → Break
 broken byte rule = record { place = place byte; rule = rule }
 
 abbrev nowhere : Scope

@@ -13,7 +13,7 @@ use Rattle.core_ast.specs.declared.syntax.FunName.{FunName}
 use Rattle.core_ast.specs.Model as m
 use Rattle.core_ast.specs.Lengths.{how_many_patterns}
 use Rattle.core_scope.specs.declared.ask.Ask.{Ask}
-use Rattle.core_scope.specs.declared.fault.Rule.{Rule}
+use Rattle.core_scope.specs.declared.fault.ScopeRule.{ScopeRule}
 use Rattle.core_scope.specs.Names.{Distinct, same_atom, same_function, has_variable, has_function, defined_names, Scope}
 use Rattle.core_scope.specs.Asks.{gives, suffices}
 use Rattle.core_scope.specs.Breaks.{unless, degree, use_of_variable, use_of_function, new_functions, arity_of, width_of, catches, module_breaks}
@@ -38,7 +38,7 @@ pub ruleset unbroken = (open_two, open_three, open_four, open_five, open_seven)
 
 -- ---- what a test says that passes
 
-pub holds : (b : Bool) (rule : Rule) (place : Place) → unless b rule place ≡ [] → b ≡ true
+pub holds : (b : Bool) (rule : ScopeRule) (place : Place) → unless b rule place ≡ [] → b ≡ true
 holds true rule place e = refl
 holds false rule place e = absurd cc
 
