@@ -31,36 +31,6 @@ atoms_only s v = (λ h. grind arith, λ h. grind arith)
 ints_only : (s : Numbers) → Only (record { atoms = names.none; ints = s; bits = No; flags = no_flags; functions = no_function }) (λ v. HasInt v s)
 ints_only s v = (λ h. grind arith, λ h. grind arith)
 
-float_only : Only (plain_of_kind kind.Float) (IsKind kind.Float)
-float_only v = (λ h. grind arith, λ h. grind arith)
-
-binary_only : Only (plain_of_kind kind.Binary) (IsKind kind.Binary)
-binary_only v = (λ h. grind arith, λ h. grind arith)
-
-bitstring_only : Only (plain_of_kind kind.Bitstring) (IsKind kind.Bitstring)
-bitstring_only v = (λ h. grind arith, λ h. grind arith)
-
-pid_only : Only (plain_of_kind kind.Pid) (IsKind kind.Pid)
-pid_only v = (λ h. grind arith, λ h. grind arith)
-
-port_only : Only (plain_of_kind kind.Port) (IsKind kind.Port)
-port_only v = (λ h. grind arith, λ h. grind arith)
-
-reference_only : Only (plain_of_kind kind.Reference) (IsKind kind.Reference)
-reference_only v = (λ h. grind arith, λ h. grind arith)
-
-map_only : Only (plain_of_kind kind.Map) (IsKind kind.Map)
-map_only v = (λ h. grind arith, λ h. grind arith)
-
-nil_only : Only (plain_of_kind kind.Nil) (IsKind kind.Nil)
-nil_only v = (λ h. grind arith, λ h. grind arith)
-
-functions_only : Only (plain_of_kind kind.AnyFun) (IsKind kind.AnyFun)
-functions_only v = (λ h. grind arith, λ h. grind arith)
-
-arity_only : (n : ℕ) → n < 2 ^ 32 → Only (plain_of_kind (kind.FunOf n)) (IsKind (kind.FunOf n))
-arity_only n k v = (λ h. grind arith, λ h. grind arith)
-
 tuples_only : (v : Value) → HasAt 4 v every_tuple.ty ↔ IsKind kind.AnyTuple v
 unfolding every_tuple
 tuples_only v = (λ h. grind arith, λ h. grind arith)
@@ -77,17 +47,8 @@ ints_type s t p e f = same_type t (of_ints s) (f ∙ ap (λ q. alone (record { a
 
 plain_kind_type : (k : Kind) → (k ≡ kind.AnyTuple → ⊥) → alone (plain_of_kind k) ≡ (of_kind k).ty
 unfolding of_kind
-plain_kind_type kind.Float f = refl
-plain_kind_type kind.Binary f = refl
-plain_kind_type kind.Bitstring f = refl
-plain_kind_type kind.Pid f = refl
-plain_kind_type kind.Port f = refl
-plain_kind_type kind.Reference f = refl
-plain_kind_type kind.Map f = refl
-plain_kind_type kind.AnyFun f = refl
-plain_kind_type (kind.FunOf n) f = refl
-plain_kind_type kind.Nil f = refl
 plain_kind_type kind.AnyTuple f = absurd (f refl)
+plain_kind_type k f = refl
 
 pub kind_type : (k : Kind) (t : Type4) (p : PlainParts) → (k ≡ kind.AnyTuple → ⊥) → p ≡ plain_of_kind k → t.ty ≡ alone p → t ≡ of_kind k
 kind_type k t p n e f = same_type t (of_kind k) (f ∙ ap alone e ∙ plain_kind_type k n)
@@ -109,17 +70,9 @@ ints-only s v = ints_only s v
 -- an arity is a number of 32 bits
 pub kind-only : (k : Kind) → ((n : ℕ) → k ≡ kind.FunOf n → n < 2 ^ 32) → (v : Value) → HasType v (of_kind k) ↔ IsKind k v
 unfolding HasType of_kind
-kind-only kind.Float f v = float_only v
-kind-only kind.Binary f v = binary_only v
-kind-only kind.Bitstring f v = bitstring_only v
-kind-only kind.Pid f v = pid_only v
-kind-only kind.Port f v = port_only v
-kind-only kind.Reference f v = reference_only v
-kind-only kind.Map f v = map_only v
-kind-only kind.AnyFun f v = functions_only v
-kind-only (kind.FunOf n) f v = arity_only n (f n refl) v
-kind-only kind.Nil f v = nil_only v
+kind-only (kind.FunOf n) f v = let k = f n refl in (λ h. grind arith, λ h. grind arith)
 kind-only kind.AnyTuple f v = tuples_only v
+kind-only k f v = (λ h. grind arith, λ h. grind arith)
 
 pub no_arity : (k : Kind) → k ≡ kind.AnyTuple → (n : ℕ) → k ≡ kind.FunOf n → n < 2 ^ 32
 no_arity k e n f = absurd (let g = sym e ∙ f in cc)

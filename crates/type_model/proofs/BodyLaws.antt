@@ -8,7 +8,7 @@ use Rattle.type_sets.specs.Names.{Name, name_cmp, are_listed}
 use Rattle.type_sets.proofs.Truths.{both}
 use Rattle.type_sets.proofs.AscendingLaws as ascending
 use Rattle.type_sets.proofs.NameLaws.{name_total, name_same, listed-ascending, listed-few}
-use Rattle.type_model.specs.Values.{Value, int, atom, bits, float, pid, port, reference, nil, cons, tuple, map, closure, external, foreign, Values, no_value, and_value, count}
+use Rattle.type_model.specs.Values.{Value, atom, Values, no_value, and_value, count}
 use Rattle.type_model.specs.Tables.{keys, held, all_hold, is_table, find}
 use Rattle.type_model.specs.Shapes.{Body, product, tags}
 use Rattle.type_model.specs.HasType.{HasEach, HasRow, HasTag, HasBody}
@@ -84,21 +84,8 @@ module _ {E : Type 0} {Has : Value → E → Type 0} {Normal : E → Type 0} {o 
 
   -- what a tuple of some tags begins with
   pub tagged : (vs : Values) (m : List (Name × List E)) → HasTag Has vs m → (a : Name) × ((ws : Values) × ((vs ≡ and_value (atom a) ws) × HasRow Has ws (find name_cmp m a)))
-  tagged no_value m h = absurd h
-  tagged (and_value (int n) vs) m h = absurd h
   tagged (and_value (atom a) vs) m h = (a, (vs, (refl, h)))
-  tagged (and_value (bits bs) vs) m h = absurd h
-  tagged (and_value (float s) vs) m h = absurd h
-  tagged (and_value (pid n) vs) m h = absurd h
-  tagged (and_value (port n) vs) m h = absurd h
-  tagged (and_value (reference n) vs) m h = absurd h
-  tagged (and_value (map ps) vs) m h = absurd h
-  tagged (and_value nil vs) m h = absurd h
-  tagged (and_value (cons x y) vs) m h = absurd h
-  tagged (and_value (tuple us) vs) m h = absurd h
-  tagged (and_value (closure x f n env) vs) m h = absurd h
-  tagged (and_value (external x f n) vs) m h = absurd h
-  tagged (and_value (foreign x n) vs) m h = absurd h
+  tagged vs m h = absurd h
 
   key_in : (m : Rows) (a : Name) (es : List E) → at m a ≡ Some es → has_item name_cmp (keys m) a ≡ true
   key_in m a es e = sym (tables.find-key name_total name_same m a) ∙ ap is_some e

@@ -259,20 +259,9 @@ module _ {F E : Type 0} {HasF : Value → F → Type 0} {NormalF : F → Type 0}
 
   -- ---- the parts of a type
   parts_above : (p : Parts F) → NormalParts NormalF f p → (v : Value) → HasParts HasF v p → HasParts HasE v (parts_lower lower f e p)
-  parts_above p k (int n) h = h
-  parts_above p k (atom a) h = h
-  parts_above p k (bits bs) h = h
-  parts_above p k (float x) h = h
-  parts_above p k (pid n) h = h
-  parts_above p k (port n) h = h
-  parts_above p k (reference n) h = h
-  parts_above p k (map_value ps) h = h
-  parts_above p k nil h = h
   parts_above p k (cons x y) h = cell_above p.cell k.1 (x, y) h
   parts_above p k (tuple vs) h = tuples_above p.tuples k.2 vs h
-  parts_above p k (closure m l n env) h = h
-  parts_above p k (external m g n) h = h
-  parts_above p k (foreign x n) h = h
+  parts_above p k v h = h
 
   parts_least : (p : Parts F) (u : Parts E) → NormalParts NormalF f p → NormalParts NormalE e u → ((v : Value) → HasParts HasF v p → HasParts HasE v u) → (v : Value) → HasParts HasE v (parts_lower lower f e p) → HasParts HasE v u
   parts_least p u j k q (int n) h = q (int n) h
@@ -372,20 +361,9 @@ module _ {F E : Type 0} {HasF : Value → F → Type 0} {NormalF : F → Type 0}
   cell_exact (Some c) k x h = (all_exact c.element k.0 (and_value x.0 (heads x.1)) h.0, h.1)
 
   pub next_exact : (p : Parts F) → NormalParts NormalF f p → (v : Value) → HasParts HasE v (parts_lower lower f e p) → HasParts HasF v p
-  next_exact p k (int n) h = h
-  next_exact p k (atom a) h = h
-  next_exact p k (bits bs) h = h
-  next_exact p k (float x) h = h
-  next_exact p k (pid n) h = h
-  next_exact p k (port n) h = h
-  next_exact p k (reference n) h = h
-  next_exact p k (map_value ps) h = h
-  next_exact p k nil h = h
   next_exact p k (cons x y) h = cell_exact p.cell k.1 (x, y) h
   next_exact p k (tuple vs) h = tuples_exact p.tuples k.2 vs h
-  next_exact p k (closure m l n env) h = h
-  next_exact p k (external m g n) h = h
-  next_exact p k (foreign x n) h = h
+  next_exact p k v h = h
 
 -- tags are on each level but the first two
 tags_remain : (e d : ℕ) → e ≤ d → (ops e).has_tags ≡ true → (ops d).has_tags ≡ true

@@ -20,7 +20,7 @@ use Rattle.type_model.specs.Cut.{cut}
 use Rattle.type_model.specs.Parts.{value_at, AreNormal, product_of, proper_cell, without_nil, is_list, element_with, element_at, flags_of_nil, tail_parts, tuple_at, cons_at, lifted, project_at, element_of, elem_at, tail_at}
 use Rattle.type_model.specs.Laws.{BelowBy, Laws}
 use Rattle.type_model.specs.ValueShapes.{Leaf, an_int, an_atom, some_bits, of_flag, a_function, has_leaf, leaf, shape, value_of_shape, shape-value_of_shape, HasShape, has-shape}
-use Rattle.type_model.proofs.PlainLaws.{plain-none_is, plain-none_empty, plain-all, is_atoms-other}
+use Rattle.type_model.proofs.PlainLaws.{plain-none_is, plain-none_empty, is_atoms-other}
 use Rattle.type_model.proofs.CellLaws.{value_of, all-more, element-join}
 use Rattle.type_model.proofs.RowLaws.{values_of, count_each, row_filled-not_none}
 use Rattle.type_model.proofs.BodyLaws.{body_of_in, body_of_out, body_of_normal, elements_normal, elements_above}
@@ -73,20 +73,9 @@ module _ {E : Type 0} {Has : Value → E → Type 0} {Normal : E → Type 0} {o 
 
   -- a type of tuples has nothing but tuples
   of_tuples : (t : Tuples E) (v : Value) → HasParts Has v (record { plain = plain_none; cell = None; tuples = t }) → (vs : Values) × ((v ≡ tuple vs) × HasTuple Has vs t)
-  of_tuples t (int n) h = absurd (plain-none_empty (an_int n) h)
-  of_tuples t (atom a) h = absurd (plain-none_empty (an_atom a) h)
-  of_tuples t (bits bs) h = absurd (plain-none_empty (some_bits (length bs)) h)
-  of_tuples t (float x) h = absurd (true≢false (sym h))
-  of_tuples t (pid n) h = absurd (true≢false (sym h))
-  of_tuples t (port n) h = absurd (true≢false (sym h))
-  of_tuples t (reference n) h = absurd (true≢false (sym h))
-  of_tuples t (map ps) h = absurd (true≢false (sym h))
-  of_tuples t nil h = absurd (true≢false (sym h))
   of_tuples t (cons x y) h = absurd h
   of_tuples t (tuple vs) h = (vs, (refl, h))
-  of_tuples t (closure m l n env) h = absurd (true≢false (sym h))
-  of_tuples t (external m f n) h = absurd (true≢false (sym h))
-  of_tuples t (foreign x n) h = absurd (true≢false (sym h))
+  of_tuples t v h = absurd (true≢false (sym h))
 
   row_tuples_out : (b : Bool) (es : List E) (vs : Values) → b ≡ true → HasTuple Has vs (row_tuples b es) → HasEach Has vs es
   row_tuples_out true es vs q h = elim (eq_by_cmp nat_cmp (count vs) (length es)) as (λ b. HasBody Has vs (cond b (Some (body_of o es)) None) → HasEach Has vs es) [ true ↦ λ x. body_of_out l es vs x | false ↦ λ x. absurd x ] h
@@ -156,34 +145,14 @@ some_leaf p e = elim (names.is_none p.atoms) as (λ b. names.is_none p.atoms ≡
 
 -- a value that holds no others and ends in nil is nil
 leaf_end : (v : Value) (x : Leaf) → shape v ≡ leaf x → end_of v ≡ nil → x ≡ of_flag nils
-leaf_end (int n) x f q = absurd cc
-leaf_end (atom a) x f q = absurd cc
-leaf_end (bits bs) x f q = absurd cc
-leaf_end (float s) x f q = absurd cc
-leaf_end (pid n) x f q = absurd cc
-leaf_end (port n) x f q = absurd cc
-leaf_end (reference n) x f q = absurd cc
-leaf_end (map ps) x f q = absurd cc
 leaf_end nil x f q = cc
-leaf_end (cons h t) x f q = absurd cc
-leaf_end (tuple vs) x f q = absurd cc
-leaf_end (closure m l n env) x f q = absurd cc
-leaf_end (external m g n) x f q = absurd cc
-leaf_end (foreign y n) x f q = absurd cc
+leaf_end v x f q = absurd cc
 
 module _ {E : Type 0} {Has : Value → E → Type 0} {Normal : E → Type 0} {o : Ops E} (l : Laws Has Normal o) where
   -- each leaf but nil
   kept_leaf : (p : PlainParts) (x : Leaf) → has_leaf (without_nil p) x ≡ true → (has_leaf p x ≡ true) × (x ≡ of_flag nils → ⊥)
-  kept_leaf p (an_int n) h = (h, λ q. absurd cc)
-  kept_leaf p (an_atom a) h = (h, λ q. absurd cc)
-  kept_leaf p (some_bits n) h = (h, λ q. absurd cc)
-  kept_leaf p (of_flag floats) h = (h, λ q. absurd cc)
-  kept_leaf p (of_flag pids) h = (h, λ q. absurd cc)
-  kept_leaf p (of_flag ports) h = (h, λ q. absurd cc)
-  kept_leaf p (of_flag references) h = (h, λ q. absurd cc)
-  kept_leaf p (of_flag maps) h = (h, λ q. absurd cc)
   kept_leaf p (of_flag nils) h = absurd (true≢false (sym h))
-  kept_leaf p (a_function n) h = (h, λ q. absurd cc)
+  kept_leaf p x h = (h, λ q. absurd cc)
 
   has_value : (x : Leaf) (p : Parts E) → has_leaf p.plain x ≡ true → HasParts Has (value_of_shape (leaf x)) p
   has_value x p h = subst (λ T. T) (sym (has-shape Has (value_of_shape (leaf x)) p)) (subst (λ g. HasShape Has g p) (sym (shape-value_of_shape (leaf x))) h)
@@ -260,24 +229,12 @@ module _ {E : Type 0} {Has : Value → E → Type 0} {Normal : E → Type 0} {o 
   element_with-head e (Some c) j k v h = l.lattice.join_left e c.element j k.0 v h
 
   element_with-rest : (e : E) (p : Parts E) → Normal e → NormalCell Normal o p.cell → (v : Value) → HasParts Has v p → HasAll Has (heads v) (element_with o e p.cell)
-  element_with-rest e p j k (int n) h = tt
-  element_with-rest e p j k (atom a) h = tt
-  element_with-rest e p j k (bits bs) h = tt
-  element_with-rest e p j k (float s) h = tt
-  element_with-rest e p j k (pid n) h = tt
-  element_with-rest e p j k (port n) h = tt
-  element_with-rest e p j k (reference n) h = tt
-  element_with-rest e p j k (map ps) h = tt
-  element_with-rest e p j k nil h = tt
   element_with-rest e p j k (cons a b) h = walk p.cell k h
     where
       walk : (c : Option (Cell E)) → NormalCell Normal o c → HasCell Has (a, b) c → HasAll Has (and_value a (heads b)) (element_with o e c)
       walk None k h = absurd h
       walk (Some c) k h = all-more l c.element (o.join e c.element) (l.lattice.join_right e c.element j k.0) (and_value a (heads b)) h.0
-  element_with-rest e p j k (tuple vs) h = tt
-  element_with-rest e p j k (closure m i n env) h = tt
-  element_with-rest e p j k (external m g n) h = tt
-  element_with-rest e p j k (foreign s n) h = tt
+  element_with-rest e p j k v h = tt
 
   element_with-least : (e : E) (c : Option (Cell E)) (g : E) → Normal e → NormalCell Normal o c → Normal g → BelowBy Has e g → ((v : Value) → HasCell Has (v, nil) c → Has v g) → BelowBy Has (element_with o e c) g
   element_with-least e None g i j k f p v h = f v h
@@ -343,20 +300,9 @@ cell_least d h t j k e f (Some c) i p z m =
 
 -- a type of lists has nothing but lists
 of_cell : (d : ℕ) (c : Cell (TypeAt d)) (u : TypeAt (suc d)) → ((x y : Value) → HasCell (HasAt d) (x, y) (Some c) → HasAt (suc d) (cons x y) u) → BelowBy (HasAt (suc d)) (record { plain = plain_none; cell = Some c; tuples = sizes [] }) u
-of_cell d c u p (int n) h = absurd (plain-none_empty (an_int n) h)
-of_cell d c u p (atom a) h = absurd (plain-none_empty (an_atom a) h)
-of_cell d c u p (bits bs) h = absurd (plain-none_empty (some_bits (length bs)) h)
-of_cell d c u p (float x) h = absurd (true≢false (sym h))
-of_cell d c u p (pid n) h = absurd (true≢false (sym h))
-of_cell d c u p (port n) h = absurd (true≢false (sym h))
-of_cell d c u p (reference n) h = absurd (true≢false (sym h))
-of_cell d c u p (map ps) h = absurd (true≢false (sym h))
-of_cell d c u p nil h = absurd (true≢false (sym h))
 of_cell d c u p (cons x y) h = p x y h
 of_cell d c u p (tuple vs) h = absurd h
-of_cell d c u p (closure m l n env) h = absurd (true≢false (sym h))
-of_cell d c u p (external m f n) h = absurd (true≢false (sym h))
-of_cell d c u p (foreign x n) h = absurd (true≢false (sym h))
+of_cell d c u p v h = absurd (true≢false (sym h))
 
 pub cons-least : (d : ℕ) (h t : TypeAt (suc d)) → NormalAt (suc d) h → NormalAt (suc d) t → (u : TypeAt (suc d)) → NormalAt (suc d) u → ((x y : Value) → HasAt (suc d) x h → HasAt (suc d) y t → HasAt (suc d) (cons x y) u) → BelowBy (HasAt (suc d)) (cons_at d h t true) u
 unfolding NormalAt
@@ -420,34 +366,12 @@ module _ {E : Type 0} {Has : Value → E → Type 0} {Normal : E → Type 0} {o 
 
   -- what follows the head of a list
   tail_from : (c : Cell E) (b : Bool) (t : Value) → HasAll Has (heads t) c.element → (b ≡ true → end_of t ≡ nil) → (c.is_proper ≡ true → end_of t ≡ nil) → HasParts Has t (record { plain = cond b (record { atoms = names.none; ints = numbers.none; bits = No; flags = flags_of_nil; functions = no_function }) plain_all; cell = Some c; tuples = cond b (sizes []) all_tuples })
-  tail_from c true (int n) h f g = absurd (let q = f refl in cc)
-  tail_from c true (atom a) h f g = absurd (let q = f refl in cc)
-  tail_from c true (bits bs) h f g = absurd (let q = f refl in cc)
-  tail_from c true (float s) h f g = absurd (let q = f refl in cc)
-  tail_from c true (pid n) h f g = absurd (let q = f refl in cc)
-  tail_from c true (port n) h f g = absurd (let q = f refl in cc)
-  tail_from c true (reference n) h f g = absurd (let q = f refl in cc)
-  tail_from c true (map ps) h f g = absurd (let q = f refl in cc)
   tail_from c true nil h f g = refl
   tail_from c true (cons x y) h f g = (h, g)
-  tail_from c true (tuple vs) h f g = absurd (let q = f refl in cc)
-  tail_from c true (closure m k n env) h f g = absurd (let q = f refl in cc)
-  tail_from c true (external m k n) h f g = absurd (let q = f refl in cc)
-  tail_from c true (foreign s n) h f g = absurd (let q = f refl in cc)
-  tail_from c false (int n) h f g = plain-all (an_int n)
-  tail_from c false (atom a) h f g = plain-all (an_atom a)
-  tail_from c false (bits bs) h f g = plain-all (some_bits (length bs))
-  tail_from c false (float s) h f g = refl
-  tail_from c false (pid n) h f g = refl
-  tail_from c false (port n) h f g = refl
-  tail_from c false (reference n) h f g = refl
-  tail_from c false (map ps) h f g = refl
-  tail_from c false nil h f g = refl
+  tail_from c true t h f g = absurd (let q = f refl in cc)
   tail_from c false (cons x y) h f g = (h, g)
   tail_from c false (tuple vs) h f g = tt
-  tail_from c false (closure m k n env) h f g = refl
-  tail_from c false (external m k n) h f g = refl
-  tail_from c false (foreign s n) h f g = refl
+  tail_from c false t h f g = refl
 
   pub tail_in : (c : Option (Cell E)) (h t : Value) → HasCell Has (h, t) c → HasParts Has t (tail_parts o c)
   tail_in None h t k = absurd k

@@ -28,35 +28,19 @@ same_test false false f g = refl
 
 pub has_flag-meet : (k l : Flags) (x : Flag) → has_flag (flags_meet k l) x ≡ (has_flag k x && has_flag l x)
 has_flag-meet k l floats = refl
-has_flag-meet k l pids = refl
-has_flag-meet k l ports = refl
-has_flag-meet k l references = refl
-has_flag-meet k l maps = refl
-has_flag-meet k l nils = refl
+has_flag-meet k l x = refl
 
 pub has_flag-join : (k l : Flags) (x : Flag) → has_flag (flags_join k l) x ≡ (has_flag k x || has_flag l x)
 has_flag-join k l floats = refl
-has_flag-join k l pids = refl
-has_flag-join k l ports = refl
-has_flag-join k l references = refl
-has_flag-join k l maps = refl
-has_flag-join k l nils = refl
+has_flag-join k l x = refl
 
 pub all_flags-has : (x : Flag) → has_flag all_flags x ≡ true
 all_flags-has floats = refl
-all_flags-has pids = refl
-all_flags-has ports = refl
-all_flags-has references = refl
-all_flags-has maps = refl
-all_flags-has nils = refl
+all_flags-has x = refl
 
 pub no_flags-has : (x : Flag) → has_flag no_flags x ≡ false
 no_flags-has floats = refl
-no_flags-has pids = refl
-no_flags-has ports = refl
-no_flags-has references = refl
-no_flags-has maps = refl
-no_flags-has nils = refl
+no_flags-has x = refl
 
 pub same_flags : (k l : Flags) → ((x : Flag) → has_flag k x ≡ has_flag l x) → k ≡ l
 same_flags k l f = λ i. record { float = f floats i; pid = f pids i; port = f ports i; reference = f references i; nil = f nils i; map = f maps i }
@@ -64,12 +48,7 @@ same_flags k l f = λ i. record { float = f floats i; pid = f pids i; port = f p
 -- none of six tests
 either_flag : (a b c d e f : Bool) → not (a || b || c || d || e || f) ≡ true → (a ≡ false) × (b ≡ false) × (c ≡ false) × (d ≡ false) × (e ≡ false) × (f ≡ false)
 either_flag false false false false false false h = (refl, refl, refl, refl, refl, refl)
-either_flag true b c d e f h = absurd (true≢false (sym h))
-either_flag false true c d e f h = absurd (true≢false (sym h))
-either_flag false false true d e f h = absurd (true≢false (sym h))
-either_flag false false false true e f h = absurd (true≢false (sym h))
-either_flag false false false false true f h = absurd (true≢false (sym h))
-either_flag false false false false false true h = absurd (true≢false (sym h))
+either_flag a b c d e f h = absurd (true≢false (sym h))
 
 pub no_flag-is : (k : Flags) → is_no_flag k ≡ true → k ≡ no_flags
 no_flag-is k h =

@@ -21,37 +21,26 @@ use Rattle.type_sets.proofs.HeightLaws.{falls-bound, down, stay}
 
 -- an end that lets in less rises less often
 rises-le : (l m : Low) → at_least m (bottom l) ≡ true → rises l ≤ rises m
-rises-le Min Min h = omega arith
 rises-le Min Zero h = cc
 rises-le Min One h = cc
-rises-le Zero Min h = omega arith
-rises-le Zero Zero h = omega arith
 rises-le Zero One h = cc
-rises-le One Min h = omega arith
-rises-le One Zero h = omega arith
-rises-le One One h = omega arith
+rises-le One m h = omega arith
+rises-le l m h = omega arith
 
 rises-less : (l m : Low) → at_least m (bottom l) ≡ true → (l ≡ m → ⊥) → rises l < rises m
 rises-less Min Min h n = absurd (n refl)
-rises-less Min Zero h n = cc
-rises-less Min One h n = cc
-rises-less Zero Min h n = omega arith
 rises-less Zero Zero h n = absurd (n refl)
-rises-less Zero One h n = cc
+rises-less One One h n = absurd (n refl)
+rises-less Zero Min h n = omega arith
 rises-less One Min h n = omega arith
 rises-less One Zero h n = omega arith
-rises-less One One h n = absurd (n refl)
+rises-less l m h n = cc
 
 -- the interval down from -1 has no other that ends there, and shrinks least
 from_minus_one : (l m : Low) (k : High) → is_range l MinusOne ≡ true → at_least m (bottom l) ≡ true → ((l ≡ m) × (MinusOne ≡ k) → ⊥) → 0 < shrinks m k
 from_minus_one Min Min MinusOne e h n = absurd (n (refl, refl))
-from_minus_one Min Min Byte e h n = omega arith
-from_minus_one Min Min Unicode e h n = omega arith
-from_minus_one Min Min Max e h n = omega arith
-from_minus_one Min Zero k e h n = cc
-from_minus_one Min One k e h n = cc
-from_minus_one Zero m k e h n = cc
-from_minus_one One m k e h n = cc
+from_minus_one Min Min k e h n = omega arith
+from_minus_one l m k e h n = cc
 
 -- a smaller interval shrinks less often
 shrinks-less : (l m : Low) (h k : High) → is_range l h ≡ true → at_least m (bottom l) ≡ true → at_most k (top h) ≡ true → ((l ≡ m) × (h ≡ k) → ⊥) → shrinks l h < shrinks m k
@@ -170,14 +159,6 @@ height-reached (between l h e) = between-falls l h e
 pub height-most : (s : Numbers) → height s ≤ MAX_MEMBERS + 5
 height-most (some xs e) = let few = listed-few xs e in omega arith
 height-most (between Min MinusOne e) = omega arith
-height-most (between Min Byte e) = omega arith
-height-most (between Min Unicode e) = omega arith
-height-most (between Min Max e) = omega arith
 height-most (between Zero MinusOne e) = omega arith
-height-most (between Zero Byte e) = omega arith
-height-most (between Zero Unicode e) = omega arith
-height-most (between Zero Max e) = omega arith
 height-most (between One MinusOne e) = omega arith
-height-most (between One Byte e) = omega arith
-height-most (between One Unicode e) = omega arith
-height-most (between One Max e) = omega arith
+height-most s = omega arith

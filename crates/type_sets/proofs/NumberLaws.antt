@@ -12,7 +12,7 @@ use Rattle.type_sets.specs.Ascending.{is_ascending, has_item, merged}
 use Rattle.type_sets.specs.declared.ends.Low.{Low}
 use Rattle.type_sets.specs.declared.ends.Low.TheVariants.{Min, Zero, One}
 use Rattle.type_sets.specs.declared.ends.High.{High}
-use Rattle.type_sets.specs.declared.ends.High.TheVariants.{MinusOne, Byte, Unicode, Max}
+use Rattle.type_sets.specs.declared.ends.High.TheVariants.{MinusOne}
 use Rattle.type_sets.specs.Ends.{at_least, at_most, in_range, is_range, lower, raised, higher, lowered, low_of, high_of, bottom, top}
 use Rattle.type_sets.specs.Numbers.{Numbers, some, between, are_listed, is_narrow, has, Below, none, or_else, listed, range, meet, lowest, highest, low_end, high_end, hull, join, is_none, or_else-yes}
 use Rattle.type_sets.proofs.FewLaws.{few-is, is-few}
@@ -180,18 +180,10 @@ fourteen-length One = refl
 
 fourteen-in : (l : Low) (h : High) → is_range l h ≡ true → list_all (in_range l h) (fourteen l) ≡ true
 unfolding fourteen
-fourteen-in Min MinusOne e = refl
-fourteen-in Min Byte e = refl
-fourteen-in Min Unicode e = refl
-fourteen-in Min Max e = refl
 fourteen-in Zero MinusOne e = cc
-fourteen-in Zero Byte e = refl
-fourteen-in Zero Unicode e = refl
-fourteen-in Zero Max e = refl
 fourteen-in One MinusOne e = cc
-fourteen-in One Byte e = refl
-fourteen-in One Unicode e = refl
-fourteen-in One Max e = refl
+fourteen-in Min MinusOne e = refl
+fourteen-in l h e = refl
 
 pub not_listed : (l : Low) (h : High) → is_range l h ≡ true → (xs : List ℤ) → are_listed xs ≡ true → ((n : ℤ) → in_range l h n ≡ true → has_item int_cmp xs n ≡ true) → ⊥
 not_listed l h e xs d f =

@@ -174,7 +174,7 @@ fn atoms_are_listed_in_order(rt: HostRuntime) -> Result<(), Fail> {
     assert_eq!(rt; members.len(), 4);
     let in_order: [&[u8]; 4] = [b"", b"a", b"aa", b"b"];
     for i in 0..4 {
-        assert!(rt; members[i].bytes() == in_order[i], "atom {i}");
+        assert!(rt; members[i].get().bytes() == in_order[i], "atom {i}");
     }
     assert!(rt; AtomSet::can_list(members));
     Ok(())
@@ -214,7 +214,7 @@ fn an_atom_is_in_a_set(rt: HostRuntime) -> Result<(), Fail> {
     let b = Atom::new(alloc, b"b")?;
     assert!(rt; set.contains(&c) && !set.contains(&b) && AtomSet::all().contains(&b));
     let mut one = List::new(alloc);
-    one.push(Shared::new(alloc, c)?)?;
+    one.add(Shared::new(alloc, c)?)?;
     assert!(rt; AtomSet::can_list(one.as_slice()));
     assert!(rt; AtomSet::listed(alloc, one)?.leq(&set));
     Ok(())

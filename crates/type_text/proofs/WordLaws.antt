@@ -21,12 +21,12 @@ use Rattle.type_sets.proofs.NameLaws as name_laws
 use Rattle.type_sets.proofs.NumberLaws as number_laws
 use Rattle.type_model.specs.Values.{Value, atom, Values, no_value, and_value, count}
 use Rattle.type_model.specs.Tables.{is_table, find}
-use Rattle.type_model.specs.Shapes.{floats, pids, ports, references, nils, maps, Flags, Functions, no_function, of_arity, all_functions, PlainParts, Cell, Body, product, tags, Tuples, sizes, all_tuples, Parts, TypeAt}
-use Rattle.type_model.specs.HasType.{HasEach, HasRow, HasTag, HasBody, HasTuple}
+use Rattle.type_model.specs.Shapes.{Flag, floats, pids, ports, references, nils, maps, Flags, Functions, no_function, of_arity, all_functions, PlainParts, Cell, Body, product, tags, Tuples, sizes, all_tuples, Parts, TypeAt}
+use Rattle.type_model.specs.HasType.{has_flag, HasEach, HasRow, HasTag, HasBody, HasTuple}
 use Rattle.type_model.specs.Operations.{Ops, no_flags, plain_none, body_of, of_plain, of_atoms, parts_is_none, parts_join, ops}
 use Rattle.type_model.specs.Normal.{NormalFunctions, IsElement, AreElements, NormalCell, NormalRow, NormalRows, NormalBody, NormalSizes, NormalTuples, NormalParts, NormalAt}
 use Rattle.type_model.specs.Laws.{BelowBy, Lattice, Laws}
-use Rattle.type_model.specs.ValueShapes.{an_int, an_atom, some_bits, of_flag, a_function, Shape, leaf, pair, row, HasShape}
+use Rattle.type_model.specs.ValueShapes.{Leaf, has_leaf, an_int, an_atom, some_bits, of_flag, a_function, Shape, leaf, pair, row, HasShape}
 use Rattle.type_model.proofs.PlainLaws.{no_flags-has, plain-none_empty}
 use Rattle.type_model.proofs.CellLaws.{filled-not_none}
 use Rattle.type_model.proofs.RowLaws.{count_each}
@@ -35,7 +35,7 @@ use Rattle.type_model.proofs.TableLaws as tables
 use Rattle.type_model.proofs.PartsLaws.{shape_lattice}
 use Rattle.type_model.proofs.LevelLaws.{level_laws}
 use Rattle.type_text.specs.Texts.{separated, word_if, atom_words, range_word, int_words, bits_words, function_words, plain_words, cell_words, tuple_word, tag_words, body_words, size_words, tuples_words, parts_words, is_any, text_at}
-use Rattle.type_text.specs.WordTypes.{float_flag, pid_flag, port_flag, reference_flag, map_flag, nil_flag, of_ints, of_bits, of_flags, of_functions, of_cell, of_row, IsWordOf, one_atom, every_atom, one_int, ints_between, every_float, whole_bits, every_bits, every_pid, every_port, every_reference, every_map, every_function, one_arity, empty_list, proper_list, any_list, every_tuple, one_tuple, IsWord, AreWordsOf, spelled, joined_with, WordsOf}
+use Rattle.type_text.specs.WordTypes.{of_ints, of_bits, of_flags, of_functions, of_cell, of_row, IsWordOf, one_atom, every_atom, one_int, ints_between, every_float, whole_bits, every_bits, every_pid, every_port, every_reference, every_map, every_function, one_arity, empty_list, proper_list, any_list, every_tuple, one_tuple, IsWord, AreWordsOf, spelled, joined_with, WordsOf}
 use Rattle.type_model.specs.Operations.{of_list, of_tuples}
 
 -- ---- a type joined with others, one after the other
@@ -260,32 +260,37 @@ module _ {E : Type 0} {Has : Value → E → Type 0} {Normal : E → Type 0} {o 
 
   -- ---- the other values that hold none
 
-  abbrev flags_if : Bool → Bool → Bool → Bool → Bool → Bool → Flags
-  flags_if a b c d e f = record { float = a; pid = b; port = c; reference = d; nil = e; map = f }
+  abbrev only : Flag → Bool → Flags
+  only floats b = record { float = b; pid = false; port = false; reference = false; nil = false; map = false }
+  only pids b = record { float = false; pid = b; port = false; reference = false; nil = false; map = false }
+  only ports b = record { float = false; pid = false; port = b; reference = false; nil = false; map = false }
+  only references b = record { float = false; pid = false; port = false; reference = b; nil = false; map = false }
+  only maps b = record { float = false; pid = false; port = false; reference = false; nil = false; map = b }
+  only nils b = record { float = false; pid = false; port = false; reference = false; nil = b; map = false }
 
-  floats_spelled : (b : Bool) → Spelled (word_if b (codes "float()")) (λ f. HasF f (of_flags o (flags_if b false false false false false)))
-  floats_spelled true = one (codes "float()") (of_flags o float_flag) every_float
-  floats_spelled false = nothing (λ f. HasF f (of_flags o no_flags)) no_shape
+  abbrev flag_word : Flag → List ℕ
+  flag_word floats = codes "float()"
+  flag_word pids = codes "pid()"
+  flag_word ports = codes "port()"
+  flag_word references = codes "reference()"
+  flag_word maps = codes "map()"
+  flag_word nils = codes "[]"
 
-  pids_spelled : (b : Bool) → Spelled (word_if b (codes "pid()")) (λ f. HasF f (of_flags o (flags_if false b false false false false)))
-  pids_spelled true = one (codes "pid()") (of_flags o pid_flag) every_pid
-  pids_spelled false = nothing (λ f. HasF f (of_flags o no_flags)) no_shape
+  flag_is_word : (k : Flag) → Word (flag_word k) (of_flags o (only k true))
+  flag_is_word floats = every_float
+  flag_is_word pids = every_pid
+  flag_is_word ports = every_port
+  flag_is_word references = every_reference
+  flag_is_word maps = every_map
+  flag_is_word nils = empty_list
 
-  ports_spelled : (b : Bool) → Spelled (word_if b (codes "port()")) (λ f. HasF f (of_flags o (flags_if false false b false false false)))
-  ports_spelled true = one (codes "port()") (of_flags o port_flag) every_port
-  ports_spelled false = nothing (λ f. HasF f (of_flags o no_flags)) no_shape
+  no_flag_left : (k : Flag) → only k false ≡ no_flags
+  no_flag_left floats = refl
+  no_flag_left k = refl
 
-  references_spelled : (b : Bool) → Spelled (word_if b (codes "reference()")) (λ f. HasF f (of_flags o (flags_if false false false b false false)))
-  references_spelled true = one (codes "reference()") (of_flags o reference_flag) every_reference
-  references_spelled false = nothing (λ f. HasF f (of_flags o no_flags)) no_shape
-
-  maps_spelled : (b : Bool) → Spelled (word_if b (codes "map()")) (λ f. HasF f (of_flags o (flags_if false false false false false b)))
-  maps_spelled true = one (codes "map()") (of_flags o map_flag) every_map
-  maps_spelled false = nothing (λ f. HasF f (of_flags o no_flags)) no_shape
-
-  nils_spelled : (b : Bool) → Spelled (word_if b (codes "[]")) (λ f. HasF f (of_flags o (flags_if false false false false b false)))
-  nils_spelled true = one (codes "[]") (of_flags o nil_flag) empty_list
-  nils_spelled false = nothing (λ f. HasF f (of_flags o no_flags)) no_shape
+  flag_spelled : (k : Flag) (b : Bool) → Spelled (word_if b (flag_word k)) (λ f. HasF f (of_flags o (only k b)))
+  flag_spelled k true = one (flag_word k) (of_flags o (only k true)) (flag_is_word k)
+  flag_spelled k false = nothing (λ f. HasF f (of_flags o (only k false))) (λ f h. no_shape f (subst (λ w. HasF f (of_flags o w)) (no_flag_left k) h))
 
   bits_spelled : (s : Bits) → Spelled (bits_words s) (λ f. HasF f (of_bits o s))
   bits_spelled No = nothing (λ f. HasF f (of_bits o No)) no_shape
@@ -300,38 +305,15 @@ module _ {E : Type 0} {Has : Value → E → Type 0} {Normal : E → Type 0} {o 
   -- ---- all that hold none
 
   module _ (p : PlainParts) where
-    abbrev Atoms : Shape → Type 0
-    Atoms f = HasF f (of_atoms o p.atoms)
+    abbrev Part : PlainParts → Shape → Type 0
+    Part q f = HasF f (of_plain o q)
 
-    abbrev Ints : Shape → Type 0
-    Ints f = HasF f (of_ints o p.ints)
-
-    abbrev Floats : Shape → Type 0
-    Floats f = HasF f (of_flags o (flags_if p.flags.float false false false false false))
-
-    abbrev SomeBits : Shape → Type 0
-    SomeBits f = HasF f (of_bits o p.bits)
-
-    abbrev Pids : Shape → Type 0
-    Pids f = HasF f (of_flags o (flags_if false p.flags.pid false false false false))
-
-    abbrev Ports : Shape → Type 0
-    Ports f = HasF f (of_flags o (flags_if false false p.flags.port false false false))
-
-    abbrev References : Shape → Type 0
-    References f = HasF f (of_flags o (flags_if false false false p.flags.reference false false))
-
-    abbrev Maps : Shape → Type 0
-    Maps f = HasF f (of_flags o (flags_if false false false false false p.flags.map))
-
-    abbrev SomeFunctions : Shape → Type 0
-    SomeFunctions f = HasF f (of_functions o p.functions)
-
-    abbrev Nils : Shape → Type 0
-    Nils f = HasF f (of_flags o (flags_if false false false false p.flags.nil false))
+    abbrev Flagged : Flag → Shape → Type 0
+    Flagged k f = HasF f (of_flags o (only k (has_flag p.flags k)))
 
     abbrev EachPart : Shape → Type 0
-    EachPart f = ((((((((Atoms f ⊎ Ints f) ⊎ Floats f) ⊎ SomeBits f) ⊎ Pids f) ⊎ Ports f) ⊎ References f) ⊎ Maps f) ⊎ SomeFunctions f) ⊎ Nils f
+    EachPart f =
+        ((((((((HasF f (of_atoms o p.atoms) ⊎ HasF f (of_ints o p.ints)) ⊎ Flagged floats f) ⊎ HasF f (of_bits o p.bits)) ⊎ Flagged pids f) ⊎ Flagged ports f) ⊎ Flagged references f) ⊎ Flagged maps f) ⊎ HasF f (of_functions o p.functions)) ⊎ Flagged nils f
 
     plain-into : (f : Shape) → HasF f (of_plain o p) → EachPart f
     plain-into (leaf (an_atom a)) h = inl (inl (inl (inl (inl (inl (inl (inl (inl h))))))))
@@ -348,85 +330,55 @@ module _ {E : Type 0} {Has : Value → E → Type 0} {Normal : E → Type 0} {o 
     plain-into (row vs) h = absurd h
 
     -- what one part has, all have
-    atoms-out : (f : Shape) → Atoms f → HasF f (of_plain o p)
-    atoms-out (leaf (an_atom a)) h = h
-    atoms-out (leaf (of_flag k)) h = absurd (true≢false (sym h ∙ no_flags-has k))
-    atoms-out (leaf x) h = absurd (true≢false (sym h))
-    atoms-out (pair x y) h = absurd h
-    atoms-out (row vs) h = absurd h
+    part-out : (q : PlainParts) → ((x : Leaf) → has_leaf q x ≡ true → has_leaf p x ≡ true) → (f : Shape) → Part q f → Part p f
+    part-out q g (leaf x) h = g x h
+    part-out q g (pair x y) h = absurd h
+    part-out q g (row vs) h = absurd h
 
-    ints-out : (f : Shape) → Ints f → HasF f (of_plain o p)
-    ints-out (leaf (an_int n)) h = h
-    ints-out (leaf (of_flag k)) h = absurd (true≢false (sym h ∙ no_flags-has k))
-    ints-out (leaf x) h = absurd (true≢false (sym h))
-    ints-out (pair x y) h = absurd h
-    ints-out (row vs) h = absurd h
+    atoms-leaf : (x : Leaf) → has_leaf (record { atoms = p.atoms; ints = numbers.none; bits = No; flags = no_flags; functions = no_function }) x ≡ true → has_leaf p x ≡ true
+    atoms-leaf (an_atom a) h = h
+    atoms-leaf (of_flag k) h = absurd (true≢false (sym h ∙ no_flags-has k))
+    atoms-leaf x h = absurd (true≢false (sym h))
 
-    floats-out : (f : Shape) → Floats f → HasF f (of_plain o p)
-    floats-out (leaf (of_flag floats)) h = h
-    floats-out (leaf x) h = absurd (true≢false (sym h))
-    floats-out (pair x y) h = absurd h
-    floats-out (row vs) h = absurd h
+    ints-leaf : (x : Leaf) → has_leaf (record { atoms = names.none; ints = p.ints; bits = No; flags = no_flags; functions = no_function }) x ≡ true → has_leaf p x ≡ true
+    ints-leaf (an_int n) h = h
+    ints-leaf (of_flag k) h = absurd (true≢false (sym h ∙ no_flags-has k))
+    ints-leaf x h = absurd (true≢false (sym h))
 
-    bits-out : (f : Shape) → SomeBits f → HasF f (of_plain o p)
-    bits-out (leaf (some_bits n)) h = h
-    bits-out (leaf (of_flag k)) h = absurd (true≢false (sym h ∙ no_flags-has k))
-    bits-out (leaf x) h = absurd (true≢false (sym h))
-    bits-out (pair x y) h = absurd h
-    bits-out (row vs) h = absurd h
+    bits-leaf : (x : Leaf) → has_leaf (record { atoms = names.none; ints = numbers.none; bits = p.bits; flags = no_flags; functions = no_function }) x ≡ true → has_leaf p x ≡ true
+    bits-leaf (some_bits n) h = h
+    bits-leaf (of_flag k) h = absurd (true≢false (sym h ∙ no_flags-has k))
+    bits-leaf x h = absurd (true≢false (sym h))
 
-    pids-out : (f : Shape) → Pids f → HasF f (of_plain o p)
-    pids-out (leaf (of_flag pids)) h = h
-    pids-out (leaf x) h = absurd (true≢false (sym h))
-    pids-out (pair x y) h = absurd h
-    pids-out (row vs) h = absurd h
+    functions-leaf : (x : Leaf) → has_leaf (record { atoms = names.none; ints = numbers.none; bits = No; flags = no_flags; functions = p.functions }) x ≡ true → has_leaf p x ≡ true
+    functions-leaf (a_function n) h = h
+    functions-leaf (of_flag k) h = absurd (true≢false (sym h ∙ no_flags-has k))
+    functions-leaf x h = absurd (true≢false (sym h))
 
-    ports-out : (f : Shape) → Ports f → HasF f (of_plain o p)
-    ports-out (leaf (of_flag ports)) h = h
-    ports-out (leaf x) h = absurd (true≢false (sym h))
-    ports-out (pair x y) h = absurd h
-    ports-out (row vs) h = absurd h
-
-    references-out : (f : Shape) → References f → HasF f (of_plain o p)
-    references-out (leaf (of_flag references)) h = h
-    references-out (leaf x) h = absurd (true≢false (sym h))
-    references-out (pair x y) h = absurd h
-    references-out (row vs) h = absurd h
-
-    maps-out : (f : Shape) → Maps f → HasF f (of_plain o p)
-    maps-out (leaf (of_flag maps)) h = h
-    maps-out (leaf x) h = absurd (true≢false (sym h))
-    maps-out (pair x y) h = absurd h
-    maps-out (row vs) h = absurd h
-
-    functions-out : (f : Shape) → SomeFunctions f → HasF f (of_plain o p)
-    functions-out (leaf (a_function n)) h = h
-    functions-out (leaf (of_flag k)) h = absurd (true≢false (sym h ∙ no_flags-has k))
-    functions-out (leaf x) h = absurd (true≢false (sym h))
-    functions-out (pair x y) h = absurd h
-    functions-out (row vs) h = absurd h
-
-    nils-out : (f : Shape) → Nils f → HasF f (of_plain o p)
-    nils-out (leaf (of_flag nils)) h = h
-    nils-out (leaf x) h = absurd (true≢false (sym h))
-    nils-out (pair x y) h = absurd h
-    nils-out (row vs) h = absurd h
+    flag-leaf : (k : Flag) (x : Leaf) → has_leaf (record { atoms = names.none; ints = numbers.none; bits = No; flags = only k (has_flag p.flags k); functions = no_function }) x ≡ true → has_leaf p x ≡ true
+    flag-leaf floats (of_flag floats) h = h
+    flag-leaf pids (of_flag pids) h = h
+    flag-leaf ports (of_flag ports) h = h
+    flag-leaf references (of_flag references) h = h
+    flag-leaf maps (of_flag maps) h = h
+    flag-leaf nils (of_flag nils) h = h
+    flag-leaf k x h = absurd (true≢false (sym h))
 
     plain-out : (f : Shape) → EachPart f → HasF f (of_plain o p)
-    plain-out f (inl (inl (inl (inl (inl (inl (inl (inl (inl h))))))))) = atoms-out f h
-    plain-out f (inl (inl (inl (inl (inl (inl (inl (inl (inr h))))))))) = ints-out f h
-    plain-out f (inl (inl (inl (inl (inl (inl (inl (inr h)))))))) = floats-out f h
-    plain-out f (inl (inl (inl (inl (inl (inl (inr h))))))) = bits-out f h
-    plain-out f (inl (inl (inl (inl (inl (inr h)))))) = pids-out f h
-    plain-out f (inl (inl (inl (inl (inr h))))) = ports-out f h
-    plain-out f (inl (inl (inl (inr h)))) = references-out f h
-    plain-out f (inl (inl (inr h))) = maps-out f h
-    plain-out f (inl (inr h)) = functions-out f h
-    plain-out f (inr h) = nils-out f h
+    plain-out f (inl (inl (inl (inl (inl (inl (inl (inl (inl h))))))))) = part-out _ atoms-leaf f h
+    plain-out f (inl (inl (inl (inl (inl (inl (inl (inl (inr h))))))))) = part-out _ ints-leaf f h
+    plain-out f (inl (inl (inl (inl (inl (inl (inl (inr h)))))))) = part-out _ (flag-leaf floats) f h
+    plain-out f (inl (inl (inl (inl (inl (inl (inr h))))))) = part-out _ bits-leaf f h
+    plain-out f (inl (inl (inl (inl (inl (inr h)))))) = part-out _ (flag-leaf pids) f h
+    plain-out f (inl (inl (inl (inl (inr h))))) = part-out _ (flag-leaf ports) f h
+    plain-out f (inl (inl (inl (inr h)))) = part-out _ (flag-leaf references) f h
+    plain-out f (inl (inl (inr h))) = part-out _ (flag-leaf maps) f h
+    plain-out f (inl (inr h)) = part-out _ functions-leaf f h
+    plain-out f (inr h) = part-out _ (flag-leaf nils) f h
 
     plain_spelled : NormalFunctions p.functions → Spelled (plain_words p) (λ f. HasF f (of_plain o p))
     plain_spelled k =
-        changed (λ f. HasF f (of_plain o p)) (append (append (append (append (append (append (append (append (append (atoms_spelled p.atoms) (ints_spelled p.ints)) (floats_spelled p.flags.float)) (bits_spelled p.bits)) (pids_spelled p.flags.pid)) (ports_spelled p.flags.port)) (references_spelled p.flags.reference)) (maps_spelled p.flags.map)) (functions_spelled p.functions k)) (nils_spelled p.flags.nil)) plain-out plain-into
+        changed (λ f. HasF f (of_plain o p)) (append (append (append (append (append (append (append (append (append (atoms_spelled p.atoms) (ints_spelled p.ints)) (flag_spelled floats p.flags.float)) (bits_spelled p.bits)) (flag_spelled pids p.flags.pid)) (flag_spelled ports p.flags.port)) (flag_spelled references p.flags.reference)) (flag_spelled maps p.flags.map)) (functions_spelled p.functions k)) (flag_spelled nils p.flags.nil)) plain-out plain-into
 
   -- ---- lists
 

@@ -1,0 +1,17 @@
+//! The canonical text of a module: the one text that other tools and tests can rest on.
+//!
+//! `specs/Canonical.antt` gives its words, and `specs/Words.antt` says how they are spelled.
+#![tactic(auto)]
+
+mod expressions;
+mod laws;
+mod leaves;
+mod lists;
+mod modules;
+mod notes;
+mod patterns;
+#[cfg(test)]
+mod tests;
+
+pub use laws::line_lexed;
+pub use modules::print;
