@@ -5,14 +5,15 @@ ghost use Rattle.core_parse.specs.steps.Faults.{Starts, Refuses};
 ghost use Rattle.core_parse.specs.steps.Readings.{ReadsOtherExpression, ReadsSegments, ReadsSegment};
 ghost use Rattle.core_parse.specs.Weights.{weight};
 
-use crate::expression_lists::pushed;
+use crate::boxes::{discard, pushed};
 use crate::expressions::{ReadExpression, ReadExpressions, expression, expressions};
 use crate::fault::Fault;
 use crate::leaves::{First, mark, next, take};
-use core_ast::{Expr, Segment, discard, discard_segments};
+use crate::{nodes, part_nodes};
+use core_ast::{Segment, discard_segments};
 use core_scan::{Sort, Token, same};
 use std::alloc::Global;
-use type_kinds::List;
+use type_kinds::{Boxed, List, Memory};
 
 /// Segments, and what follows the token that closes them.
 pub struct ReadSegments<'a> {
@@ -23,13 +24,14 @@ pub struct ReadSegments<'a> {
 
 /// A segment, and what follows it.
 pub struct ReadSegment<'a> {
-    pub segment: Segment,
+    pub segment: Boxed<Segment>,
     pub rest: &'a [Token],
     pub label: u32,
 }
 
 /// #{ segments }#
 #[cycle(expressions)]
+#[inline(never)]
 pub fn binary<'a>(
     alloc: Global,
     tokens: &'a [Token],
@@ -58,15 +60,15 @@ pub fn binary<'a>(
         Ok(found) => found,
         Err(fault) => return Err(fault),
     };
-    Ok(ReadExpression {
-        expr: Expr::binary(mark, items),
-        rest,
-        label,
-    })
+    match nodes::binary(alloc, mark, items) {
+        Ok(expr) => Ok(ReadExpression { expr, rest, label }),
+        Err(Memory) => Err(Fault::Memory),
+    }
 }
 
 // Segments with commas between them, up to and with the token that closes them.
 #[cycle(expressions)]
+#[inline(never)]
 fn segments<'a>(
     alloc: Global,
     tokens: &'a [Token],
@@ -155,6 +157,7 @@ fn segments<'a>(
 
 // #< expression > ( expressions )
 #[cycle(expressions)]
+#[inline(never)]
 fn segment<'a>(
     alloc: Global,
     tokens: &'a [Token],
@@ -205,9 +208,12 @@ fn segment<'a>(
             return Err(fault);
         }
     };
-    Ok(ReadSegment {
-        segment: Segment::new(value, args),
-        rest,
-        label,
-    })
+    match part_nodes::segment(alloc, value, args) {
+        Ok(segment) => Ok(ReadSegment {
+            segment,
+            rest,
+            label,
+        }),
+        Err(Memory) => Err(Fault::Memory),
+    }
 }

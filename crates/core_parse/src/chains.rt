@@ -7,26 +7,28 @@ ghost use Rattle.core_parse.specs.steps.Readings.{chain_sort, opens_chain, Reads
 ghost use Rattle.core_parse.specs.Weights.{weight};
 
 use crate::annotations::annotation;
-use crate::expression_lists::pushed;
+use crate::boxes::{added, discard, discard_step, noted_step, pushed};
 use crate::expressions::{ReadExpression, expression};
 use crate::fault::Fault;
 use crate::leaves::{First, mark, next, take};
+use crate::nodes;
+use crate::part_nodes::{do_step, let_step};
 use crate::variables::variables;
-use core_ast::{Expr, Step, discard, discard_step, discard_steps};
+use core_ast::{Step, discard_steps};
 use core_scan::{Sort, Token, same};
 use std::alloc::Global;
-use type_kinds::{List, Memory};
+use type_kinds::{Boxed, List, Memory};
 
 /// A step of a chain under way, and whether annotation brackets stand around it and what follows it.
 #[derive(Drop)]
 pub struct Frame {
-    pub step: Step,
+    pub step: Boxed<Step>,
     pub noted: bool,
 }
 
 /// A step of a chain, and what follows it.
 pub struct ReadStep<'a> {
-    pub step: Step,
+    pub step: Boxed<Step>,
     pub rest: &'a [Token],
     pub label: u32,
 }
@@ -91,6 +93,7 @@ fn next_step<'a>(tokens: &'a [Token]) -> Option<StepWord<'a>>
 
 /// Steps, each a `let` or a `do`, and the expression that follows them.
 #[cycle(expressions)]
+#[inline(never)]
 pub fn chain<'a>(
     alloc: Global,
     tokens: &'a [Token],
@@ -134,7 +137,7 @@ pub fn chain<'a>(
         if noted {
             match annotation(alloc, left) {
                 Ok(found) => {
-                    if !pushed(&mut done, step.with_note(found.note)) {
+                    if !added(&mut done, noted_step(step, found.note)) {
                         discard_frames(frames);
                         discard_steps(done);
                         discard(last);
@@ -158,7 +161,7 @@ pub fn chain<'a>(
         }
     }
     let steps = reversed(done);
-    match Expr::chain(alloc, mark(label, first.place), steps, last) {
+    match nodes::chain(alloc, mark(label, first.place), steps, last) {
         Ok(expr) => Ok(ReadExpression {
             expr,
             rest: left,
@@ -179,6 +182,7 @@ fn reversed(done: List<Step>) -> List<Step>
 
 // The steps of a chain, up to the expression that follows them.
 #[cycle(expressions)]
+#[inline(never)]
 fn steps<'a>(
     alloc: Global,
     tokens: &'a [Token],
@@ -202,7 +206,7 @@ fn steps<'a>(
     let (mut left, mut next_label) = match step(alloc, first, depth, label + 1) {
         Ok(ReadStep { step, rest, label }) => {
             let frame = Frame { step, noted: false };
-            if !pushed(&mut frames, frame) {
+            if !added(&mut frames, frame) {
                 discard_frames(frames);
                 return Err(Fault::Memory);
             }
@@ -217,7 +221,7 @@ fn steps<'a>(
         match step(alloc, word, depth, next_label) {
             Ok(ReadStep { step, rest, label }) => {
                 let frame = Frame { step, noted };
-                if !pushed(&mut frames, frame) {
+                if !added(&mut frames, frame) {
                     discard_frames(frames);
                     return Err(Fault::Memory);
                 }
@@ -239,6 +243,7 @@ fn steps<'a>(
 
 // The step that begins with this word, behind the word: variables = expression in, or an expression.
 #[cycle(expressions)]
+#[inline(never)]
 fn step<'a>(alloc: Global, word: First<'a>, depth: u32, label: u32) -> Result<ReadStep<'a>, Fault>
     requires shallow { depth ≤ 400 }
     requires labels { label + 1 + weight word.rest.now < 2 ^ 32 }
@@ -251,11 +256,10 @@ fn step<'a>(alloc: Global, word: First<'a>, depth: u32, label: u32) -> Result<Re
     let mark = mark(label, word.place);
     if same(word.sort, Sort::Do) {
         return match expression(alloc, word.rest, depth + 1, label + 1) {
-            Ok(ReadExpression { expr, rest, label }) => Ok(ReadStep {
-                step: Step::Do(mark, expr),
-                rest,
-                label,
-            }),
+            Ok(ReadExpression { expr, rest, label }) => match do_step(alloc, mark, expr) {
+                Ok(step) => Ok(ReadStep { step, rest, label }),
+                Err(Memory) => Err(Fault::Memory),
+            },
             Err(fault) => Err(fault),
         };
     }
@@ -282,9 +286,8 @@ fn step<'a>(alloc: Global, word: First<'a>, depth: u32, label: u32) -> Result<Re
             return Err(fault);
         }
     };
-    Ok(ReadStep {
-        step: Step::Let(mark, vars.variables, value),
-        rest,
-        label,
-    })
+    match let_step(alloc, mark, vars.variables, value) {
+        Ok(step) => Ok(ReadStep { step, rest, label }),
+        Err(Memory) => Err(Fault::Memory),
+    }
 }

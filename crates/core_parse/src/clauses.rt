@@ -7,19 +7,17 @@ ghost use Rattle.core_parse.specs.steps.Readings.{ReadsClause};
 ghost use Rattle.core_parse.specs.Weights.{weight};
 
 use crate::annotations::annotation;
-use crate::expression_lists::pushed;
+use crate::boxes::{discard, discard_clause, discard_pattern, noted_clause, noted_pattern, pushed};
 use crate::expressions::{ReadExpression, expression};
 use crate::fault::Fault;
 use crate::leaves::{DEEPEST, First, mark, next, no_note, take, text_of};
 use crate::pattern_brackets::{ReadInBrackets, in_brackets, named, noted_variable};
 use crate::patterns::{ReadPattern, ReadPatterns, bare_pattern, patterns};
-use core_ast::{
-    Clause, Pattern, VarName, discard, discard_clause, discard_clauses, discard_pattern,
-    discard_patterns,
-};
+use crate::{part_nodes, pattern_nodes};
+use core_ast::{Clause, Pattern, VarName, discard_clauses, discard_patterns};
 use core_scan::{Sort, Token, same};
 use std::alloc::Global;
-use type_kinds::{List, Memory, Place};
+use type_kinds::{Boxed, List, Memory, Place};
 
 /// Clauses, and what follows the token that closes them.
 pub struct ReadClauses<'a> {
@@ -30,7 +28,7 @@ pub struct ReadClauses<'a> {
 
 /// A clause, and what follows it.
 pub struct ReadClause<'a> {
-    pub clause: Clause,
+    pub clause: Boxed<Clause>,
     pub rest: &'a [Token],
     pub label: u32,
 }
@@ -47,6 +45,7 @@ struct ReadHead<'a> {
 
 /// These clauses and those that come, up to and with the token that closes them.
 #[cycle(expressions)]
+#[inline(never)]
 pub fn clauses<'a>(
     alloc: Global,
     tokens: &'a [Token],
@@ -106,6 +105,7 @@ pub fn clauses<'a>(
 
 /// The clause that comes first, with or without annotation brackets.
 #[cycle(expressions)]
+#[inline(never)]
 pub fn clause<'a>(
     alloc: Global,
     tokens: &'a [Token],
@@ -161,7 +161,10 @@ pub fn clause<'a>(
             return Err(fault);
         }
     };
-    let clause = Clause::new(mark, patterns, guard, body);
+    let clause = match part_nodes::clause(alloc, mark, patterns, guard, body) {
+        Ok(clause) => clause,
+        Err(Memory) => return Err(Fault::Memory),
+    };
     if !noted {
         return Ok(ReadClause {
             clause,
@@ -170,11 +173,14 @@ pub fn clause<'a>(
         });
     }
     match annotation(alloc, rest) {
-        Ok(found) => Ok(ReadClause {
-            clause: clause.with_note(found.note),
-            rest: found.rest,
-            label,
-        }),
+        Ok(found) => match noted_clause(alloc, clause, found.note) {
+            Ok(clause) => Ok(ReadClause {
+                clause,
+                rest: found.rest,
+                label,
+            }),
+            Err(Memory) => Err(Fault::Memory),
+        },
         Err(fault) => {
             discard_clause(clause);
             Err(fault)
@@ -184,6 +190,7 @@ pub fn clause<'a>(
 
 // The patterns of a clause, up to and with the word `when`.
 #[cycle(expressions)]
+#[inline(never)]
 fn head<'a>(
     alloc: Global,
     tokens: &'a [Token],
@@ -222,6 +229,7 @@ fn head<'a>(
 // The same where brackets come first: those of the clause, of its pattern, or of the variable that names
 // its pattern.
 #[cycle(expressions)]
+#[inline(never)]
 fn head_in_brackets<'a>(
     alloc: Global,
     tokens: &'a [Token],
@@ -284,6 +292,7 @@ fn head_in_brackets<'a>(
 
 // The same where brackets and a variable come first.
 #[cycle(expressions)]
+#[inline(never)]
 fn head_with_variable<'a>(
     alloc: Global,
     tokens: &'a [Token],
@@ -349,8 +358,12 @@ fn head_with_variable<'a>(
             Err(fault) => Err(fault),
         };
     }
+    let pattern = match pattern_nodes::variable(alloc, mark, name) {
+        Ok(pattern) => pattern,
+        Err(Memory) => return Err(Fault::Memory),
+    };
     let found = ReadPattern {
-        pattern: Pattern::variable(mark, name),
+        pattern,
         rest: second.rest,
         label: label + 1,
     };
@@ -359,6 +372,7 @@ fn head_with_variable<'a>(
 
 // < patterns > when, behind the first bracket.
 #[cycle(expressions)]
+#[inline(never)]
 fn several<'a>(
     alloc: Global,
     first: First<'a>,
@@ -437,8 +451,12 @@ fn either<'a>(
     }
     match annotation(alloc, rest) {
         Ok(found) => {
+            let pattern = match noted_pattern(alloc, pattern, found.note) {
+                Ok(pattern) => pattern,
+                Err(Memory) => return Err(Fault::Memory),
+            };
             let found = ReadPattern {
-                pattern: pattern.with_note(found.note),
+                pattern,
                 rest: found.rest,
                 label,
             };

@@ -5,19 +5,21 @@ ghost use Rattle.core_parse.specs.steps.Faults.{Starts, Refuses};
 ghost use Rattle.core_parse.specs.steps.Readings.{ReadsOtherExpression};
 ghost use Rattle.core_parse.specs.Weights.{weight};
 
+use crate::boxes::{discard, pushed};
 use crate::clauses::{ReadClause, ReadClauses, clause, clauses};
-use crate::expression_lists::pushed;
 use crate::expressions::{ReadExpression, expression};
 use crate::fault::Fault;
 use crate::leaves::{First, mark, take};
+use crate::nodes;
 use crate::variables::variables;
-use core_ast::{Expr, TryOf, discard, discard_clauses};
+use core_ast::{TryOf, discard_clauses};
 use core_scan::{Sort, Token};
 use std::alloc::Global;
 use type_kinds::{List, Memory};
 
 // case expression of clauses end, with a clause at least
 #[cycle(expressions)]
+#[inline(never)]
 pub fn case<'a>(
     alloc: Global,
     tokens: &'a [Token],
@@ -83,7 +85,7 @@ pub fn case<'a>(
             return Err(fault);
         }
     };
-    match Expr::case(alloc, mark, argument, items) {
+    match nodes::case(alloc, mark, argument, items) {
         Ok(expr) => Ok(ReadExpression { expr, rest, label }),
         Err(Memory) => Err(Fault::Memory),
     }
@@ -91,6 +93,7 @@ pub fn case<'a>(
 
 // try expression of variables -> expression catch variables -> expression
 #[cycle(expressions)]
+#[inline(never)]
 pub fn try_expression<'a>(
     alloc: Global,
     tokens: &'a [Token],
@@ -186,25 +189,22 @@ pub fn try_expression<'a>(
             return Err(fault);
         }
     };
-    match TryOf::new(
-        alloc,
+    let parts = TryOf {
         arg,
-        vars.variables,
+        vars: vars.variables,
         body,
-        catch_vars.variables,
+        catch_vars: catch_vars.variables,
         handler,
-    ) {
-        Ok(parts) => Ok(ReadExpression {
-            expr: Expr::try_(mark, parts),
-            rest,
-            label,
-        }),
+    };
+    match nodes::try_(alloc, mark, parts) {
+        Ok(expr) => Ok(ReadExpression { expr, rest, label }),
         Err(Memory) => Err(Fault::Memory),
     }
 }
 
 // receive clauses after expression -> expression
 #[cycle(expressions)]
+#[inline(never)]
 pub fn receive<'a>(
     alloc: Global,
     tokens: &'a [Token],
@@ -266,7 +266,7 @@ pub fn receive<'a>(
             return Err(fault);
         }
     };
-    match Expr::receive(alloc, mark, items, timeout, action) {
+    match nodes::receive(alloc, mark, items, timeout, action) {
         Ok(expr) => Ok(ReadExpression { expr, rest, label }),
         Err(Memory) => Err(Fault::Memory),
     }
@@ -274,6 +274,7 @@ pub fn receive<'a>(
 
 // catch expression
 #[cycle(expressions)]
+#[inline(never)]
 pub fn catch<'a>(
     alloc: Global,
     tokens: &'a [Token],
@@ -301,7 +302,7 @@ pub fn catch<'a>(
         Ok(found) => found,
         Err(fault) => return Err(fault),
     };
-    match Expr::catch(alloc, mark, body) {
+    match nodes::catch(alloc, mark, body) {
         Ok(expr) => Ok(ReadExpression { expr, rest, label }),
         Err(Memory) => Err(Fault::Memory),
     }

@@ -8,16 +8,16 @@ ghost use Rattle.core_parse.specs.steps.Readings.{ReadsDefinition, ReadsDefiniti
 ghost use Rattle.core_parse.specs.Weights.{weight};
 
 use crate::annotations::annotation;
-use crate::expression_lists::pushed;
+use crate::boxes::{added, discard};
 use crate::expressions::{ReadExpression, expression};
 use crate::fault::Fault;
 use crate::leaves::{mark, next, take};
 use crate::names::annotated_function_name;
 use crate::variables::variables_to;
-use core_ast::{Expr, FunDef, FunDefOf, Mark, VarName, discard, discard_functions};
+use core_ast::{Expr, FunDef, FunDefOf, FunOf, Mark, VarName, discard_functions};
 use core_scan::{Sort, Token, same};
 use std::alloc::Global;
-use type_kinds::{List, Memory};
+use type_kinds::{Boxed, List};
 
 /// Definitions, and what follows the token that closes them.
 pub struct ReadDefinitions<'a> {
@@ -37,13 +37,14 @@ pub struct ReadDefinition<'a> {
 struct ReadFunction<'a> {
     mark: Mark,
     params: List<VarName>,
-    body: Expr,
+    body: Boxed<Expr>,
     rest: &'a [Token],
     label: u32,
 }
 
 /// Definitions up to and with the token that closes them.
 #[cycle(expressions)]
+#[inline(never)]
 pub fn definitions<'a>(
     alloc: Global,
     tokens: &'a [Token],
@@ -85,7 +86,7 @@ pub fn definitions<'a>(
                     label,
                 },
             ) => {
-                if !pushed(&mut items, definition) {
+                if !added(&mut items, definition) {
                     discard_functions(items);
                     return Err(Fault::Memory);
                 }
@@ -102,6 +103,7 @@ pub fn definitions<'a>(
 
 // function_name = fun, each with or without annotation brackets
 #[cycle(expressions)]
+#[inline(never)]
 fn definition<'a>(
     alloc: Global,
     tokens: &'a [Token],
@@ -133,18 +135,21 @@ fn definition<'a>(
         Ok(found) => found,
         Err(fault) => return Err(fault),
     };
-    match FunDefOf::new(alloc, name.name, mark, params, body) {
-        Ok(definition) => Ok(ReadDefinition {
-            definition,
-            rest,
-            label,
-        }),
-        Err(Memory) => Err(Fault::Memory),
-    }
+    let definition = FunDefOf {
+        name: name.name,
+        mark,
+        fun: FunOf { params, body },
+    };
+    Ok(ReadDefinition {
+        definition,
+        rest,
+        label,
+    })
 }
 
 // The fun of a definition, with or without annotation brackets.
 #[cycle(expressions)]
+#[inline(never)]
 fn noted_function<'a>(
     alloc: Global,
     tokens: &'a [Token],
@@ -195,6 +200,7 @@ fn noted_function<'a>(
 
 // fun ( variables ) -> expression
 #[cycle(expressions)]
+#[inline(never)]
 fn function<'a>(
     alloc: Global,
     tokens: &'a [Token],

@@ -9,40 +9,34 @@ ghost use Rattle.core_parse.specs.steps.Readings.{mark as unnoted, ReadsBareExpr
 ghost use Rattle.core_parse.specs.Weights.{weight};
 
 use crate::annotations::annotation;
+use crate::boxes::{discard, noted, pushed};
 use crate::expressions::{ReadExpression, bare_expression, expression, other_expression};
 use crate::fault::Fault;
 use crate::leaves::{First, mark, next, take};
+use crate::nodes;
 use crate::strings::push_bytes;
-use core_ast::{Expr, Literal, discard, discard_all};
+use core_ast::{Expr, Literal, discard_all};
 use core_scan::{Sort, Token, same};
 use std::alloc::Global;
-use type_kinds::{List, Memory, Place};
+use type_kinds::{Boxed, List, Memory, Place};
 
 /// The elements of a list and its tail, and how many brackets have to close it.
 pub struct ReadElements<'a> {
     pub items: List<Expr>,
-    pub tail: Expr,
+    pub tail: Boxed<Expr>,
     pub pending: usize,
     pub rest: &'a [Token],
     pub label: u32,
 }
 
-/// Adds an item last and answers true. If allocation fails it gives the item up and answers false.
-pub fn pushed<T: Drop>(items: &mut List<T>, item: T) -> bool
-    ensures added { OnTrue result (items.new ≡ items.old ++ item ∷ []) }
-    ensures refused { OnFalse result (items.new ≡ items.old) }
-{
-    match items.add(item) {
-        Ok(()) => true,
-        Err(Memory) => false,
-    }
-}
-
 // The empty list's node.
-fn nil(label: u32, place: Place) -> Expr
-    ensures { tree result ≡ m.literal (unnoted label place) l.Nil }
+fn nil(alloc: Global, label: u32, place: Place) -> Result<Boxed<Expr>, Memory>
+    ensures { IfOk result (λ made. tree made ≡ m.literal (unnoted label place) l.Nil) }
 {
-    Expr::literal(mark(label, place), Literal::Nil)
+    match nodes::literal(alloc, mark(label, place), Literal::Nil) {
+        Ok(made) => Ok(made),
+        Err(Memory) => Err(Memory),
+    }
 }
 
 /// A string that has bytes: the list of them.
@@ -72,8 +66,14 @@ pub fn string<'a>(
             return Err(Fault::Memory);
         }
     };
-    let tail = nil(label_of_tail, first.place);
-    match Expr::listed(alloc, mark(label, first.place), items, tail) {
+    let tail = match nil(alloc, label_of_tail, first.place) {
+        Ok(tail) => tail,
+        Err(Memory) => {
+            discard_all(items);
+            return Err(Fault::Memory);
+        }
+    };
+    match nodes::listed(alloc, mark(label, first.place), items, tail) {
         Ok(expr) => Ok(ReadExpression {
             expr,
             rest: first.rest,
@@ -85,6 +85,7 @@ pub fn string<'a>(
 
 /// [ ], [ expressions ] and [ expressions | expression ].
 #[cycle(expressions)]
+#[inline(never)]
 pub fn list<'a>(
     alloc: Global,
     tokens: &'a [Token],
@@ -108,11 +109,14 @@ pub fn list<'a>(
         Err(fault) => return Err(fault),
     };
     if same(second.sort, Sort::CloseSquare) {
-        return Ok(ReadExpression {
-            expr: nil(label, first.place),
-            rest: second.rest,
-            label: label + 1,
-        });
+        return match nil(alloc, label, first.place) {
+            Ok(expr) => Ok(ReadExpression {
+                expr,
+                rest: second.rest,
+                label: label + 1,
+            }),
+            Err(Memory) => Err(Fault::Memory),
+        };
     }
     let ReadElements {
         items,
@@ -135,7 +139,7 @@ pub fn list<'a>(
         }
         pending -= 1;
     }
-    match Expr::listed(alloc, mark(label, first.place), items, tail) {
+    match nodes::listed(alloc, mark(label, first.place), items, tail) {
         Ok(expr) => Ok(ReadExpression {
             expr,
             rest,
@@ -148,6 +152,7 @@ pub fn list<'a>(
 // The elements of a list and its tail, up to the brackets that close it. A tail that is a list without
 // annotation brackets goes into the list.
 #[cycle(expressions)]
+#[inline(never)]
 fn elements<'a>(
     alloc: Global,
     tokens: &'a [Token],
@@ -193,13 +198,19 @@ fn elements<'a>(
             }
         };
         if same(token.sort, Sort::CloseSquare) {
-            return Ok(ReadElements {
-                items,
-                tail: nil(next_label, token.place),
-                pending,
-                rest: token.rest,
-                label: next_label + 1,
-            });
+            return match nil(alloc, next_label, token.place) {
+                Ok(tail) => Ok(ReadElements {
+                    items,
+                    tail,
+                    pending,
+                    rest: token.rest,
+                    label: next_label + 1,
+                }),
+                Err(Memory) => {
+                    discard_all(items);
+                    Err(Fault::Memory)
+                }
+            };
         }
         if same(token.sort, Sort::Comma) {
             match expression(alloc, token.rest, depth + 1, next_label) {
@@ -243,13 +254,19 @@ fn elements<'a>(
                 }
             };
             return match annotation(alloc, rest) {
-                Ok(found) => Ok(ReadElements {
-                    items,
-                    tail: expr.with_note(found.note),
-                    pending: pending + 1,
-                    rest: found.rest,
-                    label,
-                }),
+                Ok(found) => match noted(alloc, expr, found.note) {
+                    Ok(tail) => Ok(ReadElements {
+                        items,
+                        tail,
+                        pending: pending + 1,
+                        rest: found.rest,
+                        label,
+                    }),
+                    Err(Memory) => {
+                        discard_all(items);
+                        Err(Fault::Memory)
+                    }
+                },
                 Err(fault) => {
                     discard_all(items);
                     discard(expr);
@@ -265,13 +282,19 @@ fn elements<'a>(
                     return Err(Fault::Memory);
                 }
             };
-            return Ok(ReadElements {
-                items,
-                tail: nil(next_label, behind.place),
-                pending: pending + 1,
-                rest: behind.rest,
-                label: next_label + 1,
-            });
+            return match nil(alloc, next_label, behind.place) {
+                Ok(tail) => Ok(ReadElements {
+                    items,
+                    tail,
+                    pending: pending + 1,
+                    rest: behind.rest,
+                    label: next_label + 1,
+                }),
+                Err(Memory) => {
+                    discard_all(items);
+                    Err(Fault::Memory)
+                }
+            };
         }
         if !same(behind.sort, Sort::OpenSquare) {
             return match other_expression(alloc, token.rest, depth + 1, next_label) {
@@ -296,13 +319,19 @@ fn elements<'a>(
             }
         };
         if same(inner.sort, Sort::CloseSquare) {
-            return Ok(ReadElements {
-                items,
-                tail: nil(next_label, behind.place),
-                pending: pending + 1,
-                rest: inner.rest,
-                label: next_label + 1,
-            });
+            return match nil(alloc, next_label, behind.place) {
+                Ok(tail) => Ok(ReadElements {
+                    items,
+                    tail,
+                    pending: pending + 1,
+                    rest: inner.rest,
+                    label: next_label + 1,
+                }),
+                Err(Memory) => {
+                    discard_all(items);
+                    Err(Fault::Memory)
+                }
+            };
         }
         match expression(alloc, behind.rest, depth + 1, next_label) {
             Ok(ReadExpression { expr, rest, label }) => {

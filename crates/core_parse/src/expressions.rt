@@ -8,22 +8,24 @@ ghost use Rattle.core_parse.specs.Weights.{weight};
 
 use crate::annotations::annotation;
 use crate::binaries::binary;
+use crate::boxes::{discard, noted, pushed};
 use crate::chains::chain;
 use crate::control_forms::{case, catch, receive, try_expression};
-use crate::expression_lists::{list, pushed, string};
+use crate::expression_lists::{list, string};
 use crate::fault::Fault;
 use crate::forms::{apply, call, fun_or_external, letrec, primop, tuple, values};
 use crate::leaves::{First, arity_of, is_too_deep, mark, next, take, text_of};
 use crate::literals::literal_of;
 use crate::maps::map;
-use core_ast::{Expr, FunName, Literal, discard, discard_all};
+use crate::nodes;
+use core_ast::{Expr, FunName, Literal, discard_all};
 use core_scan::{Sort, Token, same, sort_of};
 use std::alloc::Global;
-use type_kinds::{List, Memory};
+use type_kinds::{Boxed, List, Memory};
 
 /// An expression, what follows it, and the label that follows its last.
 pub struct ReadExpression<'a> {
-    pub expr: Expr,
+    pub expr: Boxed<Expr>,
     pub rest: &'a [Token],
     pub label: u32,
 }
@@ -79,6 +81,7 @@ pub fn is_literal(sort: Sort) -> bool
 
 /// The expression that comes first, with or without annotation brackets.
 #[cycle(expressions)]
+#[inline(never)]
 pub fn expression<'a>(
     alloc: Global,
     tokens: &'a [Token],
@@ -112,11 +115,14 @@ pub fn expression<'a>(
         Err(fault) => return Err(fault),
     };
     match annotation(alloc, rest) {
-        Ok(found) => Ok(ReadExpression {
-            expr: expr.with_note(found.note),
-            rest: found.rest,
-            label: next_label,
-        }),
+        Ok(found) => match noted(alloc, expr, found.note) {
+            Ok(expr) => Ok(ReadExpression {
+                expr,
+                rest: found.rest,
+                label: next_label,
+            }),
+            Err(Memory) => Err(Fault::Memory),
+        },
         Err(fault) => {
             discard(expr);
             Err(fault)
@@ -126,6 +132,7 @@ pub fn expression<'a>(
 
 /// The expression that comes first, without annotation brackets.
 #[cycle(expressions)]
+#[inline(never)]
 pub fn bare_expression<'a>(
     alloc: Global,
     tokens: &'a [Token],
@@ -170,6 +177,7 @@ pub fn bare_expression<'a>(
 
 /// The expression that comes first, without annotation brackets, where it is no list with elements.
 #[cycle(expressions)]
+#[inline(never)]
 pub fn other_expression<'a>(
     alloc: Global,
     tokens: &'a [Token],
@@ -189,95 +197,56 @@ pub fn other_expression<'a>(
     };
     if is_literal(first.sort) {
         return match literal_of(alloc, first.token) {
-            Ok(value) => Ok(ReadExpression {
-                expr: Expr::literal(mark(label, first.place), value),
-                rest: first.rest,
-                label: label + 1,
-            }),
+            Ok(value) => match nodes::literal(alloc, mark(label, first.place), value) {
+                Ok(expr) => Ok(ReadExpression {
+                    expr,
+                    rest: first.rest,
+                    label: label + 1,
+                }),
+                Err(Memory) => Err(Fault::Memory),
+            },
             Err(Memory) => Err(Fault::Memory),
         };
     }
     match first.sort {
         Sort::Variable => match text_of(alloc, first.token) {
-            Ok(name) => Ok(ReadExpression {
-                expr: Expr::variable(mark(label, first.place), name),
-                rest: first.rest,
-                label: label + 1,
-            }),
+            Ok(name) => match nodes::variable(alloc, mark(label, first.place), name) {
+                Ok(expr) => Ok(ReadExpression {
+                    expr,
+                    rest: first.rest,
+                    label: label + 1,
+                }),
+                Err(Memory) => Err(Fault::Memory),
+            },
             Err(Memory) => Err(Fault::Memory),
         },
-        Sort::Atom => match atom_or_name(alloc, tokens, first, depth, label) {
-            Ok(found) => Ok(found),
-            Err(fault) => Err(fault),
-        },
+        Sort::Atom => atom_or_name(alloc, tokens, first, depth, label),
         Sort::OpenSquare => match take(first.rest, Sort::CloseSquare) {
-            Ok(rest) => Ok(ReadExpression {
-                expr: Expr::literal(mark(label, first.place), Literal::Nil),
-                rest,
-                label: label + 1,
-            }),
+            Ok(rest) => match nodes::literal(alloc, mark(label, first.place), Literal::Nil) {
+                Ok(expr) => Ok(ReadExpression {
+                    expr,
+                    rest,
+                    label: label + 1,
+                }),
+                Err(Memory) => Err(Fault::Memory),
+            },
             Err(fault) => Err(fault),
         },
-        Sort::OpenCurly => match tuple(alloc, tokens, first, depth, label) {
-            Ok(found) => Ok(found),
-            Err(fault) => Err(fault),
-        },
-        Sort::Less => match values(alloc, tokens, first, depth, label) {
-            Ok(found) => Ok(found),
-            Err(fault) => Err(fault),
-        },
-        Sort::OpenBinary => match binary(alloc, tokens, first, depth, label) {
-            Ok(found) => Ok(found),
-            Err(fault) => Err(fault),
-        },
-        Sort::OpenMap => match map(alloc, tokens, first, depth, label) {
-            Ok(found) => Ok(found),
-            Err(fault) => Err(fault),
-        },
-        Sort::Fun => match fun_or_external(alloc, tokens, first, depth, label) {
-            Ok(found) => Ok(found),
-            Err(fault) => Err(fault),
-        },
-        Sort::Let => match chain(alloc, tokens, first, depth, label) {
-            Ok(found) => Ok(found),
-            Err(fault) => Err(fault),
-        },
-        Sort::Do => match chain(alloc, tokens, first, depth, label) {
-            Ok(found) => Ok(found),
-            Err(fault) => Err(fault),
-        },
-        Sort::Case => match case(alloc, tokens, first, depth, label) {
-            Ok(found) => Ok(found),
-            Err(fault) => Err(fault),
-        },
-        Sort::Letrec => match letrec(alloc, tokens, first, depth, label) {
-            Ok(found) => Ok(found),
-            Err(fault) => Err(fault),
-        },
-        Sort::Apply => match apply(alloc, tokens, first, depth, label) {
-            Ok(found) => Ok(found),
-            Err(fault) => Err(fault),
-        },
-        Sort::Call => match call(alloc, tokens, first, depth, label) {
-            Ok(found) => Ok(found),
-            Err(fault) => Err(fault),
-        },
-        Sort::Primop => match primop(alloc, tokens, first, depth, label) {
-            Ok(found) => Ok(found),
-            Err(fault) => Err(fault),
-        },
-        Sort::Try => match try_expression(alloc, tokens, first, depth, label) {
-            Ok(found) => Ok(found),
-            Err(fault) => Err(fault),
-        },
-        Sort::Receive => match receive(alloc, tokens, first, depth, label) {
-            Ok(found) => Ok(found),
-            Err(fault) => Err(fault),
-        },
-        Sort::Catch => match catch(alloc, tokens, first, depth, label) {
-            Ok(found) => Ok(found),
-            Err(fault) => Err(fault),
-        },
+        Sort::OpenCurly => tuple(alloc, tokens, first, depth, label),
+        Sort::Less => values(alloc, tokens, first, depth, label),
+        Sort::Fun => fun_or_external(alloc, tokens, first, depth, label),
+        Sort::Letrec => letrec(alloc, tokens, first, depth, label),
+        Sort::Catch => catch(alloc, tokens, first, depth, label),
+        Sort::Primop => primop(alloc, tokens, first, depth, label),
+        Sort::Apply => apply(alloc, tokens, first, depth, label),
+        Sort::Call => call(alloc, tokens, first, depth, label),
+        Sort::Case => case(alloc, tokens, first, depth, label),
+        Sort::Try => try_expression(alloc, tokens, first, depth, label),
+        Sort::Receive => receive(alloc, tokens, first, depth, label),
+        Sort::Let => chain(alloc, tokens, first, depth, label),
+        Sort::Do => chain(alloc, tokens, first, depth, label),
+        Sort::OpenBinary => binary(alloc, tokens, first, depth, label),
+        Sort::OpenMap => map(alloc, tokens, first, depth, label),
         _ => Err(Fault::Syntax(first.place)),
     }
 }
@@ -307,18 +276,24 @@ fn atom_or_name<'a>(
     };
     let mark = mark(label, first.place);
     let Some((second, after)) = first.rest.split_first() else {
-        return Ok(ReadExpression {
-            expr: Expr::literal(mark, Literal::Atom(name)),
-            rest: first.rest,
-            label: label + 1,
-        });
+        return match nodes::literal(alloc, mark, Literal::Atom(name)) {
+            Ok(expr) => Ok(ReadExpression {
+                expr,
+                rest: first.rest,
+                label: label + 1,
+            }),
+            Err(Memory) => Err(Fault::Memory),
+        };
     };
     if !same(sort_of(second), Sort::Slash) {
-        return Ok(ReadExpression {
-            expr: Expr::literal(mark, Literal::Atom(name)),
-            rest: first.rest,
-            label: label + 1,
-        });
+        return match nodes::literal(alloc, mark, Literal::Atom(name)) {
+            Ok(expr) => Ok(ReadExpression {
+                expr,
+                rest: first.rest,
+                label: label + 1,
+            }),
+            Err(Memory) => Err(Fault::Memory),
+        };
     }
     let third = match next(after) {
         Ok(found) => found,
@@ -331,15 +306,19 @@ fn atom_or_name<'a>(
         name,
         arity: arity_of(third.token),
     };
-    Ok(ReadExpression {
-        expr: Expr::local(mark, name),
-        rest: third.rest,
-        label: label + 1,
-    })
+    match nodes::local(alloc, mark, name) {
+        Ok(expr) => Ok(ReadExpression {
+            expr,
+            rest: third.rest,
+            label: label + 1,
+        }),
+        Err(Memory) => Err(Fault::Memory),
+    }
 }
 
 /// Expressions with commas between them, up to and with the token that closes them.
 #[cycle(expressions)]
+#[inline(never)]
 pub fn expressions<'a>(
     alloc: Global,
     tokens: &'a [Token],

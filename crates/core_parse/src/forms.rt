@@ -6,19 +6,22 @@ ghost use Rattle.core_parse.specs.steps.Readings.{ReadsOtherExpression};
 ghost use Rattle.core_parse.specs.steps.Starters.{opens_with};
 ghost use Rattle.core_parse.specs.Weights.{weight};
 
+use crate::boxes::discard;
 use crate::definitions::{ReadDefinitions, definitions};
 use crate::expressions::{ReadExpression, ReadExpressions, expression, expressions};
 use crate::fault::Fault;
 use crate::leaves::{First, mark, next, take, take_atom};
 use crate::names::function_name;
+use crate::nodes;
 use crate::variables::variables_to;
-use core_ast::{Expr, FunOf, discard, discard_functions};
+use core_ast::discard_functions;
 use core_scan::{Sort, Token, same};
 use std::alloc::Global;
 use type_kinds::Memory;
 
 // fun ( variables ) -> expression, or fun atom : function_name
 #[cycle(expressions)]
+#[inline(never)]
 pub fn fun_or_external<'a>(
     alloc: Global,
     tokens: &'a [Token],
@@ -49,6 +52,7 @@ pub fn fun_or_external<'a>(
 
 // fun ( variables ) -> expression, behind the bracket
 #[cycle(expressions)]
+#[inline(never)]
 fn fun<'a>(
     alloc: Global,
     tokens: &'a [Token],
@@ -87,12 +91,8 @@ fn fun<'a>(
         Ok(found) => found,
         Err(fault) => return Err(fault),
     };
-    match FunOf::new(alloc, params.variables, body) {
-        Ok(fun) => Ok(ReadExpression {
-            expr: Expr::function(mark, fun),
-            rest,
-            label,
-        }),
+    match nodes::function(alloc, mark, params.variables, body) {
+        Ok(expr) => Ok(ReadExpression { expr, rest, label }),
         Err(Memory) => Err(Fault::Memory),
     }
 }
@@ -127,17 +127,21 @@ fn external<'a>(
         Err(fault) => return Err(fault),
     };
     match function_name(alloc, rest) {
-        Ok(found) => Ok(ReadExpression {
-            expr: Expr::external(mark, home.name, found.name),
-            rest: found.rest,
-            label: label + 1,
-        }),
+        Ok(found) => match nodes::external(alloc, mark, home.name, found.name) {
+            Ok(expr) => Ok(ReadExpression {
+                expr,
+                rest: found.rest,
+                label: label + 1,
+            }),
+            Err(Memory) => Err(Fault::Memory),
+        },
         Err(fault) => Err(fault),
     }
 }
 
 // { expressions }
 #[cycle(expressions)]
+#[inline(never)]
 pub fn tuple<'a>(
     alloc: Global,
     tokens: &'a [Token],
@@ -167,15 +171,15 @@ pub fn tuple<'a>(
         Ok(found) => found,
         Err(fault) => return Err(fault),
     };
-    Ok(ReadExpression {
-        expr: Expr::tuple(mark, items),
-        rest,
-        label,
-    })
+    match nodes::tuple(alloc, mark, items) {
+        Ok(expr) => Ok(ReadExpression { expr, rest, label }),
+        Err(Memory) => Err(Fault::Memory),
+    }
 }
 
 // < expressions >
 #[cycle(expressions)]
+#[inline(never)]
 pub fn values<'a>(
     alloc: Global,
     tokens: &'a [Token],
@@ -205,15 +209,15 @@ pub fn values<'a>(
         Ok(found) => found,
         Err(fault) => return Err(fault),
     };
-    Ok(ReadExpression {
-        expr: Expr::values(mark, items),
-        rest,
-        label,
-    })
+    match nodes::values(alloc, mark, items) {
+        Ok(expr) => Ok(ReadExpression { expr, rest, label }),
+        Err(Memory) => Err(Fault::Memory),
+    }
 }
 
 // letrec definitions in expression
 #[cycle(expressions)]
+#[inline(never)]
 pub fn letrec<'a>(
     alloc: Global,
     tokens: &'a [Token],
@@ -254,7 +258,7 @@ pub fn letrec<'a>(
             return Err(fault);
         }
     };
-    match Expr::letrec(alloc, mark, items, body) {
+    match nodes::letrec(alloc, mark, items, body) {
         Ok(expr) => Ok(ReadExpression { expr, rest, label }),
         Err(Memory) => Err(Fault::Memory),
     }
@@ -262,6 +266,7 @@ pub fn letrec<'a>(
 
 // apply expression ( expressions )
 #[cycle(expressions)]
+#[inline(never)]
 pub fn apply<'a>(
     alloc: Global,
     tokens: &'a [Token],
@@ -307,7 +312,7 @@ pub fn apply<'a>(
             return Err(fault);
         }
     };
-    match Expr::apply(alloc, mark, operator, args) {
+    match nodes::apply(alloc, mark, operator, args) {
         Ok(expr) => Ok(ReadExpression { expr, rest, label }),
         Err(Memory) => Err(Fault::Memory),
     }
@@ -315,6 +320,7 @@ pub fn apply<'a>(
 
 // call expression : expression ( expressions )
 #[cycle(expressions)]
+#[inline(never)]
 pub fn call<'a>(
     alloc: Global,
     tokens: &'a [Token],
@@ -380,7 +386,7 @@ pub fn call<'a>(
             return Err(fault);
         }
     };
-    match Expr::call(alloc, mark, home, name, args) {
+    match nodes::call(alloc, mark, home, name, args) {
         Ok(expr) => Ok(ReadExpression { expr, rest, label }),
         Err(Memory) => Err(Fault::Memory),
     }
@@ -388,6 +394,7 @@ pub fn call<'a>(
 
 // primop atom ( expressions )
 #[cycle(expressions)]
+#[inline(never)]
 pub fn primop<'a>(
     alloc: Global,
     tokens: &'a [Token],
@@ -423,9 +430,8 @@ pub fn primop<'a>(
         Ok(found) => found,
         Err(fault) => return Err(fault),
     };
-    Ok(ReadExpression {
-        expr: Expr::primop(mark, name.name, args),
-        rest,
-        label,
-    })
+    match nodes::primop(alloc, mark, name.name, args) {
+        Ok(expr) => Ok(ReadExpression { expr, rest, label }),
+        Err(Memory) => Err(Fault::Memory),
+    }
 }

@@ -3,6 +3,7 @@
 
 mod annotations;
 mod binaries;
+mod boxes;
 mod chains;
 mod clauses;
 mod constants;
@@ -18,11 +19,14 @@ mod literals;
 mod maps;
 mod modules;
 mod names;
+mod nodes;
 mod notes;
+mod part_nodes;
 mod pattern_binaries;
 mod pattern_brackets;
 mod pattern_lists;
 mod pattern_maps;
+mod pattern_nodes;
 mod patterns;
 mod strings;
 mod variables;

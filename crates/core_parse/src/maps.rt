@@ -8,32 +8,34 @@ ghost use Rattle.core_parse.specs.steps.Starters.{opens_with};
 ghost use Rattle.core_parse.specs.Weights.{weight};
 
 use crate::annotations::annotation;
-use crate::expression_lists::pushed;
+use crate::boxes::{discard, discard_pair, noted, pushed};
 use crate::expressions::{ReadExpression, bare_expression, expression};
 use crate::fault::Fault;
 use crate::leaves::{First, mark, next, take};
-use core_ast::{Expr, MapPair, discard, discard_pair, discard_pairs};
+use crate::{nodes, part_nodes};
+use core_ast::{Expr, MapPair, discard_pairs};
 use core_scan::{Sort, Token, same};
 use std::alloc::Global;
-use type_kinds::{List, Memory};
+use type_kinds::{Boxed, List, Memory};
 
 /// The pairs of a map and the map that they update, and what follows the token that closes them.
 pub struct ReadPairs<'a> {
     pub items: List<MapPair>,
-    pub updated: Option<Expr>,
+    pub updated: Option<Boxed<Expr>>,
     pub rest: &'a [Token],
     pub label: u32,
 }
 
 /// A pair, and what follows it.
 pub struct ReadPair<'a> {
-    pub pair: MapPair,
+    pub pair: Boxed<MapPair>,
     pub rest: &'a [Token],
     pub label: u32,
 }
 
 /// ~{ pairs }~ and ~{ pairs | expression }~
 #[cycle(expressions)]
+#[inline(never)]
 pub fn map<'a>(
     alloc: Global,
     tokens: &'a [Token],
@@ -63,13 +65,12 @@ pub fn map<'a>(
         Err(fault) => return Err(fault),
     };
     let Some(updated) = updated else {
-        return Ok(ReadExpression {
-            expr: Expr::new_map(mark, items),
-            rest,
-            label,
-        });
+        return match nodes::new_map(alloc, mark, items) {
+            Ok(expr) => Ok(ReadExpression { expr, rest, label }),
+            Err(Memory) => Err(Fault::Memory),
+        };
     };
-    match Expr::updated_map(alloc, mark, items, updated) {
+    match nodes::updated_map(alloc, mark, items, updated) {
         Ok(expr) => Ok(ReadExpression { expr, rest, label }),
         Err(Memory) => Err(Fault::Memory),
     }
@@ -78,6 +79,7 @@ pub fn map<'a>(
 // Pairs with commas between them, the map that they update behind a bar, if any, and the token that
 // closes them.
 #[cycle(expressions)]
+#[inline(never)]
 fn pairs<'a>(
     alloc: Global,
     tokens: &'a [Token],
@@ -183,6 +185,7 @@ fn pair_start<'a>(
 
 // A pair, with or without annotation brackets.
 #[cycle(expressions)]
+#[inline(never)]
 fn pair<'a>(
     alloc: Global,
     tokens: &'a [Token],
@@ -236,6 +239,7 @@ fn pair<'a>(
 // A pair that begins with one bracket. It is the key's where an annotation follows the key, and else the
 // pair's.
 #[cycle(expressions)]
+#[inline(never)]
 fn pair_in_brackets<'a>(
     alloc: Global,
     tokens: &'a [Token],
@@ -273,7 +277,10 @@ fn pair_in_brackets<'a>(
     if same(token.sort, Sort::Noted) {
         return match annotation(alloc, rest) {
             Ok(found) => {
-                let key = key.with_note(found.note);
+                let key = match noted(alloc, key, found.note) {
+                    Ok(key) => key,
+                    Err(Memory) => return Err(Fault::Memory),
+                };
                 match value_of_key(alloc, key, found.rest, depth, label) {
                     Ok(found) => Ok(found),
                     Err(fault) => Err(fault),
@@ -304,6 +311,7 @@ fn pair_in_brackets<'a>(
 
 // expression => expression, or expression := expression
 #[cycle(expressions)]
+#[inline(never)]
 fn bare_pair<'a>(
     alloc: Global,
     tokens: &'a [Token],
@@ -344,9 +352,10 @@ fn exactness(sort: Sort) -> Option<bool>
 
 // The pair of this key, behind the key: => expression, or := expression.
 #[cycle(expressions)]
+#[inline(never)]
 fn value_of_key<'a>(
     alloc: Global,
-    key: Expr,
+    key: Boxed<Expr>,
     tokens: &'a [Token],
     depth: u32,
     label: u32,
@@ -380,9 +389,8 @@ fn value_of_key<'a>(
             return Err(fault);
         }
     };
-    Ok(ReadPair {
-        pair: MapPair::new(exact, key, value),
-        rest,
-        label,
-    })
+    match part_nodes::pair(alloc, exact, key, value) {
+        Ok(pair) => Ok(ReadPair { pair, rest, label }),
+        Err(Memory) => Err(Fault::Memory),
+    }
 }

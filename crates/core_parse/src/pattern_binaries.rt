@@ -6,15 +6,16 @@ ghost use Rattle.core_parse.specs.steps.Patterns.{ReadsOtherPattern};
 ghost use Rattle.core_parse.specs.steps.Readings.{ReadsPatternSegments, ReadsPatternSegment};
 ghost use Rattle.core_parse.specs.Weights.{weight};
 
-use crate::expression_lists::pushed;
+use crate::boxes::{discard_pattern, pushed};
 use crate::expressions::{ReadExpressions, expressions};
 use crate::fault::Fault;
 use crate::leaves::{First, mark, next, take};
 use crate::patterns::{ReadPattern, pattern};
-use core_ast::{PatSegment, Pattern, discard_pattern, discard_pattern_segments};
+use crate::{part_nodes, pattern_nodes};
+use core_ast::{PatSegment, discard_pattern_segments};
 use core_scan::{Sort, Token, same};
 use std::alloc::Global;
-use type_kinds::List;
+use type_kinds::{Boxed, List, Memory};
 
 /// Segments, and what follows the token that closes them.
 pub struct ReadPatternSegments<'a> {
@@ -25,13 +26,14 @@ pub struct ReadPatternSegments<'a> {
 
 /// A segment, and what follows it.
 pub struct ReadPatternSegment<'a> {
-    pub segment: PatSegment,
+    pub segment: Boxed<PatSegment>,
     pub rest: &'a [Token],
     pub label: u32,
 }
 
 /// #{ segments }#
 #[cycle(expressions)]
+#[inline(never)]
 pub fn binary_pattern<'a>(
     alloc: Global,
     tokens: &'a [Token],
@@ -60,15 +62,19 @@ pub fn binary_pattern<'a>(
         Ok(found) => found,
         Err(fault) => return Err(fault),
     };
-    Ok(ReadPattern {
-        pattern: Pattern::binary(mark, items),
-        rest,
-        label,
-    })
+    match pattern_nodes::binary(alloc, mark, items) {
+        Ok(pattern) => Ok(ReadPattern {
+            pattern,
+            rest,
+            label,
+        }),
+        Err(Memory) => Err(Fault::Memory),
+    }
 }
 
 // Segments with commas between them, up to and with the token that closes them.
 #[cycle(expressions)]
+#[inline(never)]
 fn pattern_segments<'a>(
     alloc: Global,
     tokens: &'a [Token],
@@ -157,6 +163,7 @@ fn pattern_segments<'a>(
 
 // #< pattern > ( expressions )
 #[cycle(expressions)]
+#[inline(never)]
 fn pattern_segment<'a>(
     alloc: Global,
     tokens: &'a [Token],
@@ -207,9 +214,12 @@ fn pattern_segment<'a>(
             return Err(fault);
         }
     };
-    Ok(ReadPatternSegment {
-        segment: PatSegment::new(value, args),
-        rest,
-        label,
-    })
+    match part_nodes::pattern_segment(alloc, value, args) {
+        Ok(segment) => Ok(ReadPatternSegment {
+            segment,
+            rest,
+            label,
+        }),
+        Err(Memory) => Err(Fault::Memory),
+    }
 }

@@ -9,18 +9,20 @@ ghost use Rattle.core_parse.specs.steps.Starters.{opens_with};
 ghost use Rattle.core_parse.specs.Weights.{weight};
 
 use crate::annotations::annotation;
+use crate::boxes::{discard_pattern, noted_pattern};
 use crate::fault::Fault;
 use crate::leaves::{DEEPEST, First, mark, next, no_note, take, text_of};
+use crate::pattern_nodes;
 use crate::patterns::{ReadPattern, bare_pattern, pattern};
-use core_ast::{Mark, Pattern, VarName, discard_pattern};
+use core_ast::{Mark, Pattern, VarName};
 use core_scan::{Sort, Token, same};
 use std::alloc::Global;
-use type_kinds::{Atom, Memory};
+use type_kinds::{Atom, Boxed, Memory};
 
 /// A pattern that begins with a bracket, and whether the bracket is that of the variable's alone which names
 /// it.
 pub struct ReadInBrackets<'a> {
-    pub pattern: Pattern,
+    pub pattern: Boxed<Pattern>,
     pub alone: bool,
     pub rest: &'a [Token],
     pub label: u32,
@@ -29,6 +31,7 @@ pub struct ReadInBrackets<'a> {
 /// The pattern that begins with a bracket: the bracket of its annotation, or that of the variable's which
 /// names it.
 #[cycle(expressions)]
+#[inline(never)]
 pub fn in_brackets<'a>(
     alloc: Global,
     tokens: &'a [Token],
@@ -67,12 +70,15 @@ pub fn in_brackets<'a>(
         Err(fault) => return Err(fault),
     };
     match annotation(alloc, rest) {
-        Ok(found) => Ok(ReadInBrackets {
-            pattern: pattern.with_note(found.note),
-            alone: false,
-            rest: found.rest,
-            label,
-        }),
+        Ok(found) => match noted_pattern(alloc, pattern, found.note) {
+            Ok(pattern) => Ok(ReadInBrackets {
+                pattern,
+                alone: false,
+                rest: found.rest,
+                label,
+            }),
+            Err(Memory) => Err(Fault::Memory),
+        },
         Err(fault) => {
             discard_pattern(pattern);
             Err(fault)
@@ -82,6 +88,7 @@ pub fn in_brackets<'a>(
 
 // ( variable = pattern -| [ constants ] ), or a variable in annotation brackets.
 #[cycle(expressions)]
+#[inline(never)]
 fn variable_in_brackets<'a>(
     alloc: Global,
     tokens: &'a [Token],
@@ -132,12 +139,15 @@ fn variable_in_brackets<'a>(
             Err(fault) => return Err(fault),
         };
         return match annotation(alloc, rest) {
-            Ok(found) => Ok(ReadInBrackets {
-                pattern: pattern.with_note(found.note),
-                alone: false,
-                rest: found.rest,
-                label,
-            }),
+            Ok(found) => match noted_pattern(alloc, pattern, found.note) {
+                Ok(pattern) => Ok(ReadInBrackets {
+                    pattern,
+                    alone: false,
+                    rest: found.rest,
+                    label,
+                }),
+                Err(Memory) => Err(Fault::Memory),
+            },
             Err(fault) => {
                 discard_pattern(pattern);
                 Err(fault)
@@ -153,6 +163,7 @@ fn variable_in_brackets<'a>(
 /// A variable in annotation brackets, behind the variable, and the pattern that it names behind an equals
 /// sign, if one comes.
 #[cycle(expressions)]
+#[inline(never)]
 pub fn noted_variable<'a>(
     alloc: Global,
     name: Atom,
@@ -176,12 +187,15 @@ pub fn noted_variable<'a>(
     };
     let Some(rest) = behind_equals(found.rest) else {
         let mark = mark(label, second.place).with_note(found.note);
-        return Ok(ReadInBrackets {
-            pattern: Pattern::variable(mark, name),
-            alone: false,
-            rest: found.rest,
-            label: label + 1,
-        });
+        return match pattern_nodes::variable(alloc, mark, name) {
+            Ok(pattern) => Ok(ReadInBrackets {
+                pattern,
+                alone: false,
+                rest: found.rest,
+                label: label + 1,
+            }),
+            Err(Memory) => Err(Fault::Memory),
+        };
     };
     let name = VarName {
         name,
@@ -220,6 +234,7 @@ pub fn behind_equals<'a>(tokens: &'a [Token]) -> Option<&'a [Token]>
 
 /// The pattern that the variable names, behind the equals sign.
 #[cycle(expressions)]
+#[inline(never)]
 pub fn named<'a>(
     alloc: Global,
     mark: Mark,
@@ -243,7 +258,7 @@ pub fn named<'a>(
         Ok(found) => found,
         Err(fault) => return Err(fault),
     };
-    match Pattern::alias(alloc, mark, name, pattern) {
+    match pattern_nodes::alias(alloc, mark, name, pattern) {
         Ok(pattern) => Ok(ReadPattern {
             pattern,
             rest,
@@ -255,6 +270,7 @@ pub fn named<'a>(
 
 /// ( variable -| [ constants ] ) = pattern
 #[cycle(expressions)]
+#[inline(never)]
 pub fn noted_alias<'a>(
     alloc: Global,
     tokens: &'a [Token],

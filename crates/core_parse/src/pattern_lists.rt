@@ -7,31 +7,35 @@ ghost use Rattle.core_parse.specs.steps.Faults.{Starts, Refuses};
 ghost use Rattle.core_parse.specs.steps.Readings.{mark as unnoted, ReadsBarePattern, ReadsPatternElements};
 ghost use Rattle.core_parse.specs.Weights.{weight};
 
-use crate::expression_lists::pushed;
+use crate::boxes::{discard_pattern, pushed};
 use crate::fault::Fault;
 use crate::leaves::{First, mark, next, take};
 use crate::pattern_brackets::{ReadInBrackets, in_brackets};
+use crate::pattern_nodes;
 use crate::patterns::{ReadPattern, other_pattern, pattern};
 use crate::strings::push_byte_patterns;
-use core_ast::{Literal, Pattern, discard_pattern, discard_patterns};
+use core_ast::{Literal, Pattern, discard_patterns};
 use core_scan::{Sort, Token, same};
 use std::alloc::Global;
-use type_kinds::{List, Memory, Place};
+use type_kinds::{Boxed, List, Memory, Place};
 
 /// The patterns of a list's elements and of its tail, and how many brackets have to close it.
 pub struct ReadPatternElements<'a> {
     pub items: List<Pattern>,
-    pub tail: Pattern,
+    pub tail: Boxed<Pattern>,
     pub pending: usize,
     pub rest: &'a [Token],
     pub label: u32,
 }
 
 // The empty list's node.
-fn nil(label: u32, place: Place) -> Pattern
-    ensures { pattern_tree result ≡ m.equals (unnoted label place) l.Nil }
+fn nil(alloc: Global, label: u32, place: Place) -> Result<Boxed<Pattern>, Memory>
+    ensures { IfOk result (λ made. pattern_tree made ≡ m.equals (unnoted label place) l.Nil) }
 {
-    Pattern::literal(mark(label, place), Literal::Nil)
+    match pattern_nodes::literal(alloc, mark(label, place), Literal::Nil) {
+        Ok(made) => Ok(made),
+        Err(Memory) => Err(Memory),
+    }
 }
 
 /// A string that has bytes: the list of them.
@@ -61,8 +65,14 @@ pub fn string_pattern<'a>(
             return Err(Fault::Memory);
         }
     };
-    let tail = nil(label_of_tail, first.place);
-    match Pattern::listed(alloc, mark(label, first.place), items, tail) {
+    let tail = match nil(alloc, label_of_tail, first.place) {
+        Ok(tail) => tail,
+        Err(Memory) => {
+            discard_patterns(items);
+            return Err(Fault::Memory);
+        }
+    };
+    match pattern_nodes::listed(alloc, mark(label, first.place), items, tail) {
         Ok(pattern) => Ok(ReadPattern {
             pattern,
             rest: first.rest,
@@ -74,6 +84,7 @@ pub fn string_pattern<'a>(
 
 /// [ ], [ patterns ] and [ patterns | pattern ].
 #[cycle(expressions)]
+#[inline(never)]
 pub fn pattern_list<'a>(
     alloc: Global,
     tokens: &'a [Token],
@@ -97,11 +108,14 @@ pub fn pattern_list<'a>(
         Err(fault) => return Err(fault),
     };
     if same(second.sort, Sort::CloseSquare) {
-        return Ok(ReadPattern {
-            pattern: nil(label, first.place),
-            rest: second.rest,
-            label: label + 1,
-        });
+        return match nil(alloc, label, first.place) {
+            Ok(pattern) => Ok(ReadPattern {
+                pattern,
+                rest: second.rest,
+                label: label + 1,
+            }),
+            Err(Memory) => Err(Fault::Memory),
+        };
     }
     let ReadPatternElements {
         items,
@@ -124,7 +138,7 @@ pub fn pattern_list<'a>(
         }
         pending -= 1;
     }
-    match Pattern::listed(alloc, mark(label, first.place), items, tail) {
+    match pattern_nodes::listed(alloc, mark(label, first.place), items, tail) {
         Ok(pattern) => Ok(ReadPattern {
             pattern,
             rest,
@@ -137,6 +151,7 @@ pub fn pattern_list<'a>(
 // The elements of a list and its tail, up to the brackets that close it. A tail that is a list without
 // annotation brackets goes into the list.
 #[cycle(expressions)]
+#[inline(never)]
 fn pattern_elements<'a>(
     alloc: Global,
     tokens: &'a [Token],
@@ -188,13 +203,19 @@ fn pattern_elements<'a>(
             }
         };
         if same(token.sort, Sort::CloseSquare) {
-            return Ok(ReadPatternElements {
-                items,
-                tail: nil(next_label, token.place),
-                pending,
-                rest: token.rest,
-                label: next_label + 1,
-            });
+            return match nil(alloc, next_label, token.place) {
+                Ok(tail) => Ok(ReadPatternElements {
+                    items,
+                    tail,
+                    pending,
+                    rest: token.rest,
+                    label: next_label + 1,
+                }),
+                Err(Memory) => {
+                    discard_patterns(items);
+                    Err(Fault::Memory)
+                }
+            };
         }
         if same(token.sort, Sort::Comma) {
             match pattern(alloc, token.rest, depth + 1, next_label) {
@@ -260,13 +281,19 @@ fn pattern_elements<'a>(
                     return Err(Fault::Memory);
                 }
             };
-            return Ok(ReadPatternElements {
-                items,
-                tail: nil(next_label, behind.place),
-                pending: pending + 1,
-                rest: behind.rest,
-                label: next_label + 1,
-            });
+            return match nil(alloc, next_label, behind.place) {
+                Ok(tail) => Ok(ReadPatternElements {
+                    items,
+                    tail,
+                    pending: pending + 1,
+                    rest: behind.rest,
+                    label: next_label + 1,
+                }),
+                Err(Memory) => {
+                    discard_patterns(items);
+                    Err(Fault::Memory)
+                }
+            };
         }
         if !same(behind.sort, Sort::OpenSquare) {
             return match other_pattern(alloc, token.rest, depth + 1, next_label) {
@@ -297,13 +324,19 @@ fn pattern_elements<'a>(
             }
         };
         if same(inner.sort, Sort::CloseSquare) {
-            return Ok(ReadPatternElements {
-                items,
-                tail: nil(next_label, behind.place),
-                pending: pending + 1,
-                rest: inner.rest,
-                label: next_label + 1,
-            });
+            return match nil(alloc, next_label, behind.place) {
+                Ok(tail) => Ok(ReadPatternElements {
+                    items,
+                    tail,
+                    pending: pending + 1,
+                    rest: inner.rest,
+                    label: next_label + 1,
+                }),
+                Err(Memory) => {
+                    discard_patterns(items);
+                    Err(Fault::Memory)
+                }
+            };
         }
         match pattern(alloc, behind.rest, depth + 1, next_label) {
             Ok(

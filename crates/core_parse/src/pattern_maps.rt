@@ -9,15 +9,16 @@ ghost use Rattle.core_parse.specs.steps.Readings.{ReadsPatternPairs, ReadsPatter
 ghost use Rattle.core_parse.specs.Weights.{weight};
 
 use crate::annotations::annotation;
-use crate::expression_lists::pushed;
+use crate::boxes::{discard, discard_pattern_pair, noted, pushed};
 use crate::expressions::{ReadExpression, bare_expression, expression};
 use crate::fault::Fault;
 use crate::leaves::{First, mark, next, take};
 use crate::patterns::{ReadPattern, pattern};
-use core_ast::{Expr, PatPair, Pattern, discard, discard_pattern_pair, discard_pattern_pairs};
+use crate::{part_nodes, pattern_nodes};
+use core_ast::{Expr, PatPair, discard_pattern_pairs};
 use core_scan::{Sort, Token, same};
 use std::alloc::Global;
-use type_kinds::List;
+use type_kinds::{Boxed, List, Memory};
 
 /// The pairs of a map pattern, and what follows the token that closes them.
 pub struct ReadPatternPairs<'a> {
@@ -28,13 +29,14 @@ pub struct ReadPatternPairs<'a> {
 
 /// A pair of a map pattern, and what follows it.
 pub struct ReadPatternPair<'a> {
-    pub pair: PatPair,
+    pub pair: Boxed<PatPair>,
     pub rest: &'a [Token],
     pub label: u32,
 }
 
 /// ~{ pairs }~
 #[cycle(expressions)]
+#[inline(never)]
 pub fn map_pattern<'a>(
     alloc: Global,
     tokens: &'a [Token],
@@ -63,15 +65,19 @@ pub fn map_pattern<'a>(
         Ok(found) => found,
         Err(fault) => return Err(fault),
     };
-    Ok(ReadPattern {
-        pattern: Pattern::map(mark, items),
-        rest,
-        label,
-    })
+    match pattern_nodes::map(alloc, mark, items) {
+        Ok(pattern) => Ok(ReadPattern {
+            pattern,
+            rest,
+            label,
+        }),
+        Err(Memory) => Err(Fault::Memory),
+    }
 }
 
 // Pairs with commas between them, up to and with the token that closes them.
 #[cycle(expressions)]
+#[inline(never)]
 fn pattern_pairs<'a>(
     alloc: Global,
     tokens: &'a [Token],
@@ -148,6 +154,7 @@ fn pattern_pairs<'a>(
 
 // A pair, with or without annotation brackets.
 #[cycle(expressions)]
+#[inline(never)]
 fn pattern_pair<'a>(
     alloc: Global,
     tokens: &'a [Token],
@@ -203,6 +210,7 @@ fn pattern_pair<'a>(
 // A pair that begins with one bracket. It is the key's where an annotation follows the key, and else the
 // pair's.
 #[cycle(expressions)]
+#[inline(never)]
 fn pattern_pair_in_brackets<'a>(
     alloc: Global,
     tokens: &'a [Token],
@@ -240,7 +248,10 @@ fn pattern_pair_in_brackets<'a>(
     if same(token.sort, Sort::Noted) {
         return match annotation(alloc, rest) {
             Ok(found) => {
-                let key = key.with_note(found.note);
+                let key = match noted(alloc, key, found.note) {
+                    Ok(key) => key,
+                    Err(Memory) => return Err(Fault::Memory),
+                };
                 match pattern_of_key(alloc, key, found.rest, depth, label) {
                     Ok(found) => Ok(found),
                     Err(fault) => Err(fault),
@@ -273,6 +284,7 @@ fn pattern_pair_in_brackets<'a>(
 
 // expression := pattern
 #[cycle(expressions)]
+#[inline(never)]
 fn bare_pattern_pair<'a>(
     alloc: Global,
     tokens: &'a [Token],
@@ -302,9 +314,10 @@ fn bare_pattern_pair<'a>(
 
 // The pair of this key, behind the key: := pattern.
 #[cycle(expressions)]
+#[inline(never)]
 fn pattern_of_key<'a>(
     alloc: Global,
-    key: Expr,
+    key: Boxed<Expr>,
     tokens: &'a [Token],
     depth: u32,
     label: u32,
@@ -334,9 +347,8 @@ fn pattern_of_key<'a>(
             return Err(fault);
         }
     };
-    Ok(ReadPatternPair {
-        pair: PatPair::new(key, pattern),
-        rest,
-        label,
-    })
+    match part_nodes::pattern_pair(alloc, key, pattern) {
+        Ok(pair) => Ok(ReadPatternPair { pair, rest, label }),
+        Err(Memory) => Err(Fault::Memory),
+    }
 }

@@ -7,7 +7,7 @@ ghost use Rattle.core_parse.specs.steps.Readings.{ReadsPattern, ReadsBarePattern
 ghost use Rattle.core_parse.specs.steps.Starters.{literal_sort, starts_pattern, opens_with};
 ghost use Rattle.core_parse.specs.Weights.{weight};
 
-use crate::expression_lists::pushed;
+use crate::boxes::pushed;
 use crate::expressions::is_literal;
 use crate::fault::Fault;
 use crate::leaves::{First, is_too_deep, mark, next, no_note, take, text_of};
@@ -16,14 +16,15 @@ use crate::pattern_binaries::binary_pattern;
 use crate::pattern_brackets::{ReadInBrackets, behind_equals, in_brackets, named, noted_alias};
 use crate::pattern_lists::{pattern_list, string_pattern};
 use crate::pattern_maps::map_pattern;
+use crate::pattern_nodes;
 use core_ast::{Literal, Pattern, VarName, discard_patterns};
 use core_scan::{Sort, Token, same};
 use std::alloc::Global;
-use type_kinds::{List, Memory};
+use type_kinds::{Boxed, List, Memory};
 
 /// A pattern, what follows it, and the label that follows its last.
 pub struct ReadPattern<'a> {
-    pub pattern: Pattern,
+    pub pattern: Boxed<Pattern>,
     pub rest: &'a [Token],
     pub label: u32,
 }
@@ -63,6 +64,7 @@ fn is_single(sort: Sort) -> bool
 
 /// The pattern that comes first, with or without annotation brackets.
 #[cycle(expressions)]
+#[inline(never)]
 pub fn pattern<'a>(
     alloc: Global,
     tokens: &'a [Token],
@@ -106,6 +108,7 @@ pub fn pattern<'a>(
 
 /// The pattern that comes first, without annotation brackets.
 #[cycle(expressions)]
+#[inline(never)]
 pub fn bare_pattern<'a>(
     alloc: Global,
     tokens: &'a [Token],
@@ -156,6 +159,7 @@ pub fn bare_pattern<'a>(
 
 /// The pattern that comes first, without brackets before it, where it is no list with elements.
 #[cycle(expressions)]
+#[inline(never)]
 pub fn other_pattern<'a>(
     alloc: Global,
     tokens: &'a [Token],
@@ -176,45 +180,44 @@ pub fn other_pattern<'a>(
     };
     if is_single(first.sort) {
         return match literal_of(alloc, first.token) {
-            Ok(value) => Ok(ReadPattern {
-                pattern: Pattern::literal(mark(label, first.place), value),
-                rest: first.rest,
-                label: label + 1,
-            }),
+            Ok(value) => match pattern_nodes::literal(alloc, mark(label, first.place), value) {
+                Ok(pattern) => Ok(ReadPattern {
+                    pattern,
+                    rest: first.rest,
+                    label: label + 1,
+                }),
+                Err(Memory) => Err(Fault::Memory),
+            },
             Err(Memory) => Err(Fault::Memory),
         };
     }
     match first.sort {
-        Sort::Variable => match variable_or_alias(alloc, tokens, first, depth, label) {
-            Ok(found) => Ok(found),
-            Err(fault) => Err(fault),
-        },
+        Sort::Variable => variable_or_alias(alloc, tokens, first, depth, label),
         Sort::OpenSquare => match take(first.rest, Sort::CloseSquare) {
-            Ok(rest) => Ok(ReadPattern {
-                pattern: Pattern::literal(mark(label, first.place), Literal::Nil),
-                rest,
-                label: label + 1,
-            }),
+            Ok(rest) => match pattern_nodes::literal(
+                alloc,
+                mark(label, first.place),
+                Literal::Nil,
+            ) {
+                Ok(pattern) => Ok(ReadPattern {
+                    pattern,
+                    rest,
+                    label: label + 1,
+                }),
+                Err(Memory) => Err(Fault::Memory),
+            },
             Err(fault) => Err(fault),
         },
-        Sort::OpenCurly => match tuple_pattern(alloc, tokens, first, depth, label) {
-            Ok(found) => Ok(found),
-            Err(fault) => Err(fault),
-        },
-        Sort::OpenBinary => match binary_pattern(alloc, tokens, first, depth, label) {
-            Ok(found) => Ok(found),
-            Err(fault) => Err(fault),
-        },
-        Sort::OpenMap => match map_pattern(alloc, tokens, first, depth, label) {
-            Ok(found) => Ok(found),
-            Err(fault) => Err(fault),
-        },
+        Sort::OpenCurly => tuple_pattern(alloc, tokens, first, depth, label),
+        Sort::OpenBinary => binary_pattern(alloc, tokens, first, depth, label),
+        Sort::OpenMap => map_pattern(alloc, tokens, first, depth, label),
         _ => Err(Fault::Syntax(first.place)),
     }
 }
 
 // variable, or variable = pattern
 #[cycle(expressions)]
+#[inline(never)]
 fn variable_or_alias<'a>(
     alloc: Global,
     tokens: &'a [Token],
@@ -239,11 +242,14 @@ fn variable_or_alias<'a>(
     };
     let mark = mark(label, first.place);
     let Some(rest) = behind_equals(first.rest) else {
-        return Ok(ReadPattern {
-            pattern: Pattern::variable(mark, name),
-            rest: first.rest,
-            label: label + 1,
-        });
+        return match pattern_nodes::variable(alloc, mark, name) {
+            Ok(pattern) => Ok(ReadPattern {
+                pattern,
+                rest: first.rest,
+                label: label + 1,
+            }),
+            Err(Memory) => Err(Fault::Memory),
+        };
     };
     let name = VarName {
         name,
@@ -258,6 +264,7 @@ fn variable_or_alias<'a>(
 
 // { patterns }
 #[cycle(expressions)]
+#[inline(never)]
 fn tuple_pattern<'a>(
     alloc: Global,
     tokens: &'a [Token],
@@ -287,15 +294,19 @@ fn tuple_pattern<'a>(
         Ok(found) => found,
         Err(fault) => return Err(fault),
     };
-    Ok(ReadPattern {
-        pattern: Pattern::tuple(mark, items),
-        rest,
-        label,
-    })
+    match pattern_nodes::tuple(alloc, mark, items) {
+        Ok(pattern) => Ok(ReadPattern {
+            pattern,
+            rest,
+            label,
+        }),
+        Err(Memory) => Err(Fault::Memory),
+    }
 }
 
 /// Patterns with commas between them, up to and with the token that closes them.
 #[cycle(expressions)]
+#[inline(never)]
 pub fn patterns<'a>(
     alloc: Global,
     tokens: &'a [Token],

@@ -1,6 +1,6 @@
 use Rattle.std.proofs.Common.{rules, ap, ◌∙◌, arith, refl, Bool, ◌+◌, subst, sym}
 use Rattle.core_ast.specs.Tree.{all_segments, segment_parts, all_patterns, pattern_tree, tree, all_pat_segments, pat_segment_parts, all_pat_pairs, pat_pair_parts}
-use Rattle.core_parse.proofs.MoreFormExits.{binary_bad, binary_ok, case_0_bad, case_1_bad, case_2_bad, case_3_bad, case_ok, one_clause, fun_end, fun_1_bad, fun_2_bad, fun_3_bad, fun_ok, fun_parts}
+use Rattle.core_parse.proofs.MoreFormExits.{binary_bad, binary_ok, case_0_bad, case_1_bad, case_2_bad, case_3_bad, case_ok, one_clause, fun_end, fun_1_bad, fun_2_bad, fun_3_bad, fun_ok}
 use Rattle.std.proofs.lemmas.Bool.{iff_false, OnTrue_at}
 use Rattle.core_parse.specs.steps.Items.{number_segment, number_pat_segment, number_pat_pair}
 use Rattle.core_parse.proofs.ItemExits.{closes_segments, segment_item, segments_of, items_nothing, items_empty, items_bad, items_first, items_end, items_close, items_worse, items_more, items_other, closes_expressions, expression_item, expressions_of, closes_pattern_segments, pattern_segment_item, pattern_segments_of, closes_pattern_pairs, pattern_pair_item, pattern_pairs_of, closes_patterns, patterns_of, pattern_item}
@@ -14,7 +14,7 @@ use Rattle.core_parse.proofs.ClauseResults.{clause_marked, single_head, head_lab
 use Rattle.std.proofs.lemmas.Result.{IfErr-weaker}
 use Rattle.core_parse.proofs.LeafExits.{two_at_least, first_shorter}
 use Rattle.core_parse.specs.steps.Patterns.{ReadsInBrackets}
-use Rattle.core_parse.proofs.FormExits.{try_parts, try_0_bad, try_1_bad, try_2_bad, try_3_bad, try_4_bad, try_5_bad, try_6_bad, try_7_bad, try_8_bad, try_ok, clauses_alone, receive_0_bad, receive_1_bad, receive_2_bad, receive_3_bad, receive_ok, catch_0_bad, catch_ok, tuple_0_bad, tuple_ok, values_0_bad, values_ok, letrec_0_bad, letrec_1_bad, letrec_ok, apply_0_bad, apply_1_bad, apply_2_bad, apply_ok, call_0_bad, call_1_bad, call_2_bad, call_3_bad, call_4_bad, call_ok, primop_0_bad, primop_1_bad, primop_2_bad, primop_ok}
+use Rattle.core_parse.proofs.FormExits.{try_0_bad, try_1_bad, try_2_bad, try_3_bad, try_4_bad, try_5_bad, try_6_bad, try_7_bad, try_8_bad, try_ok, clauses_alone, receive_0_bad, receive_1_bad, receive_2_bad, receive_3_bad, receive_ok, catch_0_bad, catch_ok, tuple_0_bad, tuple_ok, values_0_bad, values_ok, letrec_0_bad, letrec_1_bad, letrec_ok, apply_0_bad, apply_1_bad, apply_2_bad, apply_ok, call_0_bad, call_1_bad, call_2_bad, call_3_bad, call_4_bad, call_ok, primop_0_bad, primop_1_bad, primop_2_bad, primop_ok}
 use Rattle.core_parse.proofs.RunExits.{definitions_end, definitions_close, definitions_bad}
 use Rattle.core_parse.proofs.ExpressionListExits.{list_open_end, list_nil, list_unclosed, list_closes, list_done, list_first_bad, list_first_item, list_ran_out, list_stuck, list_shut, list_comma_bad, list_item, list_bar_end, list_text, list_inner_end, list_tail_nil, list_merge_bad, list_merge, list_round_bad, list_note_bad, list_noted, list_tail_bad, list_tailed, one_more, one_deeper, not_this_sort}
 use Rattle.core_parse.proofs.StringExits.{string_weight}
@@ -38,8 +38,8 @@ use Rattle.core_parse.proofs.+expressions.Goals as goal
 pub binaries::binary-returns-in-Err-clause-err : goal.binaries::binary-returns-in-Err-clause-err
 binaries::binary-returns-in-Err-clause-err t c = binary_bad _ 0 _ _ _ _ _ c.requires.starts c.requires.shallow c.requires.sort _ c.in-Err.ensures.err
 
-pub binaries::binary-returns-clause-ok : goal.binaries::binary-returns-clause-ok
-binaries::binary-returns-clause-ok t c = binary_ok _ _ _ _ _ _ _ c.requires.starts c.requires.shallow c.requires.sort _ _ _ c.in-Ok.ensures.ok _ (c.binary.ensures ∙ ap (λ k. m.binary k (all_segments c.in-Ok.found.items)) c.mark-mark.ensures)
+pub binaries::binary-returns-in-Ok-binary-clause-ok : goal.binaries::binary-returns-in-Ok-binary-clause-ok
+binaries::binary-returns-in-Ok-binary-clause-ok t c = binary_ok _ _ _ _ _ _ _ c.requires.starts c.requires.shallow c.requires.sort _ _ _ c.in-Ok.ensures.ok _ (c.in-Ok-binary.ensures ∙ ap (λ k. m.binary k (all_segments c.in-Ok.found.items)) c.mark-mark.ensures)
 
 pub binaries::segments-returns-in-Err-clause-err : goal.binaries::segments-returns-in-Err-clause-err
 binaries::segments-returns-in-Err-clause-err t c = items_nothing _ _ (closes_segments _) number_segment segment_parts 0 _ _ c.in-Err.ensures.err
@@ -91,8 +91,8 @@ binaries::segment-returns-in-Err-take-2-clause-err t c = segment_3_bad _ _ _ _ c
 pub binaries::segment-returns-in-Err-expressions-clause-err : goal.binaries::segment-returns-in-Err-expressions-clause-err
 binaries::segment-returns-in-Err-expressions-clause-err t c = segment_4_bad _ _ _ _ c.in-Ok.ensures.ok _ _ _ c.in-Ok-expression.ensures.ok _ c.in-Ok-take.ensures.ok _ c.in-Ok-take-2.ensures.ok _ c.in-Err-expressions.ensures.err
 
-pub binaries::segment-returns-clause-ok : goal.binaries::segment-returns-clause-ok
-binaries::segment-returns-clause-ok t c = segment_ok _ _ _ _ c.in-Ok.ensures.ok _ _ _ c.in-Ok-expression.ensures.ok _ c.in-Ok-take.ensures.ok _ c.in-Ok-take-2.ensures.ok _ _ _ c.in-Ok-expressions.ensures.ok _ c.new.ensures
+pub binaries::segment-returns-in-Ok-segment-clause-ok : goal.binaries::segment-returns-in-Ok-segment-clause-ok
+binaries::segment-returns-in-Ok-segment-clause-ok t c = segment_ok _ _ _ _ c.in-Ok.ensures.ok _ _ _ c.in-Ok-expression.ensures.ok _ c.in-Ok-take.ensures.ok _ c.in-Ok-take-2.ensures.ok _ _ _ c.in-Ok-expressions.ensures.ok _ c.in-Ok-segment.ensures
 
 pub chains::chain-returns-in-Err-expression-clause-err : goal.chains::chain-returns-in-Err-expression-clause-err
 chains::chain-returns-in-Err-expression-clause-err t c = chain_last_bad _ _ _ c.requires.shallow _ _ _ _ c.in-Ok.ensures.ok _ c.in-Err-expression.ensures.err
@@ -109,7 +109,7 @@ chains::chain-loop-frame-smaller-in-Ok-annotation t c = frames_fewer _ _ _ c.in-
 
 pub chains::chain-loop-frame-preserved-in-Ok-annotation : goal.chains::chain-loop-frame-preserved-in-Ok-annotation
 chains::chain-loop-frame-preserved-in-Ok-annotation t c = record {
-  so_far = chain_noted _ _ _ _ _ _ _ _ _ _ _ c.loop-frame.invariant.so_far c.in-Some.ensures c.if-noted.true _ _ _ _ c.in-Ok-annotation.ensures.ok c.with_note.ensures c.if-not-pushed.ensures.added;
+  so_far = chain_noted _ _ _ _ _ _ _ _ _ _ _ c.loop-frame.invariant.so_far c.in-Some.ensures c.if-noted.true _ _ _ _ c.in-Ok-annotation.ensures.ok c.noted_step.ensures c.if-not-added.ensures.added;
   labels = omega (arith, c.loop-frame.invariant.labels, c.in-Ok-annotation.ensures.lighter);
   shorter = omega (arith, c.loop-frame.invariant.shorter, c.in-Ok-annotation.ensures.shorter);
 }
@@ -122,7 +122,7 @@ chains::chain-loop-frame-smaller t c = frames_fewer _ _ _ c.in-Some.ensures
 
 pub chains::chain-loop-frame-preserved : goal.chains::chain-loop-frame-preserved
 chains::chain-loop-frame-preserved t c = record {
-  so_far = chain_bare _ _ _ _ _ _ _ _ _ _ _ c.loop-frame.invariant.so_far c.in-Some.ensures c.if-noted.false _ c.if-not-pushed-2.ensures.added;
+  so_far = chain_bare _ _ _ _ _ _ _ _ _ _ _ c.loop-frame.invariant.so_far c.in-Some.ensures c.if-noted.false _ c.if-not-pushed.ensures.added;
   labels = c.loop-frame.invariant.labels;
   shorter = c.loop-frame.invariant.shorter;
 }
@@ -135,14 +135,14 @@ chains::steps-returns-in-Err-clause-err t c = chain_first_bad _ 0 c.requires.sha
 
 pub chains::steps-loop-word-init : goal.chains::steps-loop-word-init
 chains::steps-loop-word-init t c = record {
-  so_far = chain_first _ _ c.requires.shallow _ _ _ _ _ c.requires.starts c.requires.sort _ _ _ _ _ c.new-frames.ensures c.if-not-pushed.ensures.added refl c.in-Ok.ensures.ok;
+  so_far = chain_first _ _ c.requires.shallow _ _ _ _ _ c.requires.starts c.requires.sort _ _ _ _ _ c.new-frames.ensures c.if-not-added.ensures.added refl c.in-Ok.ensures.ok;
   labels = omega (arith, c.in-Ok.ensures.labels, c.requires.lighter);
   shorter = omega (arith, c.in-Ok.ensures.shorter, c.requires.shorter);
 }
 
 pub chains::steps-loop-word-preserved : goal.chains::steps-loop-word-preserved
 chains::steps-loop-word-preserved t c = record {
-  so_far = chain_step _ _ _ c.requires.shallow _ _ _ _ c.loop-word.invariant.so_far _ _ _ _ _ c.in-Some.ensures.found _ _ _ _ c.if-not-pushed-2.ensures.added refl c.in-Ok-step.ensures.ok;
+  so_far = chain_step _ _ _ c.requires.shallow _ _ _ _ c.loop-word.invariant.so_far _ _ _ _ _ c.in-Some.ensures.found _ _ _ _ c.if-not-added-2.ensures.added refl c.in-Ok-step.ensures.ok;
   labels = omega (arith, c.loop-word.invariant.labels, c.in-Ok-step.ensures.labels, c.in-Some.ensures.lighter);
   shorter = omega (arith, c.loop-word.invariant.shorter, c.in-Ok-step.ensures.shorter, c.in-Some.ensures.shorter);
 }
@@ -150,8 +150,8 @@ chains::steps-loop-word-preserved t c = record {
 pub chains::steps-returns-in-Err-step-clause-err : goal.chains::steps-returns-in-Err-step-clause-err
 chains::steps-returns-in-Err-step-clause-err t c = chain_step_bad _ _ _ c.requires.shallow _ _ _ _ c.loop-word.invariant.so_far _ _ _ _ _ c.in-Some.ensures.found _ c.in-Err-step.ensures.err
 
-pub chains::step-returns-in-Ok-clause-ok : goal.chains::step-returns-in-Ok-clause-ok
-chains::step-returns-in-Ok-clause-ok t c = step_do _ _ _ _ _ (c.same.ensures.0 c.if-same.true) _ _ _ _ c.in-Ok.ensures.ok _ c.mark-mark.ensures refl
+pub chains::step-returns-in-Ok-do_step-clause-ok : goal.chains::step-returns-in-Ok-do_step-clause-ok
+chains::step-returns-in-Ok-do_step-clause-ok t c = step_do _ _ _ _ _ (c.same.ensures.0 c.if-same.true) _ _ _ _ c.in-Ok.ensures.ok _ c.mark-mark.ensures c.in-Ok-do_step.ensures
 
 pub chains::step-returns-in-Err-clause-err : goal.chains::step-returns-in-Err-clause-err
 chains::step-returns-in-Err-clause-err t c = step_do_bad _ 0 c.args.word.place _ _ (c.same.ensures.0 c.if-same.true) _ c.in-Err.ensures.err
@@ -168,8 +168,8 @@ chains::step-returns-in-Err-expression-clause-err t c = step_value_bad _ 0 c.arg
 pub chains::step-returns-in-Err-take-2-clause-err : goal.chains::step-returns-in-Err-take-2-clause-err
 chains::step-returns-in-Err-take-2-clause-err t c = step_in_bad _ c.args.label c.args.word.place _ _ (is_let _ c.requires.sort (λ z. iff_false c.same.ensures c.if-same.false z)) _ _ c.in-Ok-variables.ensures.ok _ c.in-Ok-take.ensures.ok _ _ _ c.in-Ok-expression.ensures.ok _ c.in-Err-take-2.ensures.err
 
-pub chains::step-returns-clause-ok : goal.chains::step-returns-clause-ok
-chains::step-returns-clause-ok t c = step_let _ _ _ _ _ (is_let _ c.requires.sort (λ z. iff_false c.same.ensures c.if-same.false z)) _ _ c.in-Ok-variables.ensures.ok _ c.in-Ok-take.ensures.ok _ _ _ c.in-Ok-expression.ensures.ok _ c.in-Ok-take-2.ensures.ok _ _ c.mark-mark.ensures refl
+pub chains::step-returns-in-Ok-let_step-clause-ok : goal.chains::step-returns-in-Ok-let_step-clause-ok
+chains::step-returns-in-Ok-let_step-clause-ok t c = step_let _ _ _ _ _ (is_let _ c.requires.sort (λ z. iff_false c.same.ensures c.if-same.false z)) _ _ c.in-Ok-variables.ensures.ok _ c.in-Ok-take.ensures.ok _ _ _ c.in-Ok-expression.ensures.ok _ c.in-Ok-take-2.ensures.ok _ _ c.mark-mark.ensures c.in-Ok-let_step.ensures
 
 pub clauses::clauses-loop-found-init : goal.clauses::clauses-loop-found-init
 clauses::clauses-loop-found-init t c = record { so_far = clauses_start _ _ _ c.requires.closes _ _ _ refl; labels = omega arith; shorter = omega arith }
@@ -206,7 +206,7 @@ pub clauses::clause-returns-in-Err-expression-2-clause-err : goal.clauses::claus
 clauses::clause-returns-in-Err-expression-2-clause-err t c = body_bad c.args.depth c.args.label _ _ _ _ _ _ c.in-Ok.ensures.ok _ _ _ c.in-Ok-expression.ensures.ok _ c.in-Ok-take.ensures.ok _ c.in-Err-expression-2.ensures.err
 
 pub clauses::clause-returns-then-not-noted-clause-ok : goal.clauses::clause-returns-then-not-noted-clause-ok
-clauses::clause-returns-then-not-noted-clause-ok t c = clause_read c.args.depth c.args.label _ _ _ _ _ (subst (λ (x : Bool). ReadsHead c.args.depth (c.args.label + 1) c.args.tokens.now (all_patterns c.in-Ok.found.patterns) c.in-Ok.found.place x c.in-Ok.found.rest.now c.in-Ok.found.label) c.if-not-noted.true c.in-Ok.ensures.ok) _ _ _ c.in-Ok-expression.ensures.ok _ c.in-Ok-take.ensures.ok _ _ _ c.in-Ok-expression-2.ensures.ok _ (clause_marked _ _ _ _ _ _ c.new-clause.ensures c.mark-mark.ensures)
+clauses::clause-returns-then-not-noted-clause-ok t c = clause_read c.args.depth c.args.label _ _ _ _ _ (subst (λ (x : Bool). ReadsHead c.args.depth (c.args.label + 1) c.args.tokens.now (all_patterns c.in-Ok.found.patterns) c.in-Ok.found.place x c.in-Ok.found.rest.now c.in-Ok.found.label) c.if-not-noted.true c.in-Ok.ensures.ok) _ _ _ c.in-Ok-expression.ensures.ok _ c.in-Ok-take.ensures.ok _ _ _ c.in-Ok-expression-2.ensures.ok _ (clause_marked _ _ _ _ _ _ c.in-Ok-clause.ensures c.mark-mark.ensures)
 
 pub clauses::clause-returns-then-not-noted-clause-labels : goal.clauses::clause-returns-then-not-noted-clause-labels
 clauses::clause-returns-then-not-noted-clause-labels t c = omega (arith, c.in-Ok.ensures.labels, c.in-Ok-expression.ensures.labels, c.in-Ok-take.ensures.lighter, c.in-Ok-expression-2.ensures.labels)
@@ -214,14 +214,14 @@ clauses::clause-returns-then-not-noted-clause-labels t c = omega (arith, c.in-Ok
 pub clauses::clause-returns-then-not-noted-clause-shorter : goal.clauses::clause-returns-then-not-noted-clause-shorter
 clauses::clause-returns-then-not-noted-clause-shorter t c = omega (arith, c.in-Ok.ensures.shorter, c.in-Ok-expression.ensures.shorter, c.in-Ok-take.ensures.shorter, c.in-Ok-expression-2.ensures.shorter)
 
-pub clauses::clause-returns-in-Ok-annotation-clause-ok : goal.clauses::clause-returns-in-Ok-annotation-clause-ok
-clauses::clause-returns-in-Ok-annotation-clause-ok t c = clause_noted_read c.args.depth c.args.label _ _ _ _ _ (subst (λ (x : Bool). ReadsHead c.args.depth (c.args.label + 1) c.args.tokens.now (all_patterns c.in-Ok.found.patterns) c.in-Ok.found.place x c.in-Ok.found.rest.now c.in-Ok.found.label) c.if-not-noted.false c.in-Ok.ensures.ok) _ _ _ c.in-Ok-expression.ensures.ok _ c.in-Ok-take.ensures.ok _ _ _ c.in-Ok-expression-2.ensures.ok _ _ _ _ (clause_marked _ _ _ _ _ _ c.new-clause.ensures c.mark-mark.ensures) c.with_note.ensures c.in-Ok-annotation.ensures.ok
+pub clauses::clause-returns-in-Ok-noted_clause-clause-ok : goal.clauses::clause-returns-in-Ok-noted_clause-clause-ok
+clauses::clause-returns-in-Ok-noted_clause-clause-ok t c = clause_noted_read c.args.depth c.args.label _ _ _ _ _ (subst (λ (x : Bool). ReadsHead c.args.depth (c.args.label + 1) c.args.tokens.now (all_patterns c.in-Ok.found.patterns) c.in-Ok.found.place x c.in-Ok.found.rest.now c.in-Ok.found.label) c.if-not-noted.false c.in-Ok.ensures.ok) _ _ _ c.in-Ok-expression.ensures.ok _ c.in-Ok-take.ensures.ok _ _ _ c.in-Ok-expression-2.ensures.ok _ _ _ _ (clause_marked _ _ _ _ _ _ c.in-Ok-clause.ensures c.mark-mark.ensures) c.in-Ok-noted_clause.ensures c.in-Ok-annotation.ensures.ok
 
-pub clauses::clause-returns-in-Ok-annotation-clause-labels : goal.clauses::clause-returns-in-Ok-annotation-clause-labels
-clauses::clause-returns-in-Ok-annotation-clause-labels t c = omega (arith, c.in-Ok.ensures.labels, c.in-Ok-expression.ensures.labels, c.in-Ok-take.ensures.lighter, c.in-Ok-expression-2.ensures.labels, c.in-Ok-annotation.ensures.lighter)
+pub clauses::clause-returns-in-Ok-noted_clause-clause-labels : goal.clauses::clause-returns-in-Ok-noted_clause-clause-labels
+clauses::clause-returns-in-Ok-noted_clause-clause-labels t c = omega (arith, c.in-Ok.ensures.labels, c.in-Ok-expression.ensures.labels, c.in-Ok-take.ensures.lighter, c.in-Ok-expression-2.ensures.labels, c.in-Ok-annotation.ensures.lighter)
 
-pub clauses::clause-returns-in-Ok-annotation-clause-shorter : goal.clauses::clause-returns-in-Ok-annotation-clause-shorter
-clauses::clause-returns-in-Ok-annotation-clause-shorter t c = omega (arith, c.in-Ok.ensures.shorter, c.in-Ok-expression.ensures.shorter, c.in-Ok-take.ensures.shorter, c.in-Ok-expression-2.ensures.shorter, c.in-Ok-annotation.ensures.shorter)
+pub clauses::clause-returns-in-Ok-noted_clause-clause-shorter : goal.clauses::clause-returns-in-Ok-noted_clause-clause-shorter
+clauses::clause-returns-in-Ok-noted_clause-clause-shorter t c = omega (arith, c.in-Ok.ensures.shorter, c.in-Ok-expression.ensures.shorter, c.in-Ok-take.ensures.shorter, c.in-Ok-expression-2.ensures.shorter, c.in-Ok-annotation.ensures.shorter)
 
 pub clauses::clause-returns-in-Err-annotation-clause-err : goal.clauses::clause-returns-in-Err-annotation-clause-err
 clauses::clause-returns-in-Err-annotation-clause-err t c = clause_note_bad c.args.depth c.args.label _ _ _ _ _ (subst (λ (x : Bool). ReadsHead c.args.depth (c.args.label + 1) c.args.tokens.now (all_patterns c.in-Ok.found.patterns) c.in-Ok.found.place x c.in-Ok.found.rest.now c.in-Ok.found.label) c.if-not-noted.false c.in-Ok.ensures.ok) _ _ _ c.in-Ok-expression.ensures.ok _ c.in-Ok-take.ensures.ok _ _ _ c.in-Ok-expression-2.ensures.ok _ c.in-Err-annotation.ensures.err
@@ -350,7 +350,7 @@ pub clauses::head_with_variable-returns-in-Err-named-clause-err : goal.clauses::
 clauses::head_with_variable-returns-in-Err-named-clause-err t c = head_named_bad c.args.depth c.args.label _ _ _ _ _ c.requires.starts c.requires.sort _ _ _ _ c.requires.goes_on c.requires.variable (omega (arith, c.if-depth-gt-DEEPEST.false)) _ _ _ _ c.in-Ok-next.ensures.ok (c.same-2.ensures.0 c.if-same-2.true) _ c.in-Err-named.ensures.err
 
 pub clauses::head_with_variable-returns-clause-ok : goal.clauses::head_with_variable-returns-clause-ok
-clauses::head_with_variable-returns-clause-ok t c = single_head _ _ _ _ _ _ _ _ (λ left made e z. head_variable_when c.args.depth c.args.label _ _ _ _ _ c.requires.starts c.requires.sort _ _ _ _ c.requires.goes_on c.requires.variable (omega (arith, c.if-depth-gt-DEEPEST.false)) _ _ _ _ c.in-Ok-next.ensures.ok (λ e. differs c.if-same.false (c.same.ensures.1 e)) (λ e. differs c.if-same-2.false (c.same-2.ensures.1 e)) left made _ (binds_is _ _ _ _ _ c.variable.ensures c.mark-mark.ensures c.in-Ok.ensures) e z) c.single-2.result c.single-2.ensures.ok c.single-2.ensures.patterns c.single-2.ensures.place c.single-2.ensures.noted c.single-2.ensures.label
+clauses::head_with_variable-returns-clause-ok t c = single_head _ _ _ _ _ _ _ _ (λ left made e z. head_variable_when c.args.depth c.args.label _ _ _ _ _ c.requires.starts c.requires.sort _ _ _ _ c.requires.goes_on c.requires.variable (omega (arith, c.if-depth-gt-DEEPEST.false)) _ _ _ _ c.in-Ok-next.ensures.ok (λ e. differs c.if-same.false (c.same.ensures.1 e)) (λ e. differs c.if-same-2.false (c.same-2.ensures.1 e)) left made _ (binds_is _ _ _ _ _ c.in-Ok-variable.ensures c.mark-mark.ensures c.in-Ok.ensures) e z) c.single-2.result c.single-2.ensures.ok c.single-2.ensures.patterns c.single-2.ensures.place c.single-2.ensures.noted c.single-2.ensures.label
 
 pub clauses::head_with_variable-returns-clause-labels : goal.clauses::head_with_variable-returns-clause-labels
 clauses::head_with_variable-returns-clause-labels t c = head_labels c.single-2.result _ _ _ c.single-2.ensures.label c.single-2.ensures.lighter (omega (arith, c.requires.lighter, c.requires.lighter_still))
@@ -418,8 +418,8 @@ control_forms::try_expression-returns-in-Err-take-4-clause-err t c = try_7_bad _
 pub control_forms::try_expression-returns-in-Err-expression-2-clause-err : goal.control_forms::try_expression-returns-in-Err-expression-2-clause-err
 control_forms::try_expression-returns-in-Err-expression-2-clause-err t c = try_8_bad _ c.args.label _ _ _ _ _ c.requires.starts c.requires.shallow c.requires.sort _ _ _ c.in-Ok.ensures.ok _ c.in-Ok-take.ensures.ok _ _ c.in-Ok-variables.ensures.ok _ c.in-Ok-take-2.ensures.ok _ _ _ c.in-Ok-expression.ensures.ok _ c.in-Ok-take-3.ensures.ok _ _ c.in-Ok-variables-2.ensures.ok _ c.in-Ok-take-4.ensures.ok _ c.in-Err-expression-2.ensures.err
 
-pub control_forms::try_expression-returns-in-Ok-new-clause-ok : goal.control_forms::try_expression-returns-in-Ok-new-clause-ok
-control_forms::try_expression-returns-in-Ok-new-clause-ok t c = try_ok _ c.args.label _ _ _ _ _ c.requires.starts c.requires.shallow c.requires.sort _ _ _ c.in-Ok.ensures.ok _ c.in-Ok-take.ensures.ok _ _ c.in-Ok-variables.ensures.ok _ c.in-Ok-take-2.ensures.ok _ _ _ c.in-Ok-expression.ensures.ok _ c.in-Ok-take-3.ensures.ok _ _ c.in-Ok-variables-2.ensures.ok _ c.in-Ok-take-4.ensures.ok _ _ _ c.in-Ok-expression-2.ensures.ok _ c.mark-mark.ensures _ (try_parts _ _ _ _ _ _ _ _ _ _ _ c.in-Ok-new.ensures.arg c.in-Ok-new.ensures.vars c.in-Ok-new.ensures.body c.in-Ok-new.ensures.catch_vars c.in-Ok-new.ensures.handler _ c.try_.ensures)
+pub control_forms::try_expression-returns-in-Ok-try_-clause-ok : goal.control_forms::try_expression-returns-in-Ok-try_-clause-ok
+control_forms::try_expression-returns-in-Ok-try_-clause-ok t c = try_ok _ c.args.label _ _ _ _ _ c.requires.starts c.requires.shallow c.requires.sort _ _ _ c.in-Ok.ensures.ok _ c.in-Ok-take.ensures.ok _ _ c.in-Ok-variables.ensures.ok _ c.in-Ok-take-2.ensures.ok _ _ _ c.in-Ok-expression.ensures.ok _ c.in-Ok-take-3.ensures.ok _ _ c.in-Ok-variables-2.ensures.ok _ c.in-Ok-take-4.ensures.ok _ _ _ c.in-Ok-expression-2.ensures.ok _ c.mark-mark.ensures _ c.in-Ok-try_.ensures
 
 pub control_forms::receive-returns-in-Err-clause-err : goal.control_forms::receive-returns-in-Err-clause-err
 control_forms::receive-returns-in-Err-clause-err t c = receive_0_bad _ c.args.label _ _ _ _ _ c.requires.starts c.requires.shallow c.requires.sort _ c.in-Err.ensures.err
@@ -453,7 +453,7 @@ definitions::definitions-returns-then-same-clause-ok t c = definitions_close _ _
 
 pub definitions::definitions-loop-found-preserved : goal.definitions::definitions-loop-found-preserved
 definitions::definitions-loop-found-preserved t c = record {
-  so_far = definitions_next _ _ _ c.requires.closes _ _ c.loop-found.items _ c.loop-found.invariant.so_far _ _ _ _ c.in-Ok.ensures.ok (λ z. iff_false c.same.ensures c.if-same.false z) _ c.in-Ok-definition.field-0.definition _ c.in-Ok-definition.ensures.ok _ c.if-not-pushed.ensures.added;
+  so_far = definitions_next _ _ _ c.requires.closes _ _ c.loop-found.items _ c.loop-found.invariant.so_far _ _ _ _ c.in-Ok.ensures.ok (λ z. iff_false c.same.ensures c.if-same.false z) _ c.in-Ok-definition.field-0.definition _ c.in-Ok-definition.ensures.ok _ c.if-not-added.ensures.added;
   labels = omega (arith, c.loop-found.invariant.labels, c.in-Ok-definition.ensures.labels);
   shorter = omega (arith, c.loop-found.invariant.shorter, c.in-Ok-definition.ensures.shorter);
 }
@@ -470,8 +470,8 @@ definitions::definition-returns-in-Err-take-clause-err t c = definition_1_bad _ 
 pub definitions::definition-returns-in-Err-noted_function-clause-err : goal.definitions::definition-returns-in-Err-noted_function-clause-err
 definitions::definition-returns-in-Err-noted_function-clause-err t c = definition_2_bad _ 0 _ _ _ _ c.in-Ok.ensures.ok _ c.in-Ok-take.ensures.ok _ c.in-Err-noted_function.ensures.err
 
-pub definitions::definition-returns-in-Ok-new-clause-ok : goal.definitions::definition-returns-in-Ok-new-clause-ok
-definitions::definition-returns-in-Ok-new-clause-ok t c = definition_ok _ _ _ _ _ _ c.in-Ok.ensures.ok _ c.in-Ok-take.ensures.ok _ _ _ _ _ c.in-Ok-noted_function.ensures.ok _ c.in-Ok-new.ensures
+pub definitions::definition-returns-clause-ok : goal.definitions::definition-returns-clause-ok
+definitions::definition-returns-clause-ok t c = definition_ok _ _ _ _ _ _ c.in-Ok.ensures.ok _ c.in-Ok-take.ensures.ok _ _ _ _ _ c.in-Ok-noted_function.ensures.ok _ refl
 
 pub definitions::noted_function-returns-in-Err-clause-err : goal.definitions::noted_function-returns-in-Err-clause-err
 definitions::noted_function-returns-in-Err-clause-err t c = noted_function_none _ _ _ c.in-Err.ensures.err
@@ -515,8 +515,8 @@ definitions::function-returns-clause-ok t c = function_ok _ _ _ _ _ _ _ c.in-Ok.
 pub expression_lists::list-returns-in-Err-clause-err : goal.expression_lists::list-returns-in-Err-clause-err
 expression_lists::list-returns-in-Err-clause-err t c = list_open_end _ c.args.label _ _ _ _ _ c.requires.starts c.requires.sort c.requires.shallow _ c.in-Err.ensures.err
 
-pub expression_lists::list-returns-then-same-clause-ok : goal.expression_lists::list-returns-then-same-clause-ok
-expression_lists::list-returns-then-same-clause-ok t c = list_nil _ _ _ _ _ _ _ c.requires.starts c.requires.sort c.requires.shallow _ _ _ _ c.in-Ok.ensures.ok (c.same.ensures.0 c.if-same.true) _ c.nil.ensures
+pub expression_lists::list-returns-in-Ok-nil-clause-ok : goal.expression_lists::list-returns-in-Ok-nil-clause-ok
+expression_lists::list-returns-in-Ok-nil-clause-ok t c = list_nil _ _ _ _ _ _ _ c.requires.starts c.requires.sort c.requires.shallow _ _ _ _ c.in-Ok.ensures.ok (c.same.ensures.0 c.if-same.true) _ c.in-Ok-nil.ensures
 
 pub expression_lists::list-returns-in-Err-take-clause-err : goal.expression_lists::list-returns-in-Err-take-clause-err
 expression_lists::list-returns-in-Err-take-clause-err t c = list_unclosed _ _ _ _ _ _ _ _ _ (omega (arith, c.loop-pending-test.true)) c.loop-pending.invariant.so_far _ c.in-Err-take.ensures.err
@@ -545,11 +545,11 @@ expression_lists::elements-loop-found-init t c = record {
 pub expression_lists::elements-returns-in-Err-next-clause-err : goal.expression_lists::elements-returns-in-Err-next-clause-err
 expression_lists::elements-returns-in-Err-next-clause-err t c = list_ran_out _ _ _ _ _ _ _ _ c.loop-found.invariant.shallow c.loop-found.invariant.so_far _ c.in-Err-next.ensures.err
 
-pub expression_lists::elements-returns-then-same-clause-ok : goal.expression_lists::elements-returns-then-same-clause-ok
-expression_lists::elements-returns-then-same-clause-ok t c = list_shut _ _ _ _ _ _ _ _ c.loop-found.invariant.shallow c.loop-found.invariant.so_far _ _ _ _ c.in-Ok-next.ensures.ok (c.same.ensures.0 c.if-same.true) _ c.nil.ensures
+pub expression_lists::elements-returns-in-Ok-nil-clause-ok : goal.expression_lists::elements-returns-in-Ok-nil-clause-ok
+expression_lists::elements-returns-in-Ok-nil-clause-ok t c = list_shut _ _ _ _ _ _ _ _ c.loop-found.invariant.shallow c.loop-found.invariant.so_far _ _ _ _ c.in-Ok-next.ensures.ok (c.same.ensures.0 c.if-same.true) _ c.in-Ok-nil.ensures
 
-pub expression_lists::elements-returns-then-same-clause-labels : goal.expression_lists::elements-returns-then-same-clause-labels
-expression_lists::elements-returns-then-same-clause-labels t c = omega (arith, c.loop-found.invariant.labels, c.in-Ok-next.ensures.lighter, two_at_least c.in-Ok-next.found.token.now.kind)
+pub expression_lists::elements-returns-in-Ok-nil-clause-labels : goal.expression_lists::elements-returns-in-Ok-nil-clause-labels
+expression_lists::elements-returns-in-Ok-nil-clause-labels t c = omega (arith, c.loop-found.invariant.labels, c.in-Ok-next.ensures.lighter, two_at_least c.in-Ok-next.found.token.now.kind)
 
 pub expression_lists::elements-returns-in-Err-expression-clause-err : goal.expression_lists::elements-returns-in-Err-expression-clause-err
 expression_lists::elements-returns-in-Err-expression-clause-err t c = list_comma_bad _ _ _ _ _ _ _ _ c.loop-found.invariant.shallow c.loop-found.invariant.so_far _ _ _ _ c.in-Ok-next.ensures.ok (c.same-in-loop-found.ensures.0 c.if-same-2.true) _ c.in-Err-expression.ensures.err
@@ -571,8 +571,8 @@ expression_lists::elements-returns-in-Err-next-2-clause-err t c = list_bar_end _
 pub expression_lists::elements-returns-in-Err-bare_expression-clause-err : goal.expression_lists::elements-returns-in-Err-bare_expression-clause-err
 expression_lists::elements-returns-in-Err-bare_expression-clause-err t c = list_round_bad _ _ _ _ _ _ _ _ c.loop-found.invariant.shallow c.loop-found.invariant.so_far _ _ _ _ c.in-Ok-next.ensures.ok (c.same-in-loop-found-2.ensures.0 c.if-not-same.false) _ _ _ _ c.in-Ok-next-2.ensures.ok (c.same-in-loop-found-3.ensures.0 c.if-same-3.true) _ c.in-Err-bare_expression.ensures.err
 
-pub expression_lists::elements-returns-in-Ok-annotation-clause-ok : goal.expression_lists::elements-returns-in-Ok-annotation-clause-ok
-expression_lists::elements-returns-in-Ok-annotation-clause-ok t c = one_more _ (list_noted _ _ _ _ _ _ _ _ c.loop-found.invariant.shallow c.loop-found.invariant.so_far _ _ _ _ c.in-Ok-next.ensures.ok (c.same-in-loop-found-2.ensures.0 c.if-not-same.false) _ _ _ _ c.in-Ok-next-2.ensures.ok (c.same-in-loop-found-3.ensures.0 c.if-same-3.true) _ _ _ c.in-Ok-bare_expression.ensures.ok _ _ _ c.with_note.ensures c.in-Ok-annotation.ensures.ok)
+pub expression_lists::elements-returns-in-Ok-noted-clause-ok : goal.expression_lists::elements-returns-in-Ok-noted-clause-ok
+expression_lists::elements-returns-in-Ok-noted-clause-ok t c = one_more _ (list_noted _ _ _ _ _ _ _ _ c.loop-found.invariant.shallow c.loop-found.invariant.so_far _ _ _ _ c.in-Ok-next.ensures.ok (c.same-in-loop-found-2.ensures.0 c.if-not-same.false) _ _ _ _ c.in-Ok-next-2.ensures.ok (c.same-in-loop-found-3.ensures.0 c.if-same-3.true) _ _ _ c.in-Ok-bare_expression.ensures.ok _ _ _ c.in-Ok-noted.ensures c.in-Ok-annotation.ensures.ok)
 
 pub expression_lists::elements-returns-in-Err-annotation-clause-err : goal.expression_lists::elements-returns-in-Err-annotation-clause-err
 expression_lists::elements-returns-in-Err-annotation-clause-err t c = list_note_bad _ _ _ _ _ _ _ _ c.loop-found.invariant.shallow c.loop-found.invariant.so_far _ _ _ _ c.in-Ok-next.ensures.ok (c.same-in-loop-found-2.ensures.0 c.if-not-same.false) _ _ _ _ c.in-Ok-next-2.ensures.ok (c.same-in-loop-found-3.ensures.0 c.if-same-3.true) _ _ _ c.in-Ok-bare_expression.ensures.ok _ c.in-Err-annotation.ensures.err
@@ -580,11 +580,11 @@ expression_lists::elements-returns-in-Err-annotation-clause-err t c = list_note_
 pub expression_lists::elements-push_bytes-requires : goal.expression_lists::elements-push_bytes-requires
 expression_lists::elements-push_bytes-requires t c = omega (arith, c.requires.labels, c.loop-found.invariant.labels, c.in-Ok-next.ensures.lighter, c.in-Ok-next-2.ensures.lighter, string_weight _ _ _ _ _ c.in-Ok-next-2.ensures.ok (c.same-in-loop-found-4.ensures.0 c.if-same-4.true))
 
-pub expression_lists::elements-returns-then-same-4-clause-ok : goal.expression_lists::elements-returns-then-same-4-clause-ok
-expression_lists::elements-returns-then-same-4-clause-ok t c = one_more _ (list_text _ _ _ _ _ _ _ _ c.loop-found.invariant.shallow c.loop-found.invariant.so_far _ _ _ _ c.in-Ok-next.ensures.ok (c.same-in-loop-found-2.ensures.0 c.if-not-same.false) _ _ _ _ c.in-Ok-next-2.ensures.ok (c.same-in-loop-found-4.ensures.0 c.if-same-4.true) _ _ _ c.in-Ok-push_bytes.ensures.added c.in-Ok-push_bytes.ensures.next c.nil-then-same-4.ensures)
+pub expression_lists::elements-returns-in-Ok-nil-2-clause-ok : goal.expression_lists::elements-returns-in-Ok-nil-2-clause-ok
+expression_lists::elements-returns-in-Ok-nil-2-clause-ok t c = one_more _ (list_text _ _ _ _ _ _ _ _ c.loop-found.invariant.shallow c.loop-found.invariant.so_far _ _ _ _ c.in-Ok-next.ensures.ok (c.same-in-loop-found-2.ensures.0 c.if-not-same.false) _ _ _ _ c.in-Ok-next-2.ensures.ok (c.same-in-loop-found-4.ensures.0 c.if-same-4.true) _ _ _ c.in-Ok-push_bytes.ensures.added c.in-Ok-push_bytes.ensures.next c.in-Ok-nil-2.ensures)
 
-pub expression_lists::elements-returns-then-same-4-clause-labels : goal.expression_lists::elements-returns-then-same-4-clause-labels
-expression_lists::elements-returns-then-same-4-clause-labels t c = omega (arith, c.loop-found.invariant.labels, c.in-Ok-next.ensures.lighter, c.in-Ok-push_bytes.ensures.next, string_weight _ _ _ _ _ c.in-Ok-next-2.ensures.ok (c.same-in-loop-found-4.ensures.0 c.if-same-4.true))
+pub expression_lists::elements-returns-in-Ok-nil-2-clause-labels : goal.expression_lists::elements-returns-in-Ok-nil-2-clause-labels
+expression_lists::elements-returns-in-Ok-nil-2-clause-labels t c = omega (arith, c.loop-found.invariant.labels, c.in-Ok-next.ensures.lighter, c.in-Ok-push_bytes.ensures.next, string_weight _ _ _ _ _ c.in-Ok-next-2.ensures.ok (c.same-in-loop-found-4.ensures.0 c.if-same-4.true))
 
 pub expression_lists::elements-returns-in-Ok-other_expression-clause-ok : goal.expression_lists::elements-returns-in-Ok-other_expression-clause-ok
 expression_lists::elements-returns-in-Ok-other_expression-clause-ok t c = one_more _ (list_tailed _ _ _ _ _ _ _ _ c.loop-found.invariant.shallow c.loop-found.invariant.so_far _ _ _ _ c.in-Ok-next.ensures.ok (c.same-in-loop-found-2.ensures.0 c.if-not-same.false) _ _ _ _ c.in-Ok-next-2.ensures.ok (not_this_sort c.if-not-same-2.true c.same-in-loop-found-5.ensures) (not_this_sort c.if-same-3.false c.same-in-loop-found-3.ensures) (not_this_sort c.if-same-4.false c.same-in-loop-found-4.ensures) _ _ _ c.in-Ok-other_expression.ensures.ok)
@@ -595,11 +595,11 @@ expression_lists::elements-returns-in-Err-other_expression-clause-err t c = list
 pub expression_lists::elements-returns-in-Err-next-3-clause-err : goal.expression_lists::elements-returns-in-Err-next-3-clause-err
 expression_lists::elements-returns-in-Err-next-3-clause-err t c = list_inner_end _ _ _ _ _ _ _ _ c.loop-found.invariant.shallow c.loop-found.invariant.so_far _ _ _ _ c.in-Ok-next.ensures.ok (c.same-in-loop-found-2.ensures.0 c.if-not-same.false) _ _ _ _ c.in-Ok-next-2.ensures.ok (c.same-in-loop-found-5.ensures.0 c.if-not-same-2.false) _ c.in-Err-next-3.ensures.err
 
-pub expression_lists::elements-returns-then-same-5-clause-ok : goal.expression_lists::elements-returns-then-same-5-clause-ok
-expression_lists::elements-returns-then-same-5-clause-ok t c = one_more _ (list_tail_nil _ _ _ _ _ _ _ _ c.loop-found.invariant.shallow c.loop-found.invariant.so_far _ _ _ _ c.in-Ok-next.ensures.ok (c.same-in-loop-found-2.ensures.0 c.if-not-same.false) _ _ _ _ c.in-Ok-next-2.ensures.ok (c.same-in-loop-found-5.ensures.0 c.if-not-same-2.false) _ _ _ _ c.in-Ok-next-3.ensures.ok (c.same-in-loop-found-6.ensures.0 c.if-same-5.true) _ c.nil-then-same-5.ensures)
+pub expression_lists::elements-returns-in-Ok-nil-3-clause-ok : goal.expression_lists::elements-returns-in-Ok-nil-3-clause-ok
+expression_lists::elements-returns-in-Ok-nil-3-clause-ok t c = one_more _ (list_tail_nil _ _ _ _ _ _ _ _ c.loop-found.invariant.shallow c.loop-found.invariant.so_far _ _ _ _ c.in-Ok-next.ensures.ok (c.same-in-loop-found-2.ensures.0 c.if-not-same.false) _ _ _ _ c.in-Ok-next-2.ensures.ok (c.same-in-loop-found-5.ensures.0 c.if-not-same-2.false) _ _ _ _ c.in-Ok-next-3.ensures.ok (c.same-in-loop-found-6.ensures.0 c.if-same-5.true) _ c.in-Ok-nil-3.ensures)
 
-pub expression_lists::elements-returns-then-same-5-clause-labels : goal.expression_lists::elements-returns-then-same-5-clause-labels
-expression_lists::elements-returns-then-same-5-clause-labels t c = omega (arith, c.loop-found.invariant.labels, c.in-Ok-next.ensures.lighter, c.in-Ok-next-2.ensures.lighter, c.in-Ok-next-3.ensures.lighter, two_at_least c.in-Ok-next.found.token.now.kind)
+pub expression_lists::elements-returns-in-Ok-nil-3-clause-labels : goal.expression_lists::elements-returns-in-Ok-nil-3-clause-labels
+expression_lists::elements-returns-in-Ok-nil-3-clause-labels t c = omega (arith, c.loop-found.invariant.labels, c.in-Ok-next.ensures.lighter, c.in-Ok-next-2.ensures.lighter, c.in-Ok-next-3.ensures.lighter, two_at_least c.in-Ok-next.found.token.now.kind)
 
 pub expression_lists::elements-loop-found-preserved : goal.expression_lists::elements-loop-found-preserved
 expression_lists::elements-loop-found-preserved t c = record {
@@ -624,8 +624,8 @@ expressions::expression-returns-in-Err-bare_expression-clause-err t c = expressi
 pub expressions::expression-returns-in-Err-bare_expression-2-clause-err : goal.expressions::expression-returns-in-Err-bare_expression-2-clause-err
 expressions::expression-returns-in-Err-bare_expression-2-clause-err t c = expression_in_bad _ 0 _ _ _ _ _ c.in-Ok.ensures.ok (c.same.ensures.0 c.if-not-same.false) _ c.in-Err-bare_expression-2.ensures.err
 
-pub expressions::expression-returns-in-Ok-annotation-clause-ok : goal.expressions::expression-returns-in-Ok-annotation-clause-ok
-expressions::expression-returns-in-Ok-annotation-clause-ok t c = expression_noted _ _ _ _ _ _ _ c.in-Ok.ensures.ok (c.same.ensures.0 c.if-not-same.false) _ _ _ c.in-Ok-bare_expression-2.ensures.ok _ _ _ c.with_note.ensures c.in-Ok-annotation.ensures.ok
+pub expressions::expression-returns-in-Ok-noted-clause-ok : goal.expressions::expression-returns-in-Ok-noted-clause-ok
+expressions::expression-returns-in-Ok-noted-clause-ok t c = expression_noted _ _ _ _ _ _ _ c.in-Ok.ensures.ok (c.same.ensures.0 c.if-not-same.false) _ _ _ c.in-Ok-bare_expression-2.ensures.ok _ _ _ c.in-Ok-noted.ensures c.in-Ok-annotation.ensures.ok
 
 pub expressions::expression-returns-in-Err-annotation-clause-err : goal.expressions::expression-returns-in-Err-annotation-clause-err
 expressions::expression-returns-in-Err-annotation-clause-err t c = expression_note_bad _ _ _ _ _ _ _ c.in-Ok.ensures.ok (c.same.ensures.0 c.if-not-same.false) _ _ _ c.in-Ok-bare_expression-2.ensures.ok _ c.in-Err-annotation.ensures.err
@@ -648,14 +648,14 @@ expressions::bare_expression-returns-in-Err-other_expression-clause-err t c = ba
 pub expressions::other_expression-returns-in-Err-clause-err : goal.expressions::other_expression-returns-in-Err-clause-err
 expressions::other_expression-returns-in-Err-clause-err t c = other_none _ 0 _ _ c.in-Err.ensures.err
 
-pub expressions::other_expression-returns-in-Ok-literal_of-clause-ok : goal.expressions::other_expression-returns-in-Ok-literal_of-clause-ok
-expressions::other_expression-returns-in-Ok-literal_of-clause-ok t c = other_literal _ _ _ _ _ _ _ c.in-Ok.ensures.ok c.requires.shallow _ c.is_literal.ensures c.if-is_literal.true _ (literal_made _ _ _ _ _ c.literal.ensures c.mark.ensures c.in-Ok-literal_of.ensures)
+pub expressions::other_expression-returns-in-Ok-literal-clause-ok : goal.expressions::other_expression-returns-in-Ok-literal-clause-ok
+expressions::other_expression-returns-in-Ok-literal-clause-ok t c = other_literal _ _ _ _ _ _ _ c.in-Ok.ensures.ok c.requires.shallow _ c.is_literal.ensures c.if-is_literal.true _ (literal_made _ _ _ _ _ c.in-Ok-literal.ensures c.mark.ensures c.in-Ok-literal_of.ensures)
 
-pub expressions::other_expression-returns-in-Ok-text_of-clause-ok : goal.expressions::other_expression-returns-in-Ok-text_of-clause-ok
-expressions::other_expression-returns-in-Ok-text_of-clause-ok t c = other_variable _ _ _ _ _ _ _ c.in-Ok.ensures.ok c.requires.shallow c.in-Variable.is _ (variable_made _ _ _ _ _ c.variable.ensures c.mark-in-Ok-text_of.ensures c.in-Ok-text_of.ensures)
+pub expressions::other_expression-returns-in-Ok-variable-clause-ok : goal.expressions::other_expression-returns-in-Ok-variable-clause-ok
+expressions::other_expression-returns-in-Ok-variable-clause-ok t c = other_variable _ _ _ _ _ _ _ c.in-Ok.ensures.ok c.requires.shallow c.in-Variable.is _ (variable_made _ _ _ _ _ c.in-Ok-variable.ensures c.mark-in-Ok-text_of.ensures c.in-Ok-text_of.ensures)
 
-pub expressions::other_expression-returns-in-Ok-take-clause-ok : goal.expressions::other_expression-returns-in-Ok-take-clause-ok
-expressions::other_expression-returns-in-Ok-take-clause-ok t c = other_nil _ _ _ _ _ _ _ c.in-Ok.ensures.ok c.requires.shallow c.in-OpenSquare.is _ c.in-Ok-take.ensures.ok _ (c.literal-in-Ok-take.ensures ∙ ap (λ k. m.literal k l.Nil) c.mark-in-Ok-take.ensures)
+pub expressions::other_expression-returns-in-Ok-literal-2-clause-ok : goal.expressions::other_expression-returns-in-Ok-literal-2-clause-ok
+expressions::other_expression-returns-in-Ok-literal-2-clause-ok t c = other_nil _ _ _ _ _ _ _ c.in-Ok.ensures.ok c.requires.shallow c.in-OpenSquare.is _ c.in-Ok-take.ensures.ok _ (c.in-Ok-literal-2.ensures ∙ ap (λ k. m.literal k l.Nil) c.mark-in-Ok-take.ensures)
 
 pub expressions::other_expression-returns-in-Err-take-clause-err : goal.expressions::other_expression-returns-in-Err-take-clause-err
 expressions::other_expression-returns-in-Err-take-clause-err t c = other_nil_bad _ 0 _ _ _ _ _ c.in-Ok.ensures.ok c.requires.shallow c.in-OpenSquare.is _ c.in-Err-take.ensures.err
@@ -710,20 +710,20 @@ forms::fun-returns-in-Err-take-clause-err t c = fun_2_bad _ c.args.label _ _ _ _
 pub forms::fun-returns-in-Err-expression-clause-err : goal.forms::fun-returns-in-Err-expression-clause-err
 forms::fun-returns-in-Err-expression-clause-err t c = fun_3_bad _ c.args.label _ _ _ _ _ c.requires.starts c.requires.shallow c.requires.sort _ c.requires.bracket _ _ c.in-Ok.ensures.ok _ c.in-Ok-take.ensures.ok _ c.in-Err-expression.ensures.err
 
-pub forms::fun-returns-in-Ok-new-clause-ok : goal.forms::fun-returns-in-Ok-new-clause-ok
-forms::fun-returns-in-Ok-new-clause-ok t c = fun_ok _ c.args.label _ _ _ _ _ c.requires.starts c.requires.shallow c.requires.sort _ c.requires.bracket _ _ c.in-Ok.ensures.ok _ c.in-Ok-take.ensures.ok _ _ _ c.in-Ok-expression.ensures.ok _ c.mark-mark.ensures _ (fun_parts _ _ _ _ _ c.in-Ok-new.ensures.params c.in-Ok-new.ensures.body _ c.function.ensures)
+pub forms::fun-returns-in-Ok-function-clause-ok : goal.forms::fun-returns-in-Ok-function-clause-ok
+forms::fun-returns-in-Ok-function-clause-ok t c = fun_ok _ c.args.label _ _ _ _ _ c.requires.starts c.requires.shallow c.requires.sort _ c.requires.bracket _ _ c.in-Ok.ensures.ok _ c.in-Ok-take.ensures.ok _ _ _ c.in-Ok-expression.ensures.ok _ c.mark-mark.ensures _ c.in-Ok-function.ensures
 
 pub forms::tuple-returns-in-Err-clause-err : goal.forms::tuple-returns-in-Err-clause-err
 forms::tuple-returns-in-Err-clause-err t c = tuple_0_bad _ c.args.label _ _ _ _ _ c.requires.starts c.requires.shallow c.requires.sort _ c.in-Err.ensures.err
 
-pub forms::tuple-returns-clause-ok : goal.forms::tuple-returns-clause-ok
-forms::tuple-returns-clause-ok t c = tuple_ok _ c.args.label _ _ _ _ _ c.requires.starts c.requires.shallow c.requires.sort _ _ _ c.in-Ok.ensures.ok _ c.mark-mark.ensures _ c.tuple.ensures
+pub forms::tuple-returns-in-Ok-tuple-clause-ok : goal.forms::tuple-returns-in-Ok-tuple-clause-ok
+forms::tuple-returns-in-Ok-tuple-clause-ok t c = tuple_ok _ c.args.label _ _ _ _ _ c.requires.starts c.requires.shallow c.requires.sort _ _ _ c.in-Ok.ensures.ok _ c.mark-mark.ensures _ c.in-Ok-tuple.ensures
 
 pub forms::values-returns-in-Err-clause-err : goal.forms::values-returns-in-Err-clause-err
 forms::values-returns-in-Err-clause-err t c = values_0_bad _ c.args.label _ _ _ _ _ c.requires.starts c.requires.shallow c.requires.sort _ c.in-Err.ensures.err
 
-pub forms::values-returns-clause-ok : goal.forms::values-returns-clause-ok
-forms::values-returns-clause-ok t c = values_ok _ c.args.label _ _ _ _ _ c.requires.starts c.requires.shallow c.requires.sort _ _ _ c.in-Ok.ensures.ok _ c.mark-mark.ensures _ c.values.ensures
+pub forms::values-returns-in-Ok-values-clause-ok : goal.forms::values-returns-in-Ok-values-clause-ok
+forms::values-returns-in-Ok-values-clause-ok t c = values_ok _ c.args.label _ _ _ _ _ c.requires.starts c.requires.shallow c.requires.sort _ _ _ c.in-Ok.ensures.ok _ c.mark-mark.ensures _ c.in-Ok-values.ensures
 
 pub forms::letrec-returns-in-Err-clause-err : goal.forms::letrec-returns-in-Err-clause-err
 forms::letrec-returns-in-Err-clause-err t c = letrec_0_bad _ c.args.label _ _ _ _ _ c.requires.starts c.requires.shallow c.requires.sort _ c.in-Err.ensures.err
@@ -773,14 +773,14 @@ forms::primop-returns-in-Err-take-clause-err t c = primop_1_bad _ c.args.label _
 pub forms::primop-returns-in-Err-expressions-clause-err : goal.forms::primop-returns-in-Err-expressions-clause-err
 forms::primop-returns-in-Err-expressions-clause-err t c = primop_2_bad _ c.args.label _ _ _ _ _ c.requires.starts c.requires.shallow c.requires.sort _ _ _ c.in-Ok.ensures.ok _ c.in-Ok-take.ensures.ok _ c.in-Err-expressions.ensures.err
 
-pub forms::primop-returns-clause-ok : goal.forms::primop-returns-clause-ok
-forms::primop-returns-clause-ok t c = primop_ok _ c.args.label _ _ _ _ _ c.requires.starts c.requires.shallow c.requires.sort _ _ _ c.in-Ok.ensures.ok _ c.in-Ok-take.ensures.ok _ _ _ c.in-Ok-expressions.ensures.ok _ c.mark-mark.ensures _ c.primop.ensures
+pub forms::primop-returns-in-Ok-primop-clause-ok : goal.forms::primop-returns-in-Ok-primop-clause-ok
+forms::primop-returns-in-Ok-primop-clause-ok t c = primop_ok _ c.args.label _ _ _ _ _ c.requires.starts c.requires.shallow c.requires.sort _ _ _ c.in-Ok.ensures.ok _ c.in-Ok-take.ensures.ok _ _ _ c.in-Ok-expressions.ensures.ok _ c.mark-mark.ensures _ c.in-Ok-primop.ensures
 
 pub maps::map-returns-in-Err-clause-err : goal.maps::map-returns-in-Err-clause-err
 maps::map-returns-in-Err-clause-err t c = map_expression_bad _ c.args.label _ _ _ _ _ c.requires.starts c.requires.shallow c.requires.sort _ c.in-Err.ensures.err
 
-pub maps::map-returns-in_default-clause-ok : goal.maps::map-returns-in_default-clause-ok
-maps::map-returns-in_default-clause-ok t c = map_expression_new _ _ _ _ _ _ _ c.requires.starts c.requires.shallow c.requires.sort _ _ _ _ c.in-Ok.ensures.ok c.in_default.is _ c.mark-mark.ensures _ c.new_map.ensures
+pub maps::map-returns-in-Ok-new_map-clause-ok : goal.maps::map-returns-in-Ok-new_map-clause-ok
+maps::map-returns-in-Ok-new_map-clause-ok t c = map_expression_new _ _ _ _ _ _ _ c.requires.starts c.requires.shallow c.requires.sort _ _ _ _ c.in-Ok.ensures.ok c.in_default.is _ c.mark-mark.ensures _ c.in-Ok-new_map.ensures
 
 pub maps::map-returns-in-Ok-updated_map-clause-ok : goal.maps::map-returns-in-Ok-updated_map-clause-ok
 maps::map-returns-in-Ok-updated_map-clause-ok t c = map_expression_updated _ _ _ _ _ _ _ c.requires.starts c.requires.shallow c.requires.sort _ _ _ _ c.in-Ok.ensures.ok _ c.in-Some.is _ c.mark-mark.ensures _ c.in-Ok-updated_map.ensures
@@ -848,7 +848,7 @@ pub maps::pair_in_brackets-returns-in-Err-next-clause-err : goal.maps::pair_in_b
 maps::pair_in_brackets-returns-in-Err-next-clause-err t c = map_pair_key_end _ _ _ _ _ _ _ c.requires.starts c.requires.sort c.requires.once _ _ _ c.in-Ok.ensures.ok _ c.in-Err-next.ensures.err
 
 pub maps::pair_in_brackets-returns-in-Ok-value_of_key-clause-ok : goal.maps::pair_in_brackets-returns-in-Ok-value_of_key-clause-ok
-maps::pair_in_brackets-returns-in-Ok-value_of_key-clause-ok t c = map_pair_noted_ok _ _ _ _ _ _ _ c.requires.starts c.requires.sort c.requires.once _ _ _ c.in-Ok.ensures.ok _ _ _ _ c.in-Ok-next.ensures.ok (c.same.ensures.0 c.if-same.true) _ _ c.in-Ok-annotation.ensures.ok _ _ _ _ c.with_note-key.ensures c.in-Ok-value_of_key.ensures.ok
+maps::pair_in_brackets-returns-in-Ok-value_of_key-clause-ok t c = map_pair_noted_ok _ _ _ _ _ _ _ c.requires.starts c.requires.sort c.requires.once _ _ _ c.in-Ok.ensures.ok _ _ _ _ c.in-Ok-next.ensures.ok (c.same.ensures.0 c.if-same.true) _ _ c.in-Ok-annotation.ensures.ok _ _ _ _ c.in-Ok-noted.ensures c.in-Ok-value_of_key.ensures.ok
 
 pub maps::pair_in_brackets-returns-in-Err-value_of_key-clause-err : goal.maps::pair_in_brackets-returns-in-Err-value_of_key-clause-err
 maps::pair_in_brackets-returns-in-Err-value_of_key-clause-err t c = map_pair_noted_value_bad _ _ _ _ _ _ _ c.requires.starts c.requires.sort c.requires.once _ _ _ c.in-Ok.ensures.ok _ _ _ _ c.in-Ok-next.ensures.ok (c.same.ensures.0 c.if-same.true) _ _ c.in-Ok-annotation.ensures.ok _ c.in-Err-value_of_key.ensures.err
@@ -883,14 +883,14 @@ maps::value_of_key-returns-in_default-clause-err t c = key_value_other _ c.args.
 pub maps::value_of_key-returns-in-Err-expression-clause-err : goal.maps::value_of_key-returns-in-Err-expression-clause-err
 maps::value_of_key-returns-in-Err-expression-clause-err t c = key_value_bad _ c.args.label _ _ _ _ _ c.in-Ok.ensures.ok _ (sym c.exactness.ensures ∙ c.in-Some.is) _ c.in-Err-expression.ensures.err
 
-pub maps::value_of_key-returns-clause-ok : goal.maps::value_of_key-returns-clause-ok
-maps::value_of_key-returns-clause-ok t c = key_value_ok _ _ _ _ _ _ _ c.in-Ok.ensures.ok _ (sym c.exactness.ensures ∙ c.in-Some.is) _ _ _ c.in-Ok-expression.ensures.ok _ _ c.new.ensures
+pub maps::value_of_key-returns-in-Ok-pair-clause-ok : goal.maps::value_of_key-returns-in-Ok-pair-clause-ok
+maps::value_of_key-returns-in-Ok-pair-clause-ok t c = key_value_ok _ _ _ _ _ _ _ c.in-Ok.ensures.ok _ (sym c.exactness.ensures ∙ c.in-Some.is) _ _ _ c.in-Ok-expression.ensures.ok _ _ c.in-Ok-pair.ensures
 
 pub pattern_binaries::binary_pattern-returns-in-Err-clause-err : goal.pattern_binaries::binary_pattern-returns-in-Err-clause-err
 pattern_binaries::binary_pattern-returns-in-Err-clause-err t c = binary_pattern_bad _ c.args.label _ _ _ _ _ c.requires.starts c.requires.shallow c.requires.sort _ c.in-Err.ensures.err
 
-pub pattern_binaries::binary_pattern-returns-clause-ok : goal.pattern_binaries::binary_pattern-returns-clause-ok
-pattern_binaries::binary_pattern-returns-clause-ok t c = binary_pattern_ok _ _ _ _ _ _ _ c.requires.starts c.requires.shallow c.requires.sort _ _ _ c.in-Ok.ensures.ok _ (c.binary.ensures ∙ ap (λ k. m.binary_of k (all_pat_segments c.in-Ok.found.items)) c.mark-mark.ensures)
+pub pattern_binaries::binary_pattern-returns-in-Ok-binary-clause-ok : goal.pattern_binaries::binary_pattern-returns-in-Ok-binary-clause-ok
+pattern_binaries::binary_pattern-returns-in-Ok-binary-clause-ok t c = binary_pattern_ok _ _ _ _ _ _ _ c.requires.starts c.requires.shallow c.requires.sort _ _ _ c.in-Ok.ensures.ok _ (c.in-Ok-binary.ensures ∙ ap (λ k. m.binary_of k (all_pat_segments c.in-Ok.found.items)) c.mark-mark.ensures)
 
 pub pattern_binaries::pattern_segments-returns-in-Err-clause-err : goal.pattern_binaries::pattern_segments-returns-in-Err-clause-err
 pattern_binaries::pattern_segments-returns-in-Err-clause-err t c = items_nothing s.CloseBinary (pattern_segment _) (closes_pattern_segments _) number_pat_segment pat_segment_parts c.args.label _ _ c.in-Err.ensures.err
@@ -942,8 +942,8 @@ pattern_binaries::pattern_segment-returns-in-Err-take-2-clause-err t c = pattern
 pub pattern_binaries::pattern_segment-returns-in-Err-expressions-clause-err : goal.pattern_binaries::pattern_segment-returns-in-Err-expressions-clause-err
 pattern_binaries::pattern_segment-returns-in-Err-expressions-clause-err t c = pattern_segment_4_bad _ _ _ _ c.in-Ok.ensures.ok _ _ _ c.in-Ok-pattern.ensures.ok _ c.in-Ok-take.ensures.ok _ c.in-Ok-take-2.ensures.ok _ c.in-Err-expressions.ensures.err
 
-pub pattern_binaries::pattern_segment-returns-clause-ok : goal.pattern_binaries::pattern_segment-returns-clause-ok
-pattern_binaries::pattern_segment-returns-clause-ok t c = pattern_segment_ok _ _ _ _ c.in-Ok.ensures.ok _ _ _ c.in-Ok-pattern.ensures.ok _ c.in-Ok-take.ensures.ok _ c.in-Ok-take-2.ensures.ok _ _ _ c.in-Ok-expressions.ensures.ok _ c.new.ensures
+pub pattern_binaries::pattern_segment-returns-in-Ok-pattern_segment-clause-ok : goal.pattern_binaries::pattern_segment-returns-in-Ok-pattern_segment-clause-ok
+pattern_binaries::pattern_segment-returns-in-Ok-pattern_segment-clause-ok t c = pattern_segment_ok _ _ _ _ c.in-Ok.ensures.ok _ _ _ c.in-Ok-pattern.ensures.ok _ c.in-Ok-take.ensures.ok _ c.in-Ok-take-2.ensures.ok _ _ _ c.in-Ok-expressions.ensures.ok _ c.in-Ok-pattern_segment.ensures
 
 pub pattern_brackets::in_brackets-returns-in-Err-clause-err : goal.pattern_brackets::in_brackets-returns-in-Err-clause-err
 pattern_brackets::in_brackets-returns-in-Err-clause-err t c = brackets_end c.args.depth c.args.label c.args.first.place _ _ c.in-Err.ensures.err
@@ -954,8 +954,8 @@ pattern_brackets::in_brackets-returns-in-Err-variable_in_brackets-clause-err t c
 pub pattern_brackets::in_brackets-returns-in-Err-bare_pattern-clause-err : goal.pattern_brackets::in_brackets-returns-in-Err-bare_pattern-clause-err
 pattern_brackets::in_brackets-returns-in-Err-bare_pattern-clause-err t c = brackets_bad c.args.depth c.args.label c.args.first.place _ _ _ _ _ c.in-Ok.ensures.ok (sort_differs _ _ c.if-same.ensures) _ c.in-Err-bare_pattern.ensures.err
 
-pub pattern_brackets::in_brackets-returns-in-Ok-annotation-clause-ok : goal.pattern_brackets::in_brackets-returns-in-Ok-annotation-clause-ok
-pattern_brackets::in_brackets-returns-in-Ok-annotation-clause-ok t c = brackets_noted _ _ _ _ _ _ _ _ c.in-Ok.ensures.ok (sort_differs _ _ c.if-same.ensures) _ _ _ c.in-Ok-bare_pattern.ensures.ok _ _ _ c.with_note.ensures c.in-Ok-annotation.ensures.ok
+pub pattern_brackets::in_brackets-returns-in-Ok-noted_pattern-clause-ok : goal.pattern_brackets::in_brackets-returns-in-Ok-noted_pattern-clause-ok
+pattern_brackets::in_brackets-returns-in-Ok-noted_pattern-clause-ok t c = brackets_noted _ _ _ _ _ _ _ _ c.in-Ok.ensures.ok (sort_differs _ _ c.if-same.ensures) _ _ _ c.in-Ok-bare_pattern.ensures.ok _ _ _ c.in-Ok-noted_pattern.ensures c.in-Ok-annotation.ensures.ok
 
 pub pattern_brackets::in_brackets-returns-in-Err-annotation-clause-err : goal.pattern_brackets::in_brackets-returns-in-Err-annotation-clause-err
 pattern_brackets::in_brackets-returns-in-Err-annotation-clause-err t c = brackets_note_bad c.args.depth c.args.label c.args.first.place _ _ _ _ _ c.in-Ok.ensures.ok (sort_differs _ _ c.if-same.ensures) _ _ _ c.in-Ok-bare_pattern.ensures.ok _ c.in-Err-annotation.ensures.err
@@ -969,9 +969,9 @@ pattern_brackets::variable_in_brackets-returns-in-Err-next-clause-err t c = brac
 pub pattern_brackets::variable_in_brackets-returns-in-Err-named-clause-err : goal.pattern_brackets::variable_in_brackets-returns-in-Err-named-clause-err
 pattern_brackets::variable_in_brackets-returns-in-Err-named-clause-err t c = brackets_alias_bad c.args.depth c.args.label c.args.first.place _ _ _ _ _ c.requires.goes_on c.requires.variable (omega (arith, c.if-depth-gt-DEEPEST.false)) _ _ _ _ c.in-Ok-next.ensures.ok (c.if-same.ensures.0 refl) _ c.in-Err-named.ensures.err
 
-pub pattern_brackets::variable_in_brackets-returns-in-Ok-annotation-clause-ok : goal.pattern_brackets::variable_in_brackets-returns-in-Ok-annotation-clause-ok
-pattern_brackets::variable_in_brackets-returns-in-Ok-annotation-clause-ok t c = brackets_alias_noted _ _ _ _ _ _ _ _ c.requires.goes_on c.requires.variable (omega (arith, c.if-depth-gt-DEEPEST.false)) _ _ _ _ c.in-Ok-next.ensures.ok (c.if-same.ensures.0 refl) _ _ _ _ _ (c.mark-mark.ensures ∙ ap (mark _) c.requires.goes_on.place_is)
-    (name_made _ _ _ _ _ _ c.in-Ok.ensures c.requires.goes_on.place_is c.no_note.ensures) c.in-Ok-named.ensures.ok _ _ _ c.with_note.ensures c.in-Ok-annotation.ensures.ok
+pub pattern_brackets::variable_in_brackets-returns-in-Ok-noted_pattern-clause-ok : goal.pattern_brackets::variable_in_brackets-returns-in-Ok-noted_pattern-clause-ok
+pattern_brackets::variable_in_brackets-returns-in-Ok-noted_pattern-clause-ok t c = brackets_alias_noted _ _ _ _ _ _ _ _ c.requires.goes_on c.requires.variable (omega (arith, c.if-depth-gt-DEEPEST.false)) _ _ _ _ c.in-Ok-next.ensures.ok (c.if-same.ensures.0 refl) _ _ _ _ _ (c.mark-mark.ensures ∙ ap (mark _) c.requires.goes_on.place_is)
+    (name_made _ _ _ _ _ _ c.in-Ok.ensures c.requires.goes_on.place_is c.no_note.ensures) c.in-Ok-named.ensures.ok _ _ _ c.in-Ok-noted_pattern.ensures c.in-Ok-annotation.ensures.ok
 
 pub pattern_brackets::variable_in_brackets-returns-in-Err-annotation-clause-err : goal.pattern_brackets::variable_in_brackets-returns-in-Err-annotation-clause-err
 pattern_brackets::variable_in_brackets-returns-in-Err-annotation-clause-err t c = brackets_alias_note_bad c.args.depth c.args.label c.args.first.place _ _ _ _ _ c.requires.goes_on c.requires.variable (omega (arith, c.if-depth-gt-DEEPEST.false)) _ _ _ _ c.in-Ok-next.ensures.ok (c.if-same.ensures.0 refl) _ _ _ _ _ (c.mark-mark.ensures ∙ ap (mark _) c.requires.goes_on.place_is)
@@ -986,8 +986,8 @@ pattern_brackets::variable_in_brackets-returns-in-Err-noted_variable-clause-err 
 pub pattern_brackets::noted_variable-returns-in-Err-clause-err : goal.pattern_brackets::noted_variable-returns-in-Err-clause-err
 pattern_brackets::noted_variable-returns-in-Err-clause-err t c = noted_variable_bad c.args.depth c.args.label c.args.first.place c.args.second.token.now c.args.second.rest.now _ c.in-Err.ensures.err
 
-pub pattern_brackets::noted_variable-returns-in_default-clause-ok : goal.pattern_brackets::noted_variable-returns-in_default-clause-ok
-pattern_brackets::noted_variable-returns-in_default-clause-ok t c = noted_variable_last _ _ _ _ _ _ _ c.in-Ok.ensures.ok c.in_default.ensures.none _ (binds_made _ _ _ _ _ c.variable.ensures (c.with_note-mark.ensures ∙ ap (marked _) (c.mark.ensures ∙ ap (mark _) c.requires.place)) c.requires.name)
+pub pattern_brackets::noted_variable-returns-in-Ok-variable-clause-ok : goal.pattern_brackets::noted_variable-returns-in-Ok-variable-clause-ok
+pattern_brackets::noted_variable-returns-in-Ok-variable-clause-ok t c = noted_variable_last _ _ _ _ _ _ _ c.in-Ok.ensures.ok c.in_default.ensures.none _ (binds_made _ _ _ _ _ c.in-Ok-variable.ensures (c.with_note-mark.ensures ∙ ap (marked _) (c.mark.ensures ∙ ap (mark _) c.requires.place)) c.requires.name)
 
 pub pattern_brackets::noted_variable-returns-in-Ok-named-clause-ok : goal.pattern_brackets::noted_variable-returns-in-Ok-named-clause-ok
 pattern_brackets::noted_variable-returns-in-Ok-named-clause-ok t c = noted_alias _ _ _ _ _ _ _ c.in-Ok.ensures.ok _ c.in-Some.ensures.found _ _ _ _ _ c.mark-2.ensures (name_made _ _ _ _ _ _ c.requires.name c.requires.place refl) c.in-Ok-named.ensures.ok
@@ -1022,8 +1022,8 @@ pattern_brackets::noted_alias-returns-in-Err-named-clause-err t c = bare_named_b
 pub pattern_lists::pattern_list-returns-in-Err-clause-err : goal.pattern_lists::pattern_list-returns-in-Err-clause-err
 pattern_lists::pattern_list-returns-in-Err-clause-err t c = pattern_list_open_end _ c.args.label _ _ _ _ _ c.requires.starts c.requires.sort c.requires.shallow _ c.in-Err.ensures.err
 
-pub pattern_lists::pattern_list-returns-then-same-clause-ok : goal.pattern_lists::pattern_list-returns-then-same-clause-ok
-pattern_lists::pattern_list-returns-then-same-clause-ok t c = pattern_list_nil _ _ _ _ _ _ _ c.requires.starts c.requires.sort c.requires.shallow _ _ _ _ c.in-Ok.ensures.ok (c.same.ensures.0 c.if-same.true) _ c.nil.ensures
+pub pattern_lists::pattern_list-returns-in-Ok-nil-clause-ok : goal.pattern_lists::pattern_list-returns-in-Ok-nil-clause-ok
+pattern_lists::pattern_list-returns-in-Ok-nil-clause-ok t c = pattern_list_nil _ _ _ _ _ _ _ c.requires.starts c.requires.sort c.requires.shallow _ _ _ _ c.in-Ok.ensures.ok (c.same.ensures.0 c.if-same.true) _ c.in-Ok-nil.ensures
 
 pub pattern_lists::pattern_list-returns-in-Err-take-clause-err : goal.pattern_lists::pattern_list-returns-in-Err-take-clause-err
 pattern_lists::pattern_list-returns-in-Err-take-clause-err t c = pattern_list_unclosed _ _ _ _ _ _ _ _ _ (omega (arith, c.loop-pending-test.true)) c.loop-pending.invariant.so_far _ c.in-Err-take.ensures.err
@@ -1052,11 +1052,11 @@ pattern_lists::pattern_elements-loop-found-init t c = record {
 pub pattern_lists::pattern_elements-returns-in-Err-next-clause-err : goal.pattern_lists::pattern_elements-returns-in-Err-next-clause-err
 pattern_lists::pattern_elements-returns-in-Err-next-clause-err t c = pattern_list_end _ _ _ _ _ _ _ _ c.loop-found.invariant.so_far _ c.in-Err-next.ensures.err
 
-pub pattern_lists::pattern_elements-returns-then-same-clause-ok : goal.pattern_lists::pattern_elements-returns-then-same-clause-ok
-pattern_lists::pattern_elements-returns-then-same-clause-ok t c = pattern_list_shut _ _ _ _ _ _ _ _ c.loop-found.invariant.so_far _ _ _ _ c.in-Ok-next.ensures.ok (c.same.ensures.0 c.if-same.true) _ c.nil.ensures
+pub pattern_lists::pattern_elements-returns-in-Ok-nil-clause-ok : goal.pattern_lists::pattern_elements-returns-in-Ok-nil-clause-ok
+pattern_lists::pattern_elements-returns-in-Ok-nil-clause-ok t c = pattern_list_shut _ _ _ _ _ _ _ _ c.loop-found.invariant.so_far _ _ _ _ c.in-Ok-next.ensures.ok (c.same.ensures.0 c.if-same.true) _ c.in-Ok-nil.ensures
 
-pub pattern_lists::pattern_elements-returns-then-same-clause-labels : goal.pattern_lists::pattern_elements-returns-then-same-clause-labels
-pattern_lists::pattern_elements-returns-then-same-clause-labels t c = omega (arith, c.loop-found.invariant.labels, c.in-Ok-next.ensures.lighter, two_at_least c.in-Ok-next.found.token.now.kind)
+pub pattern_lists::pattern_elements-returns-in-Ok-nil-clause-labels : goal.pattern_lists::pattern_elements-returns-in-Ok-nil-clause-labels
+pattern_lists::pattern_elements-returns-in-Ok-nil-clause-labels t c = omega (arith, c.loop-found.invariant.labels, c.in-Ok-next.ensures.lighter, two_at_least c.in-Ok-next.found.token.now.kind)
 
 pub pattern_lists::pattern_elements-returns-in-Err-pattern-clause-err : goal.pattern_lists::pattern_elements-returns-in-Err-pattern-clause-err
 pattern_lists::pattern_elements-returns-in-Err-pattern-clause-err t c = pattern_list_comma_bad _ _ _ _ _ _ _ _ c.loop-found.invariant.so_far _ _ _ _ c.in-Ok-next.ensures.ok (c.same-in-loop-found.ensures.0 c.if-same-2.true) _ c.in-Err-pattern.ensures.err
@@ -1084,11 +1084,11 @@ pattern_lists::pattern_elements-returns-in-Err-in_brackets-clause-err t c = patt
 pub pattern_lists::pattern_elements-push_byte_patterns-requires : goal.pattern_lists::pattern_elements-push_byte_patterns-requires
 pattern_lists::pattern_elements-push_byte_patterns-requires t c = omega (arith, c.requires.labels, c.loop-found.invariant.labels, c.in-Ok-next.ensures.lighter, c.in-Ok-next-2.ensures.lighter, string_weight _ _ _ _ _ c.in-Ok-next-2.ensures.ok (c.same-in-loop-found-4.ensures.0 c.if-same-4.true))
 
-pub pattern_lists::pattern_elements-returns-then-same-4-clause-ok : goal.pattern_lists::pattern_elements-returns-then-same-4-clause-ok
-pattern_lists::pattern_elements-returns-then-same-4-clause-ok t c = pattern_list_string _ _ _ _ _ _ _ _ c.loop-found.invariant.so_far _ _ _ _ c.in-Ok-next.ensures.ok (c.same-in-loop-found-2.ensures.0 c.if-not-same.false) _ _ _ _ c.in-Ok-next-2.ensures.ok (c.same-in-loop-found-4.ensures.0 c.if-same-4.true) c.loop-found.invariant.shallow _ _ _ c.in-Ok-push_byte_patterns.ensures.added c.in-Ok-push_byte_patterns.ensures.next c.nil-then-same-4.ensures
+pub pattern_lists::pattern_elements-returns-in-Ok-nil-2-clause-ok : goal.pattern_lists::pattern_elements-returns-in-Ok-nil-2-clause-ok
+pattern_lists::pattern_elements-returns-in-Ok-nil-2-clause-ok t c = pattern_list_string _ _ _ _ _ _ _ _ c.loop-found.invariant.so_far _ _ _ _ c.in-Ok-next.ensures.ok (c.same-in-loop-found-2.ensures.0 c.if-not-same.false) _ _ _ _ c.in-Ok-next-2.ensures.ok (c.same-in-loop-found-4.ensures.0 c.if-same-4.true) c.loop-found.invariant.shallow _ _ _ c.in-Ok-push_byte_patterns.ensures.added c.in-Ok-push_byte_patterns.ensures.next c.in-Ok-nil-2.ensures
 
-pub pattern_lists::pattern_elements-returns-then-same-4-clause-labels : goal.pattern_lists::pattern_elements-returns-then-same-4-clause-labels
-pattern_lists::pattern_elements-returns-then-same-4-clause-labels t c = omega (arith, c.loop-found.invariant.labels, c.in-Ok-next.ensures.lighter, c.in-Ok-push_byte_patterns.ensures.next, string_weight _ _ _ _ _ c.in-Ok-next-2.ensures.ok (c.same-in-loop-found-4.ensures.0 c.if-same-4.true))
+pub pattern_lists::pattern_elements-returns-in-Ok-nil-2-clause-labels : goal.pattern_lists::pattern_elements-returns-in-Ok-nil-2-clause-labels
+pattern_lists::pattern_elements-returns-in-Ok-nil-2-clause-labels t c = omega (arith, c.loop-found.invariant.labels, c.in-Ok-next.ensures.lighter, c.in-Ok-push_byte_patterns.ensures.next, string_weight _ _ _ _ _ c.in-Ok-next-2.ensures.ok (c.same-in-loop-found-4.ensures.0 c.if-same-4.true))
 
 pub pattern_lists::pattern_elements-returns-in-Ok-other_pattern-clause-ok : goal.pattern_lists::pattern_elements-returns-in-Ok-other_pattern-clause-ok
 pattern_lists::pattern_elements-returns-in-Ok-other_pattern-clause-ok t c = pattern_list_tail _ _ _ _ _ _ _ _ c.loop-found.invariant.so_far _ _ _ _ c.in-Ok-next.ensures.ok (c.same-in-loop-found-2.ensures.0 c.if-not-same.false) _ _ _ _ c.in-Ok-next-2.ensures.ok (not_this_sort c.if-same-4.false c.same-in-loop-found-4.ensures) (not_this_sort c.if-not-same-2.true c.same-in-loop-found-5.ensures) (not_this_sort c.if-same-3.false c.same-in-loop-found-3.ensures) _ _ _ c.in-Ok-other_pattern.ensures.ok
@@ -1099,11 +1099,11 @@ pattern_lists::pattern_elements-returns-in-Err-other_pattern-clause-err t c = pa
 pub pattern_lists::pattern_elements-returns-in-Err-next-3-clause-err : goal.pattern_lists::pattern_elements-returns-in-Err-next-3-clause-err
 pattern_lists::pattern_elements-returns-in-Err-next-3-clause-err t c = pattern_list_inner_end _ _ _ _ _ _ _ _ c.loop-found.invariant.so_far _ _ _ _ c.in-Ok-next.ensures.ok (c.same-in-loop-found-2.ensures.0 c.if-not-same.false) _ _ _ _ c.in-Ok-next-2.ensures.ok (c.same-in-loop-found-5.ensures.0 c.if-not-same-2.false) c.loop-found.invariant.shallow _ c.in-Err-next-3.ensures.err
 
-pub pattern_lists::pattern_elements-returns-then-same-5-clause-ok : goal.pattern_lists::pattern_elements-returns-then-same-5-clause-ok
-pattern_lists::pattern_elements-returns-then-same-5-clause-ok t c = pattern_list_tail_nil _ _ _ _ _ _ _ _ c.loop-found.invariant.so_far _ _ _ _ c.in-Ok-next.ensures.ok (c.same-in-loop-found-2.ensures.0 c.if-not-same.false) _ _ _ _ c.in-Ok-next-2.ensures.ok (c.same-in-loop-found-5.ensures.0 c.if-not-same-2.false) c.loop-found.invariant.shallow _ _ _ _ c.in-Ok-next-3.ensures.ok (c.same-in-loop-found-6.ensures.0 c.if-same-5.true) _ c.nil-then-same-5.ensures
+pub pattern_lists::pattern_elements-returns-in-Ok-nil-3-clause-ok : goal.pattern_lists::pattern_elements-returns-in-Ok-nil-3-clause-ok
+pattern_lists::pattern_elements-returns-in-Ok-nil-3-clause-ok t c = pattern_list_tail_nil _ _ _ _ _ _ _ _ c.loop-found.invariant.so_far _ _ _ _ c.in-Ok-next.ensures.ok (c.same-in-loop-found-2.ensures.0 c.if-not-same.false) _ _ _ _ c.in-Ok-next-2.ensures.ok (c.same-in-loop-found-5.ensures.0 c.if-not-same-2.false) c.loop-found.invariant.shallow _ _ _ _ c.in-Ok-next-3.ensures.ok (c.same-in-loop-found-6.ensures.0 c.if-same-5.true) _ c.in-Ok-nil-3.ensures
 
-pub pattern_lists::pattern_elements-returns-then-same-5-clause-labels : goal.pattern_lists::pattern_elements-returns-then-same-5-clause-labels
-pattern_lists::pattern_elements-returns-then-same-5-clause-labels t c = omega (arith, c.loop-found.invariant.labels, c.in-Ok-next.ensures.lighter, c.in-Ok-next-2.ensures.lighter, c.in-Ok-next-3.ensures.lighter, two_at_least c.in-Ok-next.found.token.now.kind)
+pub pattern_lists::pattern_elements-returns-in-Ok-nil-3-clause-labels : goal.pattern_lists::pattern_elements-returns-in-Ok-nil-3-clause-labels
+pattern_lists::pattern_elements-returns-in-Ok-nil-3-clause-labels t c = omega (arith, c.loop-found.invariant.labels, c.in-Ok-next.ensures.lighter, c.in-Ok-next-2.ensures.lighter, c.in-Ok-next-3.ensures.lighter, two_at_least c.in-Ok-next.found.token.now.kind)
 
 pub pattern_lists::pattern_elements-loop-found-preserved : goal.pattern_lists::pattern_elements-loop-found-preserved
 pattern_lists::pattern_elements-loop-found-preserved t c = record {
@@ -1119,8 +1119,8 @@ pattern_lists::pattern_elements-returns-in-Err-pattern-2-clause-err t c = patter
 pub pattern_maps::map_pattern-returns-in-Err-clause-err : goal.pattern_maps::map_pattern-returns-in-Err-clause-err
 pattern_maps::map_pattern-returns-in-Err-clause-err t c = map_pattern_bad _ c.args.label _ _ _ _ _ c.requires.starts c.requires.shallow c.requires.sort _ c.in-Err.ensures.err
 
-pub pattern_maps::map_pattern-returns-clause-ok : goal.pattern_maps::map_pattern-returns-clause-ok
-pattern_maps::map_pattern-returns-clause-ok t c = map_pattern_ok _ _ _ _ _ _ _ c.requires.starts c.requires.shallow c.requires.sort _ _ _ c.in-Ok.ensures.ok _ (c.map.ensures ∙ ap (λ k. m.map_of k (all_pat_pairs c.in-Ok.found.items)) c.mark-mark.ensures)
+pub pattern_maps::map_pattern-returns-in-Ok-map-clause-ok : goal.pattern_maps::map_pattern-returns-in-Ok-map-clause-ok
+pattern_maps::map_pattern-returns-in-Ok-map-clause-ok t c = map_pattern_ok _ _ _ _ _ _ _ c.requires.starts c.requires.shallow c.requires.sort _ _ _ c.in-Ok.ensures.ok _ (c.in-Ok-map.ensures ∙ ap (λ k. m.map_of k (all_pat_pairs c.in-Ok.found.items)) c.mark-mark.ensures)
 
 pub pattern_maps::pattern_pairs-returns-in-Err-clause-err : goal.pattern_maps::pattern_pairs-returns-in-Err-clause-err
 pattern_maps::pattern_pairs-returns-in-Err-clause-err t c = items_nothing s.CloseMap (pattern_pair _) (closes_pattern_pairs _) number_pat_pair pat_pair_parts c.args.label _ _ c.in-Err.ensures.err
@@ -1185,7 +1185,7 @@ pub pattern_maps::pattern_pair_in_brackets-returns-in-Err-next-clause-err : goal
 pattern_maps::pattern_pair_in_brackets-returns-in-Err-next-clause-err t c = pattern_pair_key_end _ _ _ _ _ _ _ c.requires.starts c.requires.sort c.requires.once _ _ _ c.in-Ok.ensures.ok _ c.in-Err-next.ensures.err
 
 pub pattern_maps::pattern_pair_in_brackets-returns-in-Ok-pattern_of_key-clause-ok : goal.pattern_maps::pattern_pair_in_brackets-returns-in-Ok-pattern_of_key-clause-ok
-pattern_maps::pattern_pair_in_brackets-returns-in-Ok-pattern_of_key-clause-ok t c = pattern_pair_noted_ok _ _ _ _ _ _ _ c.requires.starts c.requires.sort c.requires.once _ _ _ c.in-Ok.ensures.ok _ _ _ _ c.in-Ok-next.ensures.ok (c.same.ensures.0 c.if-same.true) _ _ c.in-Ok-annotation.ensures.ok _ _ _ _ c.with_note-key.ensures c.in-Ok-pattern_of_key.ensures.ok
+pattern_maps::pattern_pair_in_brackets-returns-in-Ok-pattern_of_key-clause-ok t c = pattern_pair_noted_ok _ _ _ _ _ _ _ c.requires.starts c.requires.sort c.requires.once _ _ _ c.in-Ok.ensures.ok _ _ _ _ c.in-Ok-next.ensures.ok (c.same.ensures.0 c.if-same.true) _ _ c.in-Ok-annotation.ensures.ok _ _ _ _ c.in-Ok-noted.ensures c.in-Ok-pattern_of_key.ensures.ok
 
 pub pattern_maps::pattern_pair_in_brackets-returns-in-Err-pattern_of_key-clause-err : goal.pattern_maps::pattern_pair_in_brackets-returns-in-Err-pattern_of_key-clause-err
 pattern_maps::pattern_pair_in_brackets-returns-in-Err-pattern_of_key-clause-err t c = pattern_pair_noted_value_bad _ _ _ _ _ _ _ c.requires.starts c.requires.sort c.requires.once _ _ _ c.in-Ok.ensures.ok _ _ _ _ c.in-Ok-next.ensures.ok (c.same.ensures.0 c.if-same.true) _ _ c.in-Ok-annotation.ensures.ok _ c.in-Err-pattern_of_key.ensures.err
@@ -1217,8 +1217,8 @@ pattern_maps::pattern_of_key-returns-in-Err-clause-err t c = pattern_value_lacks
 pub pattern_maps::pattern_of_key-returns-in-Err-pattern-clause-err : goal.pattern_maps::pattern_of_key-returns-in-Err-pattern-clause-err
 pattern_maps::pattern_of_key-returns-in-Err-pattern-clause-err t c = pattern_value_bad _ c.args.label _ _ c.in-Ok.ensures.ok _ c.in-Err-pattern.ensures.err
 
-pub pattern_maps::pattern_of_key-returns-clause-ok : goal.pattern_maps::pattern_of_key-returns-clause-ok
-pattern_maps::pattern_of_key-returns-clause-ok t c = pattern_value_ok _ _ _ _ c.in-Ok.ensures.ok _ _ _ c.in-Ok-pattern.ensures.ok _ _ c.new.ensures
+pub pattern_maps::pattern_of_key-returns-in-Ok-pattern_pair-clause-ok : goal.pattern_maps::pattern_of_key-returns-in-Ok-pattern_pair-clause-ok
+pattern_maps::pattern_of_key-returns-in-Ok-pattern_pair-clause-ok t c = pattern_value_ok _ _ _ _ c.in-Ok.ensures.ok _ _ _ c.in-Ok-pattern.ensures.ok _ _ c.in-Ok-pattern_pair.ensures
 
 pub patterns::pattern-returns-in-Err-clause-err : goal.patterns::pattern-returns-in-Err-clause-err
 patterns::pattern-returns-in-Err-clause-err t c = pattern_none _ c.args.label _ _ c.in-Err.ensures.err
@@ -1271,12 +1271,12 @@ patterns::bare_pattern-returns-in-Err-other_pattern-clause-err t c = bare_else_b
 pub patterns::other_pattern-returns-in-Err-clause-err : goal.patterns::other_pattern-returns-in-Err-clause-err
 patterns::other_pattern-returns-in-Err-clause-err t c = other_pattern_none _ c.args.label _ _ c.in-Err.ensures.err
 
-pub patterns::other_pattern-returns-in-Ok-literal_of-clause-ok : goal.patterns::other_pattern-returns-in-Ok-literal_of-clause-ok
-patterns::other_pattern-returns-in-Ok-literal_of-clause-ok t c = other_pattern_literal _ _ _ _ _ _ _ c.in-Ok.ensures.ok c.requires.shallow
-    (sym c.is_single.ensures ∙ c.if-is_single.true) _ c.in-Ok-literal_of.ensures _ (equals_made _ _ _ _ c.literal.ensures c.mark.ensures)
+pub patterns::other_pattern-returns-in-Ok-literal-clause-ok : goal.patterns::other_pattern-returns-in-Ok-literal-clause-ok
+patterns::other_pattern-returns-in-Ok-literal-clause-ok t c = other_pattern_literal _ _ _ _ _ _ _ c.in-Ok.ensures.ok c.requires.shallow
+    (sym c.is_single.ensures ∙ c.if-is_single.true) _ c.in-Ok-literal_of.ensures _ (equals_made _ _ _ _ c.in-Ok-literal.ensures c.mark.ensures)
 
-pub patterns::other_pattern-returns-in-Ok-take-clause-ok : goal.patterns::other_pattern-returns-in-Ok-take-clause-ok
-patterns::other_pattern-returns-in-Ok-take-clause-ok t c = other_pattern_nil _ _ _ _ _ _ _ c.in-Ok.ensures.ok c.requires.shallow c.in-OpenSquare.is _ c.in-Ok-take.ensures.ok _ (equals_made _ _ _ _ c.literal-in-Ok-take.ensures c.mark-in-Ok-take.ensures)
+pub patterns::other_pattern-returns-in-Ok-literal-2-clause-ok : goal.patterns::other_pattern-returns-in-Ok-literal-2-clause-ok
+patterns::other_pattern-returns-in-Ok-literal-2-clause-ok t c = other_pattern_nil _ _ _ _ _ _ _ c.in-Ok.ensures.ok c.requires.shallow c.in-OpenSquare.is _ c.in-Ok-take.ensures.ok _ (equals_made _ _ _ _ c.in-Ok-literal-2.ensures c.mark-in-Ok-take.ensures)
 
 pub patterns::other_pattern-returns-in-Err-take-clause-err : goal.patterns::other_pattern-returns-in-Err-take-clause-err
 patterns::other_pattern-returns-in-Err-take-clause-err t c = other_pattern_nil_bad _ c.args.label _ _ _ _ _ c.in-Ok.ensures.ok c.requires.shallow c.in-OpenSquare.is _ c.in-Err-take.ensures.err
@@ -1285,8 +1285,8 @@ pub patterns::other_pattern-returns-in_default-clause-err : goal.patterns::other
 patterns::other_pattern-returns-in_default-clause-err t c = other_pattern_dull _ c.args.label _ _ _ _ _ c.in-Ok.ensures.ok (other_no_bracket _ _ _ _ _ c.in-Ok.ensures.ok c.requires.once) c.in_default.not-Variable (sym c.is_single.ensures ∙ c.if-is_single.false)
     c.in_default.not-OpenSquare c.in_default.not-OpenCurly c.in_default.not-OpenBinary c.in_default.not-OpenMap
 
-pub patterns::variable_or_alias-returns-in_default-clause-ok : goal.patterns::variable_or_alias-returns-in_default-clause-ok
-patterns::variable_or_alias-returns-in_default-clause-ok t c = other_pattern_variable _ _ _ _ _ _ _ c.requires.starts c.requires.shallow c.requires.sort c.in_default.ensures.none _ (binds_made _ _ _ _ _ c.variable.ensures c.mark-mark.ensures c.in-Ok.ensures)
+pub patterns::variable_or_alias-returns-in-Ok-variable-clause-ok : goal.patterns::variable_or_alias-returns-in-Ok-variable-clause-ok
+patterns::variable_or_alias-returns-in-Ok-variable-clause-ok t c = other_pattern_variable _ _ _ _ _ _ _ c.requires.starts c.requires.shallow c.requires.sort c.in_default.ensures.none _ (binds_made _ _ _ _ _ c.in-Ok-variable.ensures c.mark-mark.ensures c.in-Ok.ensures)
 
 pub patterns::variable_or_alias-returns-in-Ok-named-clause-ok : goal.patterns::variable_or_alias-returns-in-Ok-named-clause-ok
 patterns::variable_or_alias-returns-in-Ok-named-clause-ok t c = other_pattern_named _ _ _ _ _ _ _ c.requires.starts c.requires.shallow c.requires.sort _ c.in-Some.ensures.found _ _ _ _ _ c.mark-mark.ensures (name_made _ _ _ _ _ _ c.in-Ok.ensures refl c.no_note.ensures) c.in-Ok-named.ensures.ok
@@ -1297,8 +1297,8 @@ patterns::variable_or_alias-returns-in-Err-named-clause-err t c = other_pattern_
 pub patterns::tuple_pattern-returns-in-Err-clause-err : goal.patterns::tuple_pattern-returns-in-Err-clause-err
 patterns::tuple_pattern-returns-in-Err-clause-err t c = tuple_pattern_bad _ c.args.label _ _ _ _ _ c.requires.starts c.requires.shallow c.requires.sort _ c.in-Err.ensures.err
 
-pub patterns::tuple_pattern-returns-clause-ok : goal.patterns::tuple_pattern-returns-clause-ok
-patterns::tuple_pattern-returns-clause-ok t c = tuple_pattern_ok _ _ _ _ _ _ _ c.requires.starts c.requires.shallow c.requires.sort _ _ _ c.in-Ok.ensures.ok _ (tuple_made _ _ _ _ c.tuple.ensures c.mark-mark.ensures)
+pub patterns::tuple_pattern-returns-in-Ok-tuple-clause-ok : goal.patterns::tuple_pattern-returns-in-Ok-tuple-clause-ok
+patterns::tuple_pattern-returns-in-Ok-tuple-clause-ok t c = tuple_pattern_ok _ _ _ _ _ _ _ c.requires.starts c.requires.shallow c.requires.sort _ _ _ c.in-Ok.ensures.ok _ (tuple_made _ _ _ _ c.in-Ok-tuple.ensures c.mark-mark.ensures)
 
 pub patterns::patterns-returns-in-Err-clause-err : goal.patterns::patterns-returns-in-Err-clause-err
 patterns::patterns-returns-in-Err-clause-err t c = items_nothing _ _ (closes_patterns _ _ c.requires.closes) number_pattern pattern_tree c.args.label _ _ c.in-Err.ensures.err

@@ -10,5 +10,5 @@ returns-in-Err-take-clause-err c = external_2_bad _ c.args.label _ _ _ _ _ c.req
 pub returns-clause-err : goal.returns-clause-err
 returns-clause-err c = external_3_bad _ c.args.label _ _ _ _ _ c.requires.starts c.requires.shallow c.requires.sort c.requires.once _ _ _ c.in-Ok.ensures.ok _ c.in-Ok-take.ensures.ok _ c.in-Err-function_name.ensures.err
 
-pub returns-in-Ok-function_name-clause-ok : goal.returns-in-Ok-function_name-clause-ok
-returns-in-Ok-function_name-clause-ok c = external_ok _ c.args.label _ _ _ _ _ c.requires.starts c.requires.shallow c.requires.sort c.requires.once _ _ _ c.in-Ok.ensures.ok _ c.in-Ok-take.ensures.ok _ _ _ c.in-Ok-function_name.ensures.ok _ c.mark-mark.ensures _ c.external.ensures
+pub returns-in-Ok-external-clause-ok : goal.returns-in-Ok-external-clause-ok
+returns-in-Ok-external-clause-ok c = external_ok _ c.args.label _ _ _ _ _ c.requires.starts c.requires.shallow c.requires.sort c.requires.once _ _ _ c.in-Ok.ensures.ok _ c.in-Ok-take.ensures.ok _ _ _ c.in-Ok-function_name.ensures.ok _ c.mark-mark.ensures _ c.in-Ok-external.ensures

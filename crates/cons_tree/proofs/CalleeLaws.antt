@@ -1,0 +1,107 @@
+-- What tables of callees answer after one was set.
+use Rattle.std.proofs.Common.{◌≡◌, ℕ, Bool, true, false, cond, ◌&&◌, List, [], Option, Some, None, refl, sym, ap, ◌∙◌, subst, nat_eq, eqb-true, eq-eqb}
+use Rattle.std.specs.Prelude.{unwrap_or, Result, Ok, Err, OnOk, OnErr}
+use Rattle.std.specs.Map.{lookup}
+use Rattle.std.specs.Cmp.Lexicographic.{pointwise, bytes_decides}
+use Rattle.type_kinds.specs.declared.atom.Atom.{Atom}
+use Rattle.core_ast.specs.declared.syntax.FunName.{FunName}
+use Rattle.cons_tree.specs.Callees.{same_home, same_name, callee_in, callees_of, found, Fits}
+use Rattle.cons_tree.specs.declared.parts.Callee.{Callee}
+use Rattle.cons_tree.specs.declared.parts.Callee.TheVariants.{Unknown}
+use Rattle.type_sets.proofs.Truths.{first, second}
+
+home_is : (h k : Atom) → same_home h k ≡ true → h ≡ k
+home_is h k e = (bytes_decides h k).0 e
+
+home_itself : (h : Atom) → same_home h h ≡ true
+home_itself h = (bytes_decides h h).1 refl
+
+name_is : (f g : FunName) → same_name f g ≡ true → f ≡ g
+name_is f g e =
+    let n : f.name ≡ g.name = (bytes_decides f.name g.name).0 (first (pointwise nat_eq f.name g.name) (nat_eq f.arity g.arity) e) in
+    let a : f.arity ≡ g.arity = eqb-true f.arity g.arity (second (pointwise nat_eq f.name g.name) (nat_eq f.arity g.arity) e) in
+    λ i. record { name = n i; arity = a i }
+
+name_itself : (f : FunName) → same_name f f ≡ true
+name_itself f = ap (λ b. b && nat_eq f.arity f.arity) ((bytes_decides f.name f.name).1 refl) ∙ eq-eqb f.arity f.arity refl
+
+-- ---- one module
+
+put_value : (b : Bool) (v : Callee) (o : Option Callee) → unwrap_or (cond b (Some v) o) Unknown ≡ cond b v (unwrap_or o Unknown)
+put_value true v o = refl
+put_value false v o = refl
+
+pub name_set : (old new : List (FunName × Callee)) (name : FunName) (v : Callee) → ((q : FunName) → lookup (same_name q) new ≡ cond (same_name name q) (Some v) (lookup (same_name q) old)) → (f : FunName) → callee_in new f ≡ cond (same_name name f) v (callee_in old f)
+name_set old new name v h f = ap (λ o. unwrap_or o Unknown) (h f) ∙ put_value (same_name name f) v (lookup (same_name f) old)
+
+pub set_fits : (old new : List (FunName × Callee)) (name : FunName) (v : Callee) → ((f : FunName) → callee_in new f ≡ cond (same_name name f) v (callee_in old f)) → Fits v name.arity → ((f : FunName) → Fits (callee_in old f) f.arity) → (f : FunName) → Fits (callee_in new f) f.arity
+set_fits old new name v h k l f = subst (λ c. Fits c f.arity) (sym (h f)) (by (same_name name f) refl)
+  where
+    by : (b : Bool) → same_name name f ≡ b → Fits (cond b v (callee_in old f)) f.arity
+    by true e = subst (λ g. Fits v g.arity) (name_is name f e) k
+    by false e = l f
+
+pub same_fits : (old new : List (FunName × Callee)) → new ≡ old → ((f : FunName) → Fits (callee_in old f) f.arity) → (f : FunName) → Fits (callee_in new f) f.arity
+same_fits old new e l f = subst (λ es. Fits (callee_in es f) f.arity) (sym e) (l f)
+
+pub insert_fits : {A E U : Type 0} (r : Result A E) (old new : List (FunName × Callee)) (name : FunName) (v : Callee) → (U → (q : FunName) → lookup (same_name q) new ≡ cond (same_name name q) (Some v) (lookup (same_name q) old)) → OnOk r U → OnErr r (new ≡ old) → Fits v name.arity → ((f : FunName) → Fits (callee_in old f) f.arity) → (f : FunName) → Fits (callee_in new f) f.arity
+insert_fits (Ok x) old new name v opens u e k l = set_fits old new name v (name_set old new name v (opens u)) k l
+insert_fits (Err x) old new name v opens u e k l = same_fits old new e l
+
+-- what a look-up in the table of one module answers
+pub in_there : (es : List (FunName × Callee)) (f : FunName) (c : Callee) → Some c ≡ lookup (same_name f) es → c ≡ callee_in es f
+in_there es f c e = ap (λ o. unwrap_or o Unknown) e
+
+pub not_there : (es : List (FunName × Callee)) (f : FunName) (c : Callee) → c ≡ Unknown → None ≡ lookup (same_name f) es → c ≡ callee_in es f
+not_there es f c u e = u ∙ ap (λ o. unwrap_or o Unknown) e
+
+pub fits_there : (es : List (FunName × Callee)) (f : FunName) (c : Callee) → c ≡ callee_in es f → ((g : FunName) → Fits (callee_in es g) g.arity) → Fits c f.arity
+fits_there es f c e h = subst (λ d. Fits d f.arity) (sym e) (h f)
+
+-- ---- all modules
+
+pub found_in : (tables : List (Atom × List (FunName × Callee))) (h : Atom) (f : FunName) (es : List (FunName × Callee)) (c : Callee) → c ≡ callee_in es f → Some es ≡ lookup (same_home h) tables → c ≡ found tables h f
+unfolding found
+found_in tables h f es c k e = k ∙ ap (λ o. callee_in (unwrap_or o []) f) e
+
+pub found_nowhere : (tables : List (Atom × List (FunName × Callee))) (h : Atom) (f : FunName) (c : Callee) → c ≡ Unknown → None ≡ lookup (same_home h) tables → c ≡ found tables h f
+unfolding found
+found_nowhere tables h f c u e = u ∙ ap (λ o. callee_in (unwrap_or o []) f) e
+
+pub unknown_fits : (c : Callee) (n : ℕ) → c ≡ Unknown → Fits c n
+unknown_fits c n e = subst (λ d. Fits d n) (sym e) tt
+
+-- the table of a module was replaced by one in which a callee was set
+module _ (old new : List (Atom × List (FunName × Callee))) (home : Atom) (name : FunName) (callee : Callee) (w : List (FunName × Callee))
+    (put : (q : Atom) → lookup (same_home q) new ≡ cond (same_home home q) (Some w) (lookup (same_home q) old))
+    (set : (f : FunName) → callee_in w f ≡ cond (same_name name f) callee (callee_in (callees_of old home) f)) where
+  after : (h : Atom) (f : FunName) → found new h f ≡ cond (same_home home h) (callee_in w f) (found old h f)
+  unfolding found
+  after h f = ap (λ o. callee_in (unwrap_or o []) f) (put h) ∙ by (same_home home h)
+    where
+      by : (b : Bool) → callee_in (unwrap_or (cond b (Some w) (lookup (same_home h) old)) []) f ≡ cond b (callee_in w f) (callee_in (callees_of old h) f)
+      by true = refl
+      by false = refl
+
+  pub home_set : found new home name ≡ callee
+  home_set =
+      after home name ∙ ap (λ b. cond b (callee_in w name) (found old home name)) (home_itself home) ∙ set name ∙ ap (λ b. cond b callee (callee_in (callees_of old home) name)) (name_itself name)
+
+  pub home_others : (h : Atom) (f : FunName) → ((h ≡ home) × (f ≡ name) → ⊥) → found new h f ≡ found old h f
+  unfolding found
+  home_others h f d = after h f ∙ by (same_home home h) refl
+    where
+      inside : (b : Bool) → same_name name f ≡ b → h ≡ home → cond b callee (callee_in (callees_of old home) f) ≡ callee_in (callees_of old h) f
+      inside true e is = absurd (d (is, sym (name_is name f e)))
+      inside false e is = ap (λ k. callee_in (callees_of old k) f) (sym is)
+
+      by : (b : Bool) → same_home home h ≡ b → cond b (callee_in w f) (callee_in (callees_of old h) f) ≡ callee_in (callees_of old h) f
+      by true e = set f ∙ inside (same_name name f) refl (sym (home_is home h e))
+      by false e = refl
+
+-- the table that a module had, and what a table of one callee is in place of none
+pub had : (old : List (Atom × List (FunName × Callee))) (home : Atom) (v w : List (FunName × Callee)) (name : FunName) (callee : Callee) → Some v ≡ lookup (same_home home) old → ((f : FunName) → callee_in w f ≡ cond (same_name name f) callee (callee_in v f)) → (f : FunName) → callee_in w f ≡ cond (same_name name f) callee (callee_in (callees_of old home) f)
+had old home v w name callee e h f = h f ∙ ap (λ o. cond (same_name name f) callee (callee_in (unwrap_or o []) f)) e
+
+pub had_none : (old : List (Atom × List (FunName × Callee))) (home : Atom) (w : List (FunName × Callee)) (name : FunName) (callee : Callee) → None ≡ lookup (same_home home) old → ((f : FunName) → callee_in w f ≡ cond (same_name name f) callee Unknown) → (f : FunName) → callee_in w f ≡ cond (same_name name f) callee (callee_in (callees_of old home) f)
+had_none old home w name callee e h f = h f ∙ ap (λ o. cond (same_name name f) callee (callee_in (unwrap_or o []) f)) e

@@ -1,0 +1,141 @@
+-- Trails: what was added to one gives back what was there.
+use Rattle.std.proofs.Common.{◌≡◌, ℕ, zero, suc, ◌+◌, ◌<◌, ◌≤◌, Bool, true, false, cond, List, [], ◌∷◌, ◌++◌, length, set, take, drop, slice_get, Some, None, refl, sym, ap, ◌∙◌, subst, arith, append_assoc, length-append}
+use Rattle.std.specs.Prelude.{Result, Ok, Err, IfOk}
+use Rattle.std.proofs.lemmas.Option.{get_or_from_slice_get}
+use Rattle.std.proofs.lemmas.List.{length-set, set-set, set-get_or, set_past, append-nil, drop-append-le, take-append-le}
+use Rattle.type_lattice.specs.Types.{Type4, Below, any, is_none, meet}
+use Rattle.cons_tree.specs.Environments.{Types, State, type_at, on_types, with_type, lowered}
+use Rattle.cons_tree.specs.Trails.{answer, laid, Within, summed, Trailed}
+use Rattle.cons_tree.specs.declared.slots.Former.{Former}
+use Rattle.cons_tree.specs.declared.slots.Slots.{Slots}
+
+laid_append : (fs gs : List Former) (xs : Types) → laid (fs ++ gs) xs ≡ laid fs (laid gs xs)
+laid_append [] gs xs = refl
+laid_append (f ∷ fs) gs xs = ap (λ ys. set ys f.slot f.ty) (laid_append fs gs xs)
+
+laid_length : (fs : List Former) (xs : Types) → length (laid fs xs) ≡ length xs
+laid_length [] xs = refl
+laid_length (f ∷ fs) xs = length-set (laid fs xs) f.slot f.ty ∙ laid_length fs xs
+
+within_append : (n : ℕ) (fs gs : List Former) → Within n fs → Within n gs → Within n (fs ++ gs)
+within_append n [] gs h k = k
+within_append n (f ∷ fs) gs h k = (h.0, within_append n fs gs h.1 k)
+
+pub trailed_length : (old new : Slots) → Trailed old new → length new.types ≡ length old.types
+trailed_length old new t = sym (laid_length t.added new.types) ∙ ap length t.back
+
+pub trailed_none : (s : Slots) → Trailed s s
+trailed_none s = record { added = []; trail = sym (append-nil s.trail); back = refl; within = tt; paid = λ h f. omega arith }
+
+pub trailed_then : (r s t : Slots) → Trailed r s → Trailed s t → Trailed r t
+trailed_then r s t h k = record {
+  added = h.added ++ k.added;
+  trail = k.trail ∙ ap (λ l. l ++ k.added) h.trail ∙ append_assoc r.trail h.added k.added;
+  back = laid_append h.added k.added t.types ∙ ap (laid h.added) k.back ∙ h.back;
+  within = within_append (length t.types) h.added k.added (subst (λ n. Within n h.added) (sym (trailed_length s t k)) h.within) k.within;
+  paid = λ m f. let e = length-append h.added k.added in omega (arith, h.paid m f, k.paid m f, e);
+}
+
+summed_set : (h : Type4 → ℕ) (xs : Types) (s : ℕ) (t : Type4) → s < length xs → summed h (set xs s t) + h (type_at xs s) ≡ summed h xs + h t
+summed_set h [] s t l = absurd (omega (arith, l))
+summed_set h (x ∷ xs) zero t l = omega arith
+summed_set h (x ∷ xs) (suc s) t l = let e = summed_set h xs s t (omega (arith, l)) in omega (arith, e)
+
+-- one slot was lowered
+pub trailed_one : (old new : Slots) (s : ℕ) (t u : Type4) → new.types ≡ set old.types s t → new.trail ≡ old.trail ++ (record { slot = s; ty = u }) ∷ [] → s < length old.types → u ≡ type_at old.types s → Below t u → (Below u t → ⊥) → Trailed old new
+trailed_one old new s t u types trail l is k n = record {
+  added = (record { slot = s; ty = u }) ∷ [];
+  trail = trail;
+  back = ap (λ xs. set xs s u) types ∙ set-set old.types s t u ∙ ap (set old.types s) is ∙ set-get_or old.types s any;
+  within = (subst (λ xs. s < length xs) (sym types) (omega (arith, l, length-set old.types s t)), tt);
+  paid = λ m f.
+      let less = f t u k (λ e. n (subst (λ v. Below v t) e (λ v i. i))) in
+      let e = summed_set m old.types s t l in
+      let same : m u ≡ m (type_at old.types s) = ap m is in
+      let there : summed m new.types ≡ summed m (set old.types s t) = ap (summed m) types in
+      omega (arith, less, e, same, there);
+}
+
+-- ---- one slot
+
+pub at_is : (xs : Types) (s : ℕ) (u : Type4) → slice_get xs s ≡ Some u → u ≡ type_at xs s
+at_is xs s u h = sym (get_or_from_slice_get xs s u any h)
+
+pub at_past : (xs : Types) (s : ℕ) → slice_get xs s ≡ None → any ≡ type_at xs s
+at_past [] s h = refl
+at_past (x ∷ xs) zero h = absurd cc
+at_past (x ∷ xs) (suc s) h = at_past xs s h
+
+pub with_none : (xs : Types) (s : ℕ) (t : Type4) → is_none t ≡ true → with_type xs s t ≡ None
+with_none xs s t h = ap (λ b. cond b None (Some (set xs s t))) h
+
+pub with_set : (xs ys : Types) (s : ℕ) (t : Type4) → is_none t ≡ false → ys ≡ set xs s t → with_type xs s t ≡ Some ys
+with_set xs ys s t h e = ap (λ b. cond b None (Some (set xs s t))) h ∙ ap Some (sym e)
+
+-- a slot past the end, and one that has the type already
+pub with_past : (xs : Types) (s : ℕ) (t : Type4) → is_none t ≡ false → length xs ≤ s → with_type xs s t ≡ Some xs
+with_past xs s t h l = with_set xs xs s t h (sym (set_past xs s t l))
+
+pub with_same : (xs : Types) (s : ℕ) (t : Type4) → is_none t ≡ false → t ≡ type_at xs s → with_type xs s t ≡ Some xs
+with_same xs s t h e = with_set xs xs s t h (sym (ap (set xs s) e ∙ set-get_or xs s any))
+
+-- ---- answers
+
+pub no_answer : (b : Bool) (r : State) (xs : Types) → b ≡ false → r ≡ answer b xs → r ≡ None
+no_answer b r xs e h = h ∙ ap (λ a. answer a xs) e
+
+pub an_answer : (b : Bool) (r : State) (xs : Types) → b ≡ true → r ≡ answer b xs → r ≡ Some xs
+an_answer b r xs e h = h ∙ ap (λ a. answer a xs) e
+
+-- the first of two steps ends in Bottom, or goes on
+pub stops : (r : State) (g : Types → State) → r ≡ None → on_types r g ≡ None
+stops r g h = ap (λ s. on_types s g) h
+
+pub goes_on : (r s : State) (g : Types → State) (ys : Types) → r ≡ Some ys → g ys ≡ s → on_types r g ≡ s
+goes_on r s g ys h k = ap (λ q. on_types q g) h ∙ k
+
+-- the same of a call that goes on with a second step
+pub dead_value : (f g : Types → State) (xs ys zs : Types) (b : Bool) → b ≡ false → f xs ≡ answer b ys → on_types (f xs) g ≡ answer false zs
+dead_value f g xs ys zs b e h = stops (f xs) g (no_answer b (f xs) ys e h)
+
+pub tail_value : {E : Type 0} (r : Result Bool E) (f g : Types → State) (xs ys zs : Types) (b : Bool) → b ≡ true → f xs ≡ answer b ys → IfOk r (λ a. g ys ≡ answer a zs) → IfOk r (λ a. on_types (f xs) g ≡ answer a zs)
+tail_value (Ok a) f g xs ys zs b e h k = goes_on (f xs) (answer a zs) g ys (an_answer b (f xs) ys e h) k
+tail_value (Err d) f g xs ys zs b e h k = tt
+
+pub tail_trailed : {E : Type 0} (r : Result Bool E) (s t u : Slots) → Trailed s t → IfOk r (λ _. Trailed t u) → IfOk r (λ _. Trailed s u)
+tail_trailed (Ok a) s t u h k = trailed_then s t u h k
+tail_trailed (Err d) s t u h k = tt
+
+pub lowered_is : {E : Type 0} (r : Result Bool E) (xs ys : Types) (s : ℕ) (t u m : Type4) → u ≡ type_at xs s → m ≡ meet u t → IfOk r (λ a. with_type xs s m ≡ answer a ys) → IfOk r (λ a. lowered xs s t ≡ answer a ys)
+unfolding lowered
+lowered_is (Ok a) xs ys s t u m is e h = ap (with_type xs s) (ap (λ v. meet v t) (sym is) ∙ sym e) ∙ h
+lowered_is (Err d) xs ys s t u m is e h = tt
+
+-- ---- going back by one entry
+
+within_parts : (n : ℕ) (fs : List Former) (f : Former) → Within n (fs ++ f ∷ []) → Within n fs × (f.slot < n)
+within_parts n [] f h = (tt, h.0)
+within_parts n (g ∷ fs) f h = let p = within_parts n fs f h.1 in ((h.0, p.0), p.1)
+
+split_last : (m : ℕ) (old new : List Former) (f : Former) → old ≡ new ++ f ∷ [] → m < length old → drop m old ≡ drop m new ++ f ∷ []
+split_last m old new f e h =
+    let l = length-append new (f ∷ []) in
+    let n : length old ≡ length (new ++ f ∷ []) = ap length e in
+    ap (drop m) e ∙ drop-append-le m new (f ∷ []) (omega (arith, h, l, n))
+
+pub last_within : (n m : ℕ) (old new : List Former) (f : Former) → old ≡ new ++ f ∷ [] → m < length old → Within n (drop m old) → Within n (drop m new) × (f.slot < n)
+last_within n m old new f e h w = within_parts n (drop m new) f (subst (Within n) (split_last m old new f e h) w)
+
+pub last_low : (m : ℕ) (old new : List Former) (f : Former) → old ≡ new ++ f ∷ [] → m < length old → m ≤ length new
+last_low m old new f e h =
+    let l = length-append new (f ∷ []) in
+    let n : length old ≡ length (new ++ f ∷ []) = ap length e in
+    omega (arith, h, l, n)
+
+pub last_front : (m : ℕ) (old new : List Former) (f : Former) → old ≡ new ++ f ∷ [] → m < length old → take m new ≡ take m old
+last_front m old new f e h =
+    sym (ap (take m) e ∙ take-append-le m new (f ∷ []) (last_low m old new f e h))
+
+pub last_back : (m : ℕ) (old new : List Former) (f : Former) (xs ys : Types) → old ≡ new ++ f ∷ [] → m < length old → ys ≡ set xs f.slot f.ty → laid (drop m new) ys ≡ laid (drop m old) xs
+last_back m old new f xs ys e h g =
+    ap (laid (drop m new)) g ∙ sym (ap (λ l. laid l xs) (split_last m old new f e h) ∙ laid_append (drop m new) (f ∷ []) xs)

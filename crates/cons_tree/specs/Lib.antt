@@ -1,0 +1,11 @@
+pub mod Callees
+pub mod Constraints
+pub mod Environments
+pub mod Facts
+pub mod Frames
+pub mod Named
+pub mod Narrowing
+pub mod Satisfied
+pub mod Signatures
+pub mod Trails
+pub mod steps

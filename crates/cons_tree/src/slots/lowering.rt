@@ -1,0 +1,149 @@
+//! How one slot of the array is read, lowered, and put back.
+ghost use Rattle.std.specs.Prelude.{◌≡◌, [], ◌∷◌, ◌++◌, ◌≤◌, IfOk, length, drop, take, map};
+ghost use Rattle.type_lattice.specs.Types.{Below};
+ghost use Rattle.cons_tree.specs.Environments.{type_at, with_type, lowered};
+ghost use Rattle.cons_tree.specs.Narrowing.{alike};
+ghost use Rattle.cons_tree.specs.Trails.{answer, laid, Trailed, Within};
+
+use crate::parts::Slot;
+use crate::signatures::discard;
+use crate::slots::{Former, Slots, discard_former, discard_trail};
+use std::alloc::Global;
+use type_kinds::{List, Memory};
+use type_lattice::{Ty, type_laws};
+
+impl Slots {
+    /// An array with an empty trail. Takes no memory.
+    pub fn new(alloc: Global, types: List<Ty>) -> Slots
+        ensures types { result.types ≡ types }
+        ensures trail { result.trail ≡ [] }
+    {
+        Slots {
+            types,
+            trail: List::new(alloc),
+            every: Ty::any(),
+        }
+    }
+
+    /// The types, without the trail. Takes no memory.
+    pub fn into_types(self) -> List<Ty>
+        ensures { result ≡ self.types }
+    {
+        let Slots {
+            types,
+            trail,
+            every,
+        } = self;
+        discard_trail(trail);
+        discard(every);
+        types
+    }
+
+    /// The type of a slot, and any past the end.
+    pub fn at(&self, slot: Slot) -> &Ty
+        ensures { result.now ≡ type_at self.now.types slot }
+    {
+        match self.types.get(slot as usize) {
+            Some(ty) => ty,
+            None => &self.every,
+        }
+    }
+
+    /// The types of some slots. `Memory` comes if allocation fails.
+    pub fn types_of(&self, alloc: Global, slots: &[Slot]) -> Result<List<Ty>, Memory>
+        ensures { IfOk result (λ ts. ts ≡ map (type_at self.now.types) slots.now) }
+    {
+        let mut types = List::new(alloc);
+        for slot in slots {
+            let copy = self.at(*slot).copy()?;
+            types.add(copy)?;
+        }
+        Ok(types)
+    }
+
+    // Puts a smaller type into a slot, and says whether it has a value. The trail tells what was
+    // there, unless nothing changes. Where memory is wanting the array is given up.
+    fn put(&mut self, slot: Slot, ty: Ty) -> Result<bool, Memory>
+        requires { Below ty (type_at self.old.types slot) }
+        ensures value { IfOk result (λ alive. with_type self.old.types slot ty ≡ answer alive self.new.types) }
+        ensures trailed { IfOk result (λ _. Trailed self.old self.new) }
+    {
+        type_laws();
+        if ty.is_none() {
+            discard(ty);
+            return Ok(false);
+        }
+        if slot as usize >= self.types.len() {
+            discard(ty);
+            return Ok(true);
+        }
+        if self.at(slot).leq(&ty) {
+            discard(ty);
+            return Ok(true);
+        }
+        let former = self.types.replace(slot as usize, ty);
+        match self.trail.push(Former { slot, ty: former }) {
+            Ok(()) => Ok(true),
+            Err((entry, Memory)) => {
+                discard_former(entry);
+                Err(Memory)
+            }
+        }
+    }
+
+    /// Narrows a slot to the meet of its type and another, and says whether it has a value. Where
+    /// memory is wanting the array is given up.
+    pub fn lower(&mut self, alloc: Global, slot: Slot, ty: &Ty) -> Result<bool, Memory>
+        ensures value { IfOk result (λ alive. lowered self.old.types slot ty.now ≡ answer alive self.new.types) }
+        ensures trailed { IfOk result (λ _. Trailed self.old self.new) }
+    {
+        let met = self.at(slot).meet(alloc, ty)?;
+        self.put(slot, met)
+    }
+
+    /// The same with a type that is given up.
+    pub fn lower_to(&mut self, alloc: Global, slot: Slot, ty: Ty) -> Result<bool, Memory>
+        ensures value { IfOk result (λ alive. lowered self.old.types slot ty ≡ answer alive self.new.types) }
+        ensures trailed { IfOk result (λ _. Trailed self.old self.new) }
+    {
+        let answer = self.lower(alloc, slot, &ty);
+        discard(ty);
+        answer
+    }
+
+    // Narrows a slot to the meet of its type and that of another slot.
+    fn lower_by(&mut self, alloc: Global, slot: Slot, other: Slot) -> Result<bool, Memory>
+        ensures value { IfOk result (λ alive. lowered self.old.types slot (type_at self.old.types other) ≡ answer alive self.new.types) }
+        ensures trailed { IfOk result (λ _. Trailed self.old self.new) }
+    {
+        let met = self.at(slot).meet(alloc, self.at(other))?;
+        self.put(slot, met)
+    }
+
+    /// Narrows two slots to the meet of both. Where memory is wanting the array is given up.
+    pub fn lower_both(&mut self, alloc: Global, slot: Slot, other: Slot) -> Result<bool, Memory>
+        ensures value { IfOk result (λ alive. alike slot other self.old.types ≡ answer alive self.new.types) }
+        ensures trailed { IfOk result (λ _. Trailed self.old self.new) }
+    {
+        let alive = self.lower_by(alloc, slot, other)?;
+        if !alive {
+            return Ok(false);
+        }
+        self.lower_by(alloc, other, slot)
+    }
+
+    /// Puts back what the trail tells from a mark on, the newest first, and forgets it. Takes no
+    /// memory.
+    pub fn undo(&mut self, mark: usize)
+        requires mark { mark ≤ length self.old.trail }
+        requires within { Within (length self.old.types) (drop mark self.old.trail) }
+        ensures types { self.new.types ≡ laid (drop mark self.old.trail) self.old.types }
+        ensures trail { self.new.trail ≡ take mark self.old.trail }
+    {
+        while self.trail.len() > mark {
+            if let Some(former) = self.trail.pop() {
+                discard(self.types.replace(former.slot as usize, former.ty));
+            }
+        }
+    }
+}

@@ -1,0 +1,214 @@
+//! What is known of the functions that a module calls, found by module and name.
+ghost use Rattle.std.specs.Prelude.{◌≡◌, cond, Some, IfOk, OnOk, OnErr};
+ghost use Rattle.std.specs.Map.{lookup};
+ghost use Rattle.core_ast.specs.declared.syntax.FunName.{FunName};
+ghost use Rattle.type_kinds.specs.declared.atom.Atom.{Atom};
+ghost use Rattle.cons_tree.specs.declared.parts.Callee.TheVariants.{Unknown};
+ghost use Rattle.cons_tree.specs.Callees.{Fits, callee_in, found, same_home, same_name};
+
+use crate::parts::Callee;
+use core_ast::FunName;
+use indexmap::IndexMap;
+use std::alloc::{AllocFailed, Global};
+use std::marker::Model;
+use type_kinds::{Atom, Memory};
+
+// The callees of one module, by name.
+#[derive(Drop)]
+struct CalleeTable {
+    callees: IndexMap<FunName, Callee>,
+}
+
+impl Model for CalleeTable {
+    ghost use Rattle.std.specs.Prelude.{List};
+    ghost use Rattle.core_ast.specs.declared.syntax.FunName.{FunName};
+    ghost use Rattle.cons_tree.specs.declared.parts.Callee.{Callee};
+    ghost use Rattle.cons_tree.specs.Callees.{Fits, callee_in};
+    ghost use Rattle.cons_tree.specs.steps.Codes.{callees_code};
+
+    ghost Value = { List (FunName × Callee) };
+
+    ghost coded = { callees_code };
+
+    ghost view = { λ table. table.callees.entries };
+
+    ghost invariant = { λ table. (f : FunName) → Fits (callee_in table.callees.entries f) f.arity };
+}
+
+// Each gives up what a table handed back.
+fn discard_callee(_callee: Callee) {}
+
+fn discard_before(_before: Option<Callee>) {}
+
+fn discard_failed(_failed: AllocFailed<(FunName, Callee)>) {}
+
+fn discard_table(_table: CalleeTable) {}
+
+fn discard_table_before(_before: Option<CalleeTable>) {}
+
+fn discard_failed_table(_failed: AllocFailed<(Atom, CalleeTable)>) {}
+
+impl CalleeTable {
+    // A table of one callee.
+    fn one(alloc: Global, name: FunName, callee: Callee) -> Result<CalleeTable, Memory>
+        requires { Fits callee name.arity }
+        ensures { IfOk result (λ table. (f : FunName) → callee_in table f ≡ cond (same_name name f) callee Unknown) }
+    {
+        let mut table = CalleeTable::new(alloc);
+        match table.set(name, callee) {
+            Ok(()) => Ok(table),
+            Err(Memory) => {
+                discard_table(table);
+                Err(Memory)
+            }
+        }
+    }
+
+    // No callees. Takes no memory.
+    fn new(alloc: Global) -> CalleeTable
+        ensures { (f : FunName) → callee_in result f ≡ Unknown }
+    {
+        CalleeTable {
+            callees: IndexMap::new(alloc),
+        }
+    }
+
+    // Puts a callee under its name, in place of one that is there. If allocation fails all is as
+    // before.
+    fn set(&mut self, name: FunName, callee: Callee) -> Result<(), Memory>
+        requires { Fits callee name.arity }
+        ensures ok { OnOk result ((f : FunName) → callee_in self.new f ≡ cond (same_name name f) callee (callee_in self.old f)) }
+        ensures err { OnErr result (self.new ≡ self.old) }
+    {
+        match self.callees.insert(name, callee) {
+            Ok(before) => {
+                discard_before(before);
+                Ok(())
+            }
+            Err(failed) => {
+                discard_failed(failed);
+                Err(Memory)
+            }
+        }
+    }
+
+    // The callee under a name, and the one that stands for `Unknown` where nothing was set.
+    fn find<'a>(&'a self, name: &FunName, unknown: &'a Callee) -> &'a Callee
+        requires { unknown.now ≡ Unknown }
+        ensures value { result.now ≡ callee_in self.now name.now }
+        ensures fits { Fits result.now name.now.arity }
+    {
+        match self.callees.get(name) {
+            Some(callee) => callee,
+            None => unknown,
+        }
+    }
+}
+
+/// What is known of functions, by module and name.
+#[derive(Drop)]
+pub struct Summaries {
+    alloc: Global,
+    tables: IndexMap<Atom, CalleeTable>,
+    unknown: Callee,
+}
+
+impl Model for Summaries {
+    ghost use Rattle.std.specs.Prelude.{◌≡◌, List};
+    ghost use Rattle.core_ast.specs.declared.syntax.FunName.{FunName};
+    ghost use Rattle.type_kinds.specs.declared.atom.Atom.{Atom};
+    ghost use Rattle.cons_tree.specs.declared.parts.Callee.{Callee};
+    ghost use Rattle.cons_tree.specs.declared.parts.Callee.TheVariants.{Unknown};
+    ghost use Rattle.cons_tree.specs.steps.Codes.{tables_code};
+
+    ghost Value = { List (Atom × List (FunName × Callee)) };
+
+    ghost coded = { tables_code };
+
+    ghost view = { λ it. it.tables.entries };
+
+    ghost invariant = { λ it. it.unknown ≡ Unknown };
+}
+
+impl Summaries {
+    /// Nothing is known. Takes no memory.
+    #[tactic(auto, unfolding(crate::specs::Callees::found))]
+    pub fn new(alloc: Global) -> Summaries
+        ensures { (h : Atom) (f : FunName) → found result h f ≡ Unknown }
+    {
+        Summaries {
+            alloc,
+            tables: IndexMap::new(alloc),
+            unknown: Callee::Unknown,
+        }
+    }
+
+    /// Sets the callee under a module and a name, in place of one that is there. If allocation fails
+    /// all is as before.
+    pub fn set(&mut self, home: &Atom, name: &FunName, callee: Callee) -> Result<(), Memory>
+        requires { Fits callee name.now.arity }
+        ensures set { OnOk result (found self.new home.now name.now ≡ callee) }
+        ensures others { OnOk result ((h : Atom) (f : FunName) → ((h ≡ home.now) × (f ≡ name.now) → ⊥) → found self.new h f ≡ found self.old h f) }
+        ensures err { OnErr result (self.new ≡ self.old) }
+    {
+        match name.copy(self.alloc) {
+            Ok(name) => self.put(home, name, callee),
+            Err(Memory) => {
+                discard_callee(callee);
+                Err(Memory)
+            }
+        }
+    }
+
+    // The same with a name of its own.
+    fn put(&mut self, home: &Atom, name: FunName, callee: Callee) -> Result<(), Memory>
+        requires { Fits callee name.arity }
+        ensures set { OnOk result (found self.new home.now name ≡ callee) }
+        ensures others { OnOk result ((h : Atom) (f : FunName) → ((h ≡ home.now) × (f ≡ name) → ⊥) → found self.new h f ≡ found self.old h f) }
+        ensures err { OnErr result (self.new ≡ self.old) }
+    {
+        if let Some(table) = self.tables.get_mut(home) {
+            return table.set(name, callee);
+        }
+        match CalleeTable::one(self.alloc, name, callee) {
+            Ok(table) => self.add(home, table),
+            Err(Memory) => Err(Memory),
+        }
+    }
+
+    // Adds the table of a module. If allocation fails all is as before.
+    fn add(&mut self, home: &Atom, table: CalleeTable) -> Result<(), Memory>
+        ensures ok { OnOk result ((q : Atom) → lookup (same_home q) self.new ≡ cond (same_home home.now q) (Some table) (lookup (same_home q) self.old)) }
+        ensures err { OnErr result (self.new ≡ self.old) }
+    {
+        let home = match home.copy(self.alloc) {
+            Ok(home) => home,
+            Err(Memory) => {
+                discard_table(table);
+                return Err(Memory);
+            }
+        };
+        match self.tables.insert(home, table) {
+            Ok(before) => {
+                discard_table_before(before);
+                Ok(())
+            }
+            Err(failed) => {
+                discard_failed_table(failed);
+                Err(Memory)
+            }
+        }
+    }
+
+    /// The callee under a module and a name: `Unknown` exactly where nothing was set, or `Unknown`
+    /// was. Takes no memory.
+    pub fn find(&self, home: &Atom, name: &FunName) -> &Callee
+        ensures value { result.now ≡ found self.now home.now name.now }
+        ensures fits { Fits result.now name.now.arity }
+    {
+        match self.tables.get(home) {
+            Some(table) => table.find(name, &self.unknown),
+            None => &self.unknown,
+        }
+    }
+}

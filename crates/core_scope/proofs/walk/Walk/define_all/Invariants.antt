@@ -1,0 +1,12 @@
+use Rattle.std.proofs.Common.{◌≡◌, ◌≤◌, [], length, drop}
+use Rattle.core_ast.specs.Tree.{all_defs}
+use Rattle.core_scope.specs.Names.{defined_names}
+use Rattle.core_scope.specs.Breaks.{new_functions}
+use Rattle.core_scope.specs.steps.State.{defining}
+use Rattle.core_scope.proofs.walk.Walk.define_all.Given as goal
+
+abbrev pub invariant-loop-def : goal.invariant-loop-def
+invariant-loop-def l = record {
+  so_far : defining l.self (defined_names (all_defs (drop l.def-index l.defs))) (new_functions (drop l.from l.self.functions) (all_defs (drop l.def-index l.defs))) ≡ defining l.fn.self (defined_names (all_defs l.defs)) (new_functions [] (all_defs l.defs));
+  within : l.from ≤ length l.self.functions;
+}
