@@ -15,6 +15,10 @@ use Rattle.core_scope.specs.Names.{Scope}
 use Rattle.core_scope.specs.Asks.{one_value, function_name}
 use Rattle.core_scope.specs.Breaks.{breaks, clause_breaks, module_breaks}
 use Rattle.core_scope.specs.Labels.{labels, labels_of_steps}
+use Rattle.core_scope.specs.Places.{StandsIn}
+use Rattle.core_scope.specs.Places.Piece.{expression, clauses}
+use Rattle.core_scope.specs.Places.HasPart.{letrec_definitions, letrec_body, first_expression, clause_patterns, definition_body, binary_patterns, first_pattern, pattern_arguments}
+use Rattle.core_scope.specs.Places.StandsIn.{itself, deeper}
 
 -- ---- words for the examples: everything stands on line 1, at the byte that is told
 
@@ -158,3 +162,18 @@ labels_of_a_case = refl
 -- Steps have labels of their own, and what stands twice is listed twice.
 labels_of_two_steps : labels_of_steps (m.and_let (labelled 7 (at 0)) (named 4 x ∷ []) (f 8) (m.and_do (labelled 7 (at 20)) (f 23) m.no_step)) ≡ 7 ∷ 0 ∷ 7 ∷ 0 ∷ []
 labels_of_two_steps = refl
+
+-- ---- what stands in a module
+
+-- #{#<X>(X)}#: the argument X stands in the clause, one value is asked of it, and it sees the X of its own segment.
+argument_stands_in_clause :
+    StandsIn (clauses nowhere one_value 1 (one_clause (one_pattern (m.binary_of (at 11) (m.and_pat_segment (m.binds (at 14) x) (only (var 17 x)) m.no_pat_segment))) (atom 40 (codes "true")) (var 50 x)))
+    (expression (record { variables = x ∷ []; functions = [] }) one_value (var 17 x))
+argument_stands_in_clause = deeper (deeper (deeper (deeper (deeper itself clause_patterns) first_pattern) binary_patterns) pattern_arguments) first_expression
+
+-- letrec 'f'/0 = fun () -> 'f'/0 in 'f'/0: both uses of 'f'/0 stand in it and see it.
+body_stands_in_letrec : StandsIn (expression nowhere one_value (m.letrec (at 0) (m.and_def (function_name (codes "f") 0) (at 15) [] (f 25) m.no_def) (f 35))) (expression (record { variables = []; functions = function_name (codes "f") 0 ∷ [] }) one_value (f 35))
+body_stands_in_letrec = deeper itself letrec_body
+
+fun_stands_in_letrec : StandsIn (expression nowhere one_value (m.letrec (at 0) (m.and_def (function_name (codes "f") 0) (at 15) [] (f 25) m.no_def) (f 35))) (expression (record { variables = []; functions = function_name (codes "f") 0 ∷ [] }) one_value (f 25))
+fun_stands_in_letrec = deeper (deeper itself letrec_definitions) definition_body

@@ -9,4 +9,5 @@ mod CheckExits
 pub mod Unbroken
 pub mod SpelledLaws
 pub mod LabelLaws
+pub mod PlaceLaws
 mod CheckedLaws

@@ -5,4 +5,5 @@ pub mod Accepted
 pub mod Checked
 pub mod Sets
 pub mod Labels
+pub mod Places
 pub mod steps

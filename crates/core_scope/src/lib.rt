@@ -18,5 +18,5 @@ pub use checked::{AsChecked, Checked, discard_checked};
 pub use checking::check;
 pub use degrees::MOST_ASKED;
 pub use fault::{Break, ScopeFault, ScopeRule, SetFault};
-pub use laws::{checked_laws, labels_are_distinct};
+pub use laws::{checked_laws, labels_are_distinct, places_are_sound};
 pub use sets::check_set;
