@@ -10,7 +10,7 @@ use Rattle.core_ast.specs.declared.syntax.Expr.{Expr}
 use Rattle.core_ast.specs.declared.syntax.Module.{Module}
 use Rattle.core_ast.specs.Model as m
 use Rattle.core_ast.specs.Tree.{all_defs, module_tree}
-use Rattle.core_scope.specs.declared.fault.Rule.TheVariants.{DefinedExports}
+use Rattle.core_scope.specs.declared.fault.ScopeRule.TheVariants.{DefinedExports}
 use Rattle.core_scope.specs.declared.fault.Break.{Break}
 use Rattle.core_scope.specs.declared.walk.Walk.{Walk}
 use Rattle.core_scope.specs.Names.{has_function, defined_names}

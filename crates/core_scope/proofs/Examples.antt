@@ -6,13 +6,15 @@ use Rattle.core_ast.specs.declared.syntax.Mark.{Mark}
 use Rattle.core_ast.specs.declared.syntax.VarName.{VarName}
 use Rattle.core_ast.specs.declared.syntax.Literal.TheVariants as l
 use Rattle.core_ast.specs.Model as m
+use Rattle.core_parse.specs.Labels.{labelled, number}
 use Rattle.core_scope.specs.declared.ask.Ask.TheVariants.{AnyNumber, Exactly}
-use Rattle.core_scope.specs.declared.fault.Rule.{Rule}
-use Rattle.core_scope.specs.declared.fault.Rule.TheVariants.{BoundVariables, DistinctVariables, DefinedFunctions, DistinctFunctions, DefinedExports, Degrees}
+use Rattle.core_scope.specs.declared.fault.ScopeRule.{ScopeRule}
+use Rattle.core_scope.specs.declared.fault.ScopeRule.TheVariants.{BoundVariables, DistinctVariables, DefinedFunctions, DistinctFunctions, DefinedExports, Degrees}
 use Rattle.core_scope.specs.declared.fault.Break.{Break}
 use Rattle.core_scope.specs.Names.{Scope}
 use Rattle.core_scope.specs.Asks.{one_value, function_name}
 use Rattle.core_scope.specs.Breaks.{breaks, clause_breaks, module_breaks}
+use Rattle.core_scope.specs.Labels.{labels, labels_of_steps}
 
 -- ---- words for the examples: everything stands on line 1, at the byte that is told
 
@@ -25,7 +27,7 @@ at byte = record { label = 0; place = place byte; note = record { line = None; g
 abbrev named : ℕ → Atom → VarName
 named byte x = record { name = x; place = place byte; note = record { line = None; generated = false } }
 
-abbrev broken : ℕ → Rule → Break
+abbrev broken : ℕ → ScopeRule → Break
 broken byte rule = record { place = place byte; rule = rule }
 
 abbrev nowhere : Scope
@@ -146,3 +148,13 @@ module_of_three_breaks :
       note = record { line = None; generated = false };
     }) ≡ broken 60 DistinctFunctions ∷ broken 12 DefinedExports ∷ broken 60 Degrees ∷ []
 module_of_three_breaks = refl
+
+-- ---- labels
+
+-- case 'f'/0 of <X> when 'Y' -> X end, numbered from 4 on: the case, its argument, the clause, and there the pattern, the guard and the body.
+labels_of_a_case : labels (number 4 (m.case (at 0) (f 5) (m.and_clause (at 12) (m.and_pattern (m.binds (at 13) x) m.no_pattern) (atom 20 y) (var 30 x) m.no_clause))).0 ≡ 4 ∷ 5 ∷ 6 ∷ 7 ∷ 8 ∷ 9 ∷ []
+labels_of_a_case = refl
+
+-- Steps have labels of their own, and what stands twice is listed twice.
+labels_of_two_steps : labels_of_steps (m.and_let (labelled 7 (at 0)) (named 4 x ∷ []) (f 8) (m.and_do (labelled 7 (at 20)) (f 23) m.no_step)) ≡ 7 ∷ 0 ∷ 7 ∷ 0 ∷ []
+labels_of_two_steps = refl

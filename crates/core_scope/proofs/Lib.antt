@@ -8,4 +8,5 @@ mod PatternExits
 mod CheckExits
 pub mod Unbroken
 pub mod SpelledLaws
+pub mod LabelLaws
 mod CheckedLaws

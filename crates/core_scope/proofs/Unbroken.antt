@@ -1,8 +1,8 @@
 -- What breaks no rule has no part that does: the parts of a form, and what each test says where it passes.
 -- A form's parts are opened by the law for their number, since `breaks` computes on the form.
-use Rattle.std.proofs.Common.{◌≡◌, ℕ, zero, suc, ◌<◌, ◌⊎◌, inl, inr, ◌||◌, ◌&&◌, Bool, true, false, not, List, [], ◌∷◌, ◌++◌, Contains, IsTrue, length, eqb, nat_eq, eqb-true, eq-eqb, refl, sym, ap, ◌∙◌, subst, arith}
+use Rattle.std.proofs.Common.{◌≡◌, ℕ, zero, suc, ◌⊎◌, inl, inr, ◌||◌, ◌&&◌, Bool, true, false, not, List, [], ◌∷◌, ◌++◌, Contains, length, eqb, nat_eq, eqb-true, eq-eqb, refl, sym, ap, ◌∙◌, arith}
 use Rattle.std.specs.List.{list_any}
-use Rattle.std.specs.Cmp.Lexicographic.{pointwise, bytes_decides}
+use Rattle.std.specs.Cmp.Lexicographic.{bytes_decides}
 use Rattle.std.proofs.lemmas.List.Folds.{list_any-append}
 use Rattle.indexmap.proofs.CallerLemmas.{Contains-list_any}
 use Rattle.type_kinds.specs.declared.atom.Atom.{Atom}
@@ -13,8 +13,8 @@ use Rattle.core_ast.specs.declared.syntax.FunName.{FunName}
 use Rattle.core_ast.specs.Model as m
 use Rattle.core_ast.specs.Lengths.{how_many_patterns}
 use Rattle.core_scope.specs.declared.ask.Ask.{Ask}
-use Rattle.core_scope.specs.declared.fault.Rule.{Rule}
-use Rattle.core_scope.specs.Names.{Distinct, same_atom, same_function, has_variable, has_function, defined_names, Scope}
+use Rattle.core_scope.specs.declared.fault.ScopeRule.{ScopeRule}
+use Rattle.core_scope.specs.Names.{Distinct, same_atom, same_function, has_function, defined_names, Scope}
 use Rattle.core_scope.specs.Asks.{gives, suffices}
 use Rattle.core_scope.specs.Breaks.{unless, degree, use_of_variable, use_of_function, new_functions, arity_of, width_of, catches, module_breaks}
 
@@ -38,7 +38,7 @@ pub ruleset unbroken = (open_two, open_three, open_four, open_five, open_seven)
 
 -- ---- what a test says that passes
 
-pub holds : (b : Bool) (rule : Rule) (place : Place) → unless b rule place ≡ [] → b ≡ true
+pub holds : (b : Bool) (rule : ScopeRule) (place : Place) → unless b rule place ≡ [] → b ≡ true
 holds true rule place e = refl
 holds false rule place e = absurd cc
 

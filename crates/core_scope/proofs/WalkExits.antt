@@ -23,7 +23,7 @@ use Rattle.core_ast.proofs.Trees.{clause-is, pair-is, segment-is}
 use Rattle.core_ast.proofs.Items.{all_trees-next, all_pairs-next, all_segments-next, all_clauses-next, all_defs-next, how_many_patterns-length}
 use Rattle.core_scope.specs.declared.ask.Ask.{Ask}
 use Rattle.core_scope.specs.declared.ask.Ask.TheVariants.{AnyNumber, Exactly}
-use Rattle.core_scope.specs.declared.fault.Rule.TheVariants.{Degrees}
+use Rattle.core_scope.specs.declared.fault.ScopeRule.TheVariants.{Degrees}
 use Rattle.core_scope.specs.declared.fault.Break.{Break}
 use Rattle.core_scope.specs.declared.walk.Walk.{Walk}
 use Rattle.core_scope.specs.Names.{Scope, bound_by, patterns_bound, steps_bound, defined_names, with_variables, with_functions}

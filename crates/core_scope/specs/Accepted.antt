@@ -5,8 +5,8 @@ use Rattle.core_scan.specs.declared.token.Token.{Token}
 use Rattle.core_scan.specs.Bytes.{start}
 use Rattle.core_scan.specs.Lexed.{Lexed}
 use Rattle.core_parse.specs.Spells.{SpellsModule}
-use Rattle.core_scope.specs.declared.fault.Rule.{Rule}
-use Rattle.core_scope.specs.declared.fault.Rule.TheVariants.{BoundVariables, DistinctVariables, DefinedFunctions, DistinctFunctions, DefinedExports, Degrees}
+use Rattle.core_scope.specs.declared.fault.ScopeRule.{ScopeRule}
+use Rattle.core_scope.specs.declared.fault.ScopeRule.TheVariants.{BoundVariables, DistinctVariables, DefinedFunctions, DistinctFunctions, DefinedExports, Degrees}
 use Rattle.core_scope.specs.declared.fault.Break.{Break}
 use Rattle.core_scope.specs.declared.fault.ScopeFault.{ScopeFault}
 use Rattle.core_scope.specs.declared.fault.ScopeFault.TheVariants.{Unbound, RepeatedVariable, UndefinedFunction, RepeatedFunction, BadExport, Degree}
@@ -30,7 +30,7 @@ pub record IsAccepted (x : m.Module) : Type 0 where
 -- ---- the first break
 
 -- the number of a rule
-abbrev pub rule_number : Rule → ℕ
+abbrev pub rule_number : ScopeRule → ℕ
 rule_number BoundVariables = 8
 rule_number DistinctVariables = 9
 rule_number DefinedFunctions = 10
@@ -51,7 +51,7 @@ pub record FirstBreak (x : m.Module) (b : Break) : Type 0 where
 abbrev pub fault_of : Break → ScopeFault
 fault_of b = by b.rule
   where
-    by : Rule → ScopeFault
+    by : ScopeRule → ScopeFault
     by BoundVariables = Unbound b.place
     by DistinctVariables = RepeatedVariable b.place
     by DefinedFunctions = UndefinedFunction b.place

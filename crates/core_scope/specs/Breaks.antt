@@ -10,14 +10,14 @@ use Rattle.core_ast.specs.Lengths.{how_many_patterns}
 use Rattle.core_scan.specs.Bytes.{start}
 use Rattle.core_scope.specs.declared.ask.Ask.{Ask}
 use Rattle.core_scope.specs.declared.ask.Ask.TheVariants.{AnyNumber, Exactly}
-use Rattle.core_scope.specs.declared.fault.Rule.{Rule}
-use Rattle.core_scope.specs.declared.fault.Rule.TheVariants.{BoundVariables, DistinctVariables, DefinedFunctions, DistinctFunctions, DefinedExports, Degrees}
+use Rattle.core_scope.specs.declared.fault.ScopeRule.{ScopeRule}
+use Rattle.core_scope.specs.declared.fault.ScopeRule.TheVariants.{BoundVariables, DistinctVariables, DefinedFunctions, DistinctFunctions, DefinedExports, Degrees}
 use Rattle.core_scope.specs.declared.fault.Break.{Break}
 use Rattle.core_scope.specs.Names.{has_variable, has_function, bound, bound_by, pattern_bound, patterns_bound, steps_bound, defined_names, Scope, with_variables, with_functions, module_scope}
 use Rattle.core_scope.specs.Asks.{one_value, gives, suffices, width}
 
 -- Where the test fails, the rule is broken at the place.
-abbrev pub unless : Bool → Rule → Place → List Break
+abbrev pub unless : Bool → ScopeRule → Place → List Break
 unless true rule place = []
 unless false rule place = record { place = place; rule = rule } ∷ []
 

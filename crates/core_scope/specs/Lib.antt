@@ -4,4 +4,5 @@ pub mod Breaks
 pub mod Accepted
 pub mod Checked
 pub mod Sets
+pub mod Labels
 pub mod steps

@@ -1,2 +1,3 @@
 pub mod State
 pub mod Trail
+pub mod Run

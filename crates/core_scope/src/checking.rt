@@ -10,7 +10,7 @@ ghost use Rattle.core_scope.specs.steps.State.{first_of, scope_of, noting, defin
 use crate::ask::Ask;
 use crate::checked::Checked;
 use crate::expressions::walk_under;
-use crate::fault::{Break, Rule, ScopeFault};
+use crate::fault::{Break, ScopeFault, ScopeRule};
 use crate::walk::{Walk, discard_walk};
 use core_ast::{FunDef, FunName, Module, discard_module};
 use std::alloc::Global;
@@ -24,12 +24,12 @@ impl Break {
         ensures { result ≡ fault_of self }
     {
         match self.rule {
-            Rule::BoundVariables => ScopeFault::Unbound(self.place),
-            Rule::DistinctVariables => ScopeFault::RepeatedVariable(self.place),
-            Rule::DefinedFunctions => ScopeFault::UndefinedFunction(self.place),
-            Rule::DistinctFunctions => ScopeFault::RepeatedFunction(self.place),
-            Rule::DefinedExports => ScopeFault::BadExport(self.place),
-            Rule::Degrees => ScopeFault::Degree(self.place),
+            ScopeRule::BoundVariables => ScopeFault::Unbound(self.place),
+            ScopeRule::DistinctVariables => ScopeFault::RepeatedVariable(self.place),
+            ScopeRule::DefinedFunctions => ScopeFault::UndefinedFunction(self.place),
+            ScopeRule::DistinctFunctions => ScopeFault::RepeatedFunction(self.place),
+            ScopeRule::DefinedExports => ScopeFault::BadExport(self.place),
+            ScopeRule::Degrees => ScopeFault::Degree(self.place),
         }
     }
 }
@@ -37,7 +37,7 @@ impl Break {
 /// Accepts a module that some text spells, where it breaks no rule of scopes and degrees.
 ///
 /// A refusal names the first break: the one at the least place, and of those there the one of the
-/// lowest number (`Rule` has them in their order). The module is given up then. `Memory`: allocation
+/// lowest number (`ScopeRule` has them in their order). The module is given up then. `Memory`: allocation
 /// failed. This says nothing of the module.
 pub fn check(alloc: Global, source: Module) -> Result<Checked, ScopeFault>
     requires spelled { IsSpelled (module_tree source) }
@@ -125,7 +125,7 @@ fn walk_exports(walk: &mut Walk, exports: &[FunName], places: &[Place])
     for name in exports {
         let (place, rest) = next_place(left);
         let holds = walk.functions.has(name);
-        walk.test(holds, Rule::DefinedExports, place);
+        walk.test(holds, ScopeRule::DefinedExports, place);
         left = rest;
     }
 }

@@ -8,7 +8,7 @@ ghost use Rattle.core_scope.specs.Breaks.{new_variables, new_functions, catches,
 ghost use Rattle.core_scope.specs.steps.State.{scope_of, noting, binding};
 
 use crate::ask::Ask;
-use crate::fault::Rule;
+use crate::fault::ScopeRule;
 use crate::patterns::walk_patterns;
 use crate::walk::Walk;
 use core_ast::{
@@ -179,7 +179,7 @@ fn walk_clause(walk: &mut Walk, ask: Ask, count: usize, clause: &Clause) -> Resu
     ensures { OnOk result (walk.new ≡ noting walk.old (clause_breaks (scope_of walk.old) ask count (all_clauses (clause.now ∷ [])))) }
 {
     let holds = clause.patterns.len() == count;
-    walk.test(holds, Rule::Degrees, clause.mark.place);
+    walk.test(holds, ScopeRule::Degrees, clause.mark.place);
     let around = walk.variables.len();
     walk_patterns(walk, around, clause.patterns.as_slice())?;
     walk_expression(walk, Ask::Exactly(1), &clause.guard)?;
@@ -218,7 +218,7 @@ fn walk_try(walk: &mut Walk, ask: Ask, mark: Mark, parts: &TryParts) -> Result<(
     ensures { OnOk result (walk.new ≡ noting walk.old (catches mark parts.now.catch_vars ++ breaks (scope_of walk.old) (Exactly (length parts.now.vars)) (tree parts.now.arg) ++ new_variables [] parts.now.vars ++ breaks (with_variables (scope_of walk.old) (bound_by parts.now.vars)) ask (tree parts.now.body) ++ new_variables [] parts.now.catch_vars ++ breaks (with_variables (scope_of walk.old) (bound_by parts.now.catch_vars)) ask (tree parts.now.handler))) }
 {
     let holds = catches_fit(parts.catch_vars.as_slice());
-    walk.test(holds, Rule::Degrees, mark.place);
+    walk.test(holds, ScopeRule::Degrees, mark.place);
     walk_expression(walk, Ask::Exactly(parts.vars.len()), parts.arg.get())?;
     walk_under(walk, ask, parts.vars.as_slice(), parts.body.get())?;
     walk_under(walk, ask, parts.catch_vars.as_slice(), parts.handler.get())

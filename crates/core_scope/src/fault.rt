@@ -2,7 +2,7 @@ use type_kinds::Place;
 
 /// The rules of scopes and degrees, in the order of their numbers.
 #[derive(Clone, Copy, Debug, PartialEq, Eq)]
-pub enum Rule {
+pub enum ScopeRule {
     /// A variable in an expression is bound around it.
     BoundVariables,
     /// A variable is bound once by the patterns of a clause, and once by a list of variables.
@@ -22,7 +22,7 @@ pub enum Rule {
 #[derive(Clone, Copy, Debug, PartialEq, Eq)]
 pub struct Break {
     pub place: Place,
-    pub rule: Rule,
+    pub rule: ScopeRule,
 }
 
 /// Why a module isn't accepted: its first broken rule, and where.

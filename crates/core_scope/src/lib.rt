@@ -17,6 +17,6 @@ pub use ask::Ask;
 pub use checked::{AsChecked, Checked, discard_checked};
 pub use checking::check;
 pub use degrees::MOST_ASKED;
-pub use fault::{Break, Rule, ScopeFault, SetFault};
-pub use laws::checked_laws;
+pub use fault::{Break, ScopeFault, ScopeRule, SetFault};
+pub use laws::{checked_laws, labels_are_distinct};
 pub use sets::check_set;

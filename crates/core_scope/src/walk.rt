@@ -4,12 +4,12 @@ ghost use Rattle.core_ast.specs.Tree.{tree, all_defs};
 ghost use Rattle.core_scope.specs.Names.{has_function, bound, bound_by, defined_names};
 ghost use Rattle.core_scope.specs.Accepted.{rule_number};
 ghost use Rattle.core_scope.specs.Breaks.{unless, degree, use_of_variable, use_of_function, new_variable, new_variables, new_functions, arity_of};
-ghost use Rattle.core_scope.specs.declared.fault.Rule.TheVariants.{DistinctFunctions};
+ghost use Rattle.core_scope.specs.declared.fault.ScopeRule.TheVariants.{DistinctFunctions};
 ghost use Rattle.core_scope.specs.steps.State.{is_before, scope_of, noting, binding, defining};
 
 use crate::ask::Ask;
 use crate::degrees::{gives, is_text, suffices};
-use crate::fault::{Break, Rule};
+use crate::fault::{Break, ScopeRule};
 use crate::names::Names;
 use core_ast::{Expr, FunDef, FunName, VarName};
 use std::alloc::Global;
@@ -26,18 +26,18 @@ pub struct Walk {
 /// Gives a walk up.
 pub fn discard_walk(_walk: Walk) {}
 
-impl Rule {
+impl ScopeRule {
     /// Its number among all refusals.
     pub fn number(self) -> u32
         ensures { result ≡ rule_number self }
     {
         match self {
-            Rule::BoundVariables => 8,
-            Rule::DistinctVariables => 9,
-            Rule::DefinedFunctions => 10,
-            Rule::DistinctFunctions => 11,
-            Rule::DefinedExports => 12,
-            Rule::Degrees => 13,
+            ScopeRule::BoundVariables => 8,
+            ScopeRule::DistinctVariables => 9,
+            ScopeRule::DefinedFunctions => 10,
+            ScopeRule::DistinctFunctions => 11,
+            ScopeRule::DefinedExports => 12,
+            ScopeRule::Degrees => 13,
         }
     }
 }
@@ -67,7 +67,7 @@ impl Walk {
     }
 
     /// Notes that a rule is broken at a place, unless it holds.
-    pub fn test(&mut self, holds: bool, rule: Rule, place: Place)
+    pub fn test(&mut self, holds: bool, rule: ScopeRule, place: Place)
         ensures { self.new ≡ noting self.old (unless holds rule place) }
     {
         if holds {
@@ -88,7 +88,11 @@ impl Walk {
     pub fn degree(&mut self, ask: Ask, expr: &Expr)
         ensures { self.new ≡ noting self.old (degree ask expr.now.mark (tree expr.now)) }
     {
-        self.test(suffices(ask, gives(expr)), Rule::Degrees, expr.mark.place);
+        self.test(
+            suffices(ask, gives(expr)),
+            ScopeRule::Degrees,
+            expr.mark.place,
+        );
     }
 
     /// Tests that a variable is bound.
@@ -96,7 +100,7 @@ impl Walk {
         ensures { self.new ≡ noting self.old (use_of_variable (scope_of self.old) name.now place) }
     {
         let holds = self.variables.has(name);
-        self.test(holds, Rule::BoundVariables, place);
+        self.test(holds, ScopeRule::BoundVariables, place);
     }
 
     /// Tests that a function is defined.
@@ -104,7 +108,7 @@ impl Walk {
         ensures { self.new ≡ noting self.old (use_of_function (scope_of self.old) name.now place) }
     {
         let holds = self.functions.has(name);
-        self.test(holds, Rule::DefinedFunctions, place);
+        self.test(holds, ScopeRule::DefinedFunctions, place);
     }
 
     /// Binds a variable, and tests that it wasn't bound since there were `from` variables. `_` binds
@@ -113,7 +117,7 @@ impl Walk {
         ensures { OnOk result (self.new ≡ binding self.old (bound name.now) (new_variable (drop from self.old.variables) name.now place)) }
     {
         let holds = !self.variables.has_since(from, name);
-        self.test(holds, Rule::DistinctVariables, place);
+        self.test(holds, ScopeRule::DistinctVariables, place);
         if is_text(name, b"_") {
             return Ok(());
         }
@@ -136,7 +140,7 @@ impl Walk {
         ensures { OnOk result (self.new ≡ defining self.old (def.now.name ∷ []) (unless (not (has_function (drop from self.old.functions) def.now.name)) DistinctFunctions def.now.mark.place)) }
     {
         let holds = !self.functions.has_since(from, &def.name);
-        self.test(holds, Rule::DistinctFunctions, def.mark.place);
+        self.test(holds, ScopeRule::DistinctFunctions, def.mark.place);
         self.functions.push(&def.name)
     }
 
@@ -156,6 +160,6 @@ impl Walk {
         ensures { self.new ≡ noting self.old (arity_of def.now.name def.now.mark def.now.fun.params) }
     {
         let holds = def.fun.params.len() == def.name.arity as usize;
-        self.test(holds, Rule::Degrees, def.mark.place);
+        self.test(holds, ScopeRule::Degrees, def.mark.place);
     }
 }

@@ -1,0 +1,15 @@
+//! Narrowing worked by hand, and facts that follow from the clauses of `cons_tree` alone.
+#![tactic(auto)]
+
+mod facts;
+
+pub use facts::{narrowed_twice, some_head};
+
+#[cfg(test)]
+mod cases;
+#[cfg(test)]
+mod parts;
+#[cfg(test)]
+mod summaries;
+#[cfg(test)]
+mod transfers;
