@@ -1,23 +1,22 @@
 -- Words with a space between each two are lexed as their tokens.
-use Rattle.std.proofs.Common.{eqb-true, Some, None, Option, ◌≡◌, ◌≢◌, ℕ, ℤ, pos, negsuc, zero, suc, ◌+◌, ◌<◌, ◌≤◌, ◌⊎◌, inl, inr, List, [], ◌∷◌, ◌++◌, length, Bool, true, false, ◌&&◌, ◌||◌, not, IsTrue, refl, sym, ap, ◌∙◌, subst, arith, append_assoc, true≢false}
-use Rattle.std.specs.Prelude.{◌==◌, ◌/◌, ◌%◌, neg_ℤ, ⊤, unsigned_abs}
+use Rattle.std.proofs.Common.{eqb-true, Some, None, Option, ◌≡◌, ◌≢◌, ℕ, pos, negsuc, zero, suc, ◌+◌, ◌<◌, ◌≤◌, ◌⊎◌, inl, inr, List, [], ◌∷◌, ◌++◌, length, Bool, true, false, ◌&&◌, ◌||◌, not, IsTrue, refl, sym, ap, ◌∙◌, subst, arith, append_assoc, true≢false}
+use Rattle.std.specs.Prelude.{◌==◌, ◌/◌, ◌%◌, neg_ℤ}
 use Rattle.std.proofs.lemmas.Bool.Decides.{nat_tests}
 use Rattle.std.specs.List.{list_all}
 use Rattle.std.specs.Prelude.{if◌then◌else◌}
-use Rattle.std.specs.Fmt.{decimal, signed_decimal}
+use Rattle.std.specs.Fmt.{decimal}
 use Rattle.std.proofs.lemmas.Bool.{cases_lt}
 use Rattle.type_kinds.specs.declared.place.Place.{Place}
 use Rattle.type_kinds.proofs.DigitLaws.{is_written}
-use Rattle.type_kinds.specs.Quoted.{quoted, escaped as escaped_byte, all_escaped, needs_backslash, is_control, octal as octal_of}
+use Rattle.type_kinds.specs.Quoted.{all_escaped, needs_backslash, is_control, octal as octal_of}
 use Rattle.type_kinds.specs.Digits.{is_digit, number}
-use Rattle.core_scan.specs.declared.token.Token.{Token}
 use Rattle.core_scan.specs.declared.token.TokenKind.{TokenKind}
 use Rattle.core_scan.specs.declared.token.TokenKind.TheVariants.{Word as WordKind, Variable, Integer, Float, Char, Atom, Text, Symbol}
 use Rattle.core_scan.specs.declared.sort.Sort.{Sort}
-use Rattle.core_scan.specs.Bytes.{past, is_lower, is_name_byte, is_blank, is_octal}
-use Rattle.core_scan.specs.Escapes.{AllOf, NoneAhead, Quoted, Escape, octal, control, letter, lettered, Inside, nothing, plain, escaped}
+use Rattle.core_scan.specs.Bytes.{past, is_lower, is_name_byte, is_octal}
+use Rattle.core_scan.specs.Escapes.{AllOf, NoneAhead, Escape, octal, control, letter, lettered, Inside, nothing, plain, escaped}
 use Rattle.core_scan.specs.Vocabulary.{words, symbols, IsOneOf}
-use Rattle.core_scan.specs.Spells.{Sign, unsigned, plus, minus, sign_text, IsName, IsDigits, IsExponent, IsFloat, IsChar, Spells, Longest, IsToken, is_variable_start}
+use Rattle.core_scan.specs.Spells.{Sign, unsigned, plus, minus, sign_text, IsName, IsDigits, IsExponent, IsFloat, Spells, Longest, IsToken, is_variable_start}
 use Rattle.core_scan.specs.Lexed.{Passes, Lexed, here, blank, token}
 use Rattle.core_print.specs.Words.{Word, spelled, spaced, line}
 use Rattle.core_print.specs.Words as w

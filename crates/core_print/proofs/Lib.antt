@@ -1,3 +1,10 @@
 mod Adding
 mod PartLemmas
 mod Lexing
+mod Readings
+mod ReadForms
+mod ReadTrees
+mod Numbers
+mod NumberedWords
+mod ReadModules
+mod FitWords

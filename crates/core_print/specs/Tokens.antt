@@ -1,5 +1,5 @@
 -- The tokens of words, and what a word must be to be one token.
-use Rattle.std.specs.Prelude.{ℕ, ℤ, pos, negsuc, ◌<◌, List, [], ◌∷◌, Bool, true, false, unsigned_abs, ⊤}
+use Rattle.std.specs.Prelude.{ℤ, pos, negsuc, ◌<◌, List, [], ◌∷◌, Bool, true, false, unsigned_abs, ⊤}
 use Rattle.type_kinds.specs.declared.place.Place.{Place}
 use Rattle.type_kinds.specs.declared.digits.TheConstants.{MAGNITUDE_LIMIT}
 use Rattle.core_scan.specs.declared.token.Token.{Token}

@@ -1,5 +1,5 @@
 -- The words of the parts that the printer writes one by one.
-use Rattle.std.specs.Prelude.{ℕ, Option, Some, None, List, [], ◌∷◌, true, false, if◌then◌else◌, codes}
+use Rattle.std.specs.Prelude.{Option, Some, None, List, ◌∷◌, true, if◌then◌else◌, codes}
 use Rattle.type_kinds.specs.declared.atom.Atom.{Atom}
 use Rattle.core_ast.specs.declared.syntax.FunName.{FunName}
 use Rattle.core_ast.specs.declared.syntax.Expr.{Expr}
@@ -9,8 +9,8 @@ use Rattle.core_ast.specs.declared.syntax.StepOf.{StepOf}
 use Rattle.core_ast.specs.declared.syntax.StepOf.TheVariants.{Let, Do}
 use Rattle.core_ast.specs.Model as m
 use Rattle.core_ast.specs.Tree.{tree, ClauseParts, PairParts, SegmentParts, PatPairParts, PatSegmentParts}
-use Rattle.core_print.specs.Words.{Word, reserved, symbol, atom}
-use Rattle.core_print.specs.Canonical.{Words, expression, pattern, expressions, pairs, variables, patterns, opened, closed, exports, function_name}
+use Rattle.core_print.specs.Words.{reserved, symbol, atom}
+use Rattle.core_print.specs.Canonical.{Words, expression, pattern, expressions, variables, patterns, opened, closed, exports, function_name}
 
 -- What stands between the word `module` and the definitions.
 abbrev pub header : Atom → List FunName → Words
