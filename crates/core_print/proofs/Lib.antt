@@ -8,3 +8,5 @@ mod Numbers
 mod NumberedWords
 mod ReadModules
 mod FitWords
+mod Spelled
+mod GoodTokens

@@ -1,5 +1,5 @@
 -- The tokens of words, and what a word must be to be one token.
-use Rattle.std.specs.Prelude.{ℤ, pos, negsuc, ◌<◌, List, [], ◌∷◌, Bool, true, false, unsigned_abs, ⊤}
+use Rattle.std.specs.Prelude.{ℕ, ℤ, pos, negsuc, ◌<◌, ◌≤◌, List, [], ◌∷◌, Bool, true, false, unsigned_abs, ⊤}
 use Rattle.type_kinds.specs.declared.place.Place.{Place}
 use Rattle.type_kinds.specs.declared.digits.TheConstants.{MAGNITUDE_LIMIT}
 use Rattle.core_scan.specs.declared.token.Token.{Token}
@@ -47,3 +47,8 @@ tokens_behind place (w ∷ ws) =
 abbrev pub tokens_of : Place → List Word → List Token
 tokens_of place [] = []
 tokens_of place (w ∷ ws) = record { kind = kind_of w; place = place } ∷ tokens_behind (past place (spelled w)) ws
+
+-- each is a byte
+abbrev pub AreBytes : List ℕ → Type 0
+AreBytes [] = ⊤
+AreBytes (b ∷ bs) = (b ≤ 255) × AreBytes bs

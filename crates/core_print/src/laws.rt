@@ -11,7 +11,7 @@ ghost use Rattle.core_parse.specs.Spells.{SpellsTo};
 ghost use Rattle.core_print.specs.Words.{Word, line};
 ghost use Rattle.core_print.specs.Canonical.{canonical};
 ghost use Rattle.core_print.specs.Fits.{ModuleFits};
-ghost use Rattle.core_print.specs.Tokens.{AreWords, tokens_of};
+ghost use Rattle.core_print.specs.Tokens.{AreBytes, AreWords, tokens_of};
 
 /// Words of the language in a line are lexed as their tokens, one token a word.
 pub fn line_lexed()
@@ -22,4 +22,10 @@ pub fn line_lexed()
 /// text has tokens, and they spell a module that is the same.
 pub fn fitting_module_is_read_back()
     ensures { (x : ModuleTree) → ModuleFits depth_limit x → (ts : List Token) × (y : ModuleTree) × Lexed start (canonical (numbered x)) ts × SpellsTo depth_limit ts y × Same y (numbered x) }
+{}
+
+/// The module that a text spells within the depth limit is read back from its canonical text: that text has
+/// tokens, and they spell a module that is the same.
+pub fn spelled_module_is_read_back()
+    ensures { (text : List ℕ) (ts : List Token) (x : ModuleTree) → AreBytes text → Lexed start text ts → SpellsTo depth_limit ts x → (us : List Token) × (y : ModuleTree) × Lexed start (canonical x) us × SpellsTo depth_limit us y × Same y x }
 {}

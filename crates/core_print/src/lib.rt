@@ -13,5 +13,5 @@ mod patterns;
 #[cfg(test)]
 mod tests;
 
-pub use laws::{fitting_module_is_read_back, line_lexed};
+pub use laws::{fitting_module_is_read_back, line_lexed, spelled_module_is_read_back};
 pub use modules::print;
