@@ -10,3 +10,4 @@ mod ReadModules
 mod FitWords
 mod Spelled
 mod GoodTokens
+mod Whole

@@ -1,17 +1,24 @@
 // What holds of the definitions, for every text.
-ghost use Rattle.std.specs.Prelude.{ℕ, List};
+ghost use Rattle.std.specs.Prelude.{◌≡◌, ℕ, List};
 ghost use Rattle.core_ast.specs.Model.{Module as ModuleTree};
 ghost use Rattle.core_ast.specs.Same.{Same};
+ghost use Rattle.type_kinds.specs.declared.place.Place.{Place};
 ghost use Rattle.core_scan.specs.declared.token.Token.{Token};
+ghost use Rattle.core_scan.specs.declared.token.ScanFault.{ScanFault};
 ghost use Rattle.core_scan.specs.Bytes.{start};
-ghost use Rattle.core_scan.specs.Lexed.{Lexed};
-ghost use Rattle.core_parse.specs.Begins.{depth_limit};
+ghost use Rattle.core_scan.specs.Lexed.{Lexed, FirstFault};
+ghost use Rattle.core_parse.specs.Begins.{depth_limit, IsModule, Refused};
+ghost use Rattle.core_parse.specs.declared.fault.ParseFault.{ParseFault};
+ghost use Rattle.core_parse.specs.declared.fault.ParseFault.TheVariants as faults;
 ghost use Rattle.core_parse.specs.Labels.{numbered};
 ghost use Rattle.core_parse.specs.Spells.{SpellsTo};
 ghost use Rattle.core_print.specs.Words.{Word, line};
 ghost use Rattle.core_print.specs.Canonical.{canonical};
 ghost use Rattle.core_print.specs.Fits.{ModuleFits};
 ghost use Rattle.core_print.specs.Tokens.{AreBytes, AreWords, tokens_of};
+
+use core_parse::module_is_no_fault;
+use core_scan::{lexed_once, lexed_without_fault};
 
 /// Words of the language in a line are lexed as their tokens, one token a word.
 pub fn line_lexed()
@@ -29,3 +36,13 @@ pub fn fitting_module_is_read_back()
 pub fn spelled_module_is_read_back()
     ensures { (text : List ℕ) (ts : List Token) (x : ModuleTree) → AreBytes text → Lexed start text ts → SpellsTo depth_limit ts x → (us : List Token) × (y : ModuleTree) × Lexed start (canonical x) us × SpellsTo depth_limit us y × Same y x }
 {}
+
+/// Whatever is scanned and parsed of that canonical text, but for want of memory, is a module that is the
+/// same: the text has no fault, and its tokens are refused for want of memory alone.
+pub fn canonical_text_has_one_reading()
+    ensures { (text : List ℕ) (ts : List Token) (x : ModuleTree) → AreBytes text → Lexed start text ts → SpellsTo depth_limit ts x → ((fault : ScanFault) → FirstFault start (canonical x) fault → ⊥) × ((us : List Token) → Lexed start (canonical x) us → ((y : ModuleTree) → IsModule us y → Same y x) × ((end : Place) (fault : ParseFault) → Refused us end fault → fault ≡ faults.Memory)) }
+{
+    lexed_once();
+    lexed_without_fault();
+    module_is_no_fault();
+}

@@ -13,5 +13,8 @@ mod patterns;
 #[cfg(test)]
 mod tests;
 
-pub use laws::{fitting_module_is_read_back, line_lexed, spelled_module_is_read_back};
+pub use laws::{
+    canonical_text_has_one_reading, fitting_module_is_read_back, line_lexed,
+    spelled_module_is_read_back,
+};
 pub use modules::print;
