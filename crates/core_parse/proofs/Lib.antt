@@ -40,3 +40,4 @@ mod StringExits
 mod ModuleExits
 mod LexedWeights
 mod Whole
+mod OneFault

@@ -45,7 +45,7 @@ none_more [] mid us e = refl
 none_more (x ∷ xs) mid us e = absurd (omega (arith, ap (λ y. length y) e, length-append xs (mid ++ us), length-append mid us))
 
 -- which of two fronts of the same tokens is a front of the other
-apart : (xs ys bs cs : List Token) → xs ++ bs ≡ ys ++ cs → ((more : List Token) × (ys ≡ xs ++ more) × (bs ≡ more ++ cs)) ⊎ ((more : List Token) × (xs ≡ ys ++ more) × (cs ≡ more ++ bs))
+pub apart : (xs ys bs cs : List Token) → xs ++ bs ≡ ys ++ cs → ((more : List Token) × (ys ≡ xs ++ more) × (bs ≡ more ++ cs)) ⊎ ((more : List Token) × (xs ≡ ys ++ more) × (cs ≡ more ++ bs))
 apart [] ys bs cs e = inl (ys, refl, e)
 apart (x ∷ xs) [] bs cs e = inr (x ∷ xs, refl, sym e)
 apart (x ∷ xs) (y ∷ ys) bs cs e = elim (apart xs ys bs cs cc)

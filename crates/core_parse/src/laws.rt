@@ -1,5 +1,5 @@
 // What holds of the definitions, for every text.
-ghost use Rattle.std.specs.Prelude.{◌≡◌, ℕ, ◌*◌, ◌≤◌, List, length};
+ghost use Rattle.std.specs.Prelude.{◌≡◌, ◌≢◌, ℕ, ◌*◌, ◌≤◌, List, length};
 ghost use Rattle.core_ast.specs.Model.{Module as ModuleTree};
 ghost use Rattle.core_parse.specs.Begins.{depth_limit, Refused};
 ghost use Rattle.core_parse.specs.Spells.{SpellsTo};
@@ -21,4 +21,10 @@ pub fn lexed_weight()
 #[tactic(auto, using(crate::proofs::Whole::module_is_no_fault))]
 pub fn module_is_no_fault()
     ensures { (ts : List Token) (x : ModuleTree) → SpellsTo depth_limit ts x → (end : Place) (fault : ParseFault) → Refused ts end fault → fault ≡ faults.Memory }
+{}
+
+/// Tokens that are refused have one fault, beside want of memory: one number and one place.
+#[tactic(auto, using(crate::proofs::OneFault::refused_once))]
+pub fn refused_once()
+    ensures { (ts : List Token) (end : Place) (fault other : ParseFault) → Refused ts end fault → Refused ts end other → fault ≢ faults.Memory → other ≢ faults.Memory → fault ≡ other }
 {}

@@ -34,6 +34,6 @@ mod variables;
 pub use chains::Frame;
 pub use constants::Tail;
 pub use fault::{Fault, ParseFault};
-pub use laws::{lexed_weight, module_is_no_fault};
+pub use laws::{lexed_weight, module_is_no_fault, refused_once};
 pub use modules::parse;
 pub use notes::Constant;

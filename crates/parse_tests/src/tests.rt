@@ -1,5 +1,5 @@
 // Texts with their trees, worked out from the rules by hand. `tree_texts` says how a tree is written.
-use crate::tree_texts::{Part, Printer};
+use crate::tree_texts::{Printer, Written};
 use core_ast::{Form, Module, discard_module};
 use core_parse::{lexed_weight, parse};
 use core_scan::{end_place, scan};
@@ -504,7 +504,7 @@ fn show(alloc: Global, module: &Module, shown: Shown, printer: &mut Printer) -> 
         None => return Ok(()),
     };
     if let Shown::Body = shown {
-        return printer.write(alloc, Part::Expression(body));
+        return printer.write(alloc, Written::Expression(body));
     }
     let clause = match &body.form {
         Form::Receive(clauses, _, _) => clauses.get(0),
@@ -512,10 +512,10 @@ fn show(alloc: Global, module: &Module, shown: Shown, printer: &mut Printer) -> 
     };
     match clause {
         Some(clause) => match shown {
-            Shown::Clause => printer.write(alloc, Part::Clause(clause)),
+            Shown::Clause => printer.write(alloc, Written::Clause(clause)),
             _ => {
                 for pattern in clause.patterns.as_slice() {
-                    printer.write(alloc, Part::Pattern(pattern))?;
+                    printer.write(alloc, Written::Pattern(pattern))?;
                 }
                 Ok(())
             }

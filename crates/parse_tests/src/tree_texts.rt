@@ -10,7 +10,7 @@ use type_kinds::{Bytes, List, Memory, Place};
 
 // What is to be written.
 #[derive(Drop)]
-pub enum Part<'a> {
+pub enum Written<'a> {
     Expression(&'a Expr),
     Pattern(&'a Pattern),
     Clause(&'a Clause),
@@ -19,7 +19,7 @@ pub enum Part<'a> {
     Text(&'a [u8]),
 }
 
-type Parts<'a> = List<Part<'a>>;
+type Parts<'a> = List<Written<'a>>;
 
 // Places are written from here on.
 #[derive(Drop)]
@@ -52,13 +52,13 @@ impl Printer {
         self.text(b"]")?;
         self.note(module.note)?;
         for definition in module.defs.as_slice() {
-            self.write(alloc, Part::Definition(definition.get()))?;
+            self.write(alloc, Written::Definition(definition.get()))?;
         }
         Ok(())
     }
 
     // A part and all that is inside it.
-    pub fn write(&mut self, alloc: Global, part: Part<'_>) -> Result<(), Memory> {
+    pub fn write(&mut self, alloc: Global, part: Written<'_>) -> Result<(), Memory> {
         let mut waiting = List::new(alloc);
         waiting.add(part)?;
         for _ in 0..1000 {
@@ -78,21 +78,21 @@ impl Printer {
     }
 
     // The front of a part. The parts inside are added.
-    fn part<'a>(&mut self, part: Part<'a>, parts: &mut Parts<'a>) -> Result<(), Memory> {
+    fn part<'a>(&mut self, part: Written<'a>, parts: &mut Parts<'a>) -> Result<(), Memory> {
         match part {
-            Part::Expression(e) => {
+            Written::Expression(e) => {
                 self.label(e.mark)?;
                 self.form(&e.form)?;
                 self.mark(e.mark)?;
                 inside(&e.form, parts)?;
             }
-            Part::Pattern(p) => {
+            Written::Pattern(p) => {
                 self.label(p.mark)?;
                 self.pattern(&p.form)?;
                 self.mark(p.mark)?;
                 inside_pattern(&p.form, parts)?;
             }
-            Part::Clause(clause) => {
+            Written::Clause(clause) => {
                 self.label(clause.mark)?;
                 self.text(b"clause")?;
                 self.mark(clause.mark)?;
@@ -100,18 +100,18 @@ impl Printer {
                 two(b"when", &clause.guard, parts)?;
                 two(b"->", &clause.body, parts)?;
             }
-            Part::Step(step) => self.step(step, parts)?,
-            Part::Definition(definition) => {
+            Written::Step(step) => self.step(step, parts)?,
+            Written::Definition(definition) => {
                 self.label(definition.mark)?;
                 self.text(b"def ")?;
                 self.name(&definition.name)?;
                 self.variables(&definition.fun.params)?;
                 self.mark(definition.mark)?;
-                parts.add(Part::Expression(definition.fun.body.get()))?;
+                parts.add(Written::Expression(definition.fun.body.get()))?;
             }
-            Part::Text(text) => return self.text(text),
+            Written::Text(text) => return self.text(text),
         }
-        parts.add(Part::Text(b")"))
+        parts.add(Written::Text(b")"))
     }
 
     fn step<'a>(&mut self, step: &'a Step, parts: &mut Parts<'a>) -> Result<(), Memory> {
@@ -121,13 +121,13 @@ impl Printer {
                 self.text(b"let")?;
                 self.variables(names)?;
                 self.mark(*mark)?;
-                parts.add(Part::Expression(value))
+                parts.add(Written::Expression(value))
             }
             Step::Do(mark, value) => {
                 self.label(*mark)?;
                 self.text(b"do")?;
                 self.mark(*mark)?;
-                parts.add(Part::Expression(value))
+                parts.add(Written::Expression(value))
             }
         }
     }
@@ -265,32 +265,32 @@ impl Printer {
 // What stands inside an expression.
 fn inside<'a>(form: &'a Form, parts: &mut Parts<'a>) -> Result<(), Memory> {
     match form {
-        Form::Fun(fun) => parts.add(Part::Expression(fun.body.get())),
+        Form::Fun(fun) => parts.add(Written::Expression(fun.body.get())),
         Form::Listed(items, tail) => {
             all(items, parts)?;
-            parts.add(Part::Expression(tail.get()))
+            parts.add(Written::Expression(tail.get()))
         }
         Form::Tuple(items) => all(items, parts),
         Form::Values(items) => all(items, parts),
         Form::Apply(operator, arguments) => {
-            parts.add(Part::Expression(operator.get()))?;
+            parts.add(Written::Expression(operator.get()))?;
             all(arguments, parts)
         }
         Form::Call(home, name, arguments) => {
-            parts.add(Part::Expression(home.get()))?;
-            parts.add(Part::Expression(name.get()))?;
+            parts.add(Written::Expression(home.get()))?;
+            parts.add(Written::Expression(name.get()))?;
             all(arguments, parts)
         }
         Form::Primop(_, arguments) => all(arguments, parts),
         Form::Try(tried) => {
-            parts.add(Part::Expression(tried.arg.get()))?;
-            parts.add(Part::Expression(tried.body.get()))?;
-            parts.add(Part::Expression(tried.handler.get()))
+            parts.add(Written::Expression(tried.arg.get()))?;
+            parts.add(Written::Expression(tried.body.get()))?;
+            parts.add(Written::Expression(tried.handler.get()))
         }
-        Form::Catch(body) => parts.add(Part::Expression(body.get())),
+        Form::Catch(body) => parts.add(Written::Expression(body.get())),
         Form::Map(pairs, updated) => {
             for pair in pairs.as_slice() {
-                parts.add(Part::Expression(&pair.key))?;
+                parts.add(Written::Expression(&pair.key))?;
                 two(if pair.exact { b":=" } else { b"=>" }, &pair.value, parts)?;
             }
             match updated {
@@ -301,26 +301,26 @@ fn inside<'a>(form: &'a Form, parts: &mut Parts<'a>) -> Result<(), Memory> {
         Form::Binary(segments) => {
             for segment in segments.as_slice() {
                 two(b"<", &segment.value, parts)?;
-                parts.add(Part::Text(b">"))?;
+                parts.add(Written::Text(b">"))?;
                 all(&segment.args, parts)?;
             }
             Ok(())
         }
         Form::Chain(steps, last) => {
             for step in steps.as_slice() {
-                parts.add(Part::Step(step))?;
+                parts.add(Written::Step(step))?;
             }
-            parts.add(Part::Expression(last.get()))
+            parts.add(Written::Expression(last.get()))
         }
         Form::Case(argument, list) => {
-            parts.add(Part::Expression(argument.get()))?;
+            parts.add(Written::Expression(argument.get()))?;
             clauses(list, parts)
         }
         Form::Letrec(definitions, body) => {
             for definition in definitions.as_slice() {
-                parts.add(Part::Definition(definition))?;
+                parts.add(Written::Definition(definition))?;
             }
-            parts.add(Part::Expression(body.get()))
+            parts.add(Written::Expression(body.get()))
         }
         Form::Receive(list, timeout, action) => {
             clauses(list, parts)?;
@@ -335,54 +335,54 @@ fn inside_pattern<'a>(form: &'a PatForm, parts: &mut Parts<'a>) -> Result<(), Me
     match form {
         PatForm::Listed(items, tail) => {
             patterns(items, parts)?;
-            parts.add(Part::Pattern(tail.get()))
+            parts.add(Written::Pattern(tail.get()))
         }
         PatForm::Tuple(items) => patterns(items, parts),
         PatForm::Map(pairs) => {
             for pair in pairs.as_slice() {
-                parts.add(Part::Expression(&pair.key))?;
-                parts.add(Part::Text(b":="))?;
-                parts.add(Part::Pattern(&pair.value))?;
+                parts.add(Written::Expression(&pair.key))?;
+                parts.add(Written::Text(b":="))?;
+                parts.add(Written::Pattern(&pair.value))?;
             }
             Ok(())
         }
         PatForm::Binary(segments) => {
             for segment in segments.as_slice() {
-                parts.add(Part::Text(b"<"))?;
-                parts.add(Part::Pattern(&segment.value))?;
-                parts.add(Part::Text(b">"))?;
+                parts.add(Written::Text(b"<"))?;
+                parts.add(Written::Pattern(&segment.value))?;
+                parts.add(Written::Text(b">"))?;
                 all(&segment.args, parts)?;
             }
             Ok(())
         }
-        PatForm::Alias(_, inner) => parts.add(Part::Pattern(inner.get())),
+        PatForm::Alias(_, inner) => parts.add(Written::Pattern(inner.get())),
         _ => Ok(()),
     }
 }
 
 // A text and an expression.
 fn two<'a>(text: &'a [u8], e: &'a Expr, parts: &mut Parts<'a>) -> Result<(), Memory> {
-    parts.add(Part::Text(text))?;
-    parts.add(Part::Expression(e))
+    parts.add(Written::Text(text))?;
+    parts.add(Written::Expression(e))
 }
 
 fn all<'a>(items: &'a List<Expr>, parts: &mut Parts<'a>) -> Result<(), Memory> {
     for item in items.as_slice() {
-        parts.add(Part::Expression(item))?;
+        parts.add(Written::Expression(item))?;
     }
     Ok(())
 }
 
 fn patterns<'a>(items: &'a List<Pattern>, parts: &mut Parts<'a>) -> Result<(), Memory> {
     for item in items.as_slice() {
-        parts.add(Part::Pattern(item))?;
+        parts.add(Written::Pattern(item))?;
     }
     Ok(())
 }
 
 fn clauses<'a>(items: &'a List<Clause>, parts: &mut Parts<'a>) -> Result<(), Memory> {
     for item in items.as_slice() {
-        parts.add(Part::Clause(item))?;
+        parts.add(Written::Clause(item))?;
     }
     Ok(())
 }
