@@ -1,5 +1,5 @@
 -- Worked examples of the rules: what expressions and modules break.
-use Rattle.std.proofs.Common.{◌≡◌, ℕ, [], ◌∷◌, refl, None, false, codes}
+use Rattle.std.proofs.Common.{◌≡◌, ℕ, [], ◌∷◌, refl, None, Some, false, codes}
 use Rattle.type_kinds.specs.declared.atom.Atom.{Atom}
 use Rattle.type_kinds.specs.declared.place.Place.{Place}
 use Rattle.core_ast.specs.declared.syntax.Mark.{Mark}
@@ -15,6 +15,7 @@ use Rattle.core_scope.specs.Names.{Scope}
 use Rattle.core_scope.specs.Asks.{one_value, function_name}
 use Rattle.core_scope.specs.Breaks.{breaks, clause_breaks, module_breaks}
 use Rattle.core_scope.specs.Labels.{labels, labels_of_steps}
+use Rattle.core_scope.specs.Functions.{labelled_function, functions, functions_of_clauses}
 use Rattle.core_scope.specs.Places.{StandsIn}
 use Rattle.core_scope.specs.Places.Piece.{expression, clauses}
 use Rattle.core_scope.specs.Places.HasPart.{letrec_definitions, letrec_body, first_expression, clause_patterns, definition_body, binary_patterns, first_pattern, pattern_arguments}
@@ -162,6 +163,21 @@ labels_of_a_case = refl
 -- Steps have labels of their own, and what stands twice is listed twice.
 labels_of_two_steps : labels_of_steps (m.and_let (labelled 7 (at 0)) (named 4 x ∷ []) (f 8) (m.and_do (labelled 7 (at 20)) (f 23) m.no_step)) ≡ 7 ∷ 0 ∷ 7 ∷ 0 ∷ []
 labels_of_two_steps = refl
+
+-- ---- functions by label
+
+-- letrec 'f'/0 = fun () -> fun (X) -> X in 'f'/0: the definition first, then the fun in it, each with its own label.
+functions_of_a_letrec :
+    functions (m.letrec (labelled 1 (at 0)) (m.and_def (function_name (codes "f") 0) (labelled 2 (at 15)) [] (m.function (labelled 3 (at 25)) (named 30 x ∷ []) (var 36 x)) m.no_def) (f 40))
+    ≡ labelled_function (labelled 2 (at 15)) (Some (function_name (codes "f") 0)) [] (m.function (labelled 3 (at 25)) (named 30 x ∷ []) (var 36 x))
+    ∷ labelled_function (labelled 3 (at 25)) None (named 30 x ∷ []) (var 36 x) ∷ []
+functions_of_a_letrec = refl
+
+-- The guard of a clause and the arguments of its patterns count too.
+functions_of_a_clause :
+    functions_of_clauses (one_clause (one_pattern (m.binary_of (at 11) (m.and_pat_segment (m.binds (at 14) x) (only (m.function (labelled 5 (at 17)) [] (atom 25 y))) m.no_pat_segment))) (m.function (labelled 6 (at 40)) [] (atom 45 y)) (var 50 x))
+    ≡ labelled_function (labelled 5 (at 17)) None [] (atom 25 y) ∷ labelled_function (labelled 6 (at 40)) None [] (atom 45 y) ∷ []
+functions_of_a_clause = refl
 
 -- ---- what stands in a module
 

@@ -1,5 +1,5 @@
 -- The walk through expressions: what each way out of it says.
-use Rattle.std.proofs.Common.{◌≡◌, ℕ, List, [], ◌++◌, Option, None, Some, Result, Ok, Err, OnOk, length, refl, sym, ap, ◌∙◌, subst}
+use Rattle.std.proofs.Common.{◌≡◌, ℕ, List, [], ◌++◌, Option, None, Some, Result, Ok, Err, OnOk, length, refl, sym, ap, ◌∙◌, subst, ◌⊎◌, inl, inr}
 use Rattle.type_kinds.specs.declared.atom.Atom.{Atom}
 use Rattle.type_kinds.specs.declared.memory.Memory.{Memory}
 use Rattle.core_ast.specs.declared.syntax.FunName.{FunName}
@@ -72,6 +72,10 @@ module _ (w0 w1 : Walk) (k : Ask) (e : Expr) (tested : w1 ≡ noting w0 (degree 
 
   pub literal_exit : (x : Literal) → e.form ≡ f.Lit x → w1 ≡ noting w0 (breaks (scope_of w0) k (tree e))
   literal_exit x is = tested ∙ ap (noting w0) (let P : m.Tree → Type 0 = λ t. own t ≡ whole t in subst P (sym (literal_tree e x is)) refl)
+
+  pub constant_exit : ((x : Atom) × (y : FunName) × (e.form ≡ f.External x y)) ⊎ ((x : Literal) × (e.form ≡ f.Lit x)) → w1 ≡ noting w0 (breaks (scope_of w0) k (tree e))
+  constant_exit (inl (x, y, is)) = external_exit x y is
+  constant_exit (inr (x, is)) = literal_exit x is
 
   pub new_map_exit : (ps qs : List MapPair) (o : Option Expr) (w2 : Walk) → e.form ≡ f.Map ps o → qs ≡ ps → w2 ≡ noting w1 (pair_breaks (scope_of w1) (all_pairs qs)) → o ≡ None → w2 ≡ noting w0 (breaks (scope_of w0) k (tree e))
   new_map_exit ps qs o w2 is pairs_are a none =

@@ -1,5 +1,5 @@
 -- The table of bound names: what each of its steps keeps.
-use Rattle.std.proofs.Common.{◌≡◌, ℕ, zero, suc, ◌+◌, ◌-◌, ◌<◌, ◌≤◌, ◌⊎◌, inl, inr, ◌||◌, List, [], ◌∷◌, ◌++◌, take, drop, refl, sym, ap, ◌∙◌, subst, Bool, true, false, cond, length, get_or, Option, Some, None, slice_get, slice_index_or, slice_set, position, eqb, eqb-true, eq-eqb, ltb, arith, length-append}
+use Rattle.std.proofs.Common.{◌≡◌, ℕ, zero, suc, ◌+◌, ◌-◌, ◌<◌, ◌≤◌, ◌⊎◌, inl, inr, ◌||◌, List, [], ◌∷◌, ◌++◌, take, drop, refl, sym, ap, ◌∙◌, subst, Bool, true, false, cond, length, get_or, Option, Some, None, slice_get, slice_index_or, slice_set, position, Result, Ok, Err, OnErr, eqb, eqb-true, eq-eqb, ltb, arith, length-append}
 use Rattle.std.specs.List.{list_any}
 use Rattle.std.specs.Borrow.{Bor}
 use Rattle.std.specs.Option.{option_copied}
@@ -90,6 +90,11 @@ pub fails_at : {X : Type 0} (p : X → Bool) (xs : List X) (i : ℕ) (x : X) →
 fails_at {X} p [] i x failing is = absurd (let n = slice_get_past {X = X} [] i (omega arith) in cc)
 fails_at p (y ∷ ys) zero x failing is = let e : y ≡ x = cc in ap p (sym e) ∙ (either_fails (p y) (list_any p ys) failing).0
 fails_at p (y ∷ ys) (suc i) x failing is = fails_at p ys i x (either_fails (p y) (list_any p ys) failing).1 is
+
+-- what holds whatever the answer is
+pub on_err : {X E P : Type 0} (r : Result X E) → P → OnErr r P
+on_err (Ok x) p = tt
+on_err (Err e) p = p
 
 -- ---- what a table keeps
 
@@ -343,19 +348,17 @@ module _ {T : Type 0} (eq : T → T → Bool) (q : IsEquivalence eq) where
   pub names_with : (keys more : List T) (last : List ℕ) (bound : List Binding) (names : List T) (b : Binding) (k : T) → IsTable eq keys last bound → MaybeNewKey eq keys more → bound_names keys bound ≡ names → slice_get more b.number ≡ Some k → bound_names more (bound ++ b ∷ []) ≡ names ++ k ∷ []
   names_with keys more last bound names b k table maybe view found = one_more eq q more (length last) [] bound b k found ∙ ap (λ ns. ns ++ k ∷ []) (still_names keys more last bound table maybe ∙ view)
 
-  -- the number of a name that is a key
-  pub numbered_known : (keys : List T) (name : T) (number : ℕ) → position (eq name) keys ≡ Some number → (k : T) × (slice_get keys number ≡ Some k) × (eq name k ≡ true)
-  numbered_known keys name number at = let found = position-Some (eq name) keys number name at in (get_or keys number name, slice_get-get_or keys number name found.0, found.1)
+  -- the number of a name that is a key, where names that are equal are the same
+  pub numbered_known : ((x y : T) → eq x y ≡ true → x ≡ y) → (keys : List T) (name : T) (number : ℕ) → position (eq name) keys ≡ Some number → slice_get keys number ≡ Some name
+  numbered_known is_same keys name number at =
+      let found = position-Some (eq name) keys number name at in
+      slice_get-get_or keys number name found.0 ∙ sym (ap Some (is_same name (get_or keys number name) found.1))
 
-  pub numbered_new : (keys : List T) (name copy : T) (number : ℕ) → copy ≡ name → number ≡ length keys → (k : T) × (slice_get (keys ++ copy ∷ []) number ≡ Some k) × (eq name k ≡ true)
-  numbered_new keys name copy number same is = (copy, ap (slice_get (keys ++ copy ∷ [])) is ∙ get_seam keys copy, ap (eq name) same ∙ q.refl name)
-
-  pub inserted : (keys more : List T) (name copy : T) (number : ℕ) → copy ≡ name → list_any (eq name) keys ≡ false → number ≡ length keys → more ≡ insert_key eq keys copy → (k : T) × (slice_get more number ≡ Some k) × (eq name k ≡ true)
+  pub inserted : (keys more : List T) (name copy : T) (number : ℕ) → copy ≡ name → list_any (eq name) keys ≡ false → number ≡ length keys → more ≡ insert_key eq keys copy → slice_get more number ≡ Some name
   inserted keys more name copy number same none is ins =
       let test : list_any (eq copy) keys ≡ false = ap (λ x. list_any (eq x) keys) same ∙ none in
       let all : more ≡ keys ++ copy ∷ [] = ins ∙ ap (λ b. cond b keys (keys ++ copy ∷ [])) test in
-      let P : List T → Type 0 = λ ks. (k : T) × (slice_get ks number ≡ Some k) × (eq name k ≡ true) in
-      subst P (sym all) (numbered_new keys name copy number same is)
+      ap (λ ks. slice_get ks number) all ∙ ap (slice_get (keys ++ copy ∷ [])) is ∙ get_seam keys copy ∙ ap Some same
 
   -- the steps of a binding
   pub roomy : (keys more : List T) (last room : List ℕ) (bound : List Binding) (k : T) (number : ℕ) → IsTable eq keys last bound → MaybeNewKey eq keys more → slice_get more number ≡ Some k

@@ -17,6 +17,7 @@ use Rattle.core_scope.specs.declared.fault.ScopeRule.{ScopeRule}
 use Rattle.core_scope.specs.Names.{Distinct, same_atom, same_function, has_function, defined_names, Scope}
 use Rattle.core_scope.specs.Asks.{gives, suffices}
 use Rattle.core_scope.specs.Breaks.{unless, degree, use_of_variable, use_of_function, new_functions, arity_of, width_of, catches, module_breaks}
+use Rattle.core_scope.specs.steps.SameNames.{atoms_same, functions_same}
 
 pub open_two : {X : Type 0} (a b : List X) → a ++ b ≡ [] → (a ≡ []) × (b ≡ [])
 open_two [] b e = (refl, e)
@@ -46,27 +47,16 @@ negated : (b : Bool) → not b ≡ true → b ≡ false
 negated true e = absurd cc
 negated false e = refl
 
-both_true : (s t : Bool) → (s && t) ≡ true → (s ≡ true) × (t ≡ true)
-both_true true t h = (refl, h)
-both_true false t h = absurd cc
-
-same_function-is : (f g : FunName) → same_function f g ≡ true → f ≡ g
-same_function-is f g h =
-    let b = both_true (same_atom f.name g.name) (nat_eq f.arity g.arity) h in
-    let n : f.name ≡ g.name = (bytes_decides f.name g.name).0 b.0 in
-    let a : f.arity ≡ g.arity = eqb-true f.arity g.arity b.1 in
-    λ i. record { name = n i; arity = a i }
-
 same_function-itself : (f : FunName) → same_function f f ≡ true
 same_function-itself f = ap (λ s. s && nat_eq f.arity f.arity) ((bytes_decides f.name f.name).1 refl) ∙ eq-eqb f.arity f.arity refl
 
 -- A variable in an expression is bound.
 pub variable_is_bound : (s : Scope) (x : Atom) (place : Place) → use_of_variable s x place ≡ [] → Contains s.variables x
-variable_is_bound s x place e = Contains-list_any same_atom (λ a b h. (bytes_decides a b).0 h) s.variables x (holds _ _ place e)
+variable_is_bound s x place e = Contains-list_any same_atom atoms_same s.variables x (holds _ _ place e)
 
 -- A function's name in an expression is defined.
 pub function_is_defined : (s : Scope) (f : FunName) (place : Place) → use_of_function s f place ≡ [] → Contains s.functions f
-function_is_defined s f place e = Contains-list_any same_function same_function-is s.functions f (holds _ _ place e)
+function_is_defined s f place e = Contains-list_any same_function functions_same s.functions f (holds _ _ place e)
 
 -- An expression satisfies its place.
 pub place_is_satisfied : (k : Ask) (i : Mark) (t : m.Tree) → degree k i t ≡ [] → suffices k (gives t) ≡ true

@@ -38,9 +38,12 @@ rule_number DistinctFunctions = 11
 rule_number DefinedExports = 12
 rule_number Degrees = 13
 
--- One break comes before another: at an earlier place, or at its place with a lower number.
+-- One break comes before another: at an earlier byte, or at its byte on an earlier line, or at its place with a
+-- lower number. In a text each byte has one line; the order goes by both, so that it is total on all places.
 abbrev pub IsBefore : Break → Break → Type 0
-IsBefore a b = (a.place.byte < b.place.byte) ⊎ ((a.place.byte ≡ b.place.byte) × (rule_number a.rule < rule_number b.rule))
+IsBefore a b =
+    (a.place.byte < b.place.byte)
+    ⊎ ((a.place.byte ≡ b.place.byte) × ((a.place.line < b.place.line) ⊎ ((a.place.line ≡ b.place.line) × (rule_number a.rule < rule_number b.rule))))
 
 -- The module breaks this, and nothing before it.
 pub record FirstBreak (x : m.Module) (b : Break) : Type 0 where

@@ -5,5 +5,6 @@ pub mod Accepted
 pub mod Checked
 pub mod Sets
 pub mod Labels
+pub mod Functions
 pub mod Places
 pub mod steps

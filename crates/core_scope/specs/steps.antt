@@ -1,3 +1,5 @@
 pub mod State
 pub mod Trail
 pub mod Run
+pub mod SameNames
+pub mod Picked

@@ -1,13 +1,15 @@
 //! What holds of every accepted module, as functions that do nothing: who calls one has its clauses.
-ghost use Rattle.std.specs.Prelude.{List, [], length, true, ◌≡◌, ◌⊎◌};
-ghost use Rattle.core_scope.specs.Accepted.{IsAccepted};
+ghost use Rattle.std.specs.Prelude.{Contains, List, [], length, true, ◌≡◌, ◌⊎◌};
+ghost use Rattle.core_scope.specs.Accepted.{FirstBreak, IsAccepted};
 ghost use Rattle.core_scope.specs.Checked.{tree_of};
+ghost use Rattle.core_scope.specs.Functions.{LabelledFunction, function_labels, functions_of};
 ghost use Rattle.core_scope.specs.Labels.{CountFromZero, labels_of};
 ghost use Rattle.core_scope.specs.Asks.{gives, suffices, width};
 ghost use Rattle.core_scope.specs.Names.{Distinct, Scope, defined_names, has_function, has_variable};
 ghost use Rattle.core_scope.specs.Places.{HaveArity, HaveWidth, Piece, StandsInModule, piece_breaks};
 ghost use Rattle.core_scope.specs.Places.Piece.{expression};
 ghost use Rattle.core_scope.specs.declared.ask.Ask.{Ask};
+ghost use Rattle.core_scope.specs.declared.fault.Break.{Break};
 ghost use Rattle.core_ast.specs.Model as m;
 ghost use Rattle.core_ast.specs.declared.syntax.FunName.{FunName};
 ghost use Rattle.core_ast.specs.declared.syntax.Mark.{Mark};
@@ -22,11 +24,24 @@ pub fn checked_laws()
     ensures once { (c : Checked) → Distinct (defined_names (tree_of c).defs) }
 {}
 
+/// A module has at most one first break.
+pub fn first_break_once()
+    ensures { (x : m.Module) (b c : Break) → FirstBreak x b → FirstBreak x c → b ≡ c }
+{}
+
 /// The labels of a `Checked` are 0, 1, 2 and so on in the order of the text, so no label stands twice.
 #[tactic(auto, using(crate::proofs::LabelLaws::label_laws))]
 pub fn labels_are_distinct()
     ensures counted { (c : Checked) → CountFromZero (tree_of c) }
     ensures once { (c : Checked) → Distinct (labels_of (tree_of c)) }
+{}
+
+/// A label names one function of a `Checked`: its functions, each fun and each definition of a `letrec` and of the
+/// module, have distinct labels, which are among those of its nodes.
+pub fn functions_by_label()
+    ensures once { (c : Checked) (f g : LabelledFunction) → Contains (functions_of (tree_of c)) f → Contains (functions_of (tree_of c)) g → f.label ≡ g.label → f ≡ g }
+    ensures distinct { (c : Checked) → Distinct (function_labels (functions_of (tree_of c))) }
+    ensures among { (c : Checked) (f : LabelledFunction) → Contains (functions_of (tree_of c)) f → Contains (labels_of (tree_of c)) f.label }
 {}
 
 /// What the rules ask of a piece holds of every piece that stands in the module of a `Checked`, at any depth.

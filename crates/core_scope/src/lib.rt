@@ -18,5 +18,8 @@ pub use checked::{AsChecked, Checked, discard_checked};
 pub use checking::check;
 pub use degrees::MOST_ASKED;
 pub use fault::{Break, ScopeFault, ScopeRule, SetFault};
-pub use laws::{checked_laws, labels_are_distinct, places_are_sound};
+pub use laws::{
+    checked_laws, first_break_once, functions_by_label, labels_are_distinct, places_are_sound,
+};
+pub use names::{Name, Names};
 pub use sets::check_set;

@@ -1,4 +1,4 @@
-ghost use Rattle.std.specs.Prelude.{◌≡◌, ℕ, ◌-◌, ◌≤◌, ◌<◌, [], ◌∷◌, ◌++◌, true, length, take, drop, slice_get, slice_index_or, Some, IfOk, OnOk};
+ghost use Rattle.std.specs.Prelude.{◌≡◌, ℕ, ◌-◌, ◌≤◌, ◌<◌, [], ◌∷◌, ◌++◌, true, length, take, drop, slice_get, slice_index_or, Some, IfOk, OnOk, OnErr};
 ghost use Rattle.std.specs.List.{list_any};
 ghost use Rattle.core_scope.specs.steps.Trail.{MaybeNewKey};
 
@@ -9,23 +9,34 @@ use std::hash::Hash;
 use std::marker::Model;
 use type_kinds::{Atom, List, Memory};
 
-/// A name that can be bound.
+/// A name that can be kept in a `Names`: a variable, or a function with its arity.
 pub trait Name: Eq + Hash + Drop {
-    /// A second name, equal to the first.
+    /// A second value of the same name. `Memory` if allocation fails.
     fn copied(&self, alloc: Global) -> Result<Self, Memory>
         ensures { IfOk result (λ copy. copy ≡ self.now) };
+
+    // names that are equal by `==` are the same value
+    ghost same: { (a b : Self) → Self.eq a b ≡ true → a ≡ b };
 }
 
 impl Name for Atom {
+    ghost use Rattle.core_scope.specs.steps.SameNames.{atoms_same};
+
     fn copied(&self, alloc: Global) -> Result<Atom, Memory> {
         self.copy(alloc)
     }
+
+    ghost same = { atoms_same };
 }
 
 impl Name for FunName {
+    ghost use Rattle.core_scope.specs.steps.SameNames.{functions_same};
+
     fn copied(&self, alloc: Global) -> Result<FunName, Memory> {
         self.copy(alloc)
     }
+
+    ghost same = { functions_same };
 }
 
 /// One binding of a name.
@@ -37,8 +48,9 @@ pub struct Binding {
     pub before: usize,
 }
 
-/// The names that are bound now, the outer before the inner. One name may be bound several times.
-/// Contracts see the list of them; a look-up is one in a hash table.
+/// The names that are bound now, in the order in which they were bound: the outer before the inner. One name
+/// may be bound several times. A look-up is one in a hash table, however many names are bound. Contracts see the
+/// list of the names.
 #[derive(Drop)]
 pub struct Names<T: Name> {
     alloc: Global,
@@ -74,14 +86,14 @@ impl<T: Name> Names<T> {
         }
     }
 
-    /// How many names are bound.
+    /// How many names are bound, each as often as it is.
     pub fn len(&self) -> usize
         ensures { result ≡ length self.now }
     {
         self.bound.len()
     }
 
-    /// Whether the name is bound, and was bound when there were at least `from` names.
+    /// Whether the name is among those that were bound after the first `from` of them.
     pub fn has_since(&self, from: usize, name: &T) -> bool
         ensures { result ≡ list_any (T.eq name.now) (drop from self.now) }
     {
@@ -98,9 +110,10 @@ impl<T: Name> Names<T> {
         self.has_since(0, name)
     }
 
-    /// Binds a name, or one that is equal to it.
+    /// Binds a name, behind all others. `Memory` if allocation fails; then the same names are bound as before.
     pub fn push(&mut self, name: &T) -> Result<(), Memory>
-        ensures { OnOk result ((key : T) × (T.eq name.now key ≡ true) × (self.new ≡ self.old ++ key ∷ [])) }
+        ensures bound { OnOk result (self.new ≡ self.old ++ name.now ∷ []) }
+        ensures unchanged { OnErr result (self.new ≡ self.old) }
     {
         let number = number_of(self.alloc, &mut self.numbers, name)?;
         make_room(&mut self.last, number)?;
@@ -120,7 +133,7 @@ impl<T: Name> Names<T> {
         }
     }
 
-    /// Ends bindings from the innermost on, until `len` are left.
+    /// Ends bindings, the innermost first, until `len` are left. A name stays bound that was bound before them too.
     pub fn leave(&mut self, len: usize)
         requires { len ≤ length self.old }
         ensures { self.new ≡ take len self.old }
@@ -134,7 +147,7 @@ impl<T: Name> Names<T> {
 // The number of a name, which becomes a key where none is equal to it.
 fn number_of<T: Name>(alloc: Global, numbers: &mut IndexSet<T>, name: &T) -> Result<usize, Memory>
     ensures keys { MaybeNewKey T.eq numbers.old.keys numbers.new.keys }
-    ensures number { IfOk result (λ number. (key : T) × (slice_get numbers.new.keys number ≡ Some key) × (T.eq name.now key ≡ true)) }
+    ensures number { IfOk result (λ number. slice_get numbers.new.keys number ≡ Some name.now) }
 {
     match numbers.get_index_of(name) {
         Some(number) => Ok(number),

@@ -47,8 +47,11 @@ impl Break {
     fn is_before(self, other: Break) -> bool
         ensures { result ≡ is_before self other }
     {
-        self.place.byte < other.place.byte
-            || (self.place.byte == other.place.byte && self.rule.number() < other.rule.number())
+        let (here, there) = (self.place, other.place);
+        here.byte < there.byte
+            || (here.byte == there.byte
+                && (here.line < there.line
+                    || (here.line == there.line && self.rule.number() < other.rule.number())))
     }
 }
 

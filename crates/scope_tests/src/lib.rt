@@ -1,6 +1,9 @@
-//! Tests of scopes and degrees: modules that break one rule, two, or none, and sets of modules.
+//! Tests of scopes and degrees: modules that break one rule, two, or none, sets of modules, and names in
+//! the hands of another crate.
 #![tactic(auto)]
 
+#[cfg(test)]
+mod kept_names;
 #[cfg(test)]
 mod marked;
 #[cfg(test)]

@@ -1,10 +1,12 @@
+use crate::kept_names::{is_kept, is_kept_beside};
 use crate::marked::{checked, numbered, unmarked};
 use crate::tables::{CLAUSES, DEGREES, FUNCTIONS, MODULES, REPEATED, TWO, VARIABLES};
-use core_scope::{SetFault, check_set, discard_checked};
+use core_ast::FunName;
+use core_scope::{Names, SetFault, check_set, discard_checked};
 use std::alloc::Global;
 use std::process::Abort;
 use std::test::Fail;
-use type_kinds::List;
+use type_kinds::{Atom, List, Memory};
 
 // what stands before a body and behind it
 const FRONT: &[u8] = b"module 'm' ['f'/0] attributes []\n'g'/1 = fun (X) -> X\n'f'/0 = fun () ->\n";
@@ -127,5 +129,41 @@ fn names_of_modules_are_distinct(rt: HostRuntime) -> Result<(), Fail> {
         };
         assert!(rt; got == want, "{got:?} at {names:?}");
     }
+    Ok(())
+}
+
+fn function(alloc: Global, arity: u32) -> Result<FunName, Memory> {
+    Ok(FunName {
+        name: Atom::new(alloc, b"f")?,
+        arity,
+    })
+}
+
+#[test]
+fn a_name_is_bound_as_long_as_its_first_binding(rt: HostRuntime) -> Result<(), Fail> {
+    let first = function(rt.alloc(), 1)?;
+    let second = function(rt.alloc(), 2)?;
+    let mut names = Names::new(rt.alloc());
+    assert!(rt; !is_kept(&names, &first), "nothing is bound");
+    names.push(&first)?;
+    names.push(&second)?;
+    names.push(&first)?;
+    assert!(rt; names.len() == 3, "each binding counts");
+    assert!(rt;
+        names.has_since(2, &first) && !names.has_since(2, &second),
+        "only the last is behind two"
+    );
+    names.leave(1);
+    assert!(rt;
+        is_kept(&names, &first) && !is_kept(&names, &second),
+        "the first stays"
+    );
+    let beside = is_kept_beside(&mut names, &second, &second)?;
+    assert!(rt;
+        beside && !is_kept(&names, &second),
+        "the second is there for a while"
+    );
+    names.leave(0);
+    assert!(rt; !is_kept(&names, &first), "nothing is left");
     Ok(())
 }

@@ -3,7 +3,7 @@ use Rattle.core_ast.specs.Tree.{tree}
 use Rattle.core_scope.specs.Names.{bound_by}
 use Rattle.core_scope.specs.Breaks.{new_variables, breaks}
 use Rattle.core_scope.proofs.PatternExits.{patterns_round, pat_pairs_round, pat_segments_round}
-use Rattle.core_scope.proofs.ExpressionExits.{variable_exit, local_exit, new_map_exit, updated_map_exit}
+use Rattle.core_scope.proofs.ExpressionExits.{variable_exit, local_exit, constant_exit, new_map_exit, updated_map_exit}
 use Rattle.core_scope.proofs.WalkExits.{let_exit, do_exit, all_round, pairs_round, segments_round, clauses_round, defs_round, steps_round, under_exit, chain_exit, letrec_exit, try_parts_exit, clause_exit}
 use Rattle.core_scope.proofs.+scope.Goals as goal
 use Rattle.core_scope.proofs.+scope.Goals.{expressions::walk_steps-in-Let+in_ok-walk_expression-in-Let+in_ok-bind_all-in-Let, expressions::walk_steps-in-Do+in_ok-walk_expression-in-Do}
@@ -28,6 +28,12 @@ expressions::walk_expression-returns-in-Var t c = variable_exit c.args.walk.now 
 
 pub expressions::walk_expression-returns-in-Local : goal.expressions::walk_expression-returns-in-Local
 expressions::walk_expression-returns-in-Local t c = local_exit c.args.walk.now c.degree.new.self c.args.ask c.args.expr.now c.degree.ensures c.in-Local.name c.use_function.new.self c.in-Local.is c.use_function.ensures
+
+pub expressions::walk_expression-returns-in-External : goal.expressions::walk_expression-returns-in-External
+expressions::walk_expression-returns-in-External t c = constant_exit c.args.walk.now c.degree.new.self c.args.ask c.args.expr.now c.degree.ensures c.in-External.is
+
+pub expressions::walk_expression-returns-in-External-2 : goal.expressions::walk_expression-returns-in-External-2
+expressions::walk_expression-returns-in-External-2 t c = constant_exit c.args.walk.now c.degree.new.self c.args.ask c.args.expr.now c.degree.ensures c.in-External.is
 
 pub expressions::walk_expression-returns-in_ok-walk_expression-in-Chain : goal.expressions::walk_expression-returns-in_ok-walk_expression-in-Chain
 expressions::walk_expression-returns-in_ok-walk_expression-in-Chain t c =

@@ -9,7 +9,9 @@ use Rattle.core_scope.specs.Accepted.{rule_number}
 
 -- One break comes before another, as a test.
 abbrev pub is_before : Break → Break → Bool
-is_before a b = ltb a.place.byte b.place.byte || (eqb a.place.byte b.place.byte && ltb (rule_number a.rule) (rule_number b.rule))
+is_before a b =
+    ltb a.place.byte b.place.byte
+    || (eqb a.place.byte b.place.byte && (ltb a.place.line b.place.line || (eqb a.place.line b.place.line && ltb (rule_number a.rule) (rule_number b.rule))))
 
 -- The first of what was found before and one break more.
 abbrev pub earlier : Option Break → Break → Option Break

@@ -1,7 +1,7 @@
 use Rattle.std.proofs.Common.{sym, ◌∙◌}
 use Rattle.core_ast.specs.Tree.{module_tree}
 use Rattle.core_scope.specs.Breaks.{module_breaks}
-use Rattle.core_scope.proofs.CheckExits.{first_is, none_broken}
+use Rattle.core_scope.proofs.FirstBreaks.{first_is, none_broken}
 use Rattle.core_scope.proofs.checking.check.Goals as goal
 
 pub accept-requires-clause-sound : goal.accept-requires-clause-sound
