@@ -1,0 +1,11 @@
+mod Examples
+mod Notes
+mod ExpressionExits
+mod PatternExits
+mod Rounds
+mod Lookups
+mod DistinctKeys
+mod Tables
+mod Built
+mod CalledFunctions
+mod GraphRounds

@@ -1,0 +1,62 @@
+-- The state of the walk: what steps one after another come to.
+use Rattle.std.proofs.Common.{◌≡◌, ℕ, List, [], ◌∷◌, ◌++◌, Result, Ok, Err, OnOk, refl, sym, ap, ◌∙◌}
+use Rattle.type_kinds.specs.declared.atom.Atom.{Atom}
+use Rattle.type_kinds.specs.declared.memory.Memory.{Memory}
+use Rattle.core_ast.specs.declared.syntax.FunName.{FunName}
+use Rattle.call_graph.specs.declared.table.FunctionTable.{FunctionTable}
+use Rattle.call_graph.specs.declared.walk.CallWalk.{CallWalk}
+use Rattle.call_graph.specs.Targets.{CallTarget}
+use Rattle.call_graph.specs.steps.Walking.{callee, callees, noting}
+
+pub append_assoc : {X : Type 0} (xs ys zs : List X) → (xs ++ ys) ++ zs ≡ xs ++ (ys ++ zs)
+append_assoc [] ys zs = refl
+append_assoc (x ∷ xs) ys zs = ap (λ l. x ∷ l) (append_assoc xs ys zs)
+
+pub append_nil : {X : Type 0} (xs : List X) → xs ++ [] ≡ xs
+append_nil [] = refl
+append_nil (x ∷ xs) = ap (λ l. x ∷ l) (append_nil xs)
+
+pub callees-append : (table : FunctionTable) (home : Atom) (ps qs : List CallTarget) → callees table home (ps ++ qs) ≡ callees table home ps ++ callees table home qs
+callees-append table home [] qs = refl
+callees-append table home (p ∷ ps) qs = ap (λ l. callee table home p ++ l) (callees-append table home ps qs) ∙ sym (append_assoc (callee table home p) (callees table home ps) (callees table home qs))
+
+abbrev pub with_callees : CallWalk → List ℕ → CallWalk
+with_callees w ns = record w { callees = ns }
+
+abbrev pub with_locals : CallWalk → List FunName → CallWalk
+with_locals w fs = record w { locals = fs }
+
+-- Targets met one after another.
+pub noted_twice : (w : CallWalk) (ps qs : List CallTarget) → noting (noting w ps) qs ≡ noting w (ps ++ qs)
+noted_twice w ps qs = ap (with_callees w) (append_assoc w.callees (callees w.table w.home ps) (callees w.table w.home qs) ∙ ap (λ l. w.callees ++ l) (sym (callees-append w.table w.home ps qs)))
+
+pub noted_none : (w : CallWalk) → w ≡ noting w []
+noted_none w = sym (ap (with_callees w) (append_nil w.callees))
+
+-- One target met.
+pub noted_one : (w : CallWalk) (t : CallTarget) → with_callees w (w.callees ++ callee w.table w.home t) ≡ noting w (t ∷ [])
+noted_one w t = ap (λ l. with_callees w (w.callees ++ l)) (sym (append_nil (callee w.table w.home t)))
+
+-- ---- steps one after another
+
+abbrev pub Answer : Type 0
+Answer = Result (Unit {0}) Memory
+
+pub on_ok : (r : Answer) {A B : Type 0} → (A → B) → OnOk r A → OnOk r B
+on_ok (Ok x) f h = f h
+on_ok (Err x) f h = tt
+
+-- What a part has, by the names of the `letrec` functions around it.
+abbrev pub Part : Type 0
+Part = List FunName → List CallTarget
+
+-- A part, behind others.
+pub next_step : (w0 w1 w2 : CallWalk) (before : List CallTarget) (part : Part) → w1 ≡ noting w0 before → w2 ≡ noting w1 (part w1.locals) → w2 ≡ noting w0 (before ++ part w0.locals)
+next_step w0 w1 w2 before part one two = two ∙ ap (λ w. noting w (part w.locals)) one ∙ noted_twice w0 before (part w0.locals)
+
+pub last_step : (r : Answer) (w0 w1 w2 : CallWalk) (before : List CallTarget) (part : Part) → w1 ≡ noting w0 before → OnOk r (w2 ≡ noting w1 (part w1.locals)) → OnOk r (w2 ≡ noting w0 (before ++ part w0.locals))
+last_step r w0 w1 w2 before part one = on_ok r (λ two. next_step w0 w1 w2 before part one two)
+
+-- One round of a loop: what is met here, and what is left.
+pub round : (w w1 goal : CallWalk) (here rest whole : Part) → w1 ≡ noting w (here w.locals) → whole w.locals ≡ here w.locals ++ rest w.locals → noting w (whole w.locals) ≡ goal → noting w1 (rest w1.locals) ≡ goal
+round w w1 goal here rest whole step is before = ap (λ v. noting v (rest v.locals)) step ∙ noted_twice w (here w.locals) (rest w.locals) ∙ ap (noting w) (sym is) ∙ before

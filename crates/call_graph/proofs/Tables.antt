@@ -1,0 +1,187 @@
+-- A table whose entries are those of the functions of modules answers as it is to.
+use Rattle.std.proofs.Common.{◌≡◌, ℕ, zero, suc, ◌⊎◌, inl, inr, ◌||◌, ◌&&◌, Bool, true, false, if◌then◌else◌, List, [], ◌∷◌, Option, Some, None, Contains, length, map, slice_get, nat_eq, eqb-true, eq-eqb, refl, sym, ap, ◌∙◌, subst, arith}
+use Rattle.std.specs.List.{list_any}
+use Rattle.std.specs.Map.{lookup}
+use Rattle.std.specs.Cmp.Lexicographic.{bytes_decides}
+use Rattle.std.proofs.lemmas.List.Elements.{Contains-append_cases}
+use Rattle.indexmap.proofs.CallerLemmas.{Contains-list_any}
+use Rattle.type_kinds.specs.declared.atom.Atom.{Atom}
+use Rattle.core_ast.specs.declared.syntax.FunName.{FunName}
+use Rattle.core_ast.specs.Model as m
+use Rattle.core_scope.specs.Asks.{erlang}
+use Rattle.core_scope.specs.Names.{Distinct, same_atom, same_function, has_function}
+use Rattle.call_graph.specs.declared.keys.FunctionKey.{FunctionKey}
+use Rattle.call_graph.specs.declared.table.FunctionEntry.{FunctionEntry}
+use Rattle.call_graph.specs.declared.table.FunctionTable.{FunctionTable}
+use Rattle.call_graph.specs.declared.table.Resolved.TheVariants.{NotHandedIn, NotExported, Function}
+use Rattle.call_graph.specs.Calls.{ModuleFunction, functions_in, module_functions, functions_of}
+use Rattle.call_graph.specs.Tables.{key_of, same_key, entry_at, number_in, own_number, reached, resolved, IsReached, IsTableOf}
+use Rattle.call_graph.specs.steps.Building.{function_key, entry_of, numbered}
+use Rattle.call_graph.proofs.Lookups.{contains_first, contains_later, contains_cases, contains_none, both_true, Finds, look_up_finds, found_by_key, at_from, at_zero}
+use Rattle.call_graph.proofs.DistinctKeys.{names}
+
+-- ---- tests of names
+
+or_true : (a b : Bool) → b ≡ true → (a || b) ≡ true
+or_true true b e = refl
+or_true false b e = e
+
+any_contained : (xs : List Atom) (x : Atom) → Contains xs x → list_any (same_atom x) xs ≡ true
+any_contained [] x h = absurd (contains_none x h)
+any_contained (y ∷ ys) x h = elim (contains_cases y ys x h) [
+  | inl e ↦ ap (λ b. b || list_any (same_atom x) ys) ((bytes_decides x y).1 (sym e))
+  | inr c ↦ or_true (same_atom x y) (list_any (same_atom x) ys) (any_contained ys x c)
+]
+
+contained_any : (xs : List Atom) (x : Atom) → list_any (same_atom x) xs ≡ true → Contains xs x
+contained_any xs x h = Contains-list_any same_atom (λ a b e. (bytes_decides a b).0 e) xs x h
+
+other_atom : (x y : Atom) → same_atom x y ≡ false → x ≡ y → ⊥
+other_atom x y h e = absurd (let t : same_atom x y ≡ true = (bytes_decides x y).1 e in cc)
+
+not_same : (x y : Atom) → (x ≡ y → ⊥) → same_atom x y ≡ false
+not_same x y d = by (same_atom x y) refl
+  where
+    by : (b : Bool) → same_atom x y ≡ b → same_atom x y ≡ false
+    by true e = absurd (d ((bytes_decides x y).0 e))
+    by false e = e
+
+function_is : (f g : FunName) → same_function f g ≡ true → f ≡ g
+function_is f g h =
+    let b = both_true (same_atom f.name g.name) (nat_eq f.arity g.arity) h in
+    let n : f.name ≡ g.name = (bytes_decides f.name g.name).0 b.0 in
+    let a : f.arity ≡ g.arity = eqb-true f.arity g.arity b.1 in
+    λ i. record { name = n i; arity = a i }
+
+function_itself : (f : FunName) → same_function f f ≡ true
+function_itself f = ap (λ s. s && nat_eq f.arity f.arity) ((bytes_decides f.name f.name).1 refl) ∙ eq-eqb f.arity f.arity refl
+
+has_contained : (fs : List FunName) (f : FunName) → Contains fs f → has_function fs f ≡ true
+has_contained [] f h = absurd (contains_none f h)
+has_contained (g ∷ gs) f h = elim (contains_cases g gs f h) [
+  | inl e ↦ ap (λ b. b || has_function gs f) (subst (λ x. same_function f x ≡ true) (sym e) (function_itself f))
+  | inr c ↦ or_true (same_function f g) (has_function gs f) (has_contained gs f c)
+]
+
+contained_has : (fs : List FunName) (f : FunName) → has_function fs f ≡ true → Contains fs f
+contained_has fs f h = Contains-list_any same_function function_is fs f h
+
+-- ---- the homes of functions
+
+home_in : (home : Atom) (exports : List FunName) (ds : m.Defs) (g : ModuleFunction) → Contains (functions_in home exports ds) g → g.home ≡ home
+home_in home exports m.no_def g h = absurd (contains_none g h)
+home_in home exports (m.and_def f i xs t ds) g h = elim (contains_cases (record { home = home; exports = exports; name = f; mark = i; params = xs; body = t }) (functions_in home exports ds) g h) [
+  | inl e ↦ ap (λ x. x.home) (sym e)
+  | inr c ↦ home_in home exports ds g c
+]
+
+home_of : (xs : List m.Module) (g : ModuleFunction) → Contains (functions_of xs) g → Contains (names xs) g.home
+home_of [] g h = absurd (contains_none g h)
+home_of (x ∷ xs) g h = elim (Contains-append_cases (module_functions x) (functions_of xs) g h) [
+  | inl c ↦ subst (Contains (x.name ∷ names xs)) (sym (home_in x.name x.exports x.defs g c)) (contains_first x.name (names xs))
+  | inr c ↦ contains_later x.name (names xs) g.home (home_of xs g c)
+]
+
+at_contains : {X : Type 0} (xs : List X) (j : ℕ) (x : X) → slice_get xs j ≡ Some x → Contains xs x
+at_contains [] j x h = absurd cc
+at_contains (y ∷ ys) zero x h = subst (λ z. Contains (z ∷ ys) x) (let e : x ≡ y = cc in e) (contains_first x ys)
+at_contains (y ∷ ys) (suc j) x h = contains_later y ys x (at_contains ys j x h)
+
+-- ---- keys and answers
+
+named : (home : Atom) (f : FunName) (g : ModuleFunction) → function_key g ≡ key_of home f → (g.home ≡ home) × (g.name ≡ f)
+named home f g e = (ap (λ k. k.home) e, λ i. record { name = (e i).name; arity = (e i).arity })
+
+key_named : (home : Atom) (f : FunName) (g : ModuleFunction) → g.home ≡ home → g.name ≡ f → function_key g ≡ key_of home f
+key_named home f g h n = λ i. key_of (h i) (n i)
+
+exported_number : (e : FunctionEntry) (j : ℕ) → reached (Some e) ≡ Function j → (e.exported ≡ true) × (e.number ≡ j)
+exported_number e j h = by e.exported refl h
+  where
+    by : (b : Bool) → e.exported ≡ b → (if b then Function e.number else NotExported) ≡ Function j → (e.exported ≡ true) × (e.number ≡ j)
+    by true x h = (x, cc)
+    by false x h = absurd cc
+
+handed_in : (o : Option FunctionEntry) → reached o ≡ NotHandedIn → ⊥
+handed_in None h = absurd cc
+handed_in (Some e) h = by e.exported h
+  where
+    by : (b : Bool) → (if b then Function e.number else NotExported) ≡ NotHandedIn → ⊥
+    by true h = absurd cc
+    by false h = absurd cc
+
+-- ---- what a table answers
+
+module _ (xs : List m.Module) (table : FunctionTable) (entries : table.functions.entries ≡ numbered 0 (functions_of xs)) (once : Distinct (map function_key (functions_of xs)))
+    (modules : (h : Atom) → list_any (same_atom h) table.modules.keys ≡ list_any (same_atom h) (names xs)) where
+  found : (k : FunctionKey) (e : FunctionEntry) → entry_at table k ≡ Some e → Finds 0 (functions_of xs) k e
+  found k e h = look_up_finds 0 (functions_of xs) k e (ap (lookup (same_key k)) (sym entries) ∙ h)
+
+  place : (k : FunctionKey) (e : FunctionEntry) (r : Finds 0 (functions_of xs) k e) (j : ℕ) → e.number ≡ j → slice_get (functions_of xs) j ≡ Some r.function
+  place k e r j is = subst (λ i. slice_get (functions_of xs) i ≡ Some r.function) is (at_zero (functions_of xs) e.number r.function r.place)
+
+  there : (j : ℕ) (g : ModuleFunction) → slice_get (functions_of xs) j ≡ Some g → entry_at table (function_key g) ≡ Some (entry_of j g)
+  there j g h = ap (lookup (same_key (function_key g))) entries ∙ found_by_key 0 (functions_of xs) j g once (at_from 0 (functions_of xs) j j g (omega arith) h)
+
+  own_is : (home : Atom) (f : FunName) (j : ℕ) → own_number table home f ≡ Some j → (g : ModuleFunction) × (slice_get (functions_of xs) j ≡ Some g) × (g.home ≡ home) × (g.name ≡ f)
+  own_is home f j h = by (entry_at table (key_of home f)) refl h
+    where
+      by : (o : Option FunctionEntry) → entry_at table (key_of home f) ≡ o → number_in o ≡ Some j → (g : ModuleFunction) × (slice_get (functions_of xs) j ≡ Some g) × (g.home ≡ home) × (g.name ≡ f)
+      by None is h = absurd cc
+      by (Some e) is h =
+          let r = found (key_of home f) e is in
+          let n = named home f r.function r.key in
+          (r.function, place (key_of home f) e r j cc, n.0, n.1)
+
+  own_of : (home : Atom) (f : FunName) (j : ℕ) → (g : ModuleFunction) × (slice_get (functions_of xs) j ≡ Some g) × (g.home ≡ home) × (g.name ≡ f) → own_number table home f ≡ Some j
+  own_of home f j h = ap (λ k. number_in (entry_at table k)) (sym (key_named home f h.0 h.2 h.3)) ∙ ap number_in (there j h.0 h.1)
+
+  reaches_is : (home : Atom) (f : FunName) (j : ℕ) → resolved table home f ≡ Function j → (g : ModuleFunction) × (slice_get (functions_of xs) j ≡ Some g) × IsReached home f g
+  reaches_is home f j h = by (same_atom home erlang) refl (list_any (same_atom home) table.modules.keys) (entry_at table (key_of home f)) refl h
+    where
+      by : (a : Bool) → same_atom home erlang ≡ a → (b : Bool) (o : Option FunctionEntry) → entry_at table (key_of home f) ≡ o → (if a then NotHandedIn else if b then reached o else NotHandedIn) ≡ Function j
+          → (g : ModuleFunction) × (slice_get (functions_of xs) j ≡ Some g) × IsReached home f g
+      by true a b o is h = absurd cc
+      by false a false o is h = absurd cc
+      by false a true None is h = absurd cc
+      by false a true (Some e) is h =
+          let r = found (key_of home f) e is in
+          let n = named home f r.function r.key in
+          let both = exported_number e j h in
+          let exported : has_function r.function.exports r.function.name ≡ true = sym (ap (λ x. x.exported) r.entry) ∙ both.0 in
+          (r.function, place (key_of home f) e r j both.1, (n.0, other_atom home erlang a, subst (Contains r.function.exports) n.1 (contained_has r.function.exports r.function.name exported), n.1))
+
+  reaches_of : (home : Atom) (f : FunName) (j : ℕ) → (g : ModuleFunction) × (slice_get (functions_of xs) j ≡ Some g) × IsReached home f g → resolved table home f ≡ Function j
+  reaches_of home f j h =
+      let g : ModuleFunction = h.0 in
+      let r = h.2 in
+      let here : entry_at table (key_of home f) ≡ Some (entry_of j g) = ap (entry_at table) (sym (key_named home f g r.0 r.3)) ∙ there j g h.1 in
+      let listed : list_any (same_atom home) table.modules.keys ≡ true = modules home ∙ any_contained (names xs) home (subst (Contains (names xs)) r.0 (home_of xs g (at_contains (functions_of xs) j g h.1))) in
+      let exported : has_function g.exports g.name ≡ true = has_contained g.exports g.name (subst (Contains g.exports) (sym r.3) r.2) in
+      ap (λ a. if a then NotHandedIn else if list_any (same_atom home) table.modules.keys then reached (entry_at table (key_of home f)) else NotHandedIn) (not_same home erlang r.1)
+      ∙ ap (λ b. if b then reached (entry_at table (key_of home f)) else NotHandedIn) listed ∙ ap reached here ∙ ap (λ b. if b then Function j else NotExported) exported
+
+  elsewhere_is : (home : Atom) (f : FunName) → resolved table home f ≡ NotHandedIn → (home ≡ erlang) ⊎ (Contains (names xs) home → ⊥)
+  elsewhere_is home f h = by (same_atom home erlang) refl (list_any (same_atom home) table.modules.keys) refl h
+    where
+      by : (a : Bool) → same_atom home erlang ≡ a → (b : Bool) → list_any (same_atom home) table.modules.keys ≡ b → (if a then NotHandedIn else if b then reached (entry_at table (key_of home f)) else NotHandedIn) ≡ NotHandedIn → (home ≡ erlang) ⊎ (Contains (names xs) home → ⊥)
+      by true a b l h = inl ((bytes_decides home erlang).0 a)
+      by false a true l h = absurd (handed_in (entry_at table (key_of home f)) h)
+      by false a false l h = inr (λ c. absurd (let t : list_any (same_atom home) table.modules.keys ≡ true = modules home ∙ any_contained (names xs) home c in cc))
+
+  elsewhere_of : (home : Atom) (f : FunName) → (home ≡ erlang) ⊎ (Contains (names xs) home → ⊥) → resolved table home f ≡ NotHandedIn
+  elsewhere_of home f (inl e) = ap (λ a. if a then NotHandedIn else if list_any (same_atom home) table.modules.keys then reached (entry_at table (key_of home f)) else NotHandedIn) ((bytes_decides home erlang).1 e)
+  elsewhere_of home f (inr d) = by (same_atom home erlang) (list_any (same_atom home) table.modules.keys) refl
+    where
+      by : (a b : Bool) → list_any (same_atom home) table.modules.keys ≡ b → (if a then NotHandedIn else if b then reached (entry_at table (key_of home f)) else NotHandedIn) ≡ NotHandedIn
+      by true b l = refl
+      by false true l = absurd (d (contained_any (names xs) home (sym (modules home) ∙ l)))
+      by false false l = refl
+
+  pub table_answers : table.count ≡ length (functions_of xs) → IsTableOf xs table
+  table_answers count = record {
+    count = count;
+    own = λ home f j. (own_is home f j, own_of home f j);
+    reaches = λ home f j. (reaches_is home f j, reaches_of home f j);
+    elsewhere = λ home f. (elsewhere_is home f, elsewhere_of home f);
+  }

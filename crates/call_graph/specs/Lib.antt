@@ -1,0 +1,4 @@
+pub mod Targets
+pub mod Calls
+pub mod Tables
+pub mod steps

@@ -1,0 +1,90 @@
+// The state of the walk through a body, and its small steps.
+ghost use Rattle.std.specs.Prelude.{◌≡◌, ℕ, [], ◌++◌, OnOk};
+ghost use Rattle.core_ast.specs.Named.{literal_atom, local_name};
+ghost use Rattle.core_ast.specs.Tree.{all_defs, tree};
+ghost use Rattle.core_scope.specs.Names.{defined_names};
+ghost use Rattle.call_graph.specs.Targets.{applied, called, targets_of};
+ghost use Rattle.call_graph.specs.steps.Walking.{defining, listed, noting};
+
+use crate::table::{FunctionTable, Resolved};
+use core_ast::{Expr, FunDef, FunName};
+use core_scope::Names;
+use std::alloc::Global;
+use type_kinds::{Atom, List, Memory};
+
+/// What a walk knows: all functions, the module of the body, the names of the `letrec` functions around, and
+/// the numbers of the functions that the body calls, as far as it was walked.
+#[derive(Drop)]
+pub struct CallWalk {
+    pub table: FunctionTable,
+    pub home: Atom,
+    pub locals: Names<FunName>,
+    pub callees: List<u32>,
+}
+
+impl CallWalk {
+    /// Nothing was walked, and there is no `letrec` around.
+    pub fn new(alloc: Global, table: FunctionTable, home: Atom) -> CallWalk
+        ensures table { result.table ≡ table }
+        ensures home { result.home ≡ home }
+        ensures locals { result.locals ≡ [] }
+        ensures callees { result.callees ≡ [] }
+    {
+        CallWalk {
+            table,
+            home,
+            locals: Names::new(alloc),
+            callees: List::new(alloc),
+        }
+    }
+
+    // Notes a function that is called, if there is one.
+    fn note(&mut self, number: Option<u32>) -> Result<(), Memory>
+        ensures { OnOk result (self.new ≡ record self.old { callees = self.old.callees ++ listed number }) }
+    {
+        match number {
+            Some(number) => self.callees.add(number),
+            None => Ok(()),
+        }
+    }
+
+    /// Notes what an application of this operator calls, with any number of arguments.
+    pub fn note_applied(&mut self, operator: &Expr) -> Result<(), Memory>
+        ensures { OnOk result ((n : ℕ) → self.new ≡ noting self.old (targets_of (applied self.old.locals n (local_name (tree operator.now))))) }
+    {
+        let Some(name) = operator.local_name() else {
+            return Ok(());
+        };
+        if self.locals.has(name) {
+            return Ok(());
+        }
+        let number = self.table.own(&self.home, name)?;
+        self.note(number)
+    }
+
+    /// Notes what a call of this module and name reaches, with so many arguments.
+    pub fn note_called(&mut self, home: &Expr, name: &Expr, count: usize) -> Result<(), Memory>
+        ensures { OnOk result (self.new ≡ noting self.old (targets_of (called count (literal_atom (tree home.now)) (literal_atom (tree name.now))))) }
+    {
+        let Some(home) = home.atom() else {
+            return Ok(());
+        };
+        let Some(name) = name.atom() else {
+            return Ok(());
+        };
+        match self.table.called(home, name, count)? {
+            Resolved::Function(number) => self.note(Some(number)),
+            Resolved::NotHandedIn | Resolved::NotExported => Ok(()),
+        }
+    }
+
+    /// Names the functions of a `letrec`, whose bodies and whose own body are walked next.
+    pub fn define_all(&mut self, defs: &[FunDef]) -> Result<(), Memory>
+        ensures { OnOk result (self.new ≡ defining self.old (defined_names (all_defs defs.now))) }
+    {
+        for def in defs {
+            self.locals.push(&def.name)?;
+        }
+        Ok(())
+    }
+}
