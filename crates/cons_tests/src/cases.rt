@@ -15,8 +15,8 @@ pub fn types(alloc: Global, texts: &[&[u8]]) -> Result<List<Ty>, TextFault> {
     Ok(types)
 }
 
-// An environment as text, its types with semicolons between.
-fn written(alloc: Global, env: &Env) -> Result<Bytes, Memory> {
+/// An environment as text, its types with semicolons between.
+pub fn written(alloc: Global, env: &Env) -> Result<Bytes, Memory> {
     let mut out = List::new(alloc);
     match env {
         Env::Bottom => out.append(b"bottom")?,

@@ -1,4 +1,4 @@
-//! Narrowing worked by hand, and facts that follow from the clauses of `cons_tree` alone.
+//! Narrowing and solving worked by hand, and facts that follow from the clauses of `cons_tree` alone.
 #![tactic(auto)]
 
 mod facts;
@@ -9,6 +9,8 @@ pub use facts::{narrowed_twice, some_head};
 mod cases;
 #[cfg(test)]
 mod parts;
+#[cfg(test)]
+mod solutions;
 #[cfg(test)]
 mod summaries;
 #[cfg(test)]

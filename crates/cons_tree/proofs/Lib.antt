@@ -7,4 +7,4 @@ mod PartLaws
 mod RowLaws
 mod SignatureLaws
 mod StepLaws
-mod TrailLaws
+pub mod TrailLaws

@@ -9,11 +9,11 @@ use Rattle.cons_tree.specs.Trails.{answer, laid, Within, summed, Trailed}
 use Rattle.cons_tree.specs.declared.slots.Former.{Former}
 use Rattle.cons_tree.specs.declared.slots.Slots.{Slots}
 
-laid_append : (fs gs : List Former) (xs : Types) → laid (fs ++ gs) xs ≡ laid fs (laid gs xs)
+pub laid_append : (fs gs : List Former) (xs : Types) → laid (fs ++ gs) xs ≡ laid fs (laid gs xs)
 laid_append [] gs xs = refl
 laid_append (f ∷ fs) gs xs = ap (λ ys. set ys f.slot f.ty) (laid_append fs gs xs)
 
-laid_length : (fs : List Former) (xs : Types) → length (laid fs xs) ≡ length xs
+pub laid_length : (fs : List Former) (xs : Types) → length (laid fs xs) ≡ length xs
 laid_length [] xs = refl
 laid_length (f ∷ fs) xs = length-set (laid fs xs) f.slot f.ty ∙ laid_length fs xs
 
@@ -113,7 +113,7 @@ lowered_is (Err d) xs ys s t u m is e h = tt
 
 -- ---- going back by one entry
 
-within_parts : (n : ℕ) (fs : List Former) (f : Former) → Within n (fs ++ f ∷ []) → Within n fs × (f.slot < n)
+pub within_parts : (n : ℕ) (fs : List Former) (f : Former) → Within n (fs ++ f ∷ []) → Within n fs × (f.slot < n)
 within_parts n [] f h = (tt, h.0)
 within_parts n (g ∷ fs) f h = let p = within_parts n fs f h.1 in ((h.0, p.0), p.1)
 

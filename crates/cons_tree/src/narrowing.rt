@@ -86,7 +86,7 @@ impl Slots {
     }
 
     /// Narrows the array by a part, and says whether an environment is left. The trail tells what
-    /// each slot was that changed. Where memory is wanting the array is given up. `Memory` comes for
+    /// each slot was that changed. If allocation fails, the array is given up. `Memory` comes for
     /// a tuple of 2^32 slots or more, too.
     pub fn narrow(&mut self, alloc: Global, part: &Part) -> Result<bool, Memory>
         ensures value { IfOk result (λ alive. narrowed part.now self.old.types ≡ answer alive self.new.types) }

@@ -66,7 +66,7 @@ impl Slots {
     }
 
     /// Narrows by a transfer the slot of the value and those of the arguments, and says whether an
-    /// environment is left. Where memory is wanting the array is given up.
+    /// environment is left. If allocation fails, the array is given up.
     pub fn transfer(
         &mut self,
         alloc: Global,

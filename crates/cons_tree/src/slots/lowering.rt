@@ -62,7 +62,7 @@ impl Slots {
     }
 
     // Puts a smaller type into a slot, and says whether it has a value. The trail tells what was
-    // there, unless nothing changes. Where memory is wanting the array is given up.
+    // there, unless nothing changes. If allocation fails, the array is given up.
     fn put(&mut self, slot: Slot, ty: Ty) -> Result<bool, Memory>
         requires { Below ty (type_at self.old.types slot) }
         ensures value { IfOk result (λ alive. with_type self.old.types slot ty ≡ answer alive self.new.types) }
@@ -91,8 +91,8 @@ impl Slots {
         }
     }
 
-    /// Narrows a slot to the meet of its type and another, and says whether it has a value. Where
-    /// memory is wanting the array is given up.
+    /// Narrows a slot to the meet of its type and another, and says whether it has a value. If
+    /// allocation fails, the array is given up.
     pub fn lower(&mut self, alloc: Global, slot: Slot, ty: &Ty) -> Result<bool, Memory>
         ensures value { IfOk result (λ alive. lowered self.old.types slot ty.now ≡ answer alive self.new.types) }
         ensures trailed { IfOk result (λ _. Trailed self.old self.new) }
@@ -120,7 +120,7 @@ impl Slots {
         self.put(slot, met)
     }
 
-    /// Narrows two slots to the meet of both. Where memory is wanting the array is given up.
+    /// Narrows two slots to the meet of both. If allocation fails, the array is given up.
     pub fn lower_both(&mut self, alloc: Global, slot: Slot, other: Slot) -> Result<bool, Memory>
         ensures value { IfOk result (λ alive. alike slot other self.old.types ≡ answer alive self.new.types) }
         ensures trailed { IfOk result (λ _. Trailed self.old self.new) }

@@ -1,0 +1,11 @@
+mod FrameLaws
+mod IndexLaws
+mod KeepLaws
+mod LowLaws
+mod MemberLaws
+mod OrderLaws
+mod QueueLaws
+mod SolutionLaws
+mod TurnLaws
+mod TurnTrails
+mod WaitingLaws

@@ -1,0 +1,125 @@
+-- Which members of a list wait: a member that doesn't is solved, and when none waits the list is.
+use Rattle.std.proofs.Common.{◌≡◌, ℕ, zero, suc, ◌+◌, ◌-◌, ◌*◌, ◌<◌, ◌≤◌, Bool, true, false, List, [], ◌∷◌, length, get_or, set, take, drop, Some, None, refl, sym, ap, ◌∙◌, subst, arith, inl, inr, true≢false}
+use Rattle.std.proofs.Math.Nat.{mul-le-mul_left}
+use Rattle.std.proofs.lemmas.Bool.{cases_eq}
+use Rattle.std.proofs.lemmas.List.{take_rest, get_or_default, get_or-set_other}
+use Rattle.type_lattice.specs.Types.{rank}
+use Rattle.cons_tree.specs.Constraints.{Cons, all_of, constraint, constraints}
+use Rattle.cons_tree.specs.Environments.{Types}
+use Rattle.cons_tree.specs.Facts.{TypeFacts}
+use Rattle.cons_tree.specs.Trails.{laid, Falling, Trailed}
+use Rattle.cons_tree.specs.declared.parts.Part.{Part}
+use Rattle.cons_tree.specs.declared.parts.Constraint.{Constraint}
+use Rattle.cons_tree.specs.declared.slots.Former.{Former}
+use Rattle.cons_tree.specs.declared.slots.Slots.{Slots}
+use Rattle.cons_solve.specs.Environments.{environments, ranks, solution}
+use Rattle.cons_solve.specs.Frames.{Free}
+use Rattle.cons_solve.specs.Solutions as W
+use Rattle.cons_solve.specs.steps.Passes.{passes}
+use Rattle.cons_solve.specs.steps.Places.{Covers, FreeAll, Woke}
+use Rattle.cons_solve.proofs.FrameLaws.{Frames, untouched}
+use Rattle.cons_solve.proofs.SolutionLaws as S
+use Rattle.cons_solve.proofs.TurnTrails.{told_is, told_back, empty_list, trail_length, trailed_falls}
+
+-- the entries from a mark on, as a slice has them
+pub slice_told : (l t : List Former) (m : ℕ) → l ≡ t → take (length l - m) (drop m l) ≡ drop m t
+slice_told l t m e = take_rest l m ∙ ap (drop m) e
+
+-- ---- how many members wait
+
+abbrev pub count_waiting : List Bool → ℕ
+count_waiting [] = 0
+count_waiting (true ∷ ws) = suc (count_waiting ws)
+count_waiting (false ∷ ws) = count_waiting ws
+
+count_most : (ws : List Bool) → count_waiting ws ≤ length ws
+count_most [] = omega arith
+count_most (true ∷ ws) = let h = count_most ws in omega (arith, h)
+count_most (false ∷ ws) = let h = count_most ws in omega (arith, h)
+
+count_less : (ws : List Bool) (i : ℕ) → get_or ws i false ≡ true → count_waiting (set ws i false) < count_waiting ws
+count_less [] i h = absurd (true≢false (sym h))
+count_less (true ∷ ws) zero h = omega arith
+count_less (false ∷ ws) zero h = absurd (true≢false (sym h))
+count_less (true ∷ ws) (suc i) h = let k = count_less ws i h in omega (arith, k)
+count_less (false ∷ ws) (suc i) h = count_less ws i h
+
+-- a turn lowers the array, or fewer members wait after it
+pub turn_falls : Falling rank → (ms : List Constraint) (old mid new : List Bool) (told : List Former) (s t : Slots) (m i : ℕ) → Trailed s t → m ≡ length s.trail → told ≡ drop m t.trail → mid ≡ set old i false → (told ≡ [] → new ≡ mid) → length new ≡ length ms → get_or old i false ≡ true
+    → (length ms + 1) * ranks t.types + count_waiting new < (length ms + 1) * ranks s.types + count_waiting old
+turn_falls f ms old mid new told s t m i r mark is e quiet long was = elim (cases_eq (length t.trail) (length s.trail)) [
+  | inl same ↦
+      let empty : r.added ≡ [] = empty_list r.added (omega (arith, same, trail_length s t r)) in
+      let as_before : t.types ≡ s.types = sym (ap (λ fs. laid fs t.types) empty) ∙ r.back in
+      let fewer = count_less old i was in
+      let counts : count_waiting new ≡ count_waiting (set old i false) = ap count_waiting (quiet (is ∙ told_is s t m r mark ∙ empty) ∙ e) in
+      let q : (length ms + 1) * ranks t.types ≡ (length ms + 1) * ranks s.types = ap (λ z. (length ms + 1) * ranks z) as_before in
+      omega (arith, fewer, counts, q)
+  | inr lower ↦
+      let less = trailed_falls s t f r lower in
+      let most = count_most new in
+      let up : (length ms + 1) * (ranks t.types + 1) ≤ (length ms + 1) * ranks s.types = mul-le-mul_left (length ms + 1) (omega (arith, less)) in
+      omega (arith, up, most, long)
+]
+
+-- ---- members
+
+-- a member that doesn't wait is solved
+abbrev pub Rest : List Bool → List Constraint → Types → Type 0
+Rest ws ms xs = (j : ℕ) → j < length ms → get_or ws j true ≡ false → (x : Constraint) → solution (constraint (get_or ms j x)) xs ≡ Some xs
+
+pub rest_starts : (ws : List Bool) (ms : List Constraint) (xs : Types) → ((j : ℕ) → get_or ws j true ≡ true) → Rest ws ms xs
+rest_starts ws ms xs h j l e x = absurd (true≢false (sym (h j) ∙ e))
+
+free_all_at : (c : Cons Part) (told : List Former) → ((k : ℕ) → k < length told → (d : Former) → Free (get_or told k d).slot c) → FreeAll told c
+free_all_at c [] h = tt
+free_all_at c (f ∷ told) h = (h 0 (omega arith) f, free_all_at c told (λ k l d. h (suc k) (omega (arith, l)) d))
+
+module _ (facts : TypeFacts) (frames : Frames) (laws : W.Laws environments) where
+  solved_again : (c : Cons Part) (xs ys : Types) → solution c xs ≡ Some ys → solution c ys ≡ Some ys
+  solved_again c xs ys h =
+      S.greatest_is environments laws c ys (Some ys) (S.own_solution environments laws (W.Solves environments c) ys (subst (W.Holds environments (W.Solves environments c)) h (S.is_greatest environments laws c xs).holds))
+
+  -- after a turn with one member
+  pub rest_goes_on : (old mid new : List Bool) (ms : List Constraint) (index : List (ℕ × List ℕ)) (told : List Former) (s t : Slots) (mark i : ℕ) (m : Constraint) → i < length ms → m ≡ get_or ms i m → solution (constraint m) s.types ≡ Some t.types → Trailed s t → mark ≡ length s.trail → told ≡ drop mark t.trail → Covers ms index → mid ≡ set old i false → Woke i index told mid new → Rest old ms s.types → Rest new ms t.types
+  rest_goes_on old mid new ms index told s t mark i m lt is h trail marked same cover e woke r j l off x = elim (cases_eq j i) [
+    | inl here_now ↦
+        let member : m ≡ get_or ms j x = is ∙ get_or_default ms i m x lt ∙ ap (λ n. get_or ms n x) (sym here_now) in
+        subst (λ c. solution (constraint c) t.types ≡ Some t.types) member (solved_again (constraint m) s.types t.types h)
+    | inr other ↦
+        let p = woke.calm j off in
+        let before : get_or old j true ≡ false = sym (ap (λ q. get_or q j true) e ∙ get_or-set_other old i j false true other) ∙ p.0 in
+        let c = constraint (get_or ms j x) in
+        let free = free_all_at c told (λ k low d. cover j (get_or told k d).slot l (p.1 other k low d) x) in
+        let back : laid told t.types ≡ s.types = ap (λ fs. laid fs t.types) same ∙ told_back s t mark trail marked in
+        untouched facts frames laws c told s.types t.types back free (r j l before x)
+  ]
+
+  each_at : (ms : List Constraint) (i : ℕ) (m : Constraint) (y : Types) → i < length ms → W.SolvesEach environments (constraints ms) y → W.Solves environments (constraint (get_or ms i m)) y
+  each_at [] i m y l h = absurd (omega (arith, l))
+  each_at (c ∷ ms) zero m y l h = h.0
+  each_at (c ∷ ms) (suc i) m y l h = each_at ms i m y (omega (arith, l)) h.1
+
+  member_solved : (ms : List Constraint) (i : ℕ) (m : Constraint) → i < length ms → m ≡ get_or ms i m → (y : Types) → W.SolvesEach environments (constraints ms) y → W.Solves environments (constraint m) y
+  member_solved ms i m l is y q = subst (λ c. W.Solves environments (constraint c) y) (sym is) (each_at ms i m y l q)
+
+  pub member_moves : (ms : List Constraint) (i : ℕ) (m : Constraint) (xs ys : Types) → i < length ms → m ≡ get_or ms i m → solution (constraint m) xs ≡ Some ys → solution (all_of (constraints ms)) ys ≡ solution (all_of (constraints ms)) xs
+  member_moves ms i m xs ys l is h =
+      let all = all_of (constraints ms) in
+      let best = S.is_greatest environments laws (constraint m) xs in
+      sym (S.greatest_is environments laws all xs (solution all ys) (S.moved environments laws (W.Solves environments all) xs ys (solution all ys) (subst (λ r. W.Under environments r (Some xs)) h best.below) (λ y b q. subst (W.Under environments (Some y)) h (best.above y b (member_solved ms i m l is y q))) (S.is_greatest environments laws all ys)))
+
+  pub member_dies : (ms : List Constraint) (i : ℕ) (m : Constraint) (xs : Types) → i < length ms → m ≡ get_or ms i m → solution (constraint m) xs ≡ None → solution (all_of (constraints ms)) xs ≡ None
+  member_dies ms i m xs l is h =
+      let all = all_of (constraints ms) in
+      let best = S.is_greatest environments laws (constraint m) xs in
+      S.greatest_is environments laws all xs None (S.no_solution environments laws (W.Solves environments all) xs (λ y b q. subst (W.Under environments (Some y)) h (best.above y b (member_solved ms i m l is y q))))
+
+  passes_all : (ms : List Constraint) (xs : Types) → ((j : ℕ) → j < length ms → (x : Constraint) → solution (constraint (get_or ms j x)) xs ≡ Some xs) → passes environments (constraints ms) xs ≡ Some xs
+  passes_all [] xs h = refl
+  passes_all (m ∷ ms) xs h =
+      ap (λ r. W.on_some r (passes environments (constraints ms))) (h 0 (omega arith) m) ∙ passes_all ms xs (λ j l x. h (suc j) (omega (arith, l)) x)
+
+  pub rest_ends : (ws : List Bool) (ms : List Constraint) (xs : Types) → length ws ≡ length ms → ((j : ℕ) → j < length ws → get_or ws j true ≡ false) → Rest ws ms xs → solution (all_of (constraints ms)) xs ≡ Some xs
+  rest_ends ws ms xs long none r =
+      S.all_stays environments laws (constraints ms) xs (passes_all ms xs (λ j l x. r j l (none j (omega (arith, l, long))) x))

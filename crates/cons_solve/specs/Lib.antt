@@ -1,0 +1,4 @@
+pub mod Environments
+pub mod Frames
+pub mod Solutions
+pub mod steps
