@@ -1,1 +1,4 @@
+mod BuiltinLaws
+mod Examples
 mod Walks
+mod WorkedCalls

@@ -1,1 +1,5 @@
+pub mod ArgTypes
+pub mod Closures
+pub mod Parts
+pub mod Results
 pub mod Table

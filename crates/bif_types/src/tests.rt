@@ -18,7 +18,7 @@ fn found(alloc: Global, name: &str, arity: u32) -> Result<Option<Bif>, Fail> {
 }
 
 // Names with one row: their arguments, with `Any` behind the last, how many they are, and the rule.
-const ROWS: [(&[&str], [ArgKind; 3], u8, Rule); 40] = [
+pub const ROWS: [(&[&str], [ArgKind; 3], u8, Rule); 40] = [
     (&["+", "-", "*"], [Number, Number, Any], 2, Rule::Arith),
     (&["+", "-"], [Number, Any, Any], 1, Rule::Arith),
     (&["/"], [Number, Number, Any], 2, Rule::Plain(Float)),
@@ -131,7 +131,7 @@ const ROWS: [(&[&str], [ArgKind; 3], u8, Rule); 40] = [
     ),
 ];
 
-const MORE_ROWS: [(&[&str], [ArgKind; 3], u8, Rule); 9] = [
+pub const MORE_ROWS: [(&[&str], [ArgKind; 3], u8, Rule); 9] = [
     (&["map_size"], [Map, Any, Any], 1, Rule::Plain(Natural)),
     (&["self"], [Any, Any, Any], 0, Rule::Plain(Pid)),
     (&["make_ref"], [Any, Any, Any], 0, Rule::Plain(Reference)),

@@ -1,0 +1,4 @@
+mod AtLabels
+mod Examples
+mod Fuel
+mod Worked

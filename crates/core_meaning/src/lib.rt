@@ -1,0 +1,7 @@
+//! The meaning of Core Erlang: what an expression of a program may do, and what runs there are. The
+//! definitions are in `specs/`; here are their laws.
+#![tactic(auto)]
+
+mod laws;
+
+pub use laws::{fuel_laws, label_laws, worked_run};
