@@ -1,46 +1,76 @@
--- What a source is built from, and each way in which it is not built.
-use Rattle.std.proofs.Common.{◌≡◌, ℕ, ◌≤◌, ◌<◌, List, Option, Some, None, Result, Ok, Err, sym, ◌∙◌, subst, length, arith}
-use Rattle.std.specs.Prelude.{IfOk, MatchOption}
-use Rattle.type_kinds.specs.declared.memory.Memory.{Memory}
-use Rattle.core_ast.specs.declared.syntax.Module.{Module}
+-- From bytes to an accepted module: each way out.
+use Rattle.std.proofs.Common.{◌≡◌, ◌≢◌, ℕ, ◌≤◌, ◌<◌, ◌*◌, ◌^◌, List, [], Some, refl, sym, ap, ◌∙◌, subst, length, arith}
 use Rattle.core_ast.specs.Model as m
-use Rattle.core_ast.specs.Tree.{module_tree}
 use Rattle.core_scan.specs.declared.token.Token.{Token}
-use Rattle.core_scan.specs.Bytes.{start}
-use Rattle.core_scan.specs.Lexed.{Lexed}
-use Rattle.dialyze.specs.Grammar.{SpellsSmall, SpellNothing}
-use Rattle.dialyze.specs.Scope.{IsAccepted}
+use Rattle.core_scan.specs.declared.token.ScanFault.{ScanFault}
+use Rattle.core_scan.specs.declared.token.ScanFault.TheVariants as s
+use Rattle.core_scan.specs.Bytes.{start, past}
+use Rattle.core_scan.specs.Lexed.{Lexed, FirstFault}
+use Rattle.core_parse.specs.declared.fault.ParseFault.{ParseFault}
+use Rattle.core_parse.specs.declared.fault.ParseFault.TheVariants as p
+use Rattle.core_parse.specs.Begins.{IsModule, Refused}
+use Rattle.core_parse.specs.Weights.{weight}
+use Rattle.core_scope.specs.declared.fault.Break.{Break}
+use Rattle.core_scope.specs.declared.fault.ScopeRule.{ScopeRule}
+use Rattle.core_scope.specs.declared.fault.ScopeRule.TheVariants.{BoundVariables, DistinctVariables, DefinedFunctions, DistinctFunctions, DefinedExports, Degrees}
+use Rattle.core_scope.specs.declared.fault.ScopeFault.{ScopeFault}
+use Rattle.core_scope.specs.declared.fault.ScopeFault.TheVariants as o
+use Rattle.core_scope.specs.Breaks.{module_breaks}
+use Rattle.core_scope.specs.Accepted.{FirstBreak, fault_of}
+use Rattle.type_kinds.specs.declared.place.Place.{Place}
 use Rattle.dialyze.specs.declared.source.TheConstants.{LONGEST_SOURCE}
-use Rattle.dialyze.specs.Outcome.{IsBuilt, IsNotBuilt, SpellAccepted, SpellNoneAccepted}
+use Rattle.dialyze.specs.Sources.{scan_refusal, parse_refusal, break_refusal, Scanned, IsSource, not_scanned, not_parsed, not_accepted}
+use Rattle.dialyze.specs.steps.Refusing.{scope_refusal, told, Refuses}
 
-built_it : (bytes : List ℕ) (tokens read : List Token) (x : m.Module) → length bytes ≤ LONGEST_SOURCE → Lexed start bytes tokens → read ≡ tokens → SpellAccepted read x → IsBuilt bytes x
-built_it bytes tokens read x a b is c = record { short = a; tokens = tokens; lexed = b; module_is = (let P : List Token → Type 0 = λ ts. SpellAccepted ts x in subst P is c) }
+pub scan_exit : (bytes : List ℕ) (fault : ScanFault) → length bytes ≤ LONGEST_SOURCE → (fault ≢ s.Memory → FirstFault start bytes fault) → Refuses bytes (told (scan_refusal fault))
+scan_exit bytes (s.BadByte place) short h = not_scanned (record { short = short; cause = s.BadByte place; first = h (λ e. absurd cc); named = refl })
+scan_exit bytes (s.OpenQuote place) short h = not_scanned (record { short = short; cause = s.OpenQuote place; first = h (λ e. absurd cc); named = refl })
+scan_exit bytes (s.BadEscape place) short h = not_scanned (record { short = short; cause = s.BadEscape place; first = h (λ e. absurd cc); named = refl })
+scan_exit bytes (s.WideInteger place) short h = not_scanned (record { short = short; cause = s.WideInteger place; first = h (λ e. absurd cc); named = refl })
+scan_exit bytes s.Memory short h = tt
 
-pub too_long : (bytes : List ℕ) → LONGEST_SOURCE < length bytes → IsNotBuilt bytes
-too_long bytes long = record { absent = λ x h. let short = h.short in omega arith }
+pub scanned : (bytes : List ℕ) (tokens read : List Token) → length bytes ≤ LONGEST_SOURCE → Lexed start bytes tokens → read ≡ tokens → Scanned bytes read
+scanned bytes tokens read short lexed is = record { short = short; lexed = subst (λ z. Lexed start bytes z) (sym is) lexed }
 
-pub no_tokens : (bytes : List ℕ) → ((ts : List Token) → Lexed start bytes ts → ⊥) → IsNotBuilt bytes
-no_tokens bytes none = record { absent = λ x h. none h.tokens h.lexed }
+parse_by : (bytes : List ℕ) (tokens : List Token) (fault : ParseFault) → Scanned bytes tokens → Refused tokens (past start bytes) fault → Refuses bytes (told (parse_refusal fault))
+parse_by bytes tokens (p.Syntax place) scan h = not_parsed (record { tokens = tokens; scanned = scan; cause = p.Syntax place; refused = h; named = refl })
+parse_by bytes tokens (p.TooDeep place) scan h = not_parsed (record { tokens = tokens; scanned = scan; cause = p.TooDeep place; refused = h; named = refl })
+parse_by bytes tokens p.Memory scan h = tt
 
-no_module : (bytes : List ℕ) (tokens read : List Token) → ((us : List Token) → Lexed start bytes us → us ≡ tokens) → read ≡ tokens → SpellNoneAccepted read → IsNotBuilt bytes
-no_module bytes tokens read once is none =
-    record { absent = λ x h. none.absent x (let P : List Token → Type 0 = λ ts. SpellAccepted ts x in subst P (once h.tokens h.lexed ∙ sym is) h.module_is) }
+pub parse_exit : (bytes : List ℕ) (tokens : List Token) (end : Place) (fault : ParseFault) → Scanned bytes tokens → end ≡ past start bytes → Refused tokens end fault → Refuses bytes (told (parse_refusal fault))
+parse_exit bytes tokens end fault scan at_end h = parse_by bytes tokens fault scan (subst (λ z. Refused tokens z fault) at_end h)
 
-pub spelled_it : (bytes : List ℕ) (tokens read : List Token) (r : Result (Option Module) Memory) → length bytes ≤ LONGEST_SOURCE → Lexed start bytes tokens → ((us : List Token) → Lexed start bytes us → us ≡ tokens) → read ≡ tokens
-    → IfOk r (λ found. MatchOption found (SpellNoneAccepted read) (λ source. SpellAccepted read (module_tree source))) → IfOk r (λ found. MatchOption found (IsNotBuilt bytes) (λ source. IsBuilt bytes (module_tree source)))
-spelled_it bytes tokens read (Ok (Some source)) short lexed once is h = built_it bytes tokens read (module_tree source) short lexed is h
-spelled_it bytes tokens read (Ok None) short lexed once is h = no_module bytes tokens read once is h
-spelled_it bytes tokens read (Err e) short lexed once is h = tt
+named_by_rule : (b : Break) → scope_refusal (fault_of b) ≡ Some (break_refusal b)
+named_by_rule b = by b.place b.rule
+  where
+    by : (place : Place) (rule : ScopeRule) → scope_refusal (fault_of (record { place = place; rule = rule })) ≡ Some (break_refusal (record { place = place; rule = rule }))
+    by place BoundVariables = refl
+    by place DistinctVariables = refl
+    by place DefinedFunctions = refl
+    by place DistinctFunctions = refl
+    by place DefinedExports = refl
+    by place Degrees = refl
 
-pub ruleset source_exits = (too_long, no_tokens)
+-- whether a fault of scopes is a failed allocation
+scope_by : (fault : ScopeFault) (P : ScopeFault → Type 0) → P o.Memory → (fault ≢ o.Memory → P fault) → P fault
+scope_by (o.Unbound place) P none some = some (λ e. absurd cc)
+scope_by (o.RepeatedVariable place) P none some = some (λ e. absurd cc)
+scope_by (o.UndefinedFunction place) P none some = some (λ e. absurd cc)
+scope_by (o.RepeatedFunction place) P none some = some (λ e. absurd cc)
+scope_by (o.BadExport place) P none some = some (λ e. absurd cc)
+scope_by (o.Degree place) P none some = some (λ e. absurd cc)
+scope_by o.Memory P none some = none
 
-pub accepted_it : (tokens : List Token) (x : m.Module) → SpellsSmall tokens x → IsAccepted x → SpellAccepted tokens x
-accepted_it tokens x a b = record { spelled = a; accepted = b }
+pub scope_exit : (bytes : List ℕ) (tokens : List Token) (x : m.Module) (fault : ScopeFault) → Scanned bytes tokens → IsModule tokens x → (fault ≢ o.Memory → (b : Break) × (fault ≡ fault_of b) × FirstBreak x b) → Refuses bytes (told (scope_refusal fault))
+scope_exit bytes tokens x fault scan spelled h = scope_by fault (λ f. Refuses bytes (told (scope_refusal f))) tt (λ some.
+    let b = h some in
+    subst (λ r. Refuses bytes (told r)) (sym (named_by_rule b.0) ∙ ap scope_refusal (sym b.1))
+    (not_accepted (record { tokens = tokens; scanned = scan; spelled = x; is = spelled; cause = b.0; first = b.2; named = refl })))
 
-pub nothing_spelled : (tokens : List Token) → SpellNothing tokens → SpellNoneAccepted tokens
-nothing_spelled tokens none = record { absent = λ x h. none.absent x h.spelled }
+pub source_exit : (bytes : List ℕ) (tokens : List Token) (x y : m.Module) → Scanned bytes tokens → IsModule tokens x → module_breaks x ≡ [] → y ≡ x → IsSource bytes y
+source_exit bytes tokens x y scan spelled sound is = subst (IsSource bytes) (sym is) (record { tokens = tokens; scanned = scan; spelled = spelled; sound = sound })
 
-pub not_accepted : (tokens : List Token) (x : m.Module) → ((y : m.Module) → SpellsSmall tokens y → y ≡ x) → (IsAccepted x → ⊥) → SpellNoneAccepted tokens
-not_accepted tokens x only bad = record { absent = λ y h. bad (subst IsAccepted (only y h.spelled) h.accepted) }
-
-pub ruleset spelled_exits = (accepted_it, nothing_spelled, not_accepted)
+-- few bytes have light tokens
+pub light : (bytes : List ℕ) (tokens read : List Token) → length bytes ≤ LONGEST_SOURCE → Lexed start bytes tokens
+    → ((place : Place) (text : List ℕ) (ts : List Token) → Lexed place text ts → weight ts ≤ 2 * length text) → read ≡ tokens → weight read < 2 ^ 32
+light bytes tokens read short lexed law is = let k = law start bytes tokens lexed in let e : weight read ≡ weight tokens = ap weight is in omega arith

@@ -1,10 +1,8 @@
-pub mod Sorts
-pub mod Grammar
-pub mod Scope
-pub mod Sites
-pub mod Dead
-pub mod steps
-pub mod Report
+pub mod Refusals
+pub mod Sources
+pub mod early
 pub mod Words
 pub mod Codes
 pub mod Outcome
+pub mod Causes
+pub mod steps

@@ -1,73 +1,38 @@
 -- What a run answers: its status and its output, by the words and by what is held.
-use Rattle.std.specs.Prelude.{◌≡◌, ◌≢◌, ℕ, ◌≤◌, ◌⊎◌, List, [], ◌∷◌, ◌++◌, length, Option, Some, None, codes}
+use Rattle.std.specs.Prelude.{◌≡◌, ◌≢◌, ℕ, List, [], ◌++◌, Option, None, Some, codes}
 use Rattle.std.specs.FinMap.{get}
 use Rattle.core_ast.specs.Model as m
-use Rattle.core_scan.specs.declared.token.Token.{Token}
-use Rattle.core_scan.specs.Bytes.{start}
-use Rattle.core_scan.specs.Lexed.{Lexed}
 use Rattle.da_shelf.specs.Counts.{Rose}
 use Rattle.da_shelf.specs.Told.{Files, Holds, Lacks, appended, IsFrontAppended}
-use Rattle.dialyze.specs.declared.source.TheConstants.{LONGEST_SOURCE}
 use Rattle.dialyze.specs.declared.status.Status.{Status}
 use Rattle.dialyze.specs.declared.status.Status.TheVariants.{Clean, Refused, Warnings, TableFault, DeviceFault, Memory, Usage}
 use Rattle.dialyze.specs.declared.status.Device.TheVariants.{Read, Replace, Write}
+use Rattle.dialyze.specs.declared.refusals.RefusalName.TheVariants.{Missing}
+use Rattle.dialyze.specs.declared.refusals.SourceFault.{SourceFault}
 use Rattle.dialyze.specs.Words.{IsCheck, IsNoCommand}
-use Rattle.dialyze.specs.Grammar.{SpellsSmall}
-use Rattle.dialyze.specs.Scope.{IsAccepted}
-use Rattle.dialyze.specs.Report.{IsReport}
+use Rattle.dialyze.specs.Refusals.{refused, line, refusal_line}
+use Rattle.dialyze.specs.Sources.{of_the_whole, IsSource, IsAtFault}
+use Rattle.dialyze.specs.early.Findings.{IsReport}
 
--- The tokens spell the module, and it is accepted.
-pub record SpellAccepted (tokens : List Token) (x : m.Module) : Type 0 where
-  pub spelled : SpellsSmall tokens x
-  pub accepted : IsAccepted x
-
--- The tokens spell no module that is accepted.
-pub record SpellNoneAccepted (tokens : List Token) : Type 0 where
-  pub absent : (x : m.Module) → SpellAccepted tokens x → ⊥
-
--- The bytes are the source of the module: they are few enough, and their tokens spell it, and it is accepted.
-pub record IsBuilt (bytes : List ℕ) (x : m.Module) : Type 0 where
-  pub short : length bytes ≤ LONGEST_SOURCE
-  pub tokens : List Token
-  pub lexed : Lexed start bytes tokens
-  pub module_is : SpellAccepted tokens x
-
--- The bytes are the source of no module.
-pub record IsNotBuilt (bytes : List ℕ) : Type 0 where
-  pub absent : (x : m.Module) → IsBuilt bytes x → ⊥
-
--- the refusals of the file, which is the second word
-abbrev pub missing : Status
-missing = Refused (record { number = 26; word = 1; line = 0; other = 0 })
-
-abbrev pub not_built : Status
-not_built = Refused (record { number = 27; word = 1; line = 0; other = 0 })
-
-abbrev pub line : List ℕ → List ℕ
-line text = text ++ 10 ∷ []
+abbrev pub missing : SourceFault
+missing = of_the_whole Missing
 
 abbrev pub usage_line : List ℕ
 usage_line = line (codes "usage: dialyze check [--plt T] [--out T2] [--workers N] FILE.. | make N")
-
-abbrev pub missing_line : List ℕ → List ℕ
-missing_line file = line (file ++ codes ": refused 26 Missing")
-
-abbrev pub not_built_line : List ℕ → List ℕ
-not_built_line file = line (file ++ codes ": refused 27 NotBuilt")
 
 abbrev pub read_fault_line : List ℕ → List ℕ
 read_fault_line file = line (file ++ codes ": device fault read")
 
 -- what a check of a source answers
-pub data Judged (file bytes : List ℕ) : Status → List ℕ → Type 0 where
-  refused : {status : Status} {output : List ℕ} → status ≡ not_built → output ≡ not_built_line file → IsNotBuilt bytes → Judged file bytes status output
-  clean : {status : Status} {output : List ℕ} (x : m.Module) → status ≡ Clean → output ≡ [] → IsBuilt bytes x → IsReport x output → Judged file bytes status output
-  warned : {status : Status} {output : List ℕ} (x : m.Module) → status ≡ Warnings → output ≢ [] → IsBuilt bytes x → IsReport x output → Judged file bytes status output
+pub data Judged (file bytes : List ℕ) (status : Status) (output : List ℕ) : Type 0 where
+  faulty : (fault : SourceFault) → status ≡ refused fault → output ≡ refusal_line file fault → IsAtFault bytes fault → Judged file bytes status output
+  clean : (x : m.Module) → status ≡ Clean → output ≡ [] → IsSource bytes x → IsReport x output → Judged file bytes status output
+  warned : (x : m.Module) → status ≡ Warnings → output ≢ [] → IsSource bytes x → IsReport x output → Judged file bytes status output
 
 -- The status and the output of a run, by the words and by what is held.
 pub data Outcome (words : List (List ℕ)) (held : Files) (status : Status) (output : List ℕ) : Type 0 where
   usage : status ≡ Usage → output ≡ usage_line → IsNoCommand words → Outcome words held status output
-  lacking : (file : List ℕ) → status ≡ missing → output ≡ missing_line file → IsCheck words file → get held file ≡ None → Outcome words held status output
+  lacking : (file : List ℕ) → status ≡ refused missing → output ≡ refusal_line file missing → IsCheck words file → get held file ≡ None → Outcome words held status output
   judged : (file bytes : List ℕ) → IsCheck words file → get held file ≡ Some bytes → Judged file bytes status output → Outcome words held status output
 
 -- An answer of the analysis: not a failed allocation, and not the fault of a device.
@@ -78,7 +43,7 @@ IsAnswer status = Unit {0}
 
 -- The statuses that a run may have.
 abbrev pub IsPossible : Status → Type 0
-IsPossible (Refused refusal) = (Refused refusal ≡ missing) ⊎ (Refused refusal ≡ not_built)
+IsPossible (Refused refusal) = (fault : SourceFault) × (Refused refusal ≡ refused fault)
 IsPossible (TableFault number) = ⊥
 IsPossible (DeviceFault (Read position)) = position ≡ 1
 IsPossible (DeviceFault (Replace position)) = ⊥
@@ -89,7 +54,7 @@ IsPossible status = Unit {0}
 -- tells, or the fault of the shelf, which has counted it.
 pub data Intended (words : List (List ℕ)) (told : Option Files) (faults_before faults_now : ℕ) (status : Status) (output : List ℕ) : Type 0 where
   no_command : status ≡ Usage → output ≡ usage_line → IsNoCommand words → Intended words told faults_before faults_now status output
-  not_held : (file : List ℕ) → status ≡ missing → output ≡ missing_line file → IsCheck words file → Lacks told file → Intended words told faults_before faults_now status output
+  not_held : (file : List ℕ) → status ≡ refused missing → output ≡ refusal_line file missing → IsCheck words file → Lacks told file → Intended words told faults_before faults_now status output
   checked : (file bytes : List ℕ) → IsCheck words file → Holds told file bytes → Judged file bytes status output → Intended words told faults_before faults_now status output
   unread : (file : List ℕ) → status ≡ DeviceFault (Read 1) → output ≡ read_fault_line file → IsCheck words file → Rose faults_before faults_now → Intended words told faults_before faults_now status output
 
@@ -98,29 +63,6 @@ pub record Answers (words : List (List ℕ)) (held : Files) (status : Status) (w
   pub output : List ℕ
   pub outcome : Outcome words held status output
   pub written : written_now ≡ appended written_before output
-
--- The file that the words name isn't held.
-pub record IsMissing (words : List (List ℕ)) (held : Files) : Type 0 where
-  pub file : List ℕ
-  pub command : IsCheck words file
-  pub absent : get held file ≡ None
-
--- The file that the words name is held, and is the source of no module.
-pub record IsRefused (words : List (List ℕ)) (held : Files) : Type 0 where
-  pub file : List ℕ
-  pub bytes : List ℕ
-  pub command : IsCheck words file
-  pub held_so : get held file ≡ Some bytes
-  pub unfit : IsNotBuilt bytes
-
--- The file that the words name is held, and is the source of a module.
-pub record IsChecked (words : List (List ℕ)) (held : Files) : Type 0 where
-  pub file : List ℕ
-  pub bytes : List ℕ
-  pub source : m.Module
-  pub command : IsCheck words file
-  pub held_so : get held file ≡ Some bytes
-  pub built : IsBuilt bytes source
 
 -- The shelf failed and counted it, and the line that says so was written.
 pub record FailsToRead (words : List (List ℕ)) (faults_before faults_now : ℕ) (written_before written_now : Option (List ℕ)) : Type 0 where

@@ -1,4 +1,1 @@
-pub mod Numbered
-pub mod Few
-pub mod Settled
-pub mod Found
+pub mod Refusing

@@ -1,15 +1,23 @@
 ghost use Rattle.std.specs.Prelude.{◌≡◌, ℕ, ◌≤◌, List, ◌++◌, IfOk, OnOk, OnErr};
 ghost use Rattle.dialyze.specs.Words.{texts};
-ghost use Rattle.dialyze.specs.Outcome.{Judged, Intended, line, usage_line, missing as no_file, missing_line, not_built, not_built_line, read_fault_line};
+ghost use Rattle.dialyze.specs.Refusals.{refused, line, refusal_line};
+ghost use Rattle.dialyze.specs.Outcome.{Judged, Intended, usage_line, read_fault_line};
 
-use crate::report::report_on;
-use crate::source::built;
-use crate::status::{Device, Refusal, Status};
+use crate::early::report_on;
+use crate::refusals::{RefusalName, SourceFault};
+use crate::source::{SourceError, accepted};
+use crate::status::{Device, Status};
 use crate::words::file_of;
-use core_ast::discard_module;
+use core_scope::discard_checked;
 use da_shelf::{Shelf, ShelfFault};
 use std::alloc::Global;
 use type_kinds::{Bytes, List, Memory};
+
+/// The refusal of a file that isn't held.
+pub const MISSING: SourceFault = SourceFault {
+    name: RefusalName::Missing,
+    line: 0,
+};
 
 /// The status that a run means to end with, and its output.
 #[derive(Drop)]
@@ -30,18 +38,23 @@ pub fn intended<F: Shelf>(alloc: Global, words: &[&str], shelf: &mut F) -> Resul
     };
     match shelf.read(file) {
         Ok(bytes) => judge(alloc, file, bytes.as_slice()),
-        Err(ShelfFault::Missing) => missing(alloc, file),
+        Err(ShelfFault::Missing) => refuse(alloc, file, MISSING),
         Err(ShelfFault::Failed) => unread(alloc, file),
         Err(ShelfFault::Memory) => Err(Memory),
     }
 }
 
-// The answer where the file isn't held.
-fn missing(alloc: Global, file: &str) -> Result<Answer, Memory>
-    ensures status { IfOk result (λ a. a.status ≡ no_file) }
-    ensures output { IfOk result (λ a. a.output ≡ missing_line file.now) }
+// The answer to a file that is refused.
+fn refuse(alloc: Global, file: &str, fault: SourceFault) -> Result<Answer, Memory>
+    ensures status { IfOk result (λ a. a.status ≡ refused fault) }
+    ensures output { IfOk result (λ a. a.output ≡ refusal_line file.now fault) }
 {
-    told(alloc, refused(26), file, ": refused 26 Missing")
+    let mut output: Bytes = List::new(alloc);
+    fault.append_line(file, &mut output)?;
+    Ok(Answer {
+        status: fault.status(),
+        output,
+    })
 }
 
 // The answer where the shelf failed.
@@ -53,26 +66,18 @@ fn unread(alloc: Global, file: &str) -> Result<Answer, Memory>
     told(alloc, status, file, ": device fault read")
 }
 
-// The answer where the source isn't built.
-fn unbuilt(alloc: Global, file: &str) -> Result<Answer, Memory>
-    ensures status { IfOk result (λ a. a.status ≡ not_built) }
-    ensures output { IfOk result (λ a. a.output ≡ not_built_line file.now) }
-{
-    told(alloc, refused(27), file, ": refused 27 NotBuilt")
-}
-
 // What a check of a source answers.
 #[tactic(auto, using(crate::proofs::AnswerExits::judged_exits))]
 fn judge(alloc: Global, file: &str, bytes: &[u8]) -> Result<Answer, Memory>
     ensures { IfOk result (λ a. Judged file.now bytes.now a.status a.output) }
 {
-    let source = match built(alloc, bytes) {
-        Ok(Some(source)) => source,
-        Ok(None) => return unbuilt(alloc, file),
-        Err(Memory) => return Err(Memory),
+    let source = match accepted(alloc, bytes) {
+        Ok(source) => source,
+        Err(SourceError::AtFault(fault)) => return refuse(alloc, file, fault),
+        Err(SourceError::Memory) => return Err(Memory),
     };
     let report = report_on(alloc, &source);
-    discard_module(source);
+    discard_checked(source);
     match report {
         Ok(output) => {
             if output.is_empty() {
@@ -84,18 +89,6 @@ fn judge(alloc: Global, file: &str, bytes: &[u8]) -> Result<Answer, Memory>
         }
         Err(Memory) => Err(Memory),
     }
-}
-
-// The refusal of the file by its number.
-pub fn refused(number: u8) -> Status
-    ensures { result ≡ Status.Refused (record { number = number; word = 1; line = 0; other = 0 }) }
-{
-    Status::Refused(Refusal {
-        number,
-        word: 1,
-        line: 0,
-        other: 0,
-    })
 }
 
 // A status whose output is a line: the file's name and a text.

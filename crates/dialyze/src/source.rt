@@ -1,70 +1,99 @@
-ghost use Rattle.std.specs.Prelude.{◌≡◌, ◌≤◌, length, IfOk, IfSome, MatchOption};
-ghost use Rattle.core_ast.specs.Tree.{module_tree};
-ghost use Rattle.dialyze.specs.Outcome.{IsBuilt, IsNotBuilt, SpellAccepted, SpellNoneAccepted};
-ghost use Rattle.dialyze.specs.steps.Numbered.{IsNumbered};
-ghost use Rattle.dialyze.specs.steps.Few.{AllFew};
+// From the bytes of a file to an accepted module.
+ghost use Rattle.std.specs.Prelude.{◌≡◌, IfOk, IfErr};
+ghost use Rattle.core_scope.specs.Checked.{tree_of};
+ghost use Rattle.dialyze.specs.Sources.{scan_refusal, parse_refusal, IsSource};
+ghost use Rattle.dialyze.specs.steps.Refusing.{scope_refusal, told, Refuses};
 
-use crate::definitions::module_of;
-use crate::leaves::Fault;
-use crate::scope::is_accepted;
-use core_ast::{Module, discard_module};
-use core_scan::{ScanFault, Token, scan};
+use crate::refusals::{RefusalName, SourceFault};
+use core_parse::{ParseFault, lexed_weight, parse};
+use core_scan::{ScanFault, end_place, scan};
+use core_scope::{Checked, ScopeFault, check};
 use std::alloc::Global;
-use type_kinds::Memory;
+use type_kinds::Place;
 
 /// The most bytes that a source may have, 16 MiB.
 pub const LONGEST_SOURCE: usize = 16_777_216;
 
-/// The module that a source spells, and `None` where it isn't built.
-#[tactic(auto, using(crate::proofs::SourceExits::source_exits))]
-pub fn built(alloc: Global, bytes: &[u8]) -> Result<Option<Module>, Memory>
-    ensures module { IfOk result (λ found. MatchOption found (IsNotBuilt bytes.now) (λ source. IsBuilt bytes.now (module_tree source))) }
-    ensures numbered { IfOk result (λ found. IfSome found (λ source. IsNumbered (module_tree source))) }
-    ensures few { IfOk result (λ found. IfSome found (λ source. length source.defs ≤ LONGEST_SOURCE)) }
-    ensures few_arguments { IfOk result (λ found. IfSome found (λ source. AllFew (module_tree source))) }
+/// Why a source isn't accepted.
+#[derive(Clone, Copy, Debug, PartialEq, Eq)]
+pub enum SourceError {
+    /// It has this fault.
+    AtFault(SourceFault),
+    /// Allocation failed. This says nothing of the source.
+    Memory,
+}
+
+/// The accepted module that bytes are the source of, or their fault.
+pub fn accepted(alloc: Global, bytes: &[u8]) -> Result<Checked, SourceError>
+    ensures source { IfOk result (λ checked. IsSource bytes.now (tree_of checked)) }
+    ensures fault { IfErr result (λ error. Refuses bytes.now error) }
 {
     if bytes.len() > LONGEST_SOURCE {
-        return Ok(None);
+        return Err(SourceError::AtFault(SourceFault {
+            name: RefusalName::TooLong,
+            line: 0,
+        }));
     }
-    match scan(alloc, bytes) {
-        Ok(tokens) => spelled(alloc, tokens.as_slice()),
-        Err(fault) => match fault {
-            ScanFault::Memory => Err(Memory),
-            _ => Ok(None),
-        },
+    let tokens = match scan(alloc, bytes) {
+        Ok(tokens) => tokens,
+        Err(fault) => return Err(of_scan(fault)),
+    };
+    lexed_weight();
+    let module = match parse(alloc, tokens.as_slice(), end_place(bytes)) {
+        Ok(module) => module,
+        Err(fault) => return Err(of_parse(fault)),
+    };
+    match check(alloc, module) {
+        Ok(checked) => Ok(checked),
+        Err(fault) => Err(of_scope(fault)),
     }
 }
 
-// The accepted module that tokens spell, and `None` where they spell none.
-#[tactic(auto, using(crate::proofs::SourceExits::spelled_exits))]
-fn spelled(alloc: Global, tokens: &[Token]) -> Result<Option<Module>, Memory>
-    requires { length tokens.now ≤ LONGEST_SOURCE }
-    ensures module { IfOk result (λ found. MatchOption found (SpellNoneAccepted tokens.now) (λ source. SpellAccepted tokens.now (module_tree source))) }
-    ensures numbered { IfOk result (λ found. IfSome found (λ source. IsNumbered (module_tree source))) }
-    ensures few { IfOk result (λ found. IfSome found (λ source. length source.defs ≤ LONGEST_SOURCE)) }
-    ensures few_arguments { IfOk result (λ found. IfSome found (λ source. AllFew (module_tree source))) }
+// A refusal at a place.
+fn at(name: RefusalName, place: Place) -> SourceError
+    ensures { result ≡ SourceError.AtFault (record { name = name; line = place.line }) }
 {
-    let source = match module_of(alloc, tokens) {
-        Ok(source) => source,
-        Err(fault) => {
-            return match fault {
-                Fault::NotBuilt => Ok(None),
-                Fault::Memory => Err(Memory),
-            };
-        }
-    };
-    match is_accepted(alloc, &source) {
-        Ok(accepted) => {
-            if accepted {
-                Ok(Some(source))
-            } else {
-                discard_module(source);
-                Ok(None)
-            }
-        }
-        Err(Memory) => {
-            discard_module(source);
-            Err(Memory)
-        }
+    SourceError::AtFault(SourceFault {
+        name,
+        line: place.line,
+    })
+}
+
+// What a fault of the scanner says of the source.
+fn of_scan(fault: ScanFault) -> SourceError
+    ensures { result ≡ told (scan_refusal fault) }
+{
+    match fault {
+        ScanFault::BadByte(place) => at(RefusalName::BadByte, place),
+        ScanFault::OpenQuote(place) => at(RefusalName::OpenQuote, place),
+        ScanFault::BadEscape(place) => at(RefusalName::BadEscape, place),
+        ScanFault::WideInteger(place) => at(RefusalName::WideInteger, place),
+        ScanFault::Memory => SourceError::Memory,
+    }
+}
+
+// What a fault of the grammar says of the source.
+fn of_parse(fault: ParseFault) -> SourceError
+    ensures { result ≡ told (parse_refusal fault) }
+{
+    match fault {
+        ParseFault::Syntax(place) => at(RefusalName::Syntax, place),
+        ParseFault::TooDeep(place) => at(RefusalName::TooDeep, place),
+        ParseFault::Memory => SourceError::Memory,
+    }
+}
+
+// What a fault of scopes and degrees says of the source.
+fn of_scope(fault: ScopeFault) -> SourceError
+    ensures { result ≡ told (scope_refusal fault) }
+{
+    match fault {
+        ScopeFault::Unbound(place) => at(RefusalName::Unbound, place),
+        ScopeFault::RepeatedVariable(place) => at(RefusalName::RepeatedVariable, place),
+        ScopeFault::UndefinedFunction(place) => at(RefusalName::UndefinedFunction, place),
+        ScopeFault::RepeatedFunction(place) => at(RefusalName::RepeatedFunction, place),
+        ScopeFault::BadExport(place) => at(RefusalName::BadExport, place),
+        ScopeFault::Degree(place) => at(RefusalName::Degree, place),
+        ScopeFault::Memory => SourceError::Memory,
     }
 }

@@ -1,5 +1,6 @@
-use crate::answer::refused;
+use crate::answer::MISSING;
 use crate::check::dialyze;
+use crate::refusals::{RefusalName, SourceFault};
 use crate::status::{Device, Status};
 use da_shelf::{MemShelf, MemSink, OpenGate};
 use std::alloc::Global;
@@ -36,7 +37,11 @@ fn run(alloc: Global, words: &[&str], text: &str) -> Result<(Status, Vec<u8>), F
 #[test]
 fn checks_sources(rt: HostRuntime) -> Result<(), Fail> {
     let loops = "module 'm' ['f'/0] attributes []\n'f'/0 = fun () -> apply 'f'/0()\nend\n";
-    let tuple = "module 'm' ['f'/1] attributes []\n'f'/1 = fun (X) -> {X,1,'a'}\nend\n";
+    let widest =
+        "module 'm' ['f'/0] attributes []\n'f'/0 = fun () -> 170141183460469231731687303715884105727\nend\n";
+    let server =
+        "module 'r4' ['loop'/0] attributes []\n'loop'/0 = fun () ->\n  receive\n    <X> when 'true' -> apply 'loop'/0()\n  after 'infinity' -> 'true'\nend\n";
+    let map = "module 'm' ['f'/0] attributes []\n'f'/0 = fun () -> ~{'a'=>1}~\nend\n";
     let one_line =
         "module 'm' ['f'/0] attributes [] 'f'/0 = fun () -> {call 'm':'p'(),call 'm':'q'(1)} end";
     let many =
@@ -48,7 +53,9 @@ fn checks_sources(rt: HostRuntime) -> Result<(), Fail> {
     let cases = [
         (EMPTY, Status::Clean, ""),
         (loops, Status::Clean, ""),
-        (tuple, Status::Clean, ""),
+        (widest, Status::Clean, ""),
+        (server, Status::Clean, ""),
+        (map, Status::Clean, ""),
         (LOST, Status::Warnings, LOST_REPORT),
         (one_line, Status::Warnings, many),
         (cycle, Status::Warnings, cycle_report),
@@ -99,74 +106,74 @@ fn knows_its_words(rt: HostRuntime) -> Result<(), Fail> {
     Ok(())
 }
 
-// One source for each rule that can fail.
+fn refused(name: RefusalName, line: u32) -> Status {
+    SourceFault { name, line }.status()
+}
+
+// One source for each refusal that has a line: the second line of a module that exports `'f'/0`.
 #[test]
-fn refuses_what_is_not_built(rt: HostRuntime) -> Result<(), Fail> {
-    let head = "module 'm' ['f'/1] attributes [] 'f'/1 = fun (X) -> ";
+fn refuses_by_name_and_line(rt: HostRuntime) -> Result<(), Fail> {
+    let head = "module 'm' ['f'/0] attributes []\n'f'/0 = fun () -> ";
     let bodies = [
-        "Y",
-        "_",
-        "{X,Y}",
-        "[]",
-        "1.5",
-        "\"a\"",
-        "$a",
-        "( X -| [] )",
-        "let <Y> = X in Y",
-        "fun (Y) -> Y",
-        "<X,X>",
-        "apply X()",
-        "apply 'g'/0()",
-        "apply 'f'/01(apply 'f'/1(X))",
-        "apply 'f'/1({call 'm':'f'(1)})",
-        "call X:'f'(1)",
-        "call 'n':'f'(1)",
-        "call 'erlang':'self'()",
-        "call 'erlang':'error'()",
-        "primop 'a'()",
-        "170141183460469231731687303715884105728",
-        "'\\q'",
-        "'a",
-        "?",
-        "X X",
+        ("?", RefusalName::BadByte, "1 BadByte"),
+        ("'a", RefusalName::OpenQuote, "2 OpenQuote"),
+        ("'\\q'", RefusalName::BadEscape, "3 BadEscape"),
+        (
+            "170141183460469231731687303715884105728",
+            RefusalName::WideInteger,
+            "4 WideInteger",
+        ),
+        ("1 2", RefusalName::Syntax, "5 Syntax"),
+        ("X", RefusalName::Unbound, "8 Unbound"),
+        (
+            "fun (X,X) -> X",
+            RefusalName::RepeatedVariable,
+            "9 RepeatedVariable",
+        ),
+        (
+            "apply 'k'/0()",
+            RefusalName::UndefinedFunction,
+            "10 UndefinedFunction",
+        ),
+        (
+            "1 'f'/0 = fun () -> 2",
+            RefusalName::RepeatedFunction,
+            "11 RepeatedFunction",
+        ),
+        ("<1,2>", RefusalName::Degree, "13 Degree"),
     ];
-    for body in bodies {
+    for (body, name, told) in bodies {
         let text = format!(in rt.alloc(); "{head}{body} end")?;
         let answer = run(rt.alloc(), &["check", "m.core"], text.as_str())?;
-        assert_eq!(rt; answer.0, refused(27), "{body}");
-        assert_eq!(rt;
-            answer.1.as_slice(),
-            b"m.core: refused 27 NotBuilt\n".as_slice()
-        );
+        assert_eq!(rt; answer.0, refused(name, 2), "{body}");
+        let line = format!(in rt.alloc(); "m.core:2: refused {told}\n")?;
+        assert_eq!(rt; answer.1.as_slice(), line.as_bytes(), "{body}");
     }
-    let sources = [
-        "",
-        "module 'm' [] attributes []",
-        "module 'm' [] attributes ['x' = 1] end",
-        "module 'm' ['f'/256] attributes [] end",
-        "module 'm' ['f'/+1] attributes [] end",
-        "module 'm' ['f'/0] attributes [] end",
-        "module 'm' [] attributes [] 'f'/0 = fun () -> 1 end",
-        "module 'm' ['f'/0] attributes [] 'f'/0 = fun () -> 1 'f'/0 = fun () -> 2 end",
-        "module 'm' ['f'/1] attributes [] 'f'/1 = fun () -> 1 end",
-        "module 'm' ['f'/2] attributes [] 'f'/2 = fun (X,X) -> 1 end",
-        "module 'm' [] attributes [] end end",
-        "module 'm' [,] attributes [] end",
-        "module m [] attributes [] end",
-        "module 'r4' ['loop'/0] attributes []\n'loop'/0 = fun () ->\n  receive\n    <X> when 'true' -> apply 'loop'/0()\n  after 'infinity' -> 'true'\nend\n",
-    ];
-    for text in sources {
-        let answer = run(rt.alloc(), &["check", "m.core"], text)?;
-        assert_eq!(rt; answer.0, refused(27), "{text}");
-    }
+    let unfinished = run(
+        rt.alloc(),
+        &["check", "m.core"],
+        "module 'e' [] attributes []\n",
+    )?;
+    assert_eq!(rt; unfinished.0, refused(RefusalName::Syntax, 2));
+    let export = run(
+        rt.alloc(),
+        &["check", "m.core"],
+        "module 'e'\n ['f'/0]\n attributes [] end",
+    )?;
+    assert_eq!(rt; export.0, refused(RefusalName::BadExport, 2));
+    assert_eq!(rt;
+        export.1.as_slice(),
+        b"m.core:2: refused 12 BadExport\n".as_slice()
+    );
     Ok(())
 }
 
-// The deepest expression that is built, and one deeper.
+// The deepest expression that is read, and one deeper.
 #[test]
 fn knows_how_deep(rt: HostRuntime) -> Result<(), Fail> {
     let alloc = rt.alloc();
-    for (depth, status) in [(400, Status::Clean), (401, refused(27))] {
+    let deeper = refused(RefusalName::TooDeep, 1);
+    for (depth, status) in [(400, Status::Clean), (401, deeper)] {
         let mut text = String::from_str(
             alloc,
             "module 'm' ['f'/0] attributes [] 'f'/0 = fun () -> ",
@@ -189,7 +196,7 @@ fn knows_how_deep(rt: HostRuntime) -> Result<(), Fail> {
 fn tells_of_devices(rt: HostRuntime) -> Result<(), Fail> {
     let alloc = rt.alloc();
     let answer = run(alloc, &["check", "x.core"], EMPTY)?;
-    assert_eq!(rt; answer.0, refused(26));
+    assert_eq!(rt; answer.0, MISSING.status());
     assert_eq!(rt;
         answer.1.as_slice(),
         b"x.core: refused 26 Missing\n".as_slice()

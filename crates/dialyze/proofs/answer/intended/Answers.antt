@@ -7,7 +7,7 @@ returns-in-Ok-clause-intended g c = checked_it _ _ _ _ c.in-Some.file.now _ c.as
 
 pub returns-in-Err-Missing-clause-intended : goal.returns-in-Err-Missing-clause-intended
 returns-in-Err-Missing-clause-intended g c =
-    not_held_it _ _ _ _ c.in-Some.file.now c.missing.result c.in-Some.ensures.some (c.in-Err-Missing.ensures.missing (ap Err c.in-Err-Missing.field-0-is)) c.missing.ensures.status c.missing.ensures.output
+    not_held_it _ _ _ _ c.in-Some.file.now c.refuse.result c.in-Some.ensures.some (c.in-Err-Missing.ensures.missing (ap Err c.in-Err-Missing.field-0-is)) c.refuse.ensures.status c.refuse.ensures.output
 
 pub returns-in-Err-Failed-clause-intended : goal.returns-in-Err-Failed-clause-intended
 returns-in-Err-Failed-clause-intended g c =

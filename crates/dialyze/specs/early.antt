@@ -1,0 +1,4 @@
+pub mod Fails
+pub mod Dead
+pub mod Findings
+pub mod steps

@@ -1,0 +1,4 @@
+pub mod Judged
+pub mod Walked
+pub mod Settled
+pub mod Reported
