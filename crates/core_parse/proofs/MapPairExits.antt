@@ -17,7 +17,7 @@ use Rattle.core_parse.specs.Labels.{number_pairs}
 use Rattle.core_parse.specs.steps.Track.{Branch, Goes, itself, Passes, Stops}
 use Rattle.core_parse.specs.steps.Faults.{Refuses, Starts, Takes, Misses, RanOut}
 use Rattle.core_parse.specs.steps.Items.{number_each, number_pair}
-use Rattle.core_parse.specs.steps.Pairs.{ReadsMapPairs, PairStart, NoPairStart}
+use Rattle.core_parse.specs.steps.Pairs.{ReadsMapPairs, ReadsUpdated, RefusesUpdated, PairStart, NoPairStart}
 use Rattle.core_parse.specs.steps.Readings.{ReadsExpression, ReadsPair}
 use Rattle.core_parse.proofs.Moves.{◌>>◌, expand}
 use Rattle.core_parse.proofs.Places.{taken, halted, Shut, through, refused, lacking, ran_out, take_class, drop}
@@ -114,17 +114,11 @@ module _ (d n : ℕ) (ts us : List Token) (items : List MapPair) (p : ℕ) (e : 
           go true g = g >> taken (pairs d) (behind_pair d true e.build) us vs t s.Bar b.are (sym b.sort_is ∙ h) refl (tt, (tt, (tt, tt)))
           go false g = g >> taken (pairs d) (behind_pair d false e.build) us vs t s.Bar b.are (sym b.sort_is ∙ h) refl (tt, (tt, (tt, tt)))
 
-      pub map_bar_bad : (f : Fault) → Refuses (expression d) vs f → Refuses (pairs d) ts f
-      map_bar_bad f z = refused _ _ (a s.CloseMap ∷ []) (λ x _. e.build (with_map [] x)) ts vs f map_bar ((λ t x. refl), (λ t x. refl), tt) z
-
       module _ (ws : List Token) (o : m.Tree) (r : ℕ) (y : ReadsExpression d p vs o ws r) where
         map_updated : Goes (pairs d) (itself (pairs d)) (record { parts = a s.CloseMap ∷ []; build = λ _. e.build (with_map [] y.says) } ∷ []) ts ws
         map_updated = map_bar >> through _ _ (a s.CloseMap ∷ []) (λ x _. e.build (with_map [] x)) vs ws y.says y.passes ((λ t x. refl), (λ t x. refl), tt)
 
-        pub map_bar_lacks : (f : Fault) → Misses s.CloseMap ws f → Refuses (pairs d) ts f
-        map_bar_lacks f z = lacking _ s.CloseMap [] (λ _. e.build (with_map [] y.says)) ts ws f map_updated z
-
-        pub map_bar_ok : (left : List Token) → Takes s.CloseMap ws left → ReadsMapPairs d n ts (lists.all_pairs items) (Some o) left r
+        map_bar_ok : (left : List Token) → Takes s.CloseMap ws left → ReadsMapPairs d n ts (lists.all_pairs items) (Some o) left r
         map_bar_ok left z = record {
           says = with_map e.raw y.says;
           passes = subst (λ x. Passes (pairs d) ts x left) (map_pairs_say (Some y.says)) (map_updated >> take_class _ s.CloseMap [] (λ _. e.build (with_map [] y.says)) ws left z);
@@ -132,6 +126,12 @@ module _ (d n : ℕ) (ts us : List Token) (items : List MapPair) (p : ℕ) (e : 
           pairs_are = map_pairs_numbers;
           updated_is = ap (λ (k : m.Tree × ℕ). let z : Option m.Tree × ℕ = (Some k.0, k.1) in z) y.agrees;
         }
+
+      pub map_bar_refused : (f : Fault) → RefusesUpdated d vs f → Refuses (pairs d) ts f
+      map_bar_refused f z = z (pairs d) (λ x _. e.build (with_map [] x)) ts map_bar
+
+      pub map_bar_done : (made : m.Pairs) (u : Option m.Tree) (left : List Token) (r : ℕ) → made ≡ lists.all_pairs items → ReadsUpdated d p vs u left r → ReadsMapPairs d n ts made u left r
+      map_bar_done made u left r g y = subst (λ k. ReadsMapPairs d n ts k u left r) (sym g) (subst (λ k. ReadsMapPairs d n ts (lists.all_pairs items) k left r) (sym y.made_is) (map_bar_ok y.behind y.made r y.reads left y.closes))
 
     -- another pair, or none
     module _ (x : q ≡ s.CloseMap → ⊥) (y : q ≡ s.Bar → ⊥) (k : Bool) (i : k ≡ true → items ≡ []) (j : items ≡ [] → k ≡ true) where
@@ -178,3 +178,29 @@ module _ (d n : ℕ) (ts from : List Token) (items : List MapPair) (p : ℕ) (e 
     builds = λ r. e.builds (next_pair z.says r) ∙ ap (λ ps. let y : MapParts = record { pairs = ps; updated = r.updated } in y) (sym (append_assoc e.raw (z.says ∷ []) r.pairs));
     agrees = each_pushed number_pair lists.pair_parts n p o e.raw items grown z.says x w e.agrees (pair_one p o z.says (lists.pair_parts x) z.agrees);
   }
+
+-- Behind the bar.
+module _ (d n : ℕ) (us : List Token) where
+  pub updated_bad : (f : Fault) → Refuses (expression d) us f → RefusesUpdated d us f
+  updated_bad f z o b ts g = refused (expression d) o (a s.CloseMap ∷ []) b ts us f g ((λ t x. refl), (λ t x. refl), tt) z
+
+  pub updated_lacks : (ws : List Token) (x : m.Tree) (p : ℕ) → ReadsExpression d n us x ws p → (f : Fault) → Misses s.CloseMap ws f → RefusesUpdated d us f
+  updated_lacks ws x p y f z o b ts g = lacking o s.CloseMap [] (b y.says) ts ws f (g >> through (expression d) o (a s.CloseMap ∷ []) b us ws y.says y.passes ((λ t x. refl), (λ t x. refl), tt)) z
+
+-- The first pair, and one behind a comma.
+pub map_pairs_first : (d n : ℕ) (ts us : List Token) (items : List MapPair) → items ≡ [] → (t : Token) (q : Sort) (place : Place) → Starts ts t q place us → (q ≡ s.CloseMap → ⊥) → (q ≡ s.Bar → ⊥) → MapPairsBefore d n ts ts items n
+map_pairs_first d n ts us items e t q place b x y = map_pairs_next d n ts ts items n (map_pairs_begin d n ts items e) us t q place b x y true (λ _. e) (λ _. refl) ts refl
+
+module _ (d n : ℕ) (ts us : List Token) (items : List MapPair) (p : ℕ) (e : MapPairsSoFar d n ts us items p) (some : items ≡ [] → ⊥) (vs : List Token) (t : Token) (q : Sort) (place : Place) (b : Starts us t q place vs) where
+  none_here : items ≡ [] → false ≡ true
+  none_here z = absurd (some z)
+
+  pub map_pairs_comma : q ≡ s.Comma → MapPairsBefore d n ts vs items p
+  map_pairs_comma h = map_pairs_next d n ts us items p e vs t q place b (λ z. absurd cc) (λ z. absurd cc) false (λ z. absurd cc) none_here vs (h, refl)
+
+  pub map_pairs_no_comma : (q ≡ s.CloseMap → ⊥) → (q ≡ s.Bar → ⊥) → (q ≡ s.Comma → ⊥) → Refuses (pairs d) ts (fault.Syntax place)
+  map_pairs_no_comma x y h = map_pairs_other d n ts us items p e vs t q place b x y false (λ z. absurd cc) none_here (fault.Syntax place) (h, refl)
+
+pub one_is_some : (items made : List MapPair) (x : MapPair) → made ≡ items ++ x ∷ [] → made ≡ [] → ⊥
+one_is_some [] made x e h = absurd cc
+one_is_some (y ∷ ys) made x e h = absurd cc

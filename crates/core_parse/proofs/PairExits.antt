@@ -108,11 +108,12 @@ module _ (d n : ℕ) (us : List Token) where
       pub key_value_bad : (f : Fault) → Refuses (expression d) vs f → RefusesValue d us f
       key_value_bad f z o qs b gs ts g = refused (expression d) o qs (b exact) ts vs f (g >> key_value_1 exact x o qs b) (gs exact) z
 
-      key_value : (left : List Token) (v : m.Tree) (p : ℕ) → ReadsExpression d n vs v left p → ReadsValue d n us exact v left p
+      pub key_value : (left : List Token) (v : m.Tree) (p : ℕ) → ReadsExpression d n vs v left p → ReadsValue d n us exact v left p
       key_value left v p z = record { says = z.says; goes = λ o qs b h. key_value_1 exact x o qs b >> through (expression d) o qs (b exact) vs left z.says z.passes h; agrees = z.agrees }
 
-      pub key_value_ok : (left : List Token) (v : m.Tree) (p : ℕ) → ReadsExpression d n vs v left p → (key : m.Tree) (made : lists.PairParts) → made ≡ record { exact = exact; key = key; value = v } → ReadsValueOf d n key us made left p
-      key_value_ok left v p z key made g = record { value = subst (λ (r : lists.PairParts). ReadsValue d n us r.exact r.value left p) (sym g) (key_value left v p z); key_is = ap (λ (r : lists.PairParts). r.key) g }
+-- The pair of a key and a value that is read.
+pub pair_valued : (d n : ℕ) (us left : List Token) (exact : Bool) (v : m.Tree) (p : ℕ) → ReadsValue d n us exact v left p → (key : m.Tree) (made : lists.PairParts) → made ≡ record { exact = exact; key = key; value = v } → ReadsValueOf d n key us made left p
+pair_valued d n us left exact v p z key made g = record { value = subst (λ (r : lists.PairParts). ReadsValue d n us r.exact r.value left p) (sym g) z; key_is = ap (λ (r : lists.PairParts). r.key) g }
 
 -- the numbers of a pair
 map_pair_is : (n p q : ℕ) (k k' v : m.Tree) (made : lists.PairParts) → number n k ≡ (k', p) → number p v ≡ (made.value, q) → made.key ≡ k' → number_pairs n (m.and_pair made.exact k v m.no_pair) ≡ (lists.pairs (made ∷ []), q)

@@ -137,11 +137,12 @@ module _ (d n : ℕ) (ts : List Token) where
     pub pattern_value_bad : (f : Fault) → Refuses (pattern d) us f → RefusesPatternValue d ts f
     pattern_value_bad e z = λ o qs f g vs r. refused (pattern d) o qs f vs us e (r >> take_class o s.Exact (the (pattern d) ∷ qs) (λ _. f) ts us y) g z
 
-    pattern_value : (left : List Token) (x : m.Pattern) (p : ℕ) → ReadsPattern d n us x left p → ReadsPatternValue d n ts x left p
+    pub pattern_value : (left : List Token) (x : m.Pattern) (p : ℕ) → ReadsPattern d n us x left p → ReadsPatternValue d n ts x left p
     pattern_value left x p z = record { says = z.says; goes = λ o qs f g. take_class o s.Exact (the (pattern d) ∷ qs) (λ _. f) ts us y >> through (pattern d) o qs f us left z.says z.passes g; agrees = z.agrees }
 
-    pub pattern_value_ok : (left : List Token) (x : m.Pattern) (p : ℕ) → ReadsPattern d n us x left p → (key : m.Tree) (made : lists.PatPairParts) → made ≡ record { key = key; value = x } → ReadsPatternValueOf d n key ts made left p
-    pattern_value_ok left x p z key made g = record { value = subst (λ v. ReadsPatternValue d n ts v left p) (sym (ap (λ (r : lists.PatPairParts). r.value) g)) (pattern_value left x p z); key_is = ap (λ (r : lists.PatPairParts). r.key) g }
+-- The pair of a key and a pattern that is read.
+pub pattern_value_pair : (d n : ℕ) (ts left : List Token) (x : m.Pattern) (p : ℕ) → ReadsPatternValue d n ts x left p → (key : m.Tree) (made : lists.PatPairParts) → made ≡ record { key = key; value = x } → ReadsPatternValueOf d n key ts made left p
+pattern_value_pair d n ts left x p z key made g = record { value = subst (λ v. ReadsPatternValue d n ts v left p) (sym (ap (λ (r : lists.PatPairParts). r.value) g)) z; key_is = ap (λ (r : lists.PatPairParts). r.key) g }
 
 -- the numbers of a pair
 pair_is : (n p q : ℕ) (k k' : m.Tree) (v : m.Pattern) (made : lists.PatPairParts) → number n k ≡ (k', p) → number_pattern p v ≡ (made.value, q) → made.key ≡ k' → number_pat_pairs n (m.and_pat_pair k v m.no_pat_pair) ≡ (lists.pat_pairs (made ∷ []), q)

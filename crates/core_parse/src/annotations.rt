@@ -1,21 +1,38 @@
 ghost use Rattle.std.specs.Prelude.{◌≡◌, ◌<◌, ◌≤◌, length, IfOk, IfErr};
+ghost use Rattle.core_ast.specs.Notes.{note_tree, noted_pattern as noted_pattern_tree};
+ghost use Rattle.core_ast.specs.Tree.{tree, pattern_tree};
+ghost use Rattle.core_ast.specs.declared.syntax.Note.{Note};
 ghost use Rattle.core_parse.specs.Grammar.{annotation as annotation_part};
 ghost use Rattle.core_parse.specs.steps.Faults.{Refuses};
 ghost use Rattle.core_parse.specs.steps.Readings.{ReadsAnnotation};
 ghost use Rattle.core_parse.specs.Weights.{weight};
 
+use crate::boxes::{discard, discard_pattern, noted, noted_pattern};
 use crate::constants::constants;
 use crate::fault::Fault;
 use crate::leaves::take;
 use crate::notes::note_of;
-use core_ast::Note;
+use core_ast::{Expr, Note, Pattern};
 use core_scan::{Sort, Token};
 use std::alloc::Global;
+use type_kinds::{Boxed, Memory};
 
 /// What an annotation says, and what follows its closing bracket.
 #[derive(Clone, Copy)]
 pub struct ReadAnnotation<'a> {
     pub note: Note,
+    pub rest: &'a [Token],
+}
+
+/// An expression with the note of its annotation, and what follows the closing bracket.
+pub struct ReadAnnotated<'a> {
+    pub expr: Boxed<Expr>,
+    pub rest: &'a [Token],
+}
+
+/// A pattern with the note of its annotation, and what follows the closing bracket.
+pub struct ReadAnnotatedPattern<'a> {
+    pub pattern: Boxed<Pattern>,
     pub rest: &'a [Token],
 }
 
@@ -45,5 +62,61 @@ pub fn annotation<'a>(alloc: Global, tokens: &'a [Token]) -> Result<ReadAnnotati
             rest,
         }),
         Err(fault) => Err(fault),
+    }
+}
+
+/// The rest of an expression in annotation brackets, behind the expression, which gets the note. On an
+/// error the expression is given up.
+#[inline(never)]
+pub fn annotated<'a>(
+    alloc: Global,
+    expr: Boxed<Expr>,
+    tokens: &'a [Token],
+) -> Result<ReadAnnotated<'a>, Fault>
+    ensures ok { IfOk result (λ r. (note : Note) × ReadsAnnotation tokens.now note r.rest.now × (tree r.expr ≡ note_tree note (tree expr))) }
+    ensures shorter { IfOk result (λ r. length r.rest.now < length tokens.now) }
+    ensures lighter { IfOk result (λ r. weight r.rest.now ≤ weight tokens.now) }
+    ensures err { IfErr result (λ e. Refuses annotation_part tokens.now e) }
+{
+    match annotation(alloc, tokens) {
+        Ok(found) => match noted(alloc, expr, found.note) {
+            Ok(expr) => Ok(ReadAnnotated {
+                expr,
+                rest: found.rest,
+            }),
+            Err(Memory) => Err(Fault::Memory),
+        },
+        Err(fault) => {
+            discard(expr);
+            Err(fault)
+        }
+    }
+}
+
+/// The rest of a pattern in annotation brackets, behind the pattern, which gets the note. On an error the
+/// pattern is given up.
+#[inline(never)]
+pub fn annotated_pattern<'a>(
+    alloc: Global,
+    pattern: Boxed<Pattern>,
+    tokens: &'a [Token],
+) -> Result<ReadAnnotatedPattern<'a>, Fault>
+    ensures ok { IfOk result (λ r. (note : Note) × ReadsAnnotation tokens.now note r.rest.now × (pattern_tree r.pattern ≡ noted_pattern_tree note (pattern_tree pattern))) }
+    ensures shorter { IfOk result (λ r. length r.rest.now < length tokens.now) }
+    ensures lighter { IfOk result (λ r. weight r.rest.now ≤ weight tokens.now) }
+    ensures err { IfErr result (λ e. Refuses annotation_part tokens.now e) }
+{
+    match annotation(alloc, tokens) {
+        Ok(found) => match noted_pattern(alloc, pattern, found.note) {
+            Ok(pattern) => Ok(ReadAnnotatedPattern {
+                pattern,
+                rest: found.rest,
+            }),
+            Err(Memory) => Err(Fault::Memory),
+        },
+        Err(fault) => {
+            discard_pattern(pattern);
+            Err(fault)
+        }
     }
 }

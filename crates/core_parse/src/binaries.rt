@@ -5,7 +5,7 @@ ghost use Rattle.core_parse.specs.steps.Faults.{Starts, Refuses};
 ghost use Rattle.core_parse.specs.steps.Readings.{ReadsOtherExpression, ReadsSegments, ReadsSegment};
 ghost use Rattle.core_parse.specs.Weights.{weight};
 
-use crate::boxes::{discard, pushed};
+use crate::boxes::{discard, kept};
 use crate::expressions::{ReadExpression, ReadExpressions, expression, expressions};
 use crate::fault::Fault;
 use crate::leaves::{First, mark, next, take};
@@ -102,10 +102,10 @@ fn segments<'a>(
                 label,
             },
         ) => {
-            if !pushed(&mut items, segment) {
-                discard_segments(items);
-                return Err(Fault::Memory);
-            }
+            items = match kept(items, segment) {
+                Ok(items) => items,
+                Err(Memory) => return Err(Fault::Memory),
+            };
             (rest, label)
         }
         Err(fault) => {
@@ -140,10 +140,10 @@ fn segments<'a>(
                     label,
                 },
             ) => {
-                if !pushed(&mut items, segment) {
-                    discard_segments(items);
-                    return Err(Fault::Memory);
-                }
+                items = match kept(items, segment) {
+                    Ok(items) => items,
+                    Err(Memory) => return Err(Fault::Memory),
+                };
                 left = rest;
                 next_label = label;
             }

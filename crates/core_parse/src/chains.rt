@@ -1,7 +1,7 @@
 ghost use Rattle.std.specs.Prelude.{◌≡◌, ◌+◌, ◌^◌, ◌<◌, ◌≤◌, true, false, length, reverse, IfOk, IfErr, IfSome, IfNone};
 ghost use Rattle.core_ast.specs.Tree.{tree, step_tree};
 ghost use Rattle.core_parse.specs.Grammar.{other_expression};
-ghost use Rattle.core_parse.specs.steps.Chains.{ReadsStep, RefusesStep, ReadsSteps, BeginsStep};
+ghost use Rattle.core_parse.specs.steps.Chains.{ReadsStep, RefusesStep, ReadsSteps, ReadsChain as ReadsSuchChain, BeginsStep};
 ghost use Rattle.core_parse.specs.steps.Faults.{Starts, Refuses};
 ghost use Rattle.core_parse.specs.steps.Readings.{chain_sort, opens_chain, ReadsOtherExpression};
 ghost use Rattle.core_parse.specs.Weights.{weight};
@@ -14,7 +14,7 @@ use crate::leaves::{First, mark, next, take};
 use crate::nodes;
 use crate::part_nodes::{do_step, let_step};
 use crate::variables::variables;
-use core_ast::{Step, discard_steps};
+use core_ast::{Expr, Step, discard_steps};
 use core_scan::{Sort, Token, same};
 use std::alloc::Global;
 use type_kinds::{Boxed, List, Memory};
@@ -36,6 +36,14 @@ pub struct ReadStep<'a> {
 /// The steps of a chain, the first of them first, and what follows them.
 pub struct ReadSteps<'a> {
     pub frames: List<Frame>,
+    pub rest: &'a [Token],
+    pub label: u32,
+}
+
+/// The steps of a chain, the first of them first, and its last expression, and what follows it.
+pub struct ReadChain<'a> {
+    pub frames: List<Frame>,
+    pub last: Boxed<Expr>,
     pub rest: &'a [Token],
     pub label: u32,
 }
@@ -91,7 +99,8 @@ fn next_step<'a>(tokens: &'a [Token]) -> Option<StepWord<'a>>
     })
 }
 
-/// Steps, each a `let` or a `do`, and the expression that follows them.
+/// Steps, each a `let` or a `do`, and the expression that follows them, up to the annotations of the steps
+/// in brackets.
 #[cycle(expressions)]
 #[inline(never)]
 pub fn chain<'a>(
@@ -100,37 +109,72 @@ pub fn chain<'a>(
     first: First<'a>,
     depth: u32,
     label: u32,
-) -> Result<ReadExpression<'a>, Fault>
+) -> Result<ReadChain<'a>, Fault>
     requires shallow { depth ≤ 400 }
     requires labels { label + weight tokens.now < 2 ^ 32 }
     requires starts { Starts tokens.now first.token.now first.sort first.place first.rest.now }
     requires shorter { length first.rest.now + 1 ≡ length tokens.now }
     requires lighter { weight first.rest.now + 2 ≤ weight tokens.now }
     requires sort { chain_sort first.sort ≡ true }
-    ensures ok { IfOk result (λ r. ReadsOtherExpression depth label tokens.now (tree r.expr) r.rest.now r.label) }
+    ensures ok { IfOk result (λ r. ReadsSuchChain depth label first.entry.place tokens.now r.frames (tree r.last) r.rest.now r.label) }
     ensures labels { IfOk result (λ r. r.label + weight r.rest.now ≤ label + weight tokens.now) }
     ensures shorter { IfOk result (λ r. length r.rest.now < length tokens.now) }
     ensures err { IfErr result (λ e. Refuses (other_expression depth) tokens.now e) }
 {
     let ReadSteps {
-        mut frames,
+        frames,
         rest,
         label: next_label,
     } = match steps(alloc, tokens, first, depth, label) {
         Ok(found) => found,
         Err(fault) => return Err(fault),
     };
-    let ReadExpression {
-        expr: last,
-        rest: mut left,
-        label: next_label,
-    } = match expression(alloc, rest, depth, next_label) {
-        Ok(found) => found,
+    match expression(alloc, rest, depth, next_label) {
+        Ok(ReadExpression { expr, rest, label }) => Ok(ReadChain {
+            frames,
+            last: expr,
+            rest,
+            label,
+        }),
         Err(fault) => {
             discard_frames(frames);
-            return Err(fault);
+            Err(fault)
         }
+    }
+}
+
+/// The chain with these steps and this last expression, behind it: the annotations of the steps in
+/// brackets, those of the last step first.
+pub fn closed<'a>(
+    alloc: Global,
+    tokens: &'a [Token],
+    first: First<'a>,
+    depth: u32,
+    label: u32,
+    chain: Result<ReadChain<'a>, Fault>,
+) -> Result<ReadExpression<'a>, Fault>
+    requires shallow { depth ≤ 400 }
+    requires starts { Starts tokens.now first.token.now first.sort first.place first.rest.now }
+    requires sort { chain_sort first.sort ≡ true }
+    requires reads { IfOk chain (λ r. ReadsSuchChain depth label first.place tokens.now r.frames (tree r.last) r.rest.now r.label) }
+    requires labels { IfOk chain (λ r. r.label + weight r.rest.now ≤ label + weight tokens.now) }
+    requires shorter { IfOk chain (λ r. length r.rest.now < length tokens.now) }
+    requires refuses { IfErr chain (λ e. Refuses (other_expression depth) tokens.now e) }
+    ensures ok { IfOk result (λ r. ReadsOtherExpression depth label tokens.now (tree r.expr) r.rest.now r.label) }
+    ensures labels { IfOk result (λ r. r.label + weight r.rest.now ≤ label + weight tokens.now) }
+    ensures shorter { IfOk result (λ r. length r.rest.now < length tokens.now) }
+    ensures err { IfErr result (λ e. Refuses (other_expression depth) tokens.now e) }
+{
+    let ReadChain {
+        mut frames,
+        last,
+        rest,
+        label: next_label,
+    } = match chain {
+        Ok(found) => found,
+        Err(fault) => return Err(fault),
     };
+    let mut left = rest;
     let mut done: List<Step> = List::new(alloc);
     while let Some(frame) = frames.pop() {
         let Frame { step, noted } = frame;

@@ -6,8 +6,8 @@ ghost use Rattle.core_parse.specs.steps.Faults.{Starts, Takes, MissesOrMemory, R
 ghost use Rattle.core_parse.specs.steps.Readings.{ReadsClause};
 ghost use Rattle.core_parse.specs.Weights.{weight};
 
-use crate::annotations::annotation;
-use crate::boxes::{discard, discard_clause, discard_pattern, noted_clause, noted_pattern, pushed};
+use crate::annotations::{ReadAnnotatedPattern, annotated_pattern, annotation};
+use crate::boxes::{discard, discard_pattern, kept, pushed};
 use crate::expressions::{ReadExpression, expression};
 use crate::fault::Fault;
 use crate::leaves::{DEEPEST, First, mark, next, no_note, take, text_of};
@@ -88,10 +88,10 @@ pub fn clauses<'a>(
                     label,
                 },
             ) => {
-                if !pushed(&mut items, clause) {
-                    discard_clauses(items);
-                    return Err(Fault::Memory);
-                }
+                items = match kept(items, clause) {
+                    Ok(items) => items,
+                    Err(Memory) => return Err(Fault::Memory),
+                };
                 left = rest;
                 next_label = label;
             }
@@ -161,28 +161,32 @@ pub fn clause<'a>(
             return Err(fault);
         }
     };
-    let clause = match part_nodes::clause(alloc, mark, patterns, guard, body) {
-        Ok(clause) => clause,
-        Err(Memory) => return Err(Fault::Memory),
-    };
     if !noted {
-        return Ok(ReadClause {
-            clause,
-            rest,
-            label,
-        });
-    }
-    match annotation(alloc, rest) {
-        Ok(found) => match noted_clause(alloc, clause, found.note) {
+        return match part_nodes::clause(alloc, mark, patterns, guard, body) {
             Ok(clause) => Ok(ReadClause {
                 clause,
-                rest: found.rest,
+                rest,
                 label,
             }),
             Err(Memory) => Err(Fault::Memory),
-        },
+        };
+    }
+    match annotation(alloc, rest) {
+        Ok(found) => {
+            let mark = mark.with_note(found.note);
+            match part_nodes::clause(alloc, mark, patterns, guard, body) {
+                Ok(clause) => Ok(ReadClause {
+                    clause,
+                    rest: found.rest,
+                    label,
+                }),
+                Err(Memory) => Err(Fault::Memory),
+            }
+        }
         Err(fault) => {
-            discard_clause(clause);
+            discard_patterns(patterns);
+            discard(guard);
+            discard(body);
             Err(fault)
         }
     }
@@ -449,23 +453,16 @@ fn either<'a>(
         };
         return single(alloc, found, inner, true);
     }
-    match annotation(alloc, rest) {
-        Ok(found) => {
-            let pattern = match noted_pattern(alloc, pattern, found.note) {
-                Ok(pattern) => pattern,
-                Err(Memory) => return Err(Fault::Memory),
-            };
+    match annotated_pattern(alloc, pattern, rest) {
+        Ok(ReadAnnotatedPattern { pattern, rest }) => {
             let found = ReadPattern {
                 pattern,
-                rest: found.rest,
+                rest,
                 label,
             };
             single(alloc, found, outer, false)
         }
-        Err(fault) => {
-            discard_pattern(pattern);
-            Err(fault)
-        }
+        Err(fault) => Err(fault),
     }
 }
 

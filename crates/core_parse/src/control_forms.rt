@@ -5,7 +5,7 @@ ghost use Rattle.core_parse.specs.steps.Faults.{Starts, Refuses};
 ghost use Rattle.core_parse.specs.steps.Readings.{ReadsOtherExpression};
 ghost use Rattle.core_parse.specs.Weights.{weight};
 
-use crate::boxes::{discard, pushed};
+use crate::boxes::{discard, kept};
 use crate::clauses::{ReadClause, ReadClauses, clause, clauses};
 use crate::expressions::{ReadExpression, expression};
 use crate::fault::Fault;
@@ -65,12 +65,13 @@ pub fn case<'a>(
             return Err(fault);
         }
     };
-    let mut items = List::new(alloc);
-    if !pushed(&mut items, head) {
-        discard(argument);
-        discard_clauses(items);
-        return Err(Fault::Memory);
-    }
+    let items = match kept(List::new(alloc), head) {
+        Ok(items) => items,
+        Err(Memory) => {
+            discard(argument);
+            return Err(Fault::Memory);
+        }
+    };
     let ReadClauses { items, rest, label } = match clauses(
         alloc,
         rest,

@@ -8,8 +8,8 @@ ghost use Rattle.core_parse.specs.steps.Faults.{Starts, Refuses};
 ghost use Rattle.core_parse.specs.steps.Readings.{mark as unnoted, ReadsBareExpression, ReadsElements};
 ghost use Rattle.core_parse.specs.Weights.{weight};
 
-use crate::annotations::annotation;
-use crate::boxes::{discard, noted, pushed};
+use crate::annotations::{ReadAnnotated, annotated};
+use crate::boxes::{discard, pushed};
 use crate::expressions::{ReadExpression, bare_expression, expression, other_expression};
 use crate::fault::Fault;
 use crate::leaves::{First, mark, next, take};
@@ -33,10 +33,7 @@ pub struct ReadElements<'a> {
 fn nil(alloc: Global, label: u32, place: Place) -> Result<Boxed<Expr>, Memory>
     ensures { IfOk result (λ made. tree made ≡ m.literal (unnoted label place) l.Nil) }
 {
-    match nodes::literal(alloc, mark(label, place), Literal::Nil) {
-        Ok(made) => Ok(made),
-        Err(Memory) => Err(Memory),
-    }
+    nodes::literal(alloc, mark(label, place), Literal::Nil)
 }
 
 /// A string that has bytes: the list of them.
@@ -253,23 +250,16 @@ fn elements<'a>(
                     return Err(fault);
                 }
             };
-            return match annotation(alloc, rest) {
-                Ok(found) => match noted(alloc, expr, found.note) {
-                    Ok(tail) => Ok(ReadElements {
-                        items,
-                        tail,
-                        pending: pending + 1,
-                        rest: found.rest,
-                        label,
-                    }),
-                    Err(Memory) => {
-                        discard_all(items);
-                        Err(Fault::Memory)
-                    }
-                },
+            return match annotated(alloc, expr, rest) {
+                Ok(ReadAnnotated { expr, rest }) => Ok(ReadElements {
+                    items,
+                    tail: expr,
+                    pending: pending + 1,
+                    rest,
+                    label,
+                }),
                 Err(fault) => {
                     discard_all(items);
-                    discard(expr);
                     Err(fault)
                 }
             };

@@ -6,10 +6,10 @@ ghost use Rattle.core_parse.specs.steps.Readings.{ReadsExpression, ReadsBareExpr
 ghost use Rattle.core_parse.specs.steps.Starters.{starts_expression, starts_literal};
 ghost use Rattle.core_parse.specs.Weights.{weight};
 
-use crate::annotations::annotation;
+use crate::annotations::{ReadAnnotated, annotated};
 use crate::binaries::binary;
-use crate::boxes::{discard, noted, pushed};
-use crate::chains::chain;
+use crate::boxes::pushed;
+use crate::chains::{chain, closed};
 use crate::control_forms::{case, catch, receive, try_expression};
 use crate::expression_lists::{list, string};
 use crate::fault::Fault;
@@ -114,19 +114,13 @@ pub fn expression<'a>(
         Ok(found) => found,
         Err(fault) => return Err(fault),
     };
-    match annotation(alloc, rest) {
-        Ok(found) => match noted(alloc, expr, found.note) {
-            Ok(expr) => Ok(ReadExpression {
-                expr,
-                rest: found.rest,
-                label: next_label,
-            }),
-            Err(Memory) => Err(Fault::Memory),
-        },
-        Err(fault) => {
-            discard(expr);
-            Err(fault)
-        }
+    match annotated(alloc, expr, rest) {
+        Ok(ReadAnnotated { expr, rest }) => Ok(ReadExpression {
+            expr,
+            rest,
+            label: next_label,
+        }),
+        Err(fault) => Err(fault),
     }
 }
 
@@ -243,8 +237,22 @@ pub fn other_expression<'a>(
         Sort::Case => case(alloc, tokens, first, depth, label),
         Sort::Try => try_expression(alloc, tokens, first, depth, label),
         Sort::Receive => receive(alloc, tokens, first, depth, label),
-        Sort::Let => chain(alloc, tokens, first, depth, label),
-        Sort::Do => chain(alloc, tokens, first, depth, label),
+        Sort::Let => closed(
+            alloc,
+            tokens,
+            first,
+            depth,
+            label,
+            chain(alloc, tokens, first, depth, label),
+        ),
+        Sort::Do => closed(
+            alloc,
+            tokens,
+            first,
+            depth,
+            label,
+            chain(alloc, tokens, first, depth, label),
+        ),
         Sort::OpenBinary => binary(alloc, tokens, first, depth, label),
         Sort::OpenMap => map(alloc, tokens, first, depth, label),
         _ => Err(Fault::Syntax(first.place)),

@@ -2,13 +2,13 @@ ghost use Rattle.std.specs.Prelude.{◌≡◌, ◌+◌, ◌^◌, ◌<◌, ◌≤
 ghost use Rattle.core_ast.specs.Tree.{tree, all_pairs, pair_parts};
 ghost use Rattle.core_parse.specs.Grammar.{other_expression, pairs as pairs_of, pair as pair_of, bare_pair as bare_pair_of};
 ghost use Rattle.core_parse.specs.steps.Faults.{Starts, Refuses};
-ghost use Rattle.core_parse.specs.steps.Pairs.{ReadsMapPairs, ReadsBarePair, ReadsValueOf, RefusesValue, PairStart, NoPairStart, exact_sign, updated_tree};
+ghost use Rattle.core_parse.specs.steps.Pairs.{ReadsMapPairs, ReadsUpdated, RefusesUpdated, ReadsBarePair, ReadsValue as ReadsSuchValue, ReadsValueOf, RefusesValue, exact_sign, updated_tree};
 ghost use Rattle.core_parse.specs.steps.Readings.{ReadsOtherExpression, ReadsPair};
 ghost use Rattle.core_parse.specs.steps.Starters.{opens_with};
 ghost use Rattle.core_parse.specs.Weights.{weight};
 
-use crate::annotations::annotation;
-use crate::boxes::{discard, discard_pair, noted, pushed};
+use crate::annotations::{ReadAnnotated, annotated, annotation};
+use crate::boxes::{discard, discard_pair, kept};
 use crate::expressions::{ReadExpression, bare_expression, expression};
 use crate::fault::Fault;
 use crate::leaves::{First, mark, next, take};
@@ -31,6 +31,14 @@ pub struct ReadPair<'a> {
     pub pair: Boxed<MapPair>,
     pub rest: &'a [Token],
     pub label: u32,
+}
+
+// The value of a pair, whether the sign before it is that of an exact pair, and what follows it.
+struct ReadValue<'a> {
+    exact: bool,
+    value: Boxed<Expr>,
+    rest: &'a [Token],
+    label: u32,
 }
 
 /// ~{ pairs }~ and ~{ pairs | expression }~
@@ -93,9 +101,39 @@ fn pairs<'a>(
     ensures shorter { IfOk result (λ r. length r.rest.now < length tokens.now) }
     ensures err { IfErr result (λ e. Refuses (pairs_of depth) tokens.now e) }
 {
-    let mut items = List::new(alloc);
-    let mut left = tokens;
-    let mut next_label = label;
+    let first = match next(tokens) {
+        Ok(found) => found,
+        Err(fault) => return Err(fault),
+    };
+    if same(first.sort, Sort::CloseMap) {
+        let items = List::new(alloc);
+        return Ok(ReadPairs {
+            items,
+            updated: None,
+            rest: first.rest,
+            label,
+        });
+    }
+    if same(first.sort, Sort::Bar) {
+        let none = List::new(alloc);
+        return match updated_by(alloc, none, first.rest, depth, label) {
+            Ok(found) => Ok(found),
+            Err(fault) => Err(fault),
+        };
+    }
+    let ReadPair {
+        pair: head,
+        rest: mut left,
+        label: mut next_label,
+    } = match pair(alloc, tokens, depth, label) {
+        Ok(found) => found,
+        Err(fault) => return Err(fault),
+    };
+    let empty = List::new(alloc);
+    let mut items = match kept(empty, head) {
+        Ok(items) => items,
+        Err(Memory) => return Err(Fault::Memory),
+    };
     loop {
         let token = match next(left) {
             Ok(found) => found,
@@ -113,42 +151,21 @@ fn pairs<'a>(
             });
         }
         if same(token.sort, Sort::Bar) {
-            let ReadExpression { expr, rest, label } = match expression(
-                alloc, token.rest, depth, next_label,
-            ) {
-                Ok(found) => found,
-                Err(fault) => {
-                    discard_pairs(items);
-                    return Err(fault);
-                }
-            };
-            return match take(rest, Sort::CloseMap) {
-                Ok(rest) => Ok(ReadPairs {
-                    items,
-                    updated: Some(expr),
-                    rest,
-                    label,
-                }),
-                Err(fault) => {
-                    discard_pairs(items);
-                    discard(expr);
-                    Err(fault)
-                }
+            return match updated_by(alloc, items, token.rest, depth, next_label) {
+                Ok(found) => Ok(found),
+                Err(fault) => Err(fault),
             };
         }
-        let start = match pair_start(left, token, items.is_empty()) {
-            Ok(found) => found,
-            Err(fault) => {
-                discard_pairs(items);
-                return Err(fault);
-            }
-        };
-        match pair(alloc, start, depth, next_label) {
+        if !same(token.sort, Sort::Comma) {
+            discard_pairs(items);
+            return Err(Fault::Syntax(token.place));
+        }
+        match pair(alloc, token.rest, depth, next_label) {
             Ok(ReadPair { pair, rest, label }) => {
-                if !pushed(&mut items, pair) {
-                    discard_pairs(items);
-                    return Err(Fault::Memory);
-                }
+                items = match kept(items, pair) {
+                    Ok(items) => items,
+                    Err(Memory) => return Err(Fault::Memory),
+                };
                 left = rest;
                 next_label = label;
             }
@@ -160,26 +177,43 @@ fn pairs<'a>(
     }
 }
 
-// Where the next pair starts: the first one at once, and any other behind a comma.
-fn pair_start<'a>(
+// The map that these pairs update, behind the bar, and the token that closes them.
+#[cycle(expressions)]
+#[inline(never)]
+fn updated_by<'a>(
+    alloc: Global,
+    items: List<MapPair>,
     tokens: &'a [Token],
-    token: First<'a>,
-    is_first: bool,
-) -> Result<&'a [Token], Fault>
-    requires shorter { length token.rest.now + 1 ≡ length tokens.now }
-    requires lighter { weight token.rest.now + 2 ≤ weight tokens.now }
-    ensures ok { IfOk result (λ r. PairStart is_first token.entry.sort tokens.now token.entry.rest.now r.now) }
-    ensures shorter { IfOk result (λ r. length r.now ≤ length tokens.now) }
-    ensures lighter { IfOk result (λ r. weight r.now ≤ weight tokens.now) }
-    ensures err { IfErr result (λ e. NoPairStart is_first token.entry.sort token.entry.place e) }
+    depth: u32,
+    label: u32,
+) -> Result<ReadPairs<'a>, Fault>
+    requires shallow { depth ≤ 401 }
+    requires labels { label + weight tokens.now < 2 ^ 32 }
+    ensures items { IfOk result (λ r. all_pairs r.items ≡ all_pairs items) }
+    ensures ok { IfOk result (λ r. ReadsUpdated depth label tokens.now (updated_tree r.updated) r.rest.now r.label) }
+    ensures labels { IfOk result (λ r. r.label + weight r.rest.now ≤ label + weight tokens.now) }
+    ensures shorter { IfOk result (λ r. length r.rest.now < length tokens.now) }
+    ensures err { IfErr result (λ e. RefusesUpdated depth tokens.now e) }
 {
-    if is_first {
-        return Ok(tokens);
-    }
-    if same(token.sort, Sort::Comma) {
-        Ok(token.rest)
-    } else {
-        Err(Fault::Syntax(token.place))
+    let ReadExpression { expr, rest, label } = match expression(alloc, tokens, depth, label) {
+        Ok(found) => found,
+        Err(fault) => {
+            discard_pairs(items);
+            return Err(fault);
+        }
+    };
+    match take(rest, Sort::CloseMap) {
+        Ok(rest) => Ok(ReadPairs {
+            items,
+            updated: Some(expr),
+            rest,
+            label,
+        }),
+        Err(fault) => {
+            discard_pairs(items);
+            discard(expr);
+            Err(fault)
+        }
     }
 }
 
@@ -275,37 +309,41 @@ fn pair_in_brackets<'a>(
         }
     };
     if same(token.sort, Sort::Noted) {
-        return match annotation(alloc, rest) {
-            Ok(found) => {
-                let key = match noted(alloc, key, found.note) {
-                    Ok(key) => key,
-                    Err(Memory) => return Err(Fault::Memory),
-                };
-                match value_of_key(alloc, key, found.rest, depth, label) {
-                    Ok(found) => Ok(found),
-                    Err(fault) => Err(fault),
-                }
-            }
-            Err(fault) => {
-                discard(key);
-                Err(fault)
-            }
+        return match annotated(alloc, key, rest) {
+            Ok(ReadAnnotated { expr, rest }) => match pair_of_key(alloc, expr, rest, depth, label) {
+                Ok(found) => Ok(found),
+                Err(fault) => Err(fault),
+            },
+            Err(fault) => Err(fault),
         };
     }
-    let ReadPair { pair, rest, label } = match value_of_key(alloc, key, rest, depth, label) {
+    let ReadValue {
+        exact,
+        value,
+        rest,
+        label,
+    } = match value(alloc, rest, depth, label) {
         Ok(found) => found,
-        Err(fault) => return Err(fault),
+        Err(fault) => {
+            discard(key);
+            return Err(fault);
+        }
     };
-    match annotation(alloc, rest) {
-        Ok(found) => Ok(ReadPair {
+    let found = match annotation(alloc, rest) {
+        Ok(found) => found,
+        Err(fault) => {
+            discard(key);
+            discard(value);
+            return Err(fault);
+        }
+    };
+    match part_nodes::pair(alloc, exact, key, value) {
+        Ok(pair) => Ok(ReadPair {
             pair,
             rest: found.rest,
             label,
         }),
-        Err(fault) => {
-            discard_pair(pair);
-            Err(fault)
-        }
+        Err(Memory) => Err(Fault::Memory),
     }
 }
 
@@ -333,7 +371,7 @@ fn bare_pair<'a>(
         Ok(found) => found,
         Err(fault) => return Err(fault),
     };
-    match value_of_key(alloc, key, rest, depth, label) {
+    match pair_of_key(alloc, key, rest, depth, label) {
         Ok(found) => Ok(found),
         Err(fault) => Err(fault),
     }
@@ -353,7 +391,7 @@ fn exactness(sort: Sort) -> Option<bool>
 // The pair of this key, behind the key: => expression, or := expression.
 #[cycle(expressions)]
 #[inline(never)]
-fn value_of_key<'a>(
+fn pair_of_key<'a>(
     alloc: Global,
     key: Boxed<Expr>,
     tokens: &'a [Token],
@@ -367,22 +405,12 @@ fn value_of_key<'a>(
     ensures shorter { IfOk result (λ r. length r.rest.now < length tokens.now) }
     ensures err { IfErr result (λ e. RefusesValue depth tokens.now e) }
 {
-    let token = match next(tokens) {
-        Ok(found) => found,
-        Err(fault) => {
-            discard(key);
-            return Err(fault);
-        }
-    };
-    let Some(exact) = exactness(token.sort) else {
-        discard(key);
-        return Err(Fault::Syntax(token.place));
-    };
-    let ReadExpression {
-        expr: value,
+    let ReadValue {
+        exact,
+        value,
         rest,
         label,
-    } = match expression(alloc, token.rest, depth, label) {
+    } = match value(alloc, tokens, depth, label) {
         Ok(found) => found,
         Err(fault) => {
             discard(key);
@@ -392,5 +420,39 @@ fn value_of_key<'a>(
     match part_nodes::pair(alloc, exact, key, value) {
         Ok(pair) => Ok(ReadPair { pair, rest, label }),
         Err(Memory) => Err(Fault::Memory),
+    }
+}
+
+// The value of a pair, behind the key: => expression, or := expression.
+#[cycle(expressions)]
+#[inline(never)]
+fn value<'a>(
+    alloc: Global,
+    tokens: &'a [Token],
+    depth: u32,
+    label: u32,
+) -> Result<ReadValue<'a>, Fault>
+    requires shallow { depth ≤ 401 }
+    requires labels { label + weight tokens.now < 2 ^ 32 }
+    ensures ok { IfOk result (λ r. ReadsSuchValue depth label tokens.now r.exact (tree r.value) r.rest.now r.label) }
+    ensures labels { IfOk result (λ r. r.label + weight r.rest.now ≤ label + weight tokens.now) }
+    ensures shorter { IfOk result (λ r. length r.rest.now < length tokens.now) }
+    ensures err { IfErr result (λ e. RefusesValue depth tokens.now e) }
+{
+    let token = match next(tokens) {
+        Ok(found) => found,
+        Err(fault) => return Err(fault),
+    };
+    let Some(exact) = exactness(token.sort) else {
+        return Err(Fault::Syntax(token.place));
+    };
+    match expression(alloc, token.rest, depth, label) {
+        Ok(ReadExpression { expr, rest, label }) => Ok(ReadValue {
+            exact,
+            value: expr,
+            rest,
+            label,
+        }),
+        Err(fault) => Err(fault),
     }
 }

@@ -17,10 +17,7 @@ use type_kinds::{Atom, Boxed, List, Memory};
 pub fn literal(alloc: Global, mark: Mark, value: Literal) -> Result<Boxed<Expr>, Memory>
     ensures { IfOk result (λ made. tree made ≡ m.literal mark value) }
 {
-    match boxed(alloc, Expr::literal(mark, value)) {
-        Ok(made) => Ok(made),
-        Err(Memory) => Err(Memory),
-    }
+    boxed(alloc, Expr::literal(mark, value))
 }
 
 /// A variable.
@@ -28,10 +25,7 @@ pub fn literal(alloc: Global, mark: Mark, value: Literal) -> Result<Boxed<Expr>,
 pub fn variable(alloc: Global, mark: Mark, name: Atom) -> Result<Boxed<Expr>, Memory>
     ensures { IfOk result (λ made. tree made ≡ m.variable mark name) }
 {
-    match boxed(alloc, Expr::variable(mark, name)) {
-        Ok(made) => Ok(made),
-        Err(Memory) => Err(Memory),
-    }
+    boxed(alloc, Expr::variable(mark, name))
 }
 
 /// A function's name.
@@ -39,10 +33,7 @@ pub fn variable(alloc: Global, mark: Mark, name: Atom) -> Result<Boxed<Expr>, Me
 pub fn local(alloc: Global, mark: Mark, name: FunName) -> Result<Boxed<Expr>, Memory>
     ensures { IfOk result (λ made. tree made ≡ m.local mark name) }
 {
-    match boxed(alloc, Expr::local(mark, name)) {
-        Ok(made) => Ok(made),
-        Err(Memory) => Err(Memory),
-    }
+    boxed(alloc, Expr::local(mark, name))
 }
 
 /// A function of a module, by both names.
@@ -50,10 +41,7 @@ pub fn local(alloc: Global, mark: Mark, name: FunName) -> Result<Boxed<Expr>, Me
 pub fn external(alloc: Global, mark: Mark, home: Atom, name: FunName) -> Result<Boxed<Expr>, Memory>
     ensures { IfOk result (λ made. tree made ≡ m.external mark home name) }
 {
-    match boxed(alloc, Expr::external(mark, home, name)) {
-        Ok(made) => Ok(made),
-        Err(Memory) => Err(Memory),
-    }
+    boxed(alloc, Expr::external(mark, home, name))
 }
 
 /// A tuple.
@@ -61,10 +49,7 @@ pub fn external(alloc: Global, mark: Mark, home: Atom, name: FunName) -> Result<
 pub fn tuple(alloc: Global, mark: Mark, elements: List<Expr>) -> Result<Boxed<Expr>, Memory>
     ensures { IfOk result (λ made. tree made ≡ m.tuple mark (all_trees elements)) }
 {
-    match boxed(alloc, Expr::tuple(mark, elements)) {
-        Ok(made) => Ok(made),
-        Err(Memory) => Err(Memory),
-    }
+    boxed(alloc, Expr::tuple(mark, elements))
 }
 
 /// A value list.
@@ -72,10 +57,7 @@ pub fn tuple(alloc: Global, mark: Mark, elements: List<Expr>) -> Result<Boxed<Ex
 pub fn values(alloc: Global, mark: Mark, elements: List<Expr>) -> Result<Boxed<Expr>, Memory>
     ensures { IfOk result (λ made. tree made ≡ m.values mark (all_trees elements)) }
 {
-    match boxed(alloc, Expr::values(mark, elements)) {
-        Ok(made) => Ok(made),
-        Err(Memory) => Err(Memory),
-    }
+    boxed(alloc, Expr::values(mark, elements))
 }
 
 /// A binary.
@@ -83,10 +65,7 @@ pub fn values(alloc: Global, mark: Mark, elements: List<Expr>) -> Result<Boxed<E
 pub fn binary(alloc: Global, mark: Mark, segments: List<Segment>) -> Result<Boxed<Expr>, Memory>
     ensures { IfOk result (λ made. tree made ≡ m.binary mark (all_segments segments)) }
 {
-    match boxed(alloc, Expr::binary(mark, segments)) {
-        Ok(made) => Ok(made),
-        Err(Memory) => Err(Memory),
-    }
+    boxed(alloc, Expr::binary(mark, segments))
 }
 
 /// A map of these pairs alone.
@@ -94,10 +73,7 @@ pub fn binary(alloc: Global, mark: Mark, segments: List<Segment>) -> Result<Boxe
 pub fn new_map(alloc: Global, mark: Mark, pairs: List<MapPair>) -> Result<Boxed<Expr>, Memory>
     ensures { IfOk result (λ made. tree made ≡ m.new_map mark (all_pairs pairs)) }
 {
-    match boxed(alloc, Expr::new_map(mark, pairs)) {
-        Ok(made) => Ok(made),
-        Err(Memory) => Err(Memory),
-    }
+    boxed(alloc, Expr::new_map(mark, pairs))
 }
 
 /// A primitive operation.
@@ -110,10 +86,7 @@ pub fn primop(
 ) -> Result<Boxed<Expr>, Memory>
     ensures { IfOk result (λ made. tree made ≡ m.primop mark name (all_trees args)) }
 {
-    match boxed(alloc, Expr::primop(mark, name, args)) {
-        Ok(made) => Ok(made),
-        Err(Memory) => Err(Memory),
-    }
+    boxed(alloc, Expr::primop(mark, name, args))
 }
 
 /// A fun.
@@ -127,16 +100,13 @@ pub fn function(
 ) -> Result<Boxed<Expr>, Memory>
     ensures { IfOk result (λ made. tree made ≡ m.function mark params (tree body)) }
 {
-    match boxed(
+    boxed(
         alloc,
         Expr {
             mark,
             form: Form::Fun(FunOf { params, body }),
         },
-    ) {
-        Ok(made) => Ok(made),
-        Err(Memory) => Err(Memory),
-    }
+    )
 }
 
 /// A list: its elements and its tail.
@@ -150,16 +120,13 @@ pub fn listed(
 ) -> Result<Boxed<Expr>, Memory>
     ensures { IfOk result (λ made. tree made ≡ m.listed mark (all_trees elements) (tree tail)) }
 {
-    match boxed(
+    boxed(
         alloc,
         Expr {
             mark,
             form: Form::Listed(elements, tail),
         },
-    ) {
-        Ok(made) => Ok(made),
-        Err(Memory) => Err(Memory),
-    }
+    )
 }
 
 /// A map that is updated by these pairs.
@@ -173,16 +140,13 @@ pub fn updated_map(
 ) -> Result<Boxed<Expr>, Memory>
     ensures { IfOk result (λ made. tree made ≡ m.updated_map mark (all_pairs pairs) (tree map)) }
 {
-    match boxed(
+    boxed(
         alloc,
         Expr {
             mark,
             form: Form::Map(pairs, Some(map)),
         },
-    ) {
-        Ok(made) => Ok(made),
-        Err(Memory) => Err(Memory),
-    }
+    )
 }
 
 /// A chain: its steps, and the expression that follows them.
@@ -196,16 +160,13 @@ pub fn chain(
 ) -> Result<Boxed<Expr>, Memory>
     ensures { IfOk result (λ made. tree made ≡ m.chain mark (all_steps steps) (tree last)) }
 {
-    match boxed(
+    boxed(
         alloc,
         Expr {
             mark,
             form: Form::Chain(steps, last),
         },
-    ) {
-        Ok(made) => Ok(made),
-        Err(Memory) => Err(Memory),
-    }
+    )
 }
 
 /// A `case`: its argument and its clauses.
@@ -219,16 +180,13 @@ pub fn case(
 ) -> Result<Boxed<Expr>, Memory>
     ensures { IfOk result (λ made. tree made ≡ m.case mark (tree argument) (all_clauses clauses)) }
 {
-    match boxed(
+    boxed(
         alloc,
         Expr {
             mark,
             form: Form::Case(argument, clauses),
         },
-    ) {
-        Ok(made) => Ok(made),
-        Err(Memory) => Err(Memory),
-    }
+    )
 }
 
 /// A `letrec`: its functions and its body.
@@ -242,16 +200,13 @@ pub fn letrec(
 ) -> Result<Boxed<Expr>, Memory>
     ensures { IfOk result (λ made. tree made ≡ m.letrec mark (all_defs functions) (tree body)) }
 {
-    match boxed(
+    boxed(
         alloc,
         Expr {
             mark,
             form: Form::Letrec(functions, body),
         },
-    ) {
-        Ok(made) => Ok(made),
-        Err(Memory) => Err(Memory),
-    }
+    )
 }
 
 /// The application of an operator.
@@ -265,16 +220,13 @@ pub fn apply(
 ) -> Result<Boxed<Expr>, Memory>
     ensures { IfOk result (λ made. tree made ≡ m.apply mark (tree operator) (all_trees args)) }
 {
-    match boxed(
+    boxed(
         alloc,
         Expr {
             mark,
             form: Form::Apply(operator, args),
         },
-    ) {
-        Ok(made) => Ok(made),
-        Err(Memory) => Err(Memory),
-    }
+    )
 }
 
 /// The call of a function of a module.
@@ -289,16 +241,13 @@ pub fn call(
 ) -> Result<Boxed<Expr>, Memory>
     ensures { IfOk result (λ made. tree made ≡ m.call mark (tree home) (tree name) (all_trees args)) }
 {
-    match boxed(
+    boxed(
         alloc,
         Expr {
             mark,
             form: Form::Call(home, name, args),
         },
-    ) {
-        Ok(made) => Ok(made),
-        Err(Memory) => Err(Memory),
-    }
+    )
 }
 
 /// A `try`.
@@ -307,16 +256,13 @@ pub fn call(
 pub fn try_(alloc: Global, mark: Mark, parts: TryParts) -> Result<Boxed<Expr>, Memory>
     ensures { IfOk result (λ made. tree made ≡ m.try mark (tree parts.arg) parts.vars (tree parts.body) parts.catch_vars (tree parts.handler)) }
 {
-    match boxed(
+    boxed(
         alloc,
         Expr {
             mark,
             form: Form::Try(parts),
         },
-    ) {
-        Ok(made) => Ok(made),
-        Err(Memory) => Err(Memory),
-    }
+    )
 }
 
 /// A `receive`: its clauses, how long it waits, and what it does then.
@@ -331,16 +277,13 @@ pub fn receive(
 ) -> Result<Boxed<Expr>, Memory>
     ensures { IfOk result (λ made. tree made ≡ m.receive mark (all_clauses clauses) (tree timeout) (tree action)) }
 {
-    match boxed(
+    boxed(
         alloc,
         Expr {
             mark,
             form: Form::Receive(clauses, timeout, action),
         },
-    ) {
-        Ok(made) => Ok(made),
-        Err(Memory) => Err(Memory),
-    }
+    )
 }
 
 /// A `catch`.
@@ -349,14 +292,11 @@ pub fn receive(
 pub fn catch(alloc: Global, mark: Mark, body: Boxed<Expr>) -> Result<Boxed<Expr>, Memory>
     ensures { IfOk result (λ made. tree made ≡ m.catch mark (tree body)) }
 {
-    match boxed(
+    boxed(
         alloc,
         Expr {
             mark,
             form: Form::Catch(body),
         },
-    ) {
-        Ok(made) => Ok(made),
-        Err(Memory) => Err(Memory),
-    }
+    )
 }

@@ -19,13 +19,10 @@ pub fn clause(
 ) -> Result<Boxed<Clause>, Memory>
     ensures { IfOk result (λ made. clause_parts made ≡ (record { mark = mark; patterns = all_patterns patterns; guard = tree guard; body = tree body })) }
 {
-    match boxed(
+    boxed(
         alloc,
         Clause::new(mark, patterns, guard.into_inner(), body.into_inner()),
-    ) {
-        Ok(made) => Ok(made),
-        Err(Memory) => Err(Memory),
-    }
+    )
 }
 
 /// A pair of a map, written with `:=` where it is exact.
@@ -38,13 +35,10 @@ pub fn pair(
 ) -> Result<Boxed<MapPair>, Memory>
     ensures { IfOk result (λ made. pair_parts made ≡ (record { exact = exact; key = tree key; value = tree value })) }
 {
-    match boxed(
+    boxed(
         alloc,
         MapPair::new(exact, key.into_inner(), value.into_inner()),
-    ) {
-        Ok(made) => Ok(made),
-        Err(Memory) => Err(Memory),
-    }
+    )
 }
 
 /// A pair of a map pattern.
@@ -56,10 +50,7 @@ pub fn pattern_pair(
 ) -> Result<Boxed<PatPair>, Memory>
     ensures { IfOk result (λ made. pat_pair_parts made ≡ (record { key = tree key; value = pattern_tree value })) }
 {
-    match boxed(alloc, PatPair::new(key.into_inner(), value.into_inner())) {
-        Ok(made) => Ok(made),
-        Err(Memory) => Err(Memory),
-    }
+    boxed(alloc, PatPair::new(key.into_inner(), value.into_inner()))
 }
 
 /// A segment of a binary.
@@ -71,10 +62,7 @@ pub fn segment(
 ) -> Result<Boxed<Segment>, Memory>
     ensures { IfOk result (λ made. segment_parts made ≡ (record { value = tree value; args = all_trees args })) }
 {
-    match boxed(alloc, Segment::new(value.into_inner(), args)) {
-        Ok(made) => Ok(made),
-        Err(Memory) => Err(Memory),
-    }
+    boxed(alloc, Segment::new(value.into_inner(), args))
 }
 
 /// A segment of a binary pattern.
@@ -86,10 +74,7 @@ pub fn pattern_segment(
 ) -> Result<Boxed<PatSegment>, Memory>
     ensures { IfOk result (λ made. pat_segment_parts made ≡ (record { value = pattern_tree value; args = all_trees args })) }
 {
-    match boxed(alloc, PatSegment::new(value.into_inner(), args)) {
-        Ok(made) => Ok(made),
-        Err(Memory) => Err(Memory),
-    }
+    boxed(alloc, PatSegment::new(value.into_inner(), args))
 }
 
 /// A step of a chain that is a `let`.
@@ -102,10 +87,7 @@ pub fn let_step(
 ) -> Result<Boxed<Step>, Memory>
     ensures { IfOk result (λ made. step_tree made ≡ let_of mark vars (tree value)) }
 {
-    match boxed(alloc, Step::Let(mark, vars, value.into_inner())) {
-        Ok(made) => Ok(made),
-        Err(Memory) => Err(Memory),
-    }
+    boxed(alloc, Step::Let(mark, vars, value.into_inner()))
 }
 
 /// A step of a chain that is a `do`.
@@ -113,8 +95,5 @@ pub fn let_step(
 pub fn do_step(alloc: Global, mark: Mark, value: Boxed<Expr>) -> Result<Boxed<Step>, Memory>
     ensures { IfOk result (λ made. step_tree made ≡ do_of mark (tree value)) }
 {
-    match boxed(alloc, Step::Do(mark, value.into_inner())) {
-        Ok(made) => Ok(made),
-        Err(Memory) => Err(Memory),
-    }
+    boxed(alloc, Step::Do(mark, value.into_inner()))
 }

@@ -6,7 +6,7 @@ ghost use Rattle.core_parse.specs.steps.Patterns.{ReadsOtherPattern};
 ghost use Rattle.core_parse.specs.steps.Readings.{ReadsPatternSegments, ReadsPatternSegment};
 ghost use Rattle.core_parse.specs.Weights.{weight};
 
-use crate::boxes::{discard_pattern, pushed};
+use crate::boxes::{discard_pattern, kept};
 use crate::expressions::{ReadExpressions, expressions};
 use crate::fault::Fault;
 use crate::leaves::{First, mark, next, take};
@@ -108,10 +108,10 @@ fn pattern_segments<'a>(
                 label,
             },
         ) => {
-            if !pushed(&mut items, segment) {
-                discard_pattern_segments(items);
-                return Err(Fault::Memory);
-            }
+            items = match kept(items, segment) {
+                Ok(items) => items,
+                Err(Memory) => return Err(Fault::Memory),
+            };
             (rest, label)
         }
         Err(fault) => {
@@ -146,10 +146,10 @@ fn pattern_segments<'a>(
                     label,
                 },
             ) => {
-                if !pushed(&mut items, segment) {
-                    discard_pattern_segments(items);
-                    return Err(Fault::Memory);
-                }
+                items = match kept(items, segment) {
+                    Ok(items) => items,
+                    Err(Memory) => return Err(Fault::Memory),
+                };
                 left = rest;
                 next_label = label;
             }

@@ -8,8 +8,7 @@ ghost use Rattle.core_parse.specs.steps.Readings.{ReadsBarePattern};
 ghost use Rattle.core_parse.specs.steps.Starters.{opens_with};
 ghost use Rattle.core_parse.specs.Weights.{weight};
 
-use crate::annotations::annotation;
-use crate::boxes::{discard_pattern, noted_pattern};
+use crate::annotations::{ReadAnnotatedPattern, annotated_pattern, annotation};
 use crate::fault::Fault;
 use crate::leaves::{DEEPEST, First, mark, next, no_note, take, text_of};
 use crate::pattern_nodes;
@@ -69,20 +68,14 @@ pub fn in_brackets<'a>(
         Ok(found) => found,
         Err(fault) => return Err(fault),
     };
-    match annotation(alloc, rest) {
-        Ok(found) => match noted_pattern(alloc, pattern, found.note) {
-            Ok(pattern) => Ok(ReadInBrackets {
-                pattern,
-                alone: false,
-                rest: found.rest,
-                label,
-            }),
-            Err(Memory) => Err(Fault::Memory),
-        },
-        Err(fault) => {
-            discard_pattern(pattern);
-            Err(fault)
-        }
+    match annotated_pattern(alloc, pattern, rest) {
+        Ok(ReadAnnotatedPattern { pattern, rest }) => Ok(ReadInBrackets {
+            pattern,
+            alone: false,
+            rest,
+            label,
+        }),
+        Err(fault) => Err(fault),
     }
 }
 
@@ -138,20 +131,14 @@ fn variable_in_brackets<'a>(
             Ok(found) => found,
             Err(fault) => return Err(fault),
         };
-        return match annotation(alloc, rest) {
-            Ok(found) => match noted_pattern(alloc, pattern, found.note) {
-                Ok(pattern) => Ok(ReadInBrackets {
-                    pattern,
-                    alone: false,
-                    rest: found.rest,
-                    label,
-                }),
-                Err(Memory) => Err(Fault::Memory),
-            },
-            Err(fault) => {
-                discard_pattern(pattern);
-                Err(fault)
-            }
+        return match annotated_pattern(alloc, pattern, rest) {
+            Ok(ReadAnnotatedPattern { pattern, rest }) => Ok(ReadInBrackets {
+                pattern,
+                alone: false,
+                rest,
+                label,
+            }),
+            Err(fault) => Err(fault),
         };
     }
     match noted_variable(alloc, name, first, second, depth, label) {

@@ -32,10 +32,7 @@ pub struct ReadPatternElements<'a> {
 fn nil(alloc: Global, label: u32, place: Place) -> Result<Boxed<Pattern>, Memory>
     ensures { IfOk result (λ made. pattern_tree made ≡ m.equals (unnoted label place) l.Nil) }
 {
-    match pattern_nodes::literal(alloc, mark(label, place), Literal::Nil) {
-        Ok(made) => Ok(made),
-        Err(Memory) => Err(Memory),
-    }
+    pattern_nodes::literal(alloc, mark(label, place), Literal::Nil)
 }
 
 /// A string that has bytes: the list of them.

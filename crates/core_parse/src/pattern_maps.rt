@@ -2,14 +2,14 @@ ghost use Rattle.std.specs.Prelude.{◌≡◌, ◌+◌, ◌^◌, ◌<◌, ◌≤
 ghost use Rattle.core_ast.specs.Tree.{tree, pattern_tree, all_pat_pairs, pat_pair_parts};
 ghost use Rattle.core_parse.specs.Grammar.{the, many, other_pattern, pattern_pair as pattern_pair_of, bare_pattern_pair as bare_pattern_pair_of};
 ghost use Rattle.core_parse.specs.steps.Faults.{Starts, Refuses};
-ghost use Rattle.core_parse.specs.steps.Pairs.{ReadsBarePatternPair, ReadsPatternValueOf, RefusesPatternValue};
+ghost use Rattle.core_parse.specs.steps.Pairs.{ReadsBarePatternPair, ReadsPatternValue, ReadsPatternValueOf, RefusesPatternValue};
 ghost use Rattle.core_parse.specs.steps.Patterns.{ReadsOtherPattern};
 ghost use Rattle.core_parse.specs.steps.Starters.{opens_with};
 ghost use Rattle.core_parse.specs.steps.Readings.{ReadsPatternPairs, ReadsPatternPair};
 ghost use Rattle.core_parse.specs.Weights.{weight};
 
-use crate::annotations::annotation;
-use crate::boxes::{discard, discard_pattern_pair, noted, pushed};
+use crate::annotations::{ReadAnnotated, annotated, annotation};
+use crate::boxes::{discard, discard_pattern, discard_pattern_pair, kept};
 use crate::expressions::{ReadExpression, bare_expression, expression};
 use crate::fault::Fault;
 use crate::leaves::{First, mark, next, take};
@@ -105,10 +105,10 @@ fn pattern_pairs<'a>(
     }
     let (mut left, mut next_label) = match pattern_pair(alloc, tokens, depth, label) {
         Ok(ReadPatternPair { pair, rest, label }) => {
-            if !pushed(&mut items, pair) {
-                discard_pattern_pairs(items);
-                return Err(Fault::Memory);
-            }
+            items = match kept(items, pair) {
+                Ok(items) => items,
+                Err(Memory) => return Err(Fault::Memory),
+            };
             (rest, label)
         }
         Err(fault) => {
@@ -137,10 +137,10 @@ fn pattern_pairs<'a>(
         }
         match pattern_pair(alloc, first.rest, depth, next_label) {
             Ok(ReadPatternPair { pair, rest, label }) => {
-                if !pushed(&mut items, pair) {
-                    discard_pattern_pairs(items);
-                    return Err(Fault::Memory);
-                }
+                items = match kept(items, pair) {
+                    Ok(items) => items,
+                    Err(Memory) => return Err(Fault::Memory),
+                };
                 left = rest;
                 next_label = label;
             }
@@ -246,39 +246,42 @@ fn pattern_pair_in_brackets<'a>(
         }
     };
     if same(token.sort, Sort::Noted) {
-        return match annotation(alloc, rest) {
-            Ok(found) => {
-                let key = match noted(alloc, key, found.note) {
-                    Ok(key) => key,
-                    Err(Memory) => return Err(Fault::Memory),
-                };
-                match pattern_of_key(alloc, key, found.rest, depth, label) {
-                    Ok(found) => Ok(found),
-                    Err(fault) => Err(fault),
-                }
-            }
-            Err(fault) => {
-                discard(key);
-                Err(fault)
-            }
+        return match annotated(alloc, key, rest) {
+            Ok(ReadAnnotated { expr, rest }) => match pattern_pair_of_key(
+                alloc, expr, rest, depth, label,
+            ) {
+                Ok(found) => Ok(found),
+                Err(fault) => Err(fault),
+            },
+            Err(fault) => Err(fault),
         };
     }
-    let ReadPatternPair { pair, rest, label } = match pattern_of_key(
-        alloc, key, rest, depth, label,
-    ) {
+    let ReadPattern {
+        pattern: value,
+        rest,
+        label,
+    } = match value_pattern(alloc, rest, depth, label) {
         Ok(found) => found,
-        Err(fault) => return Err(fault),
+        Err(fault) => {
+            discard(key);
+            return Err(fault);
+        }
     };
-    match annotation(alloc, rest) {
-        Ok(found) => Ok(ReadPatternPair {
+    let found = match annotation(alloc, rest) {
+        Ok(found) => found,
+        Err(fault) => {
+            discard(key);
+            discard_pattern(value);
+            return Err(fault);
+        }
+    };
+    match part_nodes::pattern_pair(alloc, key, value) {
+        Ok(pair) => Ok(ReadPatternPair {
             pair,
             rest: found.rest,
             label,
         }),
-        Err(fault) => {
-            discard_pattern_pair(pair);
-            Err(fault)
-        }
+        Err(Memory) => Err(Fault::Memory),
     }
 }
 
@@ -306,7 +309,7 @@ fn bare_pattern_pair<'a>(
         Ok(found) => found,
         Err(fault) => return Err(fault),
     };
-    match pattern_of_key(alloc, key, rest, depth, label) {
+    match pattern_pair_of_key(alloc, key, rest, depth, label) {
         Ok(found) => Ok(found),
         Err(fault) => Err(fault),
     }
@@ -315,7 +318,7 @@ fn bare_pattern_pair<'a>(
 // The pair of this key, behind the key: := pattern.
 #[cycle(expressions)]
 #[inline(never)]
-fn pattern_of_key<'a>(
+fn pattern_pair_of_key<'a>(
     alloc: Global,
     key: Boxed<Expr>,
     tokens: &'a [Token],
@@ -329,26 +332,45 @@ fn pattern_of_key<'a>(
     ensures shorter { IfOk result (λ r. length r.rest.now < length tokens.now) }
     ensures err { IfErr result (λ e. RefusesPatternValue depth tokens.now e) }
 {
-    let rest = match take(tokens, Sort::Exact) {
-        Ok(found) => found,
-        Err(fault) => {
-            discard(key);
-            return Err(fault);
-        }
-    };
     let ReadPattern {
-        pattern,
+        pattern: value,
         rest,
         label,
-    } = match pattern(alloc, rest, depth, label) {
+    } = match value_pattern(alloc, tokens, depth, label) {
         Ok(found) => found,
         Err(fault) => {
             discard(key);
             return Err(fault);
         }
     };
-    match part_nodes::pattern_pair(alloc, key, pattern) {
+    match part_nodes::pattern_pair(alloc, key, value) {
         Ok(pair) => Ok(ReadPatternPair { pair, rest, label }),
         Err(Memory) => Err(Fault::Memory),
+    }
+}
+
+// The pattern of a pair's value, behind the key: := pattern.
+#[cycle(expressions)]
+#[inline(never)]
+fn value_pattern<'a>(
+    alloc: Global,
+    tokens: &'a [Token],
+    depth: u32,
+    label: u32,
+) -> Result<ReadPattern<'a>, Fault>
+    requires shallow { depth ≤ 401 }
+    requires labels { label + weight tokens.now < 2 ^ 32 }
+    ensures ok { IfOk result (λ r. ReadsPatternValue depth label tokens.now (pattern_tree r.pattern) r.rest.now r.label) }
+    ensures labels { IfOk result (λ r. r.label + weight r.rest.now ≤ label + weight tokens.now) }
+    ensures shorter { IfOk result (λ r. length r.rest.now < length tokens.now) }
+    ensures err { IfErr result (λ e. RefusesPatternValue depth tokens.now e) }
+{
+    let rest = match take(tokens, Sort::Exact) {
+        Ok(found) => found,
+        Err(fault) => return Err(fault),
+    };
+    match pattern(alloc, rest, depth, label) {
+        Ok(found) => Ok(found),
+        Err(fault) => Err(fault),
     }
 }

@@ -14,10 +14,7 @@ use type_kinds::{Atom, Boxed, List, Memory};
 pub fn variable(alloc: Global, mark: Mark, name: Atom) -> Result<Boxed<Pattern>, Memory>
     ensures { IfOk result (λ made. pattern_tree made ≡ m.binds mark name) }
 {
-    match boxed(alloc, Pattern::variable(mark, name)) {
-        Ok(made) => Ok(made),
-        Err(Memory) => Err(Memory),
-    }
+    boxed(alloc, Pattern::variable(mark, name))
 }
 
 /// A literal.
@@ -25,10 +22,7 @@ pub fn variable(alloc: Global, mark: Mark, name: Atom) -> Result<Boxed<Pattern>,
 pub fn literal(alloc: Global, mark: Mark, value: Literal) -> Result<Boxed<Pattern>, Memory>
     ensures { IfOk result (λ made. pattern_tree made ≡ m.equals mark value) }
 {
-    match boxed(alloc, Pattern::literal(mark, value)) {
-        Ok(made) => Ok(made),
-        Err(Memory) => Err(Memory),
-    }
+    boxed(alloc, Pattern::literal(mark, value))
 }
 
 /// A tuple.
@@ -36,10 +30,7 @@ pub fn literal(alloc: Global, mark: Mark, value: Literal) -> Result<Boxed<Patter
 pub fn tuple(alloc: Global, mark: Mark, elements: List<Pattern>) -> Result<Boxed<Pattern>, Memory>
     ensures { IfOk result (λ made. pattern_tree made ≡ m.tuple_of mark (all_patterns elements)) }
 {
-    match boxed(alloc, Pattern::tuple(mark, elements)) {
-        Ok(made) => Ok(made),
-        Err(Memory) => Err(Memory),
-    }
+    boxed(alloc, Pattern::tuple(mark, elements))
 }
 
 /// A map that has these pairs at least.
@@ -47,10 +38,7 @@ pub fn tuple(alloc: Global, mark: Mark, elements: List<Pattern>) -> Result<Boxed
 pub fn map(alloc: Global, mark: Mark, pairs: List<PatPair>) -> Result<Boxed<Pattern>, Memory>
     ensures { IfOk result (λ made. pattern_tree made ≡ m.map_of mark (all_pat_pairs pairs)) }
 {
-    match boxed(alloc, Pattern::map(mark, pairs)) {
-        Ok(made) => Ok(made),
-        Err(Memory) => Err(Memory),
-    }
+    boxed(alloc, Pattern::map(mark, pairs))
 }
 
 /// A binary.
@@ -62,10 +50,7 @@ pub fn binary(
 ) -> Result<Boxed<Pattern>, Memory>
     ensures { IfOk result (λ made. pattern_tree made ≡ m.binary_of mark (all_pat_segments segments)) }
 {
-    match boxed(alloc, Pattern::binary(mark, segments)) {
-        Ok(made) => Ok(made),
-        Err(Memory) => Err(Memory),
-    }
+    boxed(alloc, Pattern::binary(mark, segments))
 }
 
 /// A list: the patterns of its elements and of its tail.
@@ -79,16 +64,13 @@ pub fn listed(
 ) -> Result<Boxed<Pattern>, Memory>
     ensures { IfOk result (λ made. pattern_tree made ≡ m.list_of mark (all_patterns elements) (pattern_tree tail)) }
 {
-    match boxed(
+    boxed(
         alloc,
         Pattern {
             mark,
             form: PatForm::Listed(elements, tail),
         },
-    ) {
-        Ok(made) => Ok(made),
-        Err(Memory) => Err(Memory),
-    }
+    )
 }
 
 /// A pattern that a variable names.
@@ -102,14 +84,11 @@ pub fn alias(
 ) -> Result<Boxed<Pattern>, Memory>
     ensures { IfOk result (λ made. pattern_tree made ≡ m.alias mark name (pattern_tree pattern)) }
 {
-    match boxed(
+    boxed(
         alloc,
         Pattern {
             mark,
             form: PatForm::Alias(name, pattern),
         },
-    ) {
-        Ok(made) => Ok(made),
-        Err(Memory) => Err(Memory),
-    }
+    )
 }

@@ -283,7 +283,17 @@ const DEEP_EXPRESSIONS: &str = "399;400;{;1;}
 399;1600;#{#<;1;>()}#
 399;4000;fun () -> ;1;
 399;10000;letrec 'g'/0 = fun () -> ;1; in 2
-399;5590;try 1 of X -> ;2; catch <> -> 3";
+399;5590;try 1 of X -> ;2; catch <> -> 3
+399;4000;let <X> = ;1; in 2
+399;1200;do ;1; 2
+399;8789;(let <X> = 1 in catch ;1; -| [])
+399;2000;case ;1; of <X> when 'true' -> 2 end
+399;7586;case 1 of <X> when ;'true'; -> 2 end
+399;11576;case 1 of <X> when 'true' -> ;2; end
+399;11975;case 1 of (<X> when 'true' -> ;2; -| []) end
+399;10782;receive <X> when 'true' -> ;1; after 2 -> 3
+399;5600;receive after ;1; -> 2
+399;7595;receive after 1 -> ;2;";
 
 const DEEP_PATTERNS: &str = "398;399;{;X;}
 398;798;{(;1; -| [])}
@@ -350,8 +360,7 @@ fn broken_texts(rt: HostRuntime) -> Result<(), Fail> {
     check(&rt, &rt, CONSTANTS, BEFORE_CONSTANTS, BEHIND_CONSTANTS)
 }
 
-// These forms take less than 6.5 MiB of stack at depth 400, by both compilers; `let`, `do` and clauses take
-// more.
+// Each form has room on the usual stack of 8 MiB at depth 400; docs/BENCHMARKS.md has what was measured.
 #[test]
 fn deep_texts(rt: HostRuntime) -> Result<(), Fail> {
     check_deep(

@@ -1,11 +1,11 @@
-use Rattle.std.proofs.Common.{rules, ap, ◌∙◌, arith, refl, Bool, ◌+◌, subst, sym}
+use Rattle.std.proofs.Common.{rules, [], ap, ◌∙◌, arith, refl, Bool, ◌+◌, subst, sym}
 use Rattle.core_ast.specs.Tree.{all_segments, segment_parts, all_patterns, pattern_tree, tree, all_pat_segments, pat_segment_parts, all_pat_pairs, pat_pair_parts}
 use Rattle.core_parse.proofs.MoreFormExits.{binary_bad, binary_ok, case_0_bad, case_1_bad, case_2_bad, case_3_bad, case_ok, one_clause, fun_end, fun_1_bad, fun_2_bad, fun_3_bad, fun_ok}
 use Rattle.std.proofs.lemmas.Bool.{iff_false, OnTrue_at}
 use Rattle.core_parse.specs.steps.Items.{number_segment, number_pat_segment, number_pat_pair}
 use Rattle.core_parse.proofs.ItemExits.{closes_segments, segment_item, segments_of, items_nothing, items_empty, items_bad, items_first, items_end, items_close, items_worse, items_more, items_other, closes_expressions, expression_item, expressions_of, closes_pattern_segments, pattern_segment_item, pattern_segments_of, closes_pattern_pairs, pattern_pair_item, pattern_pairs_of, closes_patterns, patterns_of, pattern_item}
 use Rattle.core_parse.proofs.RowExits.{segment_0_bad, segment_1_bad, segment_2_bad, segment_3_bad, segment_4_bad, segment_ok, definitions_start, definitions_next, definition_0_bad, definition_1_bad, definition_2_bad, definition_ok, noted_function_none, function_bare_bad, function_bare, function_in_bad, function_note_bad, function_noted, function_none, function_dull, function_1_bad, function_2_bad, function_3_bad, function_4_bad, function_ok}
-use Rattle.core_parse.proofs.ChainExits.{chain_last_bad, chain_over, frames_fewer, chain_note_bad, chain_noted, chain_bare, chain_done, begins_sort, chain_first_bad, chain_first, chain_step_bad, chain_step, is_let, step_do_bad, step_do, step_vars_bad, step_equals_bad, step_value_bad, step_in_bad, step_let}
+use Rattle.core_parse.proofs.ChainExits.{chain_last_bad, begins_sort, chain_first_bad, chain_first, chain_step_bad, chain_step, is_let, step_do_bad, step_do, step_vars_bad, step_equals_bad, step_value_bad, step_in_bad, step_let}
 use Rattle.core_parse.proofs.Places.{differs}
 use Rattle.core_parse.proofs.ClauseListExits.{clauses_start, clauses_end, clauses_close, clauses_bad, clauses_next}
 use Rattle.core_parse.specs.steps.Clauses.{ReadsHead, in_patterns, no_when}
@@ -20,9 +20,9 @@ use Rattle.core_parse.proofs.ExpressionListExits.{list_open_end, list_nil, list_
 use Rattle.core_parse.proofs.StringExits.{string_weight}
 use Rattle.core_parse.proofs.ExpressionExits.{expression_none, expression_bare, expression_bare_bad, expression_in_bad, expression_note_bad, expression_noted, bare_none, bare_expression_deep, bare_expression_dull, bare_other, bare_other_bad, variable_made, literal_made, other_none, other_else, other_variable, other_literal, other_nil_bad, other_nil}
 use Rattle.core_parse.specs.Labels.{number, number_pattern}
-use Rattle.core_parse.proofs.PairExits.{map_expression_bad, map_expression_new, map_expression_updated, map_pair_end, map_pair_bare_ok, map_pair_bare_bad, map_pair_open_end, map_pair_second_bad, map_pair_second_ok, map_pair_second_note_bad, map_pair_key_bad, map_pair_key_end, map_pair_noted_ok, map_pair_noted_value_bad, map_pair_key_note_bad, map_pair_value_bad, map_pair_ok, map_pair_note_bad, bare_map_pair_key_bad, bare_map_pair_value_bad, bare_map_pair_ok, key_value_end, key_value_other, key_value_bad, key_value_ok}
-use Rattle.core_parse.proofs.MapPairExits.{map_pairs_begin, map_pairs_end, map_pairs_close, map_bar_bad, map_bar_lacks, map_bar_ok, map_pairs_other, map_pairs_next, map_pairs_bad, map_pairs_more}
-use Rattle.core_parse.proofs.PatternFormExits.{binary_pattern_bad, binary_pattern_ok, pattern_segment_0_bad, pattern_segment_1_bad, pattern_segment_2_bad, pattern_segment_3_bad, pattern_segment_4_bad, pattern_segment_ok, map_pattern_bad, map_pattern_ok, pattern_pair_end, pattern_pair_bare_ok, pattern_pair_bare_bad, pattern_pair_open_end, pattern_pair_second_bad, pattern_pair_second_ok, pattern_pair_second_note_bad, pattern_pair_key_bad, pattern_pair_key_end, pattern_pair_noted_ok, pattern_pair_noted_value_bad, pattern_pair_key_note_bad, pattern_pair_value_bad, pattern_pair_ok, pattern_pair_note_bad, bare_pattern_pair_key_bad, bare_pattern_pair_value_bad, bare_pattern_pair_ok, pattern_value_lacks, pattern_value_bad, pattern_value_ok, tuple_pattern_bad, tuple_pattern_ok}
+use Rattle.core_parse.proofs.PairExits.{map_expression_bad, map_expression_new, map_expression_updated, map_pair_end, map_pair_bare_ok, map_pair_bare_bad, map_pair_open_end, map_pair_second_bad, map_pair_second_ok, map_pair_second_note_bad, map_pair_key_bad, map_pair_key_end, map_pair_noted_ok, map_pair_noted_value_bad, map_pair_key_note_bad, map_pair_value_bad, map_pair_ok, map_pair_note_bad, bare_map_pair_key_bad, bare_map_pair_value_bad, bare_map_pair_ok, key_value_end, key_value_other, key_value_bad, key_value, pair_valued}
+use Rattle.core_parse.proofs.MapPairExits.{map_pairs_begin, map_pairs_end, map_pairs_close, map_bar_refused, map_bar_done, map_pairs_no_comma, map_pairs_first, map_pairs_comma, one_is_some, updated_bad, updated_lacks, map_pairs_bad, map_pairs_more}
+use Rattle.core_parse.proofs.PatternFormExits.{binary_pattern_bad, binary_pattern_ok, pattern_segment_0_bad, pattern_segment_1_bad, pattern_segment_2_bad, pattern_segment_3_bad, pattern_segment_4_bad, pattern_segment_ok, map_pattern_bad, map_pattern_ok, pattern_pair_end, pattern_pair_bare_ok, pattern_pair_bare_bad, pattern_pair_open_end, pattern_pair_second_bad, pattern_pair_second_ok, pattern_pair_second_note_bad, pattern_pair_key_bad, pattern_pair_key_end, pattern_pair_noted_ok, pattern_pair_noted_value_bad, pattern_pair_key_note_bad, pattern_pair_value_bad, pattern_pair_ok, pattern_pair_note_bad, bare_pattern_pair_key_bad, bare_pattern_pair_value_bad, bare_pattern_pair_ok, pattern_value_lacks, pattern_value_bad, pattern_value, pattern_value_pair, tuple_pattern_bad, tuple_pattern_ok}
 use Rattle.core_parse.specs.Grammar.{pattern_segment, pattern_pair}
 use Rattle.core_parse.proofs.PatternExits.{sort_differs, brackets_end, brackets_bad, brackets_note_bad, brackets_noted, name_made, brackets_deep, brackets_variable_end, brackets_variable_bad, brackets_variable, brackets_alias_bad, brackets_alias_note_bad, brackets_alias_noted, noted_variable_bad, noted_variable_last, noted_alias_bad, noted_alias, binds_made, equals_made, tuple_made}
 use Rattle.core_parse.specs.steps.Readings.{mark}
@@ -52,7 +52,7 @@ binaries::segments-returns-in-Err-segment-clause-err t c = items_bad _ _ (closes
 
 pub binaries::segments-loop-found-init : goal.binaries::segments-loop-found-init
 binaries::segments-loop-found-init t c = record {
-  so_far = items_first _ _ (closes_segments _) number_segment segment_parts _ _ _ _ _ _ c.in-Ok.ensures.ok (iff_false c.same.ensures c.if-same.false) _ _ _ _ _ c.new-items.ensures (OnTrue_at c.if-not-pushed.false c.pushed.ensures.added) (segment_item c.in-Ok-segment.ensures.ok);
+  so_far = items_first _ _ (closes_segments _) number_segment segment_parts _ _ _ _ _ _ c.in-Ok.ensures.ok (iff_false c.same.ensures c.if-same.false) _ _ _ _ _ c.new-items.ensures c.in-Ok-kept.ensures (segment_item c.in-Ok-segment.ensures.ok);
   labels = c.in-Ok-segment.ensures.labels;
   shorter = c.in-Ok-segment.ensures.shorter;
 }
@@ -71,7 +71,7 @@ binaries::segments-returns-in-Err-segment-2-clause-err t c = items_worse _ _ (cl
 
 pub binaries::segments-loop-found-preserved : goal.binaries::segments-loop-found-preserved
 binaries::segments-loop-found-preserved t c = record {
-  so_far = items_more _ _ (closes_segments _) number_segment segment_parts _ _ _ _ _ c.loop-found.invariant.so_far _ _ _ _ c.in-Ok-next.ensures.ok (c.same-in-loop-found-2.ensures.0 c.if-not-same.false) _ _ _ _ (OnTrue_at c.if-not-pushed-2.false c.pushed-in-Ok-segment-2.ensures.added) (segment_item c.in-Ok-segment-2.ensures.ok);
+  so_far = items_more _ _ (closes_segments _) number_segment segment_parts _ _ _ _ _ c.loop-found.invariant.so_far _ _ _ _ c.in-Ok-next.ensures.ok (c.same-in-loop-found-2.ensures.0 c.if-not-same.false) _ _ _ _ c.in-Ok-kept-2.ensures (segment_item c.in-Ok-segment-2.ensures.ok);
   labels = omega (arith, c.loop-found.invariant.labels, c.in-Ok-next.ensures.lighter, c.in-Ok-segment-2.ensures.labels);
   shorter = omega (arith, c.loop-found.invariant.shorter, c.in-Ok-next.ensures.shorter, c.in-Ok-segment-2.ensures.shorter);
 }
@@ -97,38 +97,8 @@ binaries::segment-returns-in-Ok-segment-clause-ok t c = segment_ok _ _ _ _ c.in-
 pub chains::chain-returns-in-Err-expression-clause-err : goal.chains::chain-returns-in-Err-expression-clause-err
 chains::chain-returns-in-Err-expression-clause-err t c = chain_last_bad _ _ _ c.requires.shallow _ _ _ _ c.in-Ok.ensures.ok _ c.in-Err-expression.ensures.err
 
-pub chains::chain-loop-frame-init : goal.chains::chain-loop-frame-init
-chains::chain-loop-frame-init t c = record {
-  so_far = chain_over _ _ _ _ _ _ _ _ _ _ c.in-Ok.ensures.ok c.in-Ok.ensures.last c.in-Ok-expression.ensures.ok _ c.new-done.ensures;
-  labels = omega (arith, c.in-Ok.ensures.labels, c.in-Ok-expression.ensures.labels);
-  shorter = omega (arith, c.in-Ok.ensures.shorter, c.in-Ok-expression.ensures.shorter);
-}
-
-pub chains::chain-loop-frame-smaller-in-Ok-annotation : goal.chains::chain-loop-frame-smaller-in-Ok-annotation
-chains::chain-loop-frame-smaller-in-Ok-annotation t c = frames_fewer _ _ _ c.in-Some.ensures
-
-pub chains::chain-loop-frame-preserved-in-Ok-annotation : goal.chains::chain-loop-frame-preserved-in-Ok-annotation
-chains::chain-loop-frame-preserved-in-Ok-annotation t c = record {
-  so_far = chain_noted _ _ _ _ _ _ _ _ _ _ _ c.loop-frame.invariant.so_far c.in-Some.ensures c.if-noted.true _ _ _ _ c.in-Ok-annotation.ensures.ok c.noted_step.ensures c.if-not-added.ensures.added;
-  labels = omega (arith, c.loop-frame.invariant.labels, c.in-Ok-annotation.ensures.lighter);
-  shorter = omega (arith, c.loop-frame.invariant.shorter, c.in-Ok-annotation.ensures.shorter);
-}
-
-pub chains::chain-returns-in-Err-annotation-clause-err : goal.chains::chain-returns-in-Err-annotation-clause-err
-chains::chain-returns-in-Err-annotation-clause-err t c = chain_note_bad _ _ _ _ _ _ _ _ _ _ _ c.loop-frame.invariant.so_far c.in-Some.ensures c.if-noted.true _ c.in-Err-annotation.ensures.err
-
-pub chains::chain-loop-frame-smaller : goal.chains::chain-loop-frame-smaller
-chains::chain-loop-frame-smaller t c = frames_fewer _ _ _ c.in-Some.ensures
-
-pub chains::chain-loop-frame-preserved : goal.chains::chain-loop-frame-preserved
-chains::chain-loop-frame-preserved t c = record {
-  so_far = chain_bare _ _ _ _ _ _ _ _ _ _ _ c.loop-frame.invariant.so_far c.in-Some.ensures c.if-noted.false _ c.if-not-pushed.ensures.added;
-  labels = c.loop-frame.invariant.labels;
-  shorter = c.loop-frame.invariant.shorter;
-}
-
-pub chains::chain-returns-in-Ok-chain-clause-ok : goal.chains::chain-returns-in-Ok-chain-clause-ok
-chains::chain-returns-in-Ok-chain-clause-ok t c = chain_done _ _ _ _ _ _ _ _ _ c.loop-frame.invariant.so_far c.in_default.ensures.0 _ _ _ c.requires.starts c.requires.sort _ _ c.reversed-steps.ensures _ c.mark.ensures c.in-Ok-chain.ensures
+pub chains::chain-returns-in-Ok-expression-clause-ok : goal.chains::chain-returns-in-Ok-expression-clause-ok
+chains::chain-returns-in-Ok-expression-clause-ok t c = record { behind = _; next = _; steps_are = c.in-Ok.ensures.ok; no_step = c.in-Ok.ensures.last; last_is = c.in-Ok-expression.ensures.ok }
 
 pub chains::steps-returns-in-Err-clause-err : goal.chains::steps-returns-in-Err-clause-err
 chains::steps-returns-in-Err-clause-err t c = chain_first_bad _ 0 c.requires.shallow _ _ _ _ _ c.requires.starts c.requires.sort _ c.in-Err.ensures.err
@@ -188,7 +158,7 @@ clauses::clauses-returns-then-same-clause-shorter t c = omega (arith, c.loop-fou
 
 pub clauses::clauses-loop-found-preserved : goal.clauses::clauses-loop-found-preserved
 clauses::clauses-loop-found-preserved t c = record {
-  so_far = clauses_next _ _ _ c.requires.closes _ _ _ _ _ c.loop-found.invariant.so_far _ _ _ _ c.in-Ok.ensures.ok (λ e. differs c.if-same.false (c.same.ensures.1 e)) _ _ _ _ c.if-not-pushed.ensures.added c.in-Ok-clause.ensures.ok;
+  so_far = clauses_next _ _ _ c.requires.closes _ _ _ _ _ c.loop-found.invariant.so_far _ _ _ _ c.in-Ok.ensures.ok (λ e. differs c.if-same.false (c.same.ensures.1 e)) _ _ _ _ c.in-Ok-kept.ensures c.in-Ok-clause.ensures.ok;
   labels = omega (arith, c.loop-found.invariant.labels, c.in-Ok-clause.ensures.labels);
   shorter = omega (arith, c.loop-found.invariant.shorter, c.in-Ok-clause.ensures.shorter);
 }
@@ -205,23 +175,23 @@ clauses::clause-returns-in-Err-take-clause-err t c = arrow_bad c.args.depth c.ar
 pub clauses::clause-returns-in-Err-expression-2-clause-err : goal.clauses::clause-returns-in-Err-expression-2-clause-err
 clauses::clause-returns-in-Err-expression-2-clause-err t c = body_bad c.args.depth c.args.label _ _ _ _ _ _ c.in-Ok.ensures.ok _ _ _ c.in-Ok-expression.ensures.ok _ c.in-Ok-take.ensures.ok _ c.in-Err-expression-2.ensures.err
 
-pub clauses::clause-returns-then-not-noted-clause-ok : goal.clauses::clause-returns-then-not-noted-clause-ok
-clauses::clause-returns-then-not-noted-clause-ok t c = clause_read c.args.depth c.args.label _ _ _ _ _ (subst (λ (x : Bool). ReadsHead c.args.depth (c.args.label + 1) c.args.tokens.now (all_patterns c.in-Ok.found.patterns) c.in-Ok.found.place x c.in-Ok.found.rest.now c.in-Ok.found.label) c.if-not-noted.true c.in-Ok.ensures.ok) _ _ _ c.in-Ok-expression.ensures.ok _ c.in-Ok-take.ensures.ok _ _ _ c.in-Ok-expression-2.ensures.ok _ (clause_marked _ _ _ _ _ _ c.in-Ok-clause.ensures c.mark-mark.ensures)
+pub clauses::clause-returns-in-Ok-clause-clause-ok : goal.clauses::clause-returns-in-Ok-clause-clause-ok
+clauses::clause-returns-in-Ok-clause-clause-ok t c = clause_read c.args.depth c.args.label _ _ _ _ _ (subst (λ (x : Bool). ReadsHead c.args.depth (c.args.label + 1) c.args.tokens.now (all_patterns c.in-Ok.found.patterns) c.in-Ok.found.place x c.in-Ok.found.rest.now c.in-Ok.found.label) c.if-not-noted.true c.in-Ok.ensures.ok) _ _ _ c.in-Ok-expression.ensures.ok _ c.in-Ok-take.ensures.ok _ _ _ c.in-Ok-expression-2.ensures.ok _ (clause_marked _ _ _ _ _ _ c.in-Ok-clause.ensures c.mark-mark.ensures)
 
-pub clauses::clause-returns-then-not-noted-clause-labels : goal.clauses::clause-returns-then-not-noted-clause-labels
-clauses::clause-returns-then-not-noted-clause-labels t c = omega (arith, c.in-Ok.ensures.labels, c.in-Ok-expression.ensures.labels, c.in-Ok-take.ensures.lighter, c.in-Ok-expression-2.ensures.labels)
+pub clauses::clause-returns-in-Ok-clause-clause-labels : goal.clauses::clause-returns-in-Ok-clause-clause-labels
+clauses::clause-returns-in-Ok-clause-clause-labels t c = omega (arith, c.in-Ok.ensures.labels, c.in-Ok-expression.ensures.labels, c.in-Ok-take.ensures.lighter, c.in-Ok-expression-2.ensures.labels)
 
-pub clauses::clause-returns-then-not-noted-clause-shorter : goal.clauses::clause-returns-then-not-noted-clause-shorter
-clauses::clause-returns-then-not-noted-clause-shorter t c = omega (arith, c.in-Ok.ensures.shorter, c.in-Ok-expression.ensures.shorter, c.in-Ok-take.ensures.shorter, c.in-Ok-expression-2.ensures.shorter)
+pub clauses::clause-returns-in-Ok-clause-clause-shorter : goal.clauses::clause-returns-in-Ok-clause-clause-shorter
+clauses::clause-returns-in-Ok-clause-clause-shorter t c = omega (arith, c.in-Ok.ensures.shorter, c.in-Ok-expression.ensures.shorter, c.in-Ok-take.ensures.shorter, c.in-Ok-expression-2.ensures.shorter)
 
-pub clauses::clause-returns-in-Ok-noted_clause-clause-ok : goal.clauses::clause-returns-in-Ok-noted_clause-clause-ok
-clauses::clause-returns-in-Ok-noted_clause-clause-ok t c = clause_noted_read c.args.depth c.args.label _ _ _ _ _ (subst (λ (x : Bool). ReadsHead c.args.depth (c.args.label + 1) c.args.tokens.now (all_patterns c.in-Ok.found.patterns) c.in-Ok.found.place x c.in-Ok.found.rest.now c.in-Ok.found.label) c.if-not-noted.false c.in-Ok.ensures.ok) _ _ _ c.in-Ok-expression.ensures.ok _ c.in-Ok-take.ensures.ok _ _ _ c.in-Ok-expression-2.ensures.ok _ _ _ _ (clause_marked _ _ _ _ _ _ c.in-Ok-clause.ensures c.mark-mark.ensures) c.in-Ok-noted_clause.ensures c.in-Ok-annotation.ensures.ok
+pub clauses::clause-returns-in-Ok-clause-2-clause-ok : goal.clauses::clause-returns-in-Ok-clause-2-clause-ok
+clauses::clause-returns-in-Ok-clause-2-clause-ok t c = clause_noted_read c.args.depth c.args.label _ _ _ _ _ (subst (λ (x : Bool). ReadsHead c.args.depth (c.args.label + 1) c.args.tokens.now (all_patterns c.in-Ok.found.patterns) c.in-Ok.found.place x c.in-Ok.found.rest.now c.in-Ok.found.label) c.if-not-noted.false c.in-Ok.ensures.ok) _ _ _ c.in-Ok-expression.ensures.ok _ c.in-Ok-take.ensures.ok _ _ _ c.in-Ok-expression-2.ensures.ok _ _ _ _ refl (clause_marked _ _ _ _ _ _ c.in-Ok-clause-2.ensures (c.with_note-mark.ensures ∙ ap (marked _) c.mark-mark.ensures)) c.in-Ok-annotation.ensures.ok
 
-pub clauses::clause-returns-in-Ok-noted_clause-clause-labels : goal.clauses::clause-returns-in-Ok-noted_clause-clause-labels
-clauses::clause-returns-in-Ok-noted_clause-clause-labels t c = omega (arith, c.in-Ok.ensures.labels, c.in-Ok-expression.ensures.labels, c.in-Ok-take.ensures.lighter, c.in-Ok-expression-2.ensures.labels, c.in-Ok-annotation.ensures.lighter)
+pub clauses::clause-returns-in-Ok-clause-2-clause-labels : goal.clauses::clause-returns-in-Ok-clause-2-clause-labels
+clauses::clause-returns-in-Ok-clause-2-clause-labels t c = omega (arith, c.in-Ok.ensures.labels, c.in-Ok-expression.ensures.labels, c.in-Ok-take.ensures.lighter, c.in-Ok-expression-2.ensures.labels, c.in-Ok-annotation.ensures.lighter)
 
-pub clauses::clause-returns-in-Ok-noted_clause-clause-shorter : goal.clauses::clause-returns-in-Ok-noted_clause-clause-shorter
-clauses::clause-returns-in-Ok-noted_clause-clause-shorter t c = omega (arith, c.in-Ok.ensures.shorter, c.in-Ok-expression.ensures.shorter, c.in-Ok-take.ensures.shorter, c.in-Ok-expression-2.ensures.shorter, c.in-Ok-annotation.ensures.shorter)
+pub clauses::clause-returns-in-Ok-clause-2-clause-shorter : goal.clauses::clause-returns-in-Ok-clause-2-clause-shorter
+clauses::clause-returns-in-Ok-clause-2-clause-shorter t c = omega (arith, c.in-Ok.ensures.shorter, c.in-Ok-expression.ensures.shorter, c.in-Ok-take.ensures.shorter, c.in-Ok-expression-2.ensures.shorter, c.in-Ok-annotation.ensures.shorter)
 
 pub clauses::clause-returns-in-Err-annotation-clause-err : goal.clauses::clause-returns-in-Err-annotation-clause-err
 clauses::clause-returns-in-Err-annotation-clause-err t c = clause_note_bad c.args.depth c.args.label _ _ _ _ _ (subst (λ (x : Bool). ReadsHead c.args.depth (c.args.label + 1) c.args.tokens.now (all_patterns c.in-Ok.found.patterns) c.in-Ok.found.place x c.in-Ok.found.rest.now c.in-Ok.found.label) c.if-not-noted.false c.in-Ok.ensures.ok) _ _ _ c.in-Ok-expression.ensures.ok _ c.in-Ok-take.ensures.ok _ _ _ c.in-Ok-expression-2.ensures.ok _ c.in-Err-annotation.ensures.err
@@ -389,7 +359,7 @@ pub control_forms::case-returns-in-Err-clauses-clause-err : goal.control_forms::
 control_forms::case-returns-in-Err-clauses-clause-err t c = case_3_bad _ c.args.label _ _ _ _ _ c.requires.starts c.requires.shallow c.requires.sort _ _ _ c.in-Ok.ensures.ok _ c.in-Ok-take.ensures.ok _ _ _ c.in-Ok-clause.ensures.ok _ c.in-Err-clauses.ensures.err
 
 pub control_forms::case-returns-in-Ok-case-clause-ok : goal.control_forms::case-returns-in-Ok-case-clause-ok
-control_forms::case-returns-in-Ok-case-clause-ok t c = case_ok _ c.args.label _ _ _ _ _ c.requires.starts c.requires.shallow c.requires.sort _ _ _ c.in-Ok.ensures.ok _ c.in-Ok-take.ensures.ok _ _ _ c.in-Ok-clause.ensures.ok _ _ _ _ (one_clause _ _ _ c.new-items.ensures c.if-not-pushed.ensures.added) c.in-Ok-clauses.ensures.ok _ c.mark-mark.ensures _ c.in-Ok-case.ensures
+control_forms::case-returns-in-Ok-case-clause-ok t c = case_ok _ c.args.label _ _ _ _ _ c.requires.starts c.requires.shallow c.requires.sort _ _ _ c.in-Ok.ensures.ok _ c.in-Ok-take.ensures.ok _ _ _ c.in-Ok-clause.ensures.ok _ _ _ _ (one_clause _ _ _ c.new.ensures c.in-Ok-kept.ensures) c.in-Ok-clauses.ensures.ok _ c.mark-mark.ensures _ c.in-Ok-case.ensures
 
 pub control_forms::try_expression-returns-in-Err-clause-err : goal.control_forms::try_expression-returns-in-Err-clause-err
 control_forms::try_expression-returns-in-Err-clause-err t c = try_0_bad _ c.args.label _ _ _ _ _ c.requires.starts c.requires.shallow c.requires.sort _ c.in-Err.ensures.err
@@ -571,11 +541,11 @@ expression_lists::elements-returns-in-Err-next-2-clause-err t c = list_bar_end _
 pub expression_lists::elements-returns-in-Err-bare_expression-clause-err : goal.expression_lists::elements-returns-in-Err-bare_expression-clause-err
 expression_lists::elements-returns-in-Err-bare_expression-clause-err t c = list_round_bad _ _ _ _ _ _ _ _ c.loop-found.invariant.shallow c.loop-found.invariant.so_far _ _ _ _ c.in-Ok-next.ensures.ok (c.same-in-loop-found-2.ensures.0 c.if-not-same.false) _ _ _ _ c.in-Ok-next-2.ensures.ok (c.same-in-loop-found-3.ensures.0 c.if-same-3.true) _ c.in-Err-bare_expression.ensures.err
 
-pub expression_lists::elements-returns-in-Ok-noted-clause-ok : goal.expression_lists::elements-returns-in-Ok-noted-clause-ok
-expression_lists::elements-returns-in-Ok-noted-clause-ok t c = one_more _ (list_noted _ _ _ _ _ _ _ _ c.loop-found.invariant.shallow c.loop-found.invariant.so_far _ _ _ _ c.in-Ok-next.ensures.ok (c.same-in-loop-found-2.ensures.0 c.if-not-same.false) _ _ _ _ c.in-Ok-next-2.ensures.ok (c.same-in-loop-found-3.ensures.0 c.if-same-3.true) _ _ _ c.in-Ok-bare_expression.ensures.ok _ _ _ c.in-Ok-noted.ensures c.in-Ok-annotation.ensures.ok)
+pub expression_lists::elements-returns-in-Ok-annotated-clause-ok : goal.expression_lists::elements-returns-in-Ok-annotated-clause-ok
+expression_lists::elements-returns-in-Ok-annotated-clause-ok t c = one_more _ (list_noted _ _ _ _ _ _ _ _ c.loop-found.invariant.shallow c.loop-found.invariant.so_far _ _ _ _ c.in-Ok-next.ensures.ok (c.same-in-loop-found-2.ensures.0 c.if-not-same.false) _ _ _ _ c.in-Ok-next-2.ensures.ok (c.same-in-loop-found-3.ensures.0 c.if-same-3.true) _ _ _ c.in-Ok-bare_expression.ensures.ok _ _ _ c.in-Ok-annotated.ensures.ok.2 c.in-Ok-annotated.ensures.ok.1)
 
-pub expression_lists::elements-returns-in-Err-annotation-clause-err : goal.expression_lists::elements-returns-in-Err-annotation-clause-err
-expression_lists::elements-returns-in-Err-annotation-clause-err t c = list_note_bad _ _ _ _ _ _ _ _ c.loop-found.invariant.shallow c.loop-found.invariant.so_far _ _ _ _ c.in-Ok-next.ensures.ok (c.same-in-loop-found-2.ensures.0 c.if-not-same.false) _ _ _ _ c.in-Ok-next-2.ensures.ok (c.same-in-loop-found-3.ensures.0 c.if-same-3.true) _ _ _ c.in-Ok-bare_expression.ensures.ok _ c.in-Err-annotation.ensures.err
+pub expression_lists::elements-returns-in-Err-annotated-clause-err : goal.expression_lists::elements-returns-in-Err-annotated-clause-err
+expression_lists::elements-returns-in-Err-annotated-clause-err t c = list_note_bad _ _ _ _ _ _ _ _ c.loop-found.invariant.shallow c.loop-found.invariant.so_far _ _ _ _ c.in-Ok-next.ensures.ok (c.same-in-loop-found-2.ensures.0 c.if-not-same.false) _ _ _ _ c.in-Ok-next-2.ensures.ok (c.same-in-loop-found-3.ensures.0 c.if-same-3.true) _ _ _ c.in-Ok-bare_expression.ensures.ok _ c.in-Err-annotated.ensures.err
 
 pub expression_lists::elements-push_bytes-requires : goal.expression_lists::elements-push_bytes-requires
 expression_lists::elements-push_bytes-requires t c = omega (arith, c.requires.labels, c.loop-found.invariant.labels, c.in-Ok-next.ensures.lighter, c.in-Ok-next-2.ensures.lighter, string_weight _ _ _ _ _ c.in-Ok-next-2.ensures.ok (c.same-in-loop-found-4.ensures.0 c.if-same-4.true))
@@ -624,11 +594,11 @@ expressions::expression-returns-in-Err-bare_expression-clause-err t c = expressi
 pub expressions::expression-returns-in-Err-bare_expression-2-clause-err : goal.expressions::expression-returns-in-Err-bare_expression-2-clause-err
 expressions::expression-returns-in-Err-bare_expression-2-clause-err t c = expression_in_bad _ 0 _ _ _ _ _ c.in-Ok.ensures.ok (c.same.ensures.0 c.if-not-same.false) _ c.in-Err-bare_expression-2.ensures.err
 
-pub expressions::expression-returns-in-Ok-noted-clause-ok : goal.expressions::expression-returns-in-Ok-noted-clause-ok
-expressions::expression-returns-in-Ok-noted-clause-ok t c = expression_noted _ _ _ _ _ _ _ c.in-Ok.ensures.ok (c.same.ensures.0 c.if-not-same.false) _ _ _ c.in-Ok-bare_expression-2.ensures.ok _ _ _ c.in-Ok-noted.ensures c.in-Ok-annotation.ensures.ok
+pub expressions::expression-returns-in-Ok-annotated-clause-ok : goal.expressions::expression-returns-in-Ok-annotated-clause-ok
+expressions::expression-returns-in-Ok-annotated-clause-ok t c = expression_noted _ _ _ _ _ _ _ c.in-Ok.ensures.ok (c.same.ensures.0 c.if-not-same.false) _ _ _ c.in-Ok-bare_expression-2.ensures.ok _ _ _ c.in-Ok-annotated.ensures.ok.2 c.in-Ok-annotated.ensures.ok.1
 
-pub expressions::expression-returns-in-Err-annotation-clause-err : goal.expressions::expression-returns-in-Err-annotation-clause-err
-expressions::expression-returns-in-Err-annotation-clause-err t c = expression_note_bad _ _ _ _ _ _ _ c.in-Ok.ensures.ok (c.same.ensures.0 c.if-not-same.false) _ _ _ c.in-Ok-bare_expression-2.ensures.ok _ c.in-Err-annotation.ensures.err
+pub expressions::expression-returns-in-Err-annotated-clause-err : goal.expressions::expression-returns-in-Err-annotated-clause-err
+expressions::expression-returns-in-Err-annotated-clause-err t c = expression_note_bad _ _ _ _ _ _ _ c.in-Ok.ensures.ok (c.same.ensures.0 c.if-not-same.false) _ _ _ c.in-Ok-bare_expression-2.ensures.ok _ c.in-Err-annotated.ensures.err
 
 pub expressions::bare_expression-returns-in-Err-clause-err : goal.expressions::bare_expression-returns-in-Err-clause-err
 expressions::bare_expression-returns-in-Err-clause-err t c = bare_none _ 0 _ _ c.in-Err.ensures.err
@@ -785,40 +755,63 @@ maps::map-returns-in-Ok-new_map-clause-ok t c = map_expression_new _ _ _ _ _ _ _
 pub maps::map-returns-in-Ok-updated_map-clause-ok : goal.maps::map-returns-in-Ok-updated_map-clause-ok
 maps::map-returns-in-Ok-updated_map-clause-ok t c = map_expression_updated _ _ _ _ _ _ _ c.requires.starts c.requires.shallow c.requires.sort _ _ _ _ c.in-Ok.ensures.ok _ c.in-Some.is _ c.mark-mark.ensures _ c.in-Ok-updated_map.ensures
 
-pub maps::pairs-loop-found-init : goal.maps::pairs-loop-found-init
-maps::pairs-loop-found-init t c = record {
-  so_far = map_pairs_begin _ _ _ _ c.new-items.ensures;
-  labels = omega arith;
-  shorter = omega arith;
-}
-
 pub maps::pairs-returns-in-Err-clause-err : goal.maps::pairs-returns-in-Err-clause-err
-maps::pairs-returns-in-Err-clause-err t c = map_pairs_end _ _ _ _ _ _ c.loop-found.invariant.so_far _ c.in-Err.ensures.err
+maps::pairs-returns-in-Err-clause-err t c = map_pairs_end _ c.args.label _ _ [] _ (map_pairs_begin _ _ _ _ refl) _ c.in-Err.ensures.err
 
 pub maps::pairs-returns-then-same-clause-ok : goal.maps::pairs-returns-then-same-clause-ok
-maps::pairs-returns-then-same-clause-ok t c = map_pairs_close _ _ _ _ _ _ c.loop-found.invariant.so_far _ _ _ _ c.in-Ok.ensures.ok (c.same.ensures.0 c.if-same.true)
+maps::pairs-returns-then-same-clause-ok t c = map_pairs_close _ _ _ _ _ _ (map_pairs_begin _ _ _ _ c.new-items.ensures) _ _ _ _ c.in-Ok.ensures.ok (c.same.ensures.0 c.if-same.true)
 
-pub maps::pairs-returns-in-Err-expression-clause-err : goal.maps::pairs-returns-in-Err-expression-clause-err
-maps::pairs-returns-in-Err-expression-clause-err t c = map_bar_bad _ _ _ _ _ _ c.loop-found.invariant.so_far _ _ _ _ c.in-Ok.ensures.ok (c.same-in-loop-found.ensures.0 c.if-same-2.true) _ c.in-Err-expression.ensures.err
+pub maps::pairs-returns-in-Ok-updated_by-clause-ok : goal.maps::pairs-returns-in-Ok-updated_by-clause-ok
+maps::pairs-returns-in-Ok-updated_by-clause-ok t c = map_bar_done _ _ _ _ _ _ (map_pairs_begin _ _ _ _ c.new-none.ensures) _ _ _ _ c.in-Ok.ensures.ok (c.same-2.ensures.0 c.if-same-2.true) _ _ _ _ c.in-Ok-updated_by.ensures.items c.in-Ok-updated_by.ensures.ok
 
-pub maps::pairs-returns-in-Ok-take-clause-ok : goal.maps::pairs-returns-in-Ok-take-clause-ok
-maps::pairs-returns-in-Ok-take-clause-ok t c = map_bar_ok _ _ _ _ _ _ c.loop-found.invariant.so_far _ _ _ _ c.in-Ok.ensures.ok (c.same-in-loop-found.ensures.0 c.if-same-2.true) _ _ _ c.in-Ok-expression.ensures.ok _ c.in-Ok-take.ensures.ok
+pub maps::pairs-returns-in-Err-updated_by-clause-err : goal.maps::pairs-returns-in-Err-updated_by-clause-err
+maps::pairs-returns-in-Err-updated_by-clause-err t c = map_bar_refused _ c.args.label _ _ [] _ (map_pairs_begin _ _ _ _ refl) _ _ _ _ c.in-Ok.ensures.ok (c.same-2.ensures.0 c.if-same-2.true) _ c.in-Err-updated_by.ensures.err
 
-pub maps::pairs-returns-in-Err-take-clause-err : goal.maps::pairs-returns-in-Err-take-clause-err
-maps::pairs-returns-in-Err-take-clause-err t c = map_bar_lacks _ _ _ _ _ _ c.loop-found.invariant.so_far _ _ _ _ c.in-Ok.ensures.ok (c.same-in-loop-found.ensures.0 c.if-same-2.true) _ _ _ c.in-Ok-expression.ensures.ok _ c.in-Err-take.ensures.err
+pub maps::pairs-returns-in-Err-pair-clause-err : goal.maps::pairs-returns-in-Err-pair-clause-err
+maps::pairs-returns-in-Err-pair-clause-err t c = map_pairs_bad _ c.args.label _ _ _ _ (map_pairs_first _ _ _ _ [] refl _ _ _ c.in-Ok.ensures.ok (λ z. differs c.if-same.false (c.same.ensures.1 z)) (λ z. differs c.if-same-2.false (c.same-2.ensures.1 z))) _ c.in-Err-pair.ensures.err
 
-pub maps::pairs-returns-in-Err-pair_start-clause-err : goal.maps::pairs-returns-in-Err-pair_start-clause-err
-maps::pairs-returns-in-Err-pair_start-clause-err t c = map_pairs_other _ _ _ _ _ _ c.loop-found.invariant.so_far _ _ _ _ c.in-Ok.ensures.ok (λ z. differs c.if-same.false (c.same.ensures.1 z)) (λ z. differs c.if-same-2.false (c.same-in-loop-found.ensures.1 z)) _ c.is_empty.ensures.0 c.is_empty.ensures.1 _ c.in-Err-pair_start.ensures.err
+pub maps::pairs-loop-found-init : goal.maps::pairs-loop-found-init
+maps::pairs-loop-found-init t c = record {
+  so_far = map_pairs_more _ _ _ _ _ _ (map_pairs_first _ _ _ _ _ c.new-empty.ensures _ _ _ c.in-Ok.ensures.ok (λ z. differs c.if-same.false (c.same.ensures.1 z)) (λ z. differs c.if-same-2.false (c.same-2.ensures.1 z))) _ _ _ _ c.in-Ok-kept.ensures c.in-Ok-pair.ensures.ok;
+  some = one_is_some _ _ _ c.in-Ok-kept.ensures;
+  labels = c.in-Ok-pair.ensures.labels;
+  shorter = omega (arith, c.in-Ok-pair.ensures.shorter);
+}
+
+pub maps::pairs-returns-in-Err-next-clause-err : goal.maps::pairs-returns-in-Err-next-clause-err
+maps::pairs-returns-in-Err-next-clause-err t c = map_pairs_end _ _ _ _ _ _ c.loop-found.invariant.so_far _ c.in-Err-next.ensures.err
+
+pub maps::pairs-returns-then-same-3-clause-ok : goal.maps::pairs-returns-then-same-3-clause-ok
+maps::pairs-returns-then-same-3-clause-ok t c = map_pairs_close _ _ _ _ _ _ c.loop-found.invariant.so_far _ _ _ _ c.in-Ok-next.ensures.ok (c.same-in-loop-found.ensures.0 c.if-same-3.true)
+
+pub maps::pairs-returns-in-Ok-updated_by-2-clause-ok : goal.maps::pairs-returns-in-Ok-updated_by-2-clause-ok
+maps::pairs-returns-in-Ok-updated_by-2-clause-ok t c = map_bar_done _ _ _ _ _ _ c.loop-found.invariant.so_far _ _ _ _ c.in-Ok-next.ensures.ok (c.same-in-loop-found-2.ensures.0 c.if-same-4.true) _ _ _ _ c.in-Ok-updated_by-2.ensures.items c.in-Ok-updated_by-2.ensures.ok
+
+pub maps::pairs-returns-in-Err-updated_by-2-clause-err : goal.maps::pairs-returns-in-Err-updated_by-2-clause-err
+maps::pairs-returns-in-Err-updated_by-2-clause-err t c = map_bar_refused _ _ _ _ _ _ c.loop-found.invariant.so_far _ _ _ _ c.in-Ok-next.ensures.ok (c.same-in-loop-found-2.ensures.0 c.if-same-4.true) _ c.in-Err-updated_by-2.ensures.err
+
+pub maps::pairs-returns-then-not-same-clause-err : goal.maps::pairs-returns-then-not-same-clause-err
+maps::pairs-returns-then-not-same-clause-err t c = map_pairs_no_comma _ _ _ _ _ _ c.loop-found.invariant.so_far c.loop-found.invariant.some _ _ _ _ c.in-Ok-next.ensures.ok (λ z. differs c.if-same-3.false (c.same-in-loop-found.ensures.1 z)) (λ z. differs c.if-same-4.false (c.same-in-loop-found-2.ensures.1 z)) (λ z. differs c.if-not-same.true (c.same-in-loop-found-3.ensures.1 z))
 
 pub maps::pairs-loop-found-preserved : goal.maps::pairs-loop-found-preserved
 maps::pairs-loop-found-preserved t c = record {
-  so_far = map_pairs_more _ _ _ _ _ _ (map_pairs_next _ _ _ _ _ _ c.loop-found.invariant.so_far _ _ _ _ c.in-Ok.ensures.ok (λ z. differs c.if-same.false (c.same.ensures.1 z)) (λ z. differs c.if-same-2.false (c.same-in-loop-found.ensures.1 z)) _ c.is_empty.ensures.0 c.is_empty.ensures.1 _ c.in-Ok-pair_start.ensures.ok) _ _ _ _ c.if-not-pushed.ensures.added c.in-Ok-pair.ensures.ok;
-  labels = omega (arith, c.loop-found.invariant.labels, c.in-Ok-pair_start.ensures.lighter, c.in-Ok-pair.ensures.labels);
-  shorter = omega (arith, c.loop-found.invariant.shorter, c.in-Ok-pair_start.ensures.shorter, c.in-Ok-pair.ensures.shorter);
+  so_far = map_pairs_more _ _ _ _ _ _ (map_pairs_comma _ _ _ _ _ _ c.loop-found.invariant.so_far c.loop-found.invariant.some _ _ _ _ c.in-Ok-next.ensures.ok (c.same-in-loop-found-3.ensures.0 c.if-not-same.false)) _ _ _ _ c.in-Ok-kept-2.ensures c.in-Ok-pair-2.ensures.ok;
+  some = one_is_some _ _ _ c.in-Ok-kept-2.ensures;
+  labels = omega (arith, c.loop-found.invariant.labels, c.in-Ok-next.ensures.lighter, c.in-Ok-pair-2.ensures.labels);
+  shorter = omega (arith, c.loop-found.invariant.shorter, c.in-Ok-next.ensures.shorter, c.in-Ok-pair-2.ensures.shorter);
 }
 
-pub maps::pairs-returns-in-Err-pair-clause-err : goal.maps::pairs-returns-in-Err-pair-clause-err
-maps::pairs-returns-in-Err-pair-clause-err t c = map_pairs_bad _ _ _ _ _ _ (map_pairs_next _ _ _ _ _ _ c.loop-found.invariant.so_far _ _ _ _ c.in-Ok.ensures.ok (λ z. differs c.if-same.false (c.same.ensures.1 z)) (λ z. differs c.if-same-2.false (c.same-in-loop-found.ensures.1 z)) _ c.is_empty.ensures.0 c.is_empty.ensures.1 _ c.in-Ok-pair_start.ensures.ok) _ c.in-Err-pair.ensures.err
+pub maps::pairs-returns-in-Err-pair-2-clause-err : goal.maps::pairs-returns-in-Err-pair-2-clause-err
+maps::pairs-returns-in-Err-pair-2-clause-err t c = map_pairs_bad _ _ _ _ _ _ (map_pairs_comma _ _ _ _ _ _ c.loop-found.invariant.so_far c.loop-found.invariant.some _ _ _ _ c.in-Ok-next.ensures.ok (c.same-in-loop-found-3.ensures.0 c.if-not-same.false)) _ c.in-Err-pair-2.ensures.err
+
+pub maps::updated_by-returns-in-Err-clause-err : goal.maps::updated_by-returns-in-Err-clause-err
+maps::updated_by-returns-in-Err-clause-err t c = updated_bad _ c.args.label _ _ c.in-Err.ensures.err
+
+pub maps::updated_by-returns-in-Ok-take-clause-ok : goal.maps::updated_by-returns-in-Ok-take-clause-ok
+maps::updated_by-returns-in-Ok-take-clause-ok t c = record { made = _; behind = _; made_is = refl; reads = c.in-Ok.ensures.ok; closes = c.in-Ok-take.ensures.ok }
+
+pub maps::updated_by-returns-in-Err-take-clause-err : goal.maps::updated_by-returns-in-Err-take-clause-err
+maps::updated_by-returns-in-Err-take-clause-err t c = updated_lacks _ _ _ _ _ _ c.in-Ok.ensures.ok _ c.in-Err-take.ensures.err
 
 pub maps::pair-returns-in-Err-clause-err : goal.maps::pair-returns-in-Err-clause-err
 maps::pair-returns-in-Err-clause-err t c = map_pair_end _ _ _ c.in-Err.ensures.err
@@ -847,44 +840,47 @@ maps::pair_in_brackets-returns-in-Err-clause-err t c = map_pair_key_bad _ c.args
 pub maps::pair_in_brackets-returns-in-Err-next-clause-err : goal.maps::pair_in_brackets-returns-in-Err-next-clause-err
 maps::pair_in_brackets-returns-in-Err-next-clause-err t c = map_pair_key_end _ _ _ _ _ _ _ c.requires.starts c.requires.sort c.requires.once _ _ _ c.in-Ok.ensures.ok _ c.in-Err-next.ensures.err
 
-pub maps::pair_in_brackets-returns-in-Ok-value_of_key-clause-ok : goal.maps::pair_in_brackets-returns-in-Ok-value_of_key-clause-ok
-maps::pair_in_brackets-returns-in-Ok-value_of_key-clause-ok t c = map_pair_noted_ok _ _ _ _ _ _ _ c.requires.starts c.requires.sort c.requires.once _ _ _ c.in-Ok.ensures.ok _ _ _ _ c.in-Ok-next.ensures.ok (c.same.ensures.0 c.if-same.true) _ _ c.in-Ok-annotation.ensures.ok _ _ _ _ c.in-Ok-noted.ensures c.in-Ok-value_of_key.ensures.ok
+pub maps::pair_in_brackets-returns-in-Ok-pair_of_key-clause-ok : goal.maps::pair_in_brackets-returns-in-Ok-pair_of_key-clause-ok
+maps::pair_in_brackets-returns-in-Ok-pair_of_key-clause-ok t c = map_pair_noted_ok _ _ _ _ _ _ _ c.requires.starts c.requires.sort c.requires.once _ _ _ c.in-Ok.ensures.ok _ _ _ _ c.in-Ok-next.ensures.ok (c.same.ensures.0 c.if-same.true) _ _ c.in-Ok-annotated.ensures.ok.1 _ _ _ _ c.in-Ok-annotated.ensures.ok.2 c.in-Ok-pair_of_key.ensures.ok
 
-pub maps::pair_in_brackets-returns-in-Err-value_of_key-clause-err : goal.maps::pair_in_brackets-returns-in-Err-value_of_key-clause-err
-maps::pair_in_brackets-returns-in-Err-value_of_key-clause-err t c = map_pair_noted_value_bad _ _ _ _ _ _ _ c.requires.starts c.requires.sort c.requires.once _ _ _ c.in-Ok.ensures.ok _ _ _ _ c.in-Ok-next.ensures.ok (c.same.ensures.0 c.if-same.true) _ _ c.in-Ok-annotation.ensures.ok _ c.in-Err-value_of_key.ensures.err
+pub maps::pair_in_brackets-returns-in-Err-pair_of_key-clause-err : goal.maps::pair_in_brackets-returns-in-Err-pair_of_key-clause-err
+maps::pair_in_brackets-returns-in-Err-pair_of_key-clause-err t c = map_pair_noted_value_bad _ _ _ _ _ _ _ c.requires.starts c.requires.sort c.requires.once _ _ _ c.in-Ok.ensures.ok _ _ _ _ c.in-Ok-next.ensures.ok (c.same.ensures.0 c.if-same.true) _ _ c.in-Ok-annotated.ensures.ok.1 _ c.in-Err-pair_of_key.ensures.err
+
+pub maps::pair_in_brackets-returns-in-Err-annotated-clause-err : goal.maps::pair_in_brackets-returns-in-Err-annotated-clause-err
+maps::pair_in_brackets-returns-in-Err-annotated-clause-err t c = map_pair_key_note_bad _ _ _ _ _ _ _ c.requires.starts c.requires.sort c.requires.once _ _ _ c.in-Ok.ensures.ok _ _ _ _ c.in-Ok-next.ensures.ok (c.same.ensures.0 c.if-same.true) _ c.in-Err-annotated.ensures.err
+
+pub maps::pair_in_brackets-returns-in-Err-value-clause-err : goal.maps::pair_in_brackets-returns-in-Err-value-clause-err
+maps::pair_in_brackets-returns-in-Err-value-clause-err t c = map_pair_value_bad _ _ _ _ _ _ _ c.requires.starts c.requires.sort c.requires.once _ _ _ c.in-Ok.ensures.ok _ _ _ _ c.in-Ok-next.ensures.ok (λ z. differs c.if-same.false (c.same.ensures.1 z)) _ c.in-Err-value.ensures.err
+
+pub maps::pair_in_brackets-returns-in-Ok-pair-clause-ok : goal.maps::pair_in_brackets-returns-in-Ok-pair-clause-ok
+maps::pair_in_brackets-returns-in-Ok-pair-clause-ok t c = map_pair_ok _ _ _ _ _ _ _ c.requires.starts c.requires.sort c.requires.once _ _ _ c.in-Ok.ensures.ok _ _ _ _ c.in-Ok-next.ensures.ok (λ z. differs c.if-same.false (c.same.ensures.1 z)) _ _ _ (pair_valued _ _ _ _ _ _ _ c.in-Ok-value.ensures.ok _ _ c.in-Ok-pair.ensures) _ _ c.in-Ok-annotation.ensures.ok
 
 pub maps::pair_in_brackets-returns-in-Err-annotation-clause-err : goal.maps::pair_in_brackets-returns-in-Err-annotation-clause-err
-maps::pair_in_brackets-returns-in-Err-annotation-clause-err t c = map_pair_key_note_bad _ _ _ _ _ _ _ c.requires.starts c.requires.sort c.requires.once _ _ _ c.in-Ok.ensures.ok _ _ _ _ c.in-Ok-next.ensures.ok (c.same.ensures.0 c.if-same.true) _ c.in-Err-annotation.ensures.err
-
-pub maps::pair_in_brackets-returns-in-Err-value_of_key-2-clause-err : goal.maps::pair_in_brackets-returns-in-Err-value_of_key-2-clause-err
-maps::pair_in_brackets-returns-in-Err-value_of_key-2-clause-err t c = map_pair_value_bad _ _ _ _ _ _ _ c.requires.starts c.requires.sort c.requires.once _ _ _ c.in-Ok.ensures.ok _ _ _ _ c.in-Ok-next.ensures.ok (λ z. differs c.if-same.false (c.same.ensures.1 z)) _ c.in-Err-value_of_key-2.ensures.err
-
-pub maps::pair_in_brackets-returns-in-Ok-annotation-2-clause-ok : goal.maps::pair_in_brackets-returns-in-Ok-annotation-2-clause-ok
-maps::pair_in_brackets-returns-in-Ok-annotation-2-clause-ok t c = map_pair_ok _ _ _ _ _ _ _ c.requires.starts c.requires.sort c.requires.once _ _ _ c.in-Ok.ensures.ok _ _ _ _ c.in-Ok-next.ensures.ok (λ z. differs c.if-same.false (c.same.ensures.1 z)) _ _ _ c.in-Ok-value_of_key-2.ensures.ok _ _ c.in-Ok-annotation-2.ensures.ok
-
-pub maps::pair_in_brackets-returns-in-Err-annotation-2-clause-err : goal.maps::pair_in_brackets-returns-in-Err-annotation-2-clause-err
-maps::pair_in_brackets-returns-in-Err-annotation-2-clause-err t c = map_pair_note_bad _ _ _ _ _ _ _ c.requires.starts c.requires.sort c.requires.once _ _ _ c.in-Ok.ensures.ok _ _ _ _ c.in-Ok-next.ensures.ok (λ z. differs c.if-same.false (c.same.ensures.1 z)) _ _ _ c.in-Ok-value_of_key-2.ensures.ok _ c.in-Err-annotation-2.ensures.err
+maps::pair_in_brackets-returns-in-Err-annotation-clause-err t c = map_pair_note_bad _ _ _ _ _ _ _ c.requires.starts c.requires.sort c.requires.once _ _ _ c.in-Ok.ensures.ok _ _ _ _ c.in-Ok-next.ensures.ok (λ z. differs c.if-same.false (c.same.ensures.1 z)) _ _ _ (pair_valued _ _ _ _ _ _ _ c.in-Ok-value.ensures.ok _ _ refl) _ c.in-Err-annotation.ensures.err
 
 pub maps::bare_pair-returns-in-Err-clause-err : goal.maps::bare_pair-returns-in-Err-clause-err
 maps::bare_pair-returns-in-Err-clause-err t c = bare_map_pair_key_bad _ c.args.label _ _ c.in-Err.ensures.err
 
-pub maps::bare_pair-returns-in-Err-value_of_key-clause-err : goal.maps::bare_pair-returns-in-Err-value_of_key-clause-err
-maps::bare_pair-returns-in-Err-value_of_key-clause-err t c = bare_map_pair_value_bad _ _ _ _ _ _ c.in-Ok.ensures.ok _ c.in-Err-value_of_key.ensures.err
+pub maps::bare_pair-returns-in-Err-pair_of_key-clause-err : goal.maps::bare_pair-returns-in-Err-pair_of_key-clause-err
+maps::bare_pair-returns-in-Err-pair_of_key-clause-err t c = bare_map_pair_value_bad _ _ _ _ _ _ c.in-Ok.ensures.ok _ c.in-Err-pair_of_key.ensures.err
 
-pub maps::bare_pair-returns-in-Ok-value_of_key-clause-ok : goal.maps::bare_pair-returns-in-Ok-value_of_key-clause-ok
-maps::bare_pair-returns-in-Ok-value_of_key-clause-ok t c = bare_map_pair_ok _ _ _ _ _ _ c.in-Ok.ensures.ok _ _ _ c.in-Ok-value_of_key.ensures.ok
+pub maps::bare_pair-returns-in-Ok-pair_of_key-clause-ok : goal.maps::bare_pair-returns-in-Ok-pair_of_key-clause-ok
+maps::bare_pair-returns-in-Ok-pair_of_key-clause-ok t c = bare_map_pair_ok _ _ _ _ _ _ c.in-Ok.ensures.ok _ _ _ c.in-Ok-pair_of_key.ensures.ok
 
-pub maps::value_of_key-returns-in-Err-clause-err : goal.maps::value_of_key-returns-in-Err-clause-err
-maps::value_of_key-returns-in-Err-clause-err t c = key_value_end _ c.args.label _ _ c.in-Err.ensures.err
+pub maps::pair_of_key-returns-in-Ok-pair-clause-ok : goal.maps::pair_of_key-returns-in-Ok-pair-clause-ok
+maps::pair_of_key-returns-in-Ok-pair-clause-ok t c = pair_valued _ _ _ _ _ _ _ c.in-Ok.ensures.ok _ _ c.in-Ok-pair.ensures
 
-pub maps::value_of_key-returns-in_default-clause-err : goal.maps::value_of_key-returns-in_default-clause-err
-maps::value_of_key-returns-in_default-clause-err t c = key_value_other _ c.args.label _ _ _ _ _ c.in-Ok.ensures.ok (sym c.exactness.ensures ∙ c.in_default.is)
+pub maps::value-returns-in-Err-clause-err : goal.maps::value-returns-in-Err-clause-err
+maps::value-returns-in-Err-clause-err t c = key_value_end _ c.args.label _ _ c.in-Err.ensures.err
 
-pub maps::value_of_key-returns-in-Err-expression-clause-err : goal.maps::value_of_key-returns-in-Err-expression-clause-err
-maps::value_of_key-returns-in-Err-expression-clause-err t c = key_value_bad _ c.args.label _ _ _ _ _ c.in-Ok.ensures.ok _ (sym c.exactness.ensures ∙ c.in-Some.is) _ c.in-Err-expression.ensures.err
+pub maps::value-returns-in_default-clause-err : goal.maps::value-returns-in_default-clause-err
+maps::value-returns-in_default-clause-err t c = key_value_other _ c.args.label _ _ _ _ _ c.in-Ok.ensures.ok (sym c.exactness.ensures ∙ c.in_default.is)
 
-pub maps::value_of_key-returns-in-Ok-pair-clause-ok : goal.maps::value_of_key-returns-in-Ok-pair-clause-ok
-maps::value_of_key-returns-in-Ok-pair-clause-ok t c = key_value_ok _ _ _ _ _ _ _ c.in-Ok.ensures.ok _ (sym c.exactness.ensures ∙ c.in-Some.is) _ _ _ c.in-Ok-expression.ensures.ok _ _ c.in-Ok-pair.ensures
+pub maps::value-returns-in-Err-expression-clause-err : goal.maps::value-returns-in-Err-expression-clause-err
+maps::value-returns-in-Err-expression-clause-err t c = key_value_bad _ c.args.label _ _ _ _ _ c.in-Ok.ensures.ok _ (sym c.exactness.ensures ∙ c.in-Some.is) _ c.in-Err-expression.ensures.err
+
+pub maps::value-returns-in-Ok-expression-clause-ok : goal.maps::value-returns-in-Ok-expression-clause-ok
+maps::value-returns-in-Ok-expression-clause-ok t c = key_value _ _ _ _ _ _ _ c.in-Ok.ensures.ok _ (sym c.exactness.ensures ∙ c.in-Some.is) _ _ _ c.in-Ok-expression.ensures.ok
 
 pub pattern_binaries::binary_pattern-returns-in-Err-clause-err : goal.pattern_binaries::binary_pattern-returns-in-Err-clause-err
 pattern_binaries::binary_pattern-returns-in-Err-clause-err t c = binary_pattern_bad _ c.args.label _ _ _ _ _ c.requires.starts c.requires.shallow c.requires.sort _ c.in-Err.ensures.err
@@ -903,7 +899,7 @@ pattern_binaries::pattern_segments-returns-in-Err-pattern_segment-clause-err t c
 
 pub pattern_binaries::pattern_segments-loop-found-init : goal.pattern_binaries::pattern_segments-loop-found-init
 pattern_binaries::pattern_segments-loop-found-init t c = record {
-  so_far = items_first s.CloseBinary (pattern_segment _) (closes_pattern_segments _) number_pat_segment pat_segment_parts _ _ _ _ _ _ c.in-Ok.ensures.ok (λ z. differs c.if-same.false (c.same.ensures.1 z)) _ _ _ _ _ c.new-items.ensures c.if-not-pushed.ensures.added (pattern_segment_item c.in-Ok-pattern_segment.ensures.ok);
+  so_far = items_first s.CloseBinary (pattern_segment _) (closes_pattern_segments _) number_pat_segment pat_segment_parts _ _ _ _ _ _ c.in-Ok.ensures.ok (λ z. differs c.if-same.false (c.same.ensures.1 z)) _ _ _ _ _ c.new-items.ensures c.in-Ok-kept.ensures (pattern_segment_item c.in-Ok-pattern_segment.ensures.ok);
   labels = c.in-Ok-pattern_segment.ensures.labels;
   shorter = omega (arith, c.in-Ok-pattern_segment.ensures.shorter);
 }
@@ -919,7 +915,7 @@ pattern_binaries::pattern_segments-returns-then-not-same-clause-err t c = items_
 
 pub pattern_binaries::pattern_segments-loop-found-preserved : goal.pattern_binaries::pattern_segments-loop-found-preserved
 pattern_binaries::pattern_segments-loop-found-preserved t c = record {
-  so_far = items_more _ _ (closes_pattern_segments _) _ _ _ _ _ _ _ c.loop-found.invariant.so_far _ _ _ _ c.in-Ok-next.ensures.ok (c.same-in-loop-found-2.ensures.0 c.if-not-same.false) _ _ _ _ c.if-not-pushed-2.ensures.added (pattern_segment_item c.in-Ok-pattern_segment-2.ensures.ok);
+  so_far = items_more _ _ (closes_pattern_segments _) _ _ _ _ _ _ _ c.loop-found.invariant.so_far _ _ _ _ c.in-Ok-next.ensures.ok (c.same-in-loop-found-2.ensures.0 c.if-not-same.false) _ _ _ _ c.in-Ok-kept-2.ensures (pattern_segment_item c.in-Ok-pattern_segment-2.ensures.ok);
   labels = omega (arith, c.loop-found.invariant.labels, c.in-Ok-next.ensures.lighter, c.in-Ok-pattern_segment-2.ensures.labels);
   shorter = omega (arith, c.loop-found.invariant.shorter, c.in-Ok-next.ensures.shorter, c.in-Ok-pattern_segment-2.ensures.shorter);
 }
@@ -954,11 +950,11 @@ pattern_brackets::in_brackets-returns-in-Err-variable_in_brackets-clause-err t c
 pub pattern_brackets::in_brackets-returns-in-Err-bare_pattern-clause-err : goal.pattern_brackets::in_brackets-returns-in-Err-bare_pattern-clause-err
 pattern_brackets::in_brackets-returns-in-Err-bare_pattern-clause-err t c = brackets_bad c.args.depth c.args.label c.args.first.place _ _ _ _ _ c.in-Ok.ensures.ok (sort_differs _ _ c.if-same.ensures) _ c.in-Err-bare_pattern.ensures.err
 
-pub pattern_brackets::in_brackets-returns-in-Ok-noted_pattern-clause-ok : goal.pattern_brackets::in_brackets-returns-in-Ok-noted_pattern-clause-ok
-pattern_brackets::in_brackets-returns-in-Ok-noted_pattern-clause-ok t c = brackets_noted _ _ _ _ _ _ _ _ c.in-Ok.ensures.ok (sort_differs _ _ c.if-same.ensures) _ _ _ c.in-Ok-bare_pattern.ensures.ok _ _ _ c.in-Ok-noted_pattern.ensures c.in-Ok-annotation.ensures.ok
+pub pattern_brackets::in_brackets-returns-in-Ok-annotated_pattern-clause-ok : goal.pattern_brackets::in_brackets-returns-in-Ok-annotated_pattern-clause-ok
+pattern_brackets::in_brackets-returns-in-Ok-annotated_pattern-clause-ok t c = brackets_noted _ _ _ _ _ _ _ _ c.in-Ok.ensures.ok (sort_differs _ _ c.if-same.ensures) _ _ _ c.in-Ok-bare_pattern.ensures.ok _ _ _ c.in-Ok-annotated_pattern.ensures.ok.2 c.in-Ok-annotated_pattern.ensures.ok.1
 
-pub pattern_brackets::in_brackets-returns-in-Err-annotation-clause-err : goal.pattern_brackets::in_brackets-returns-in-Err-annotation-clause-err
-pattern_brackets::in_brackets-returns-in-Err-annotation-clause-err t c = brackets_note_bad c.args.depth c.args.label c.args.first.place _ _ _ _ _ c.in-Ok.ensures.ok (sort_differs _ _ c.if-same.ensures) _ _ _ c.in-Ok-bare_pattern.ensures.ok _ c.in-Err-annotation.ensures.err
+pub pattern_brackets::in_brackets-returns-in-Err-annotated_pattern-clause-err : goal.pattern_brackets::in_brackets-returns-in-Err-annotated_pattern-clause-err
+pattern_brackets::in_brackets-returns-in-Err-annotated_pattern-clause-err t c = brackets_note_bad c.args.depth c.args.label c.args.first.place _ _ _ _ _ c.in-Ok.ensures.ok (sort_differs _ _ c.if-same.ensures) _ _ _ c.in-Ok-bare_pattern.ensures.ok _ c.in-Err-annotated_pattern.ensures.err
 
 pub pattern_brackets::variable_in_brackets-returns-then-depth-gt-DEEPEST-clause-err : goal.pattern_brackets::variable_in_brackets-returns-then-depth-gt-DEEPEST-clause-err
 pattern_brackets::variable_in_brackets-returns-then-depth-gt-DEEPEST-clause-err t c = brackets_deep c.args.depth c.args.label c.args.first.place _ _ _ _ _ c.requires.goes_on c.requires.variable (omega (arith, c.if-depth-gt-DEEPEST.true)) (omega (arith, c.requires.shallow))
@@ -969,13 +965,13 @@ pattern_brackets::variable_in_brackets-returns-in-Err-next-clause-err t c = brac
 pub pattern_brackets::variable_in_brackets-returns-in-Err-named-clause-err : goal.pattern_brackets::variable_in_brackets-returns-in-Err-named-clause-err
 pattern_brackets::variable_in_brackets-returns-in-Err-named-clause-err t c = brackets_alias_bad c.args.depth c.args.label c.args.first.place _ _ _ _ _ c.requires.goes_on c.requires.variable (omega (arith, c.if-depth-gt-DEEPEST.false)) _ _ _ _ c.in-Ok-next.ensures.ok (c.if-same.ensures.0 refl) _ c.in-Err-named.ensures.err
 
-pub pattern_brackets::variable_in_brackets-returns-in-Ok-noted_pattern-clause-ok : goal.pattern_brackets::variable_in_brackets-returns-in-Ok-noted_pattern-clause-ok
-pattern_brackets::variable_in_brackets-returns-in-Ok-noted_pattern-clause-ok t c = brackets_alias_noted _ _ _ _ _ _ _ _ c.requires.goes_on c.requires.variable (omega (arith, c.if-depth-gt-DEEPEST.false)) _ _ _ _ c.in-Ok-next.ensures.ok (c.if-same.ensures.0 refl) _ _ _ _ _ (c.mark-mark.ensures ∙ ap (mark _) c.requires.goes_on.place_is)
-    (name_made _ _ _ _ _ _ c.in-Ok.ensures c.requires.goes_on.place_is c.no_note.ensures) c.in-Ok-named.ensures.ok _ _ _ c.in-Ok-noted_pattern.ensures c.in-Ok-annotation.ensures.ok
+pub pattern_brackets::variable_in_brackets-returns-in-Ok-annotated_pattern-clause-ok : goal.pattern_brackets::variable_in_brackets-returns-in-Ok-annotated_pattern-clause-ok
+pattern_brackets::variable_in_brackets-returns-in-Ok-annotated_pattern-clause-ok t c = brackets_alias_noted _ _ _ _ _ _ _ _ c.requires.goes_on c.requires.variable (omega (arith, c.if-depth-gt-DEEPEST.false)) _ _ _ _ c.in-Ok-next.ensures.ok (c.if-same.ensures.0 refl) _ _ _ _ _ (c.mark-mark.ensures ∙ ap (mark _) c.requires.goes_on.place_is)
+    (name_made _ _ _ _ _ _ c.in-Ok.ensures c.requires.goes_on.place_is c.no_note.ensures) c.in-Ok-named.ensures.ok _ _ _ c.in-Ok-annotated_pattern.ensures.ok.2 c.in-Ok-annotated_pattern.ensures.ok.1
 
-pub pattern_brackets::variable_in_brackets-returns-in-Err-annotation-clause-err : goal.pattern_brackets::variable_in_brackets-returns-in-Err-annotation-clause-err
-pattern_brackets::variable_in_brackets-returns-in-Err-annotation-clause-err t c = brackets_alias_note_bad c.args.depth c.args.label c.args.first.place _ _ _ _ _ c.requires.goes_on c.requires.variable (omega (arith, c.if-depth-gt-DEEPEST.false)) _ _ _ _ c.in-Ok-next.ensures.ok (c.if-same.ensures.0 refl) _ _ _ _ _ (c.mark-mark.ensures ∙ ap (mark _) c.requires.goes_on.place_is)
-    (name_made _ _ _ _ _ _ c.in-Ok.ensures c.requires.goes_on.place_is c.no_note.ensures) c.in-Ok-named.ensures.ok _ c.in-Err-annotation.ensures.err
+pub pattern_brackets::variable_in_brackets-returns-in-Err-annotated_pattern-clause-err : goal.pattern_brackets::variable_in_brackets-returns-in-Err-annotated_pattern-clause-err
+pattern_brackets::variable_in_brackets-returns-in-Err-annotated_pattern-clause-err t c = brackets_alias_note_bad c.args.depth c.args.label c.args.first.place _ _ _ _ _ c.requires.goes_on c.requires.variable (omega (arith, c.if-depth-gt-DEEPEST.false)) _ _ _ _ c.in-Ok-next.ensures.ok (c.if-same.ensures.0 refl) _ _ _ _ _ (c.mark-mark.ensures ∙ ap (mark _) c.requires.goes_on.place_is)
+    (name_made _ _ _ _ _ _ c.in-Ok.ensures c.requires.goes_on.place_is c.no_note.ensures) c.in-Ok-named.ensures.ok _ c.in-Err-annotated_pattern.ensures.err
 
 pub pattern_brackets::variable_in_brackets-returns-in-Ok-noted_variable-clause-ok : goal.pattern_brackets::variable_in_brackets-returns-in-Ok-noted_variable-clause-ok
 pattern_brackets::variable_in_brackets-returns-in-Ok-noted_variable-clause-ok t c = brackets_variable _ _ _ _ _ _ _ _ c.requires.goes_on c.requires.variable (omega (arith, c.if-depth-gt-DEEPEST.false)) _ _ _ _ c.in-Ok-next.ensures.ok (sort_differs _ _ c.if-same.ensures) _ _ _ _ c.in-Ok-noted_variable.ensures.ok
@@ -1133,7 +1129,7 @@ pattern_maps::pattern_pairs-returns-in-Err-pattern_pair-clause-err t c = items_b
 
 pub pattern_maps::pattern_pairs-loop-found-init : goal.pattern_maps::pattern_pairs-loop-found-init
 pattern_maps::pattern_pairs-loop-found-init t c = record {
-  so_far = items_first s.CloseMap (pattern_pair _) (closes_pattern_pairs _) number_pat_pair pat_pair_parts _ _ _ _ _ _ c.in-Ok.ensures.ok (λ z. differs c.if-same.false (c.same.ensures.1 z)) _ _ _ _ _ c.new-items.ensures c.if-not-pushed.ensures.added (pattern_pair_item c.in-Ok-pattern_pair.ensures.ok);
+  so_far = items_first s.CloseMap (pattern_pair _) (closes_pattern_pairs _) number_pat_pair pat_pair_parts _ _ _ _ _ _ c.in-Ok.ensures.ok (λ z. differs c.if-same.false (c.same.ensures.1 z)) _ _ _ _ _ c.new-items.ensures c.in-Ok-kept.ensures (pattern_pair_item c.in-Ok-pattern_pair.ensures.ok);
   labels = c.in-Ok-pattern_pair.ensures.labels;
   shorter = omega (arith, c.in-Ok-pattern_pair.ensures.shorter);
 }
@@ -1149,7 +1145,7 @@ pattern_maps::pattern_pairs-returns-then-not-same-clause-err t c = items_other _
 
 pub pattern_maps::pattern_pairs-loop-found-preserved : goal.pattern_maps::pattern_pairs-loop-found-preserved
 pattern_maps::pattern_pairs-loop-found-preserved t c = record {
-  so_far = items_more _ _ (closes_pattern_pairs _) _ _ _ _ _ _ _ c.loop-found.invariant.so_far _ _ _ _ c.in-Ok-next.ensures.ok (c.same-in-loop-found-2.ensures.0 c.if-not-same.false) _ _ _ _ c.if-not-pushed-2.ensures.added (pattern_pair_item c.in-Ok-pattern_pair-2.ensures.ok);
+  so_far = items_more _ _ (closes_pattern_pairs _) _ _ _ _ _ _ _ c.loop-found.invariant.so_far _ _ _ _ c.in-Ok-next.ensures.ok (c.same-in-loop-found-2.ensures.0 c.if-not-same.false) _ _ _ _ c.in-Ok-kept-2.ensures (pattern_pair_item c.in-Ok-pattern_pair-2.ensures.ok);
   labels = omega (arith, c.loop-found.invariant.labels, c.in-Ok-next.ensures.lighter, c.in-Ok-pattern_pair-2.ensures.labels);
   shorter = omega (arith, c.loop-found.invariant.shorter, c.in-Ok-next.ensures.shorter, c.in-Ok-pattern_pair-2.ensures.shorter);
 }
@@ -1184,41 +1180,44 @@ pattern_maps::pattern_pair_in_brackets-returns-in-Err-clause-err t c = pattern_p
 pub pattern_maps::pattern_pair_in_brackets-returns-in-Err-next-clause-err : goal.pattern_maps::pattern_pair_in_brackets-returns-in-Err-next-clause-err
 pattern_maps::pattern_pair_in_brackets-returns-in-Err-next-clause-err t c = pattern_pair_key_end _ _ _ _ _ _ _ c.requires.starts c.requires.sort c.requires.once _ _ _ c.in-Ok.ensures.ok _ c.in-Err-next.ensures.err
 
-pub pattern_maps::pattern_pair_in_brackets-returns-in-Ok-pattern_of_key-clause-ok : goal.pattern_maps::pattern_pair_in_brackets-returns-in-Ok-pattern_of_key-clause-ok
-pattern_maps::pattern_pair_in_brackets-returns-in-Ok-pattern_of_key-clause-ok t c = pattern_pair_noted_ok _ _ _ _ _ _ _ c.requires.starts c.requires.sort c.requires.once _ _ _ c.in-Ok.ensures.ok _ _ _ _ c.in-Ok-next.ensures.ok (c.same.ensures.0 c.if-same.true) _ _ c.in-Ok-annotation.ensures.ok _ _ _ _ c.in-Ok-noted.ensures c.in-Ok-pattern_of_key.ensures.ok
+pub pattern_maps::pattern_pair_in_brackets-returns-in-Ok-pattern_pair_of_key-clause-ok : goal.pattern_maps::pattern_pair_in_brackets-returns-in-Ok-pattern_pair_of_key-clause-ok
+pattern_maps::pattern_pair_in_brackets-returns-in-Ok-pattern_pair_of_key-clause-ok t c = pattern_pair_noted_ok _ _ _ _ _ _ _ c.requires.starts c.requires.sort c.requires.once _ _ _ c.in-Ok.ensures.ok _ _ _ _ c.in-Ok-next.ensures.ok (c.same.ensures.0 c.if-same.true) _ _ c.in-Ok-annotated.ensures.ok.1 _ _ _ _ c.in-Ok-annotated.ensures.ok.2 c.in-Ok-pattern_pair_of_key.ensures.ok
 
-pub pattern_maps::pattern_pair_in_brackets-returns-in-Err-pattern_of_key-clause-err : goal.pattern_maps::pattern_pair_in_brackets-returns-in-Err-pattern_of_key-clause-err
-pattern_maps::pattern_pair_in_brackets-returns-in-Err-pattern_of_key-clause-err t c = pattern_pair_noted_value_bad _ _ _ _ _ _ _ c.requires.starts c.requires.sort c.requires.once _ _ _ c.in-Ok.ensures.ok _ _ _ _ c.in-Ok-next.ensures.ok (c.same.ensures.0 c.if-same.true) _ _ c.in-Ok-annotation.ensures.ok _ c.in-Err-pattern_of_key.ensures.err
+pub pattern_maps::pattern_pair_in_brackets-returns-in-Err-pattern_pair_of_key-clause-err : goal.pattern_maps::pattern_pair_in_brackets-returns-in-Err-pattern_pair_of_key-clause-err
+pattern_maps::pattern_pair_in_brackets-returns-in-Err-pattern_pair_of_key-clause-err t c = pattern_pair_noted_value_bad _ _ _ _ _ _ _ c.requires.starts c.requires.sort c.requires.once _ _ _ c.in-Ok.ensures.ok _ _ _ _ c.in-Ok-next.ensures.ok (c.same.ensures.0 c.if-same.true) _ _ c.in-Ok-annotated.ensures.ok.1 _ c.in-Err-pattern_pair_of_key.ensures.err
+
+pub pattern_maps::pattern_pair_in_brackets-returns-in-Err-annotated-clause-err : goal.pattern_maps::pattern_pair_in_brackets-returns-in-Err-annotated-clause-err
+pattern_maps::pattern_pair_in_brackets-returns-in-Err-annotated-clause-err t c = pattern_pair_key_note_bad _ _ _ _ _ _ _ c.requires.starts c.requires.sort c.requires.once _ _ _ c.in-Ok.ensures.ok _ _ _ _ c.in-Ok-next.ensures.ok (c.same.ensures.0 c.if-same.true) _ c.in-Err-annotated.ensures.err
+
+pub pattern_maps::pattern_pair_in_brackets-returns-in-Err-value_pattern-clause-err : goal.pattern_maps::pattern_pair_in_brackets-returns-in-Err-value_pattern-clause-err
+pattern_maps::pattern_pair_in_brackets-returns-in-Err-value_pattern-clause-err t c = pattern_pair_value_bad _ _ _ _ _ _ _ c.requires.starts c.requires.sort c.requires.once _ _ _ c.in-Ok.ensures.ok _ _ _ _ c.in-Ok-next.ensures.ok (λ z. differs c.if-same.false (c.same.ensures.1 z)) _ c.in-Err-value_pattern.ensures.err
+
+pub pattern_maps::pattern_pair_in_brackets-returns-in-Ok-pattern_pair-clause-ok : goal.pattern_maps::pattern_pair_in_brackets-returns-in-Ok-pattern_pair-clause-ok
+pattern_maps::pattern_pair_in_brackets-returns-in-Ok-pattern_pair-clause-ok t c = pattern_pair_ok _ _ _ _ _ _ _ c.requires.starts c.requires.sort c.requires.once _ _ _ c.in-Ok.ensures.ok _ _ _ _ c.in-Ok-next.ensures.ok (λ z. differs c.if-same.false (c.same.ensures.1 z)) _ _ _ (pattern_value_pair _ _ _ _ _ _ c.in-Ok-value_pattern.ensures.ok _ _ c.in-Ok-pattern_pair.ensures) _ _ c.in-Ok-annotation.ensures.ok
 
 pub pattern_maps::pattern_pair_in_brackets-returns-in-Err-annotation-clause-err : goal.pattern_maps::pattern_pair_in_brackets-returns-in-Err-annotation-clause-err
-pattern_maps::pattern_pair_in_brackets-returns-in-Err-annotation-clause-err t c = pattern_pair_key_note_bad _ _ _ _ _ _ _ c.requires.starts c.requires.sort c.requires.once _ _ _ c.in-Ok.ensures.ok _ _ _ _ c.in-Ok-next.ensures.ok (c.same.ensures.0 c.if-same.true) _ c.in-Err-annotation.ensures.err
-
-pub pattern_maps::pattern_pair_in_brackets-returns-in-Err-pattern_of_key-2-clause-err : goal.pattern_maps::pattern_pair_in_brackets-returns-in-Err-pattern_of_key-2-clause-err
-pattern_maps::pattern_pair_in_brackets-returns-in-Err-pattern_of_key-2-clause-err t c = pattern_pair_value_bad _ _ _ _ _ _ _ c.requires.starts c.requires.sort c.requires.once _ _ _ c.in-Ok.ensures.ok _ _ _ _ c.in-Ok-next.ensures.ok (λ z. differs c.if-same.false (c.same.ensures.1 z)) _ c.in-Err-pattern_of_key-2.ensures.err
-
-pub pattern_maps::pattern_pair_in_brackets-returns-in-Ok-annotation-2-clause-ok : goal.pattern_maps::pattern_pair_in_brackets-returns-in-Ok-annotation-2-clause-ok
-pattern_maps::pattern_pair_in_brackets-returns-in-Ok-annotation-2-clause-ok t c = pattern_pair_ok _ _ _ _ _ _ _ c.requires.starts c.requires.sort c.requires.once _ _ _ c.in-Ok.ensures.ok _ _ _ _ c.in-Ok-next.ensures.ok (λ z. differs c.if-same.false (c.same.ensures.1 z)) _ _ _ c.in-Ok-pattern_of_key-2.ensures.ok _ _ c.in-Ok-annotation-2.ensures.ok
-
-pub pattern_maps::pattern_pair_in_brackets-returns-in-Err-annotation-2-clause-err : goal.pattern_maps::pattern_pair_in_brackets-returns-in-Err-annotation-2-clause-err
-pattern_maps::pattern_pair_in_brackets-returns-in-Err-annotation-2-clause-err t c = pattern_pair_note_bad _ _ _ _ _ _ _ c.requires.starts c.requires.sort c.requires.once _ _ _ c.in-Ok.ensures.ok _ _ _ _ c.in-Ok-next.ensures.ok (λ z. differs c.if-same.false (c.same.ensures.1 z)) _ _ _ c.in-Ok-pattern_of_key-2.ensures.ok _ c.in-Err-annotation-2.ensures.err
+pattern_maps::pattern_pair_in_brackets-returns-in-Err-annotation-clause-err t c = pattern_pair_note_bad _ _ _ _ _ _ _ c.requires.starts c.requires.sort c.requires.once _ _ _ c.in-Ok.ensures.ok _ _ _ _ c.in-Ok-next.ensures.ok (λ z. differs c.if-same.false (c.same.ensures.1 z)) _ _ _ (pattern_value_pair _ _ _ _ _ _ c.in-Ok-value_pattern.ensures.ok _ _ refl) _ c.in-Err-annotation.ensures.err
 
 pub pattern_maps::bare_pattern_pair-returns-in-Err-clause-err : goal.pattern_maps::bare_pattern_pair-returns-in-Err-clause-err
 pattern_maps::bare_pattern_pair-returns-in-Err-clause-err t c = bare_pattern_pair_key_bad _ c.args.label _ _ c.in-Err.ensures.err
 
-pub pattern_maps::bare_pattern_pair-returns-in-Err-pattern_of_key-clause-err : goal.pattern_maps::bare_pattern_pair-returns-in-Err-pattern_of_key-clause-err
-pattern_maps::bare_pattern_pair-returns-in-Err-pattern_of_key-clause-err t c = bare_pattern_pair_value_bad _ _ _ _ _ _ c.in-Ok.ensures.ok _ c.in-Err-pattern_of_key.ensures.err
+pub pattern_maps::bare_pattern_pair-returns-in-Err-pattern_pair_of_key-clause-err : goal.pattern_maps::bare_pattern_pair-returns-in-Err-pattern_pair_of_key-clause-err
+pattern_maps::bare_pattern_pair-returns-in-Err-pattern_pair_of_key-clause-err t c = bare_pattern_pair_value_bad _ _ _ _ _ _ c.in-Ok.ensures.ok _ c.in-Err-pattern_pair_of_key.ensures.err
 
-pub pattern_maps::bare_pattern_pair-returns-in-Ok-pattern_of_key-clause-ok : goal.pattern_maps::bare_pattern_pair-returns-in-Ok-pattern_of_key-clause-ok
-pattern_maps::bare_pattern_pair-returns-in-Ok-pattern_of_key-clause-ok t c = bare_pattern_pair_ok _ _ _ _ _ _ c.in-Ok.ensures.ok _ _ _ c.in-Ok-pattern_of_key.ensures.ok
+pub pattern_maps::bare_pattern_pair-returns-in-Ok-pattern_pair_of_key-clause-ok : goal.pattern_maps::bare_pattern_pair-returns-in-Ok-pattern_pair_of_key-clause-ok
+pattern_maps::bare_pattern_pair-returns-in-Ok-pattern_pair_of_key-clause-ok t c = bare_pattern_pair_ok _ _ _ _ _ _ c.in-Ok.ensures.ok _ _ _ c.in-Ok-pattern_pair_of_key.ensures.ok
 
-pub pattern_maps::pattern_of_key-returns-in-Err-clause-err : goal.pattern_maps::pattern_of_key-returns-in-Err-clause-err
-pattern_maps::pattern_of_key-returns-in-Err-clause-err t c = pattern_value_lacks _ c.args.label _ _ c.in-Err.ensures.err
+pub pattern_maps::pattern_pair_of_key-returns-in-Ok-pattern_pair-clause-ok : goal.pattern_maps::pattern_pair_of_key-returns-in-Ok-pattern_pair-clause-ok
+pattern_maps::pattern_pair_of_key-returns-in-Ok-pattern_pair-clause-ok t c = pattern_value_pair _ _ _ _ _ _ c.in-Ok.ensures.ok _ _ c.in-Ok-pattern_pair.ensures
 
-pub pattern_maps::pattern_of_key-returns-in-Err-pattern-clause-err : goal.pattern_maps::pattern_of_key-returns-in-Err-pattern-clause-err
-pattern_maps::pattern_of_key-returns-in-Err-pattern-clause-err t c = pattern_value_bad _ c.args.label _ _ c.in-Ok.ensures.ok _ c.in-Err-pattern.ensures.err
+pub pattern_maps::value_pattern-returns-in-Err-clause-err : goal.pattern_maps::value_pattern-returns-in-Err-clause-err
+pattern_maps::value_pattern-returns-in-Err-clause-err t c = pattern_value_lacks _ c.args.label _ _ c.in-Err.ensures.err
 
-pub pattern_maps::pattern_of_key-returns-in-Ok-pattern_pair-clause-ok : goal.pattern_maps::pattern_of_key-returns-in-Ok-pattern_pair-clause-ok
-pattern_maps::pattern_of_key-returns-in-Ok-pattern_pair-clause-ok t c = pattern_value_ok _ _ _ _ c.in-Ok.ensures.ok _ _ _ c.in-Ok-pattern.ensures.ok _ _ c.in-Ok-pattern_pair.ensures
+pub pattern_maps::value_pattern-returns-in-Err-pattern-clause-err : goal.pattern_maps::value_pattern-returns-in-Err-pattern-clause-err
+pattern_maps::value_pattern-returns-in-Err-pattern-clause-err t c = pattern_value_bad _ c.args.label _ _ c.in-Ok.ensures.ok _ c.in-Err-pattern.ensures.err
+
+pub pattern_maps::value_pattern-returns-in-Ok-pattern-clause-ok : goal.pattern_maps::value_pattern-returns-in-Ok-pattern-clause-ok
+pattern_maps::value_pattern-returns-in-Ok-pattern-clause-ok t c = pattern_value _ _ _ _ c.in-Ok.ensures.ok _ _ _ c.in-Ok-pattern.ensures.ok
 
 pub patterns::pattern-returns-in-Err-clause-err : goal.patterns::pattern-returns-in-Err-clause-err
 patterns::pattern-returns-in-Err-clause-err t c = pattern_none _ c.args.label _ _ c.in-Err.ensures.err

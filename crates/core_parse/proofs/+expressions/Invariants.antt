@@ -1,11 +1,10 @@
-use Rattle.std.proofs.Common.{◌+◌, ◌*◌, ◌<◌, ◌≤◌, length, map}
+use Rattle.std.proofs.Common.{◌≡◌, [], ◌+◌, ◌*◌, ◌<◌, ◌≤◌, length, map}
 use Rattle.core_ast.specs.declared.syntax.Segment.{Segment}
 use Rattle.core_ast.specs.Tree.{segment_parts, tree, def_tree, all_trees, pat_segment_parts, pattern_tree, all_patterns, pat_pair_parts}
 use Rattle.core_parse.specs.Grammar.{segment, expression, pattern_segment, pattern_pair, pattern}
 use Rattle.core_parse.specs.steps.Items.{number_segment, number_pat_segment, number_pat_pair}
 use Rattle.core_parse.specs.Weights.{weight}
 use Rattle.core_parse.proofs.ItemExits.{ItemsSoFar}
-use Rattle.core_parse.proofs.ChainExits.{Closing}
 use Rattle.core_parse.specs.steps.Chains.{ReadsSteps}
 use Rattle.core_parse.proofs.ClauseListExits.{MoreClauses}
 use Rattle.core_parse.proofs.RunExits.{DefinitionsSoFar}
@@ -39,16 +38,6 @@ decreases-binaries::segment l = 16 * length l.tokens.now + 5
 
 abbrev pub decreases-chains::chain : goal.decreases-chains::chain
 decreases-chains::chain l = 16 * length l.tokens.now + 1
-
-abbrev pub invariant-chains::chain-loop-frame : goal.invariant-chains::chain-loop-frame
-invariant-chains::chain-loop-frame l = record {
-  so_far : Closing l.depth l.label l.first.place l.fn.tokens l.left l.frames l.done (tree l.last) l.next_label;
-  labels : l.next_label + weight l.left ≤ l.label + weight l.fn.tokens;
-  shorter : length l.left < length l.fn.tokens;
-}
-
-abbrev pub decreases-chains::chain-loop-frame : goal.decreases-chains::chain-loop-frame
-decreases-chains::chain-loop-frame l = length l.frames
 
 abbrev pub decreases-chains::steps : goal.decreases-chains::steps
 decreases-chains::steps l = 16 * length l.tokens.now
@@ -210,12 +199,16 @@ decreases-maps::pairs l = 16 * length l.tokens.now + 7
 abbrev pub invariant-maps::pairs-loop-found : goal.invariant-maps::pairs-loop-found
 invariant-maps::pairs-loop-found l = record {
   so_far : MapPairsSoFar l.depth l.fn.label l.fn.tokens l.left l.items l.next_label;
+  some : l.items ≡ [] → ⊥;
   labels : l.next_label + weight l.left ≤ l.fn.label + weight l.fn.tokens;
   shorter : length l.left ≤ length l.fn.tokens;
 }
 
 abbrev pub decreases-maps::pairs-loop-found : goal.decreases-maps::pairs-loop-found
 decreases-maps::pairs-loop-found l = length l.left
+
+abbrev pub decreases-maps::updated_by : goal.decreases-maps::updated_by
+decreases-maps::updated_by l = 16 * length l.tokens.now + 6
 
 abbrev pub decreases-maps::pair : goal.decreases-maps::pair
 decreases-maps::pair l = 16 * length l.tokens.now + 6
@@ -226,8 +219,11 @@ decreases-maps::pair_in_brackets l = 16 * length l.tokens.now + 5
 abbrev pub decreases-maps::bare_pair : goal.decreases-maps::bare_pair
 decreases-maps::bare_pair l = 16 * length l.tokens.now + 5
 
-abbrev pub decreases-maps::value_of_key : goal.decreases-maps::value_of_key
-decreases-maps::value_of_key l = 16 * length l.tokens.now + 5
+abbrev pub decreases-maps::pair_of_key : goal.decreases-maps::pair_of_key
+decreases-maps::pair_of_key l = 16 * length l.tokens.now + 6
+
+abbrev pub decreases-maps::value : goal.decreases-maps::value
+decreases-maps::value l = 16 * length l.tokens.now + 5
 
 abbrev pub decreases-pattern_binaries::binary_pattern : goal.decreases-pattern_binaries::binary_pattern
 decreases-pattern_binaries::binary_pattern l = 16 * length l.tokens.now
@@ -315,8 +311,11 @@ decreases-pattern_maps::pattern_pair_in_brackets l = 16 * length l.tokens.now + 
 abbrev pub decreases-pattern_maps::bare_pattern_pair : goal.decreases-pattern_maps::bare_pattern_pair
 decreases-pattern_maps::bare_pattern_pair l = 16 * length l.tokens.now + 5
 
-abbrev pub decreases-pattern_maps::pattern_of_key : goal.decreases-pattern_maps::pattern_of_key
-decreases-pattern_maps::pattern_of_key l = 16 * length l.tokens.now + 5
+abbrev pub decreases-pattern_maps::pattern_pair_of_key : goal.decreases-pattern_maps::pattern_pair_of_key
+decreases-pattern_maps::pattern_pair_of_key l = 16 * length l.tokens.now + 6
+
+abbrev pub decreases-pattern_maps::value_pattern : goal.decreases-pattern_maps::value_pattern
+decreases-pattern_maps::value_pattern l = 16 * length l.tokens.now + 5
 
 abbrev pub decreases-patterns::pattern : goal.decreases-patterns::pattern
 decreases-patterns::pattern l = 16 * length l.tokens.now + 5

@@ -15,7 +15,7 @@ use Rattle.core_parse.specs.Build.{at, StepParts, let_, do_, before, and_step}
 use Rattle.core_parse.specs.Grammar.{Part, a, the, Nonterminal, Said, Action, annotation, variables, expression, other_expression}
 use Rattle.core_parse.specs.steps.Track.{Branch, Goes, itself}
 use Rattle.core_parse.specs.steps.Faults.{Starts, Takes, Refuses}
-use Rattle.core_parse.specs.steps.Readings.{chain_sort}
+use Rattle.core_parse.specs.steps.Readings.{chain_sort, opens_chain, ReadsExpression}
 
 -- A step with its place, and whether annotation brackets stand around it and what follows it.
 pub record Raw : Type 0 where
@@ -85,3 +85,11 @@ pub record ReadsSteps (d n : ℕ) (place : Place) (ts : List Token) (frames : Li
   pub agrees : Agree (n + 1) raw frames p
   pub outer_is : (any : Place) → outer raw any ≡ place
   pub some : filled raw m.no_step ≡ true
+
+-- The steps are read, and the last expression, which is no step without annotation brackets.
+pub record ReadsChain (d n : ℕ) (place : Place) (ts : List Token) (frames : List Frame) (last : m.Tree) (left : List Token) (p : ℕ) : Type 0 where
+  pub behind : List Token
+  pub next : ℕ
+  pub steps_are : ReadsSteps d n place ts frames behind next
+  pub no_step : opens_chain behind ≡ false
+  pub last_is : ReadsExpression d next behind last left p

@@ -13,7 +13,8 @@ use Rattle.core_parse.specs.Build.{MapParts}
 use Rattle.core_parse.specs.Grammar.{Part, a, the, Nonterminal, Said, Action, expression, pattern, pairs, bare_pair, bare_pattern_pair}
 use Rattle.core_parse.specs.Labels.{number, number_pattern, number_pairs, number_pat_pairs}
 use Rattle.core_parse.specs.steps.Track.{Goes, Passes, itself, Guarded}
-use Rattle.core_parse.specs.steps.Faults.{Refuses}
+use Rattle.core_parse.specs.steps.Faults.{Refuses, Takes}
+use Rattle.core_parse.specs.steps.Readings.{ReadsExpression}
 
 abbrev pub updated_tree : Option Expr → Option m.Tree
 updated_tree None = None
@@ -45,6 +46,17 @@ pub record ReadsMapPairs (d n : ℕ) (ts : List Token) (made : m.Pairs) (updated
   pub between : ℕ
   pub pairs_are : number_pairs n (t.pairs says.pairs) ≡ (made, between)
   pub updated_is : number_updated between says.updated ≡ (updated, p)
+
+-- What comes behind the bar: the map that is updated, and the token that closes the pairs.
+pub record ReadsUpdated (d n : ℕ) (ts : List Token) (updated : Option m.Tree) (left : List Token) (p : ℕ) : Type 0 where
+  pub made : m.Tree
+  pub behind : List Token
+  pub made_is : updated ≡ Some made
+  pub reads : ReadsExpression d n ts made behind p
+  pub closes : Takes s.CloseMap behind left
+
+abbrev pub RefusesUpdated : ℕ → List Token → Fault → Type 0
+RefusesUpdated d us e = (o : Nonterminal) (f : m.Tree → Action (a s.CloseMap ∷ []) (Said o)) (ts : List Token) → Goes o (itself o) (record { parts = the (expression d) ∷ a s.CloseMap ∷ []; build = f } ∷ []) ts us → Refuses o ts e
 
 pub record ReadsBarePair (d n : ℕ) (ts : List Token) (made : t.PairParts) (left : List Token) (p : ℕ) : Type 0 where
   pub says : t.PairParts
