@@ -7,7 +7,7 @@ use Rattle.core_ast.specs.declared.syntax.VarName.{VarName}
 use Rattle.core_ast.specs.declared.syntax.FunName.{FunName}
 use Rattle.core_ast.specs.declared.syntax.Literal.TheVariants as l
 use Rattle.core_ast.specs.Model as m
-use Rattle.type_model.specs.Values.{Value, int, cons, nil, tuple, Values, no_value, and_value, count, Env, no_variable, and_variable, closure}
+use Rattle.type_model.specs.Values.{Value, int, cons, nil, tuple, Values, no_value, and_value, count, Env, no_variable, and_variable, and_frame, closure}
 use Rattle.bif_types.specs.Results.{one_value, two_values}
 use Rattle.core_meaning.specs.Programs.{Program}
 use Rattle.core_meaning.specs.Matching.{Match, match_variable, match_literal, match_list, match_head, match_rest, Miss, miss_list, miss_no_list, MissEach, miss_tuple, miss_fewer, miss_here, miss_later, miss_literal, miss_map}
@@ -140,11 +140,16 @@ f_body = m.letrec (mark 1 0 0) (m.and_def g_name (mark 2 0 0) [] seven m.no_def)
 abbrev w : m.Module
 w = record { name = codes "w"; exports = name_of (codes "f") 0 ∷ []; export_places = []; defs = m.and_def (name_of (codes "f") 0) (mark 0 0 0) [] f_body m.no_def; note = (mark 0 0 0).note }
 
+abbrev f_closure : Value
+f_closure = closure (codes "w") 0 0 no_variable
+
+-- it sees itself
+abbrev g_closure : Value
+g_closure = closure (codes "w") 2 0 (and_frame (record { name = codes "g"; arity = 0; label = 2 } ∷ []) no_variable)
+
 abbrev letrec_trace : Trace
-letrec_trace =
-    entered (codes "w") 0 no_value ∷ entered (codes "w") 2 no_value ∷ gave (codes "w") 2 no_value (int (pos 7)) ∷
-    back (codes "w") 4 (int (pos 7)) ∷ gave (codes "w") 0 no_value (int (pos 7)) ∷ []
+letrec_trace = entered f_closure no_value ∷ entered g_closure no_value ∷ gave g_closure no_value (int (pos 7)) ∷ back (codes "w") 4 (int (pos 7)) ∷ gave f_closure no_value (int (pos 7)) ∷ []
 
 letrec_runs : (W : Value → Type 0) (n : ℕ) →
-    Enter (w ∷ []) W (EvalWith (w ∷ []) W (suc (suc (suc n)))) (closure (codes "w") 0 0 no_variable) no_value (gives (one_value (int (pos 7)))) letrec_trace
+    Enter (w ∷ []) W (EvalWith (w ∷ []) W (suc (suc (suc n)))) f_closure no_value (gives (one_value (int (pos 7)))) letrec_trace
 letrec_runs W n = enter_gives refl refl refl (step_letrec (refl, tt) (step_apply_name refl refl give_none (enter_gives refl refl refl (step_literal refl))))

@@ -1,14 +1,13 @@
 -- Which values a pattern matches, with what it binds, and which it misses. A pattern may do both where nothing is known of a
 -- value: a float, the bits of a binary, a map.
-use Rattle.std.specs.Prelude.{◌≡◌, ◌≢◌, Bool, ◌||◌, List, Option, Some, None, codes, if◌then◌else◌}
+use Rattle.std.specs.Prelude.{◌≡◌, ◌≢◌, Bool, List}
 use Rattle.type_kinds.specs.declared.atom.Atom.{Atom}
 use Rattle.core_ast.specs.declared.syntax.Mark.{Mark}
 use Rattle.core_ast.specs.declared.syntax.VarName.{VarName}
 use Rattle.core_ast.specs.declared.syntax.Literal.{Literal}
 use Rattle.core_ast.specs.declared.syntax.Literal.TheVariants as l
 use Rattle.core_ast.specs.Model as m
-use Rattle.core_ast.specs.Named.{literal_atom}
-use Rattle.core_scope.specs.Names.{same_atom}
+use Rattle.core_scope.specs.Segments.{SegmentKind, integers, floats, bit_strings, anything, segment_kind}
 use Rattle.type_model.specs.Canonical.{HoldsPair}
 use Rattle.type_model.specs.Values.{Value, int, atom, bits, nil, cons, tuple, map, Values, no_value, and_value, ValuePairs, Env}
 use Rattle.cons_tree.specs.Satisfied.{IsInteger, IsFloat}
@@ -31,27 +30,8 @@ LiteralMisses l.Nil v = v ≢ nil
 
 -- ---- the values of a binary's segments
 
-abbrev pub third : m.Trees → Option Atom
-third (m.and_tree t (m.and_tree u (m.and_tree w ts))) = literal_atom w
-third ts = None
-
-abbrev pub is_integer_segment : Atom → Bool
-is_integer_segment x = same_atom x (codes "integer") || same_atom x (codes "utf8") || same_atom x (codes "utf16") || same_atom x (codes "utf32")
-
 abbrev pub IsBits : Value → Type 0
 IsBits v = (bs : List Bool) × (v ≡ bits bs)
-
--- what a segment holds, by the name of its type
-pub data SegmentKind : Type 0 where
-  integers floats bit_strings anything : SegmentKind
-
-abbrev pub kind_named : Option Atom → SegmentKind
-kind_named None = anything
-kind_named (Some x) =
-    if is_integer_segment x then integers
-    else if same_atom x (codes "float") then floats
-    else if same_atom x (codes "binary") then bit_strings
-    else anything
 
 abbrev pub IsOfKind : SegmentKind → Value → Type 0
 IsOfKind integers v = IsInteger v
@@ -61,7 +41,7 @@ IsOfKind anything v = Unit {0}
 
 -- the value is one that a segment with these arguments may hold: the third argument says its type
 abbrev pub IsOfSegment : m.Trees → Value → Type 0
-IsOfSegment args v = IsOfKind (kind_named (third args)) v
+IsOfSegment args v = IsOfKind (segment_kind args) v
 
 -- ---- matching
 

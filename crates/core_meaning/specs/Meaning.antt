@@ -1,6 +1,6 @@
 -- What an expression may do (Core Erlang 1.0.3): its outcome and its trace, over what its parts may do. One row for each form
 -- and each way that it may go.
-use Rattle.std.specs.Prelude.{◌≡◌, ◌≢◌, ◌⊎◌, ℕ, pos, Bool, true, ◌||◌, List, [], ◌∷◌, ◌++◌, length, Option, Some, None, codes}
+use Rattle.std.specs.Prelude.{◌≡◌, ◌≢◌, ◌⊎◌, ℕ, pos, Bool, true, List, [], ◌∷◌, ◌++◌, length, Option, Some, None}
 use Rattle.type_kinds.specs.declared.atom.Atom.{Atom}
 use Rattle.core_ast.specs.declared.syntax.Mark.{Mark}
 use Rattle.core_ast.specs.declared.syntax.VarName.{VarName}
@@ -9,8 +9,7 @@ use Rattle.core_ast.specs.declared.syntax.Literal.{Literal}
 use Rattle.core_ast.specs.Model as m
 use Rattle.core_ast.specs.Lengths.{how_many}
 use Rattle.core_ast.specs.Named.{local_name}
-use Rattle.core_scope.specs.Asks.{width}
-use Rattle.core_scope.specs.Names.{same_atom}
+use Rattle.core_scope.specs.Asks.{is_raising, width}
 use Rattle.core_scope.specs.Functions.{LabelledFunction}
 use Rattle.type_model.specs.Canonical.{HoldsPair, AreAscending}
 use Rattle.type_model.specs.Values.{Value, int, atom, bits, nil, cons, tuple, map, closure, external, foreign, Values, no_value, and_value, ValuePairs, no_pair, and_pair, Env, and_frame, count}
@@ -38,9 +37,9 @@ pub data Event : Type 0 where
   chosen : (home : Atom) (label : ℕ) → Event
   -- a value that is no name was applied
   applied : (home : Atom) (label : ℕ) (c : Value) → Event
-  -- a function was entered with arguments, and gave a value for them
-  entered : (home : Atom) (label : ℕ) (vs : Values) → Event
-  gave : (home : Atom) (label : ℕ) (vs : Values) (v : Value) → Event
+  -- a closure was entered with arguments, and gave a value for them
+  entered : (c : Value) (vs : Values) → Event
+  gave : (c : Value) (vs : Values) (v : Value) → Event
   -- a call or an application gave a value
   back : (home : Atom) (label : ℕ) (v : Value) → Event
 
@@ -126,10 +125,6 @@ values_given vs = no_value
 abbrev pub IsMadeOf : Values → ValuePairs → ValuePairs → Type 0
 IsMadeOf vs old no_pair = Unit {0}
 IsMadeOf vs old (and_pair k v ps) = ((IsAmong k (keys_given vs) ⊎ ((w : Value) × HoldsPair old k w)) × (IsAmong v (values_given vs) ⊎ ((j : Value) × HoldsPair old j v))) × IsMadeOf vs old ps
-
--- whether a primop only raises
-abbrev pub is_raising : Atom → Bool
-is_raising x = same_atom x (codes "match_fail") || same_atom x (codes "raise") || same_atom x (codes "raw_raise")
 
 -- ---- parts, over any meaning E
 
@@ -222,14 +217,15 @@ module _ (U : Program) (W : Value → Type 0) (E : Atom → Env → m.Tree → O
         function_at U home label ≡ Some c →
         length c.parameters ≡ count vs →
         E home (with_variables c.parameters vs env) c.body (gives (one_value v)) tr →
-        Enter (closure home label arity env) vs (gives (one_value v)) (entered home label vs ∷ (tr ++ (gave home label vs v ∷ [])))
+        Enter (closure home label arity env) vs (gives (one_value v))
+        (entered (closure home label arity env) vs ∷ (tr ++ (gave (closure home label arity env) vs v ∷ [])))
     enter_fails :
         {home : Atom} {label arity : ℕ} {env : Env} {c : LabelledFunction} {vs : Values} {f : Failure} {tr : Trace} →
         arity ≡ count vs →
         function_at U home label ≡ Some c →
         length c.parameters ≡ count vs →
         E home (with_variables c.parameters vs env) c.body (fails f) tr →
-        Enter (closure home label arity env) vs (fails f) (entered home label vs ∷ tr)
+        Enter (closure home label arity env) vs (fails f) (entered (closure home label arity env) vs ∷ tr)
 
   -- a function is called by its module and its name with some arguments. A built-in function that isn't exact gives what
   -- comes from outside

@@ -77,19 +77,22 @@ r8 = record {
 abbrev pub r8_alone : Program
 r8_alone = r8 ∷ []
 
--- what the function `'f'/0` is entered as
+-- what the functions `'f'/0` and `'h'/1` are entered as
 abbrev pub f_closure : Value
 f_closure = closure r8_name 0 0 no_variable
+
+abbrev pub h_closure : Value
+h_closure = closure r8_name 4 1 no_variable
 
 abbrev pub q_value : Value
 q_value = atom (codes "q")
 
 -- what happens: `'h'/1` is entered with 1, takes its second clause and gives `'q'`, and the application gives it back
 abbrev pub h_trace : Trace
-h_trace = entered r8_name 4 (one_value (int (pos 1))) ∷ chosen r8_name 11 ∷ gave r8_name 4 (one_value (int (pos 1))) q_value ∷ []
+h_trace = entered h_closure (one_value (int (pos 1))) ∷ chosen r8_name 11 ∷ gave h_closure (one_value (int (pos 1))) q_value ∷ []
 
 abbrev pub apply_gave : Event
 apply_gave = back r8_name 1 q_value
 
 abbrev pub f_trace : Trace
-f_trace = entered r8_name 0 no_value ∷ ((h_trace ++ (apply_gave ∷ [])) ++ (gave r8_name 0 no_value q_value ∷ []))
+f_trace = entered f_closure no_value ∷ ((h_trace ++ (apply_gave ∷ [])) ++ (gave f_closure no_value q_value ∷ []))

@@ -1,5 +1,6 @@
 mod Examples
 mod Tables
+mod InnerBindings
 mod States
 mod GivesExits
 mod ExpressionExits

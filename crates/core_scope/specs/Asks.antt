@@ -1,5 +1,5 @@
 -- How many values a place asks for, and how many an expression gives (Core Erlang 1.0.3, "degree").
-use Rattle.std.specs.Prelude.{ℕ, Bool, true, ◌&&◌, if◌then◌else◌, List, [], ◌∷◌, codes, eqb, leb}
+use Rattle.std.specs.Prelude.{ℕ, Bool, true, ◌&&◌, ◌||◌, if◌then◌else◌, List, [], ◌∷◌, codes, eqb, leb}
 use Rattle.type_kinds.specs.declared.atom.Atom.{Atom}
 use Rattle.core_ast.specs.declared.syntax.FunName.{FunName}
 use Rattle.core_ast.specs.declared.syntax.Literal.TheVariants as l
@@ -29,6 +29,10 @@ never_returning =
 -- A call with this literal module and name, and so many arguments, never returns.
 abbrev pub never_returns : (home name : Atom) → ℕ → Bool
 never_returns home name n = same_atom home erlang && has_function never_returning (function_name name n)
+
+-- A primop that only raises.
+abbrev pub is_raising : Atom → Bool
+is_raising x = same_atom x (codes "match_fail") || same_atom x (codes "raise") || same_atom x (codes "raw_raise")
 
 -- A call of these gives one value, and one that never returns gives whatever is asked.
 abbrev pub call_gives : (home name : m.Tree) → ℕ → Ask

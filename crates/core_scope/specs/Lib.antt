@@ -7,4 +7,5 @@ pub mod Sets
 pub mod Labels
 pub mod Functions
 pub mod Places
+pub mod Segments
 pub mod steps

@@ -47,8 +47,9 @@ fn never_returns(home: &Atom, name: &Atom, arity: usize) -> bool
     arity == 1 && (is_text(name, b"exit") || is_text(name, b"throw"))
 }
 
-// How many values a call of these gives, with so many arguments.
-fn call_gives(home: &Expr, name: &Expr, arity: usize) -> Ask
+/// How many values a call of this module and name gives, with so many arguments, where `AnyNumber` is whatever is
+/// asked: that of a built-in function that never returns, by literal names.
+pub fn call_gives(home: &Expr, name: &Expr, arity: usize) -> Ask
     ensures { result ≡ call_gives (tree home.now) (tree name.now) arity }
 {
     let Some(home) = home.atom() else {

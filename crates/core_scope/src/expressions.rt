@@ -152,8 +152,8 @@ fn walk_steps(walk: &mut Walk, steps: &[Step]) -> Result<(), Memory>
     Ok(())
 }
 
-// How many patterns clauses have, by the first of them.
-fn width(clauses: &[Clause]) -> usize
+/// How many patterns clauses have, by the first of them.
+pub fn width(clauses: &[Clause]) -> usize
     ensures { result ≡ width (all_clauses clauses.now) }
 {
     match clauses.first() {

@@ -1,4 +1,4 @@
-ghost use Rattle.std.specs.Prelude.{◌≡◌, ℕ, ◌-◌, ◌≤◌, ◌<◌, [], ◌∷◌, ◌++◌, true, length, take, drop, slice_get, slice_index_or, Some, IfOk, OnOk, OnErr};
+ghost use Rattle.std.specs.Prelude.{◌≡◌, ℕ, ◌+◌, ◌-◌, ◌≤◌, ◌<◌, ◌↔◌, [], ◌∷◌, ◌++◌, true, false, length, take, drop, slice_get, slice_index_or, Some, IsSome, IfSome, IfOk, OnOk, OnErr};
 ghost use Rattle.std.specs.List.{list_any};
 ghost use Rattle.core_scope.specs.steps.Trail.{MaybeNewKey};
 
@@ -108,6 +108,19 @@ impl<T: Name> Names<T> {
         ensures { result ≡ list_any (T.eq name.now) self.now }
     {
         self.has_since(0, name)
+    }
+
+    /// Where the innermost binding of the name stands among all that are bound, or `None` where the name isn't
+    /// bound. Takes no memory.
+    pub fn place_of(&self, name: &T) -> Option<usize>
+        ensures bound { IsSome result ↔ (list_any (T.eq name.now) self.now ≡ true) }
+        ensures there { IfSome result (λ place. list_any (T.eq name.now) (drop place self.now) ≡ true) }
+        ensures innermost { IfSome result (λ place. list_any (T.eq name.now) (drop (place + 1) self.now) ≡ false) }
+    {
+        match self.numbers.get_index_of(name) {
+            Some(number) => last_of(&self.last, number).checked_sub(1),
+            None => None,
+        }
     }
 
     /// Binds a name, behind all others. `Memory` if allocation fails; then the same names are bound as before.
