@@ -1,0 +1,14 @@
+pub mod CutLaws
+pub mod Examples
+pub mod FormatLaws
+pub mod Fronts
+pub mod Loops
+pub mod MaskLaws
+pub mod ReadCuts
+pub mod ReadTrees
+pub mod SetFormats
+pub mod ShapeLaws
+pub mod Shorts
+pub mod TreeFormats
+pub mod TypeFormats
+pub mod Writes

@@ -1,0 +1,4 @@
+pub mod Shapes
+pub mod ShortNames
+pub mod Spelling
+pub mod steps
