@@ -1,33 +1,17 @@
 -- What tables of callees answer after one was set.
-use Rattle.std.proofs.Common.{◌≡◌, ℕ, Bool, true, false, cond, ◌&&◌, List, [], Option, Some, None, refl, sym, ap, ◌∙◌, subst, nat_eq, eqb-true, eq-eqb}
+use Rattle.std.proofs.Common.{◌≡◌, ℕ, Bool, true, false, cond, List, [], Option, Some, None, refl, sym, ap, ◌∙◌, subst}
 use Rattle.std.specs.Prelude.{unwrap_or, Result, Ok, Err, OnOk, OnErr}
 use Rattle.std.specs.Map.{lookup}
-use Rattle.std.specs.Cmp.Lexicographic.{pointwise, bytes_decides}
 use Rattle.type_kinds.specs.declared.atom.Atom.{Atom}
 use Rattle.core_ast.specs.declared.syntax.FunName.{FunName}
 use Rattle.cons_tree.specs.Callees.{same_home, same_name, callee_in, callees_of, found, Fits}
 use Rattle.cons_tree.specs.declared.parts.Callee.{Callee}
 use Rattle.cons_tree.specs.declared.parts.Callee.TheVariants.{Unknown}
-use Rattle.type_sets.proofs.Truths.{first, second}
-
-home_is : (h k : Atom) → same_home h k ≡ true → h ≡ k
-home_is h k e = (bytes_decides h k).0 e
-
-home_itself : (h : Atom) → same_home h h ≡ true
-home_itself h = (bytes_decides h h).1 refl
-
-name_is : (f g : FunName) → same_name f g ≡ true → f ≡ g
-name_is f g e =
-    let n : f.name ≡ g.name = (bytes_decides f.name g.name).0 (first (pointwise nat_eq f.name g.name) (nat_eq f.arity g.arity) e) in
-    let a : f.arity ≡ g.arity = eqb-true f.arity g.arity (second (pointwise nat_eq f.name g.name) (nat_eq f.arity g.arity) e) in
-    λ i. record { name = n i; arity = a i }
-
-name_itself : (f : FunName) → same_name f f ≡ true
-name_itself f = ap (λ b. b && nat_eq f.arity f.arity) ((bytes_decides f.name f.name).1 refl) ∙ eq-eqb f.arity f.arity refl
+use Rattle.cons_tree.proofs.NameLaws.{home_is, home_itself, name_is, name_itself}
 
 -- ---- one module
 
-put_value : (b : Bool) (v : Callee) (o : Option Callee) → unwrap_or (cond b (Some v) o) Unknown ≡ cond b v (unwrap_or o Unknown)
+pub put_value : (b : Bool) (v : Callee) (o : Option Callee) → unwrap_or (cond b (Some v) o) Unknown ≡ cond b v (unwrap_or o Unknown)
 put_value true v o = refl
 put_value false v o = refl
 

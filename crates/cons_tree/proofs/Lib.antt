@@ -1,7 +1,9 @@
 mod CalleeLaws
 mod Copied
+mod CopyLaws
 mod FrameLaws
 mod LoopLaws
+pub mod NameLaws
 mod NamedLaws
 mod PartLaws
 mod RowLaws

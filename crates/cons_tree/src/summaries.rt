@@ -1,8 +1,9 @@
 //! What is known of the functions that a module calls, found by module and name.
-ghost use Rattle.std.specs.Prelude.{◌≡◌, cond, Some, IfOk, OnOk, OnErr};
+ghost use Rattle.std.specs.Prelude.{◌≡◌, List, cond, slice_get, Some, IfOk, OnOk, OnErr};
 ghost use Rattle.std.specs.Map.{lookup};
 ghost use Rattle.core_ast.specs.declared.syntax.FunName.{FunName};
 ghost use Rattle.type_kinds.specs.declared.atom.Atom.{Atom};
+ghost use Rattle.cons_tree.specs.declared.parts.Callee.{Callee};
 ghost use Rattle.cons_tree.specs.declared.parts.Callee.TheVariants.{Unknown};
 ghost use Rattle.cons_tree.specs.Callees.{Fits, callee_in, found, same_home, same_name};
 
@@ -43,6 +44,8 @@ fn discard_before(_before: Option<Callee>) {}
 fn discard_failed(_failed: AllocFailed<(FunName, Callee)>) {}
 
 fn discard_table(_table: CalleeTable) {}
+
+fn discard_summaries(_summaries: Summaries) {}
 
 fn discard_table_before(_before: Option<CalleeTable>) {}
 
@@ -90,6 +93,42 @@ impl CalleeTable {
                 Err(Memory)
             }
         }
+    }
+
+    // Sets what the entry at a place of another table says.
+    fn set_entry(&mut self, alloc: Global, table: &CalleeTable, at: usize) -> Result<(), Memory>
+        ensures { OnOk result ((e : FunName × Callee) → slice_get table.now at ≡ Some e → (f : FunName) → callee_in self.new f ≡ cond (same_name e.0 f) e.1 (callee_in self.old f)) }
+    {
+        match table.callees.get_index(at) {
+            None => Ok(()),
+            Some((name, callee)) => {
+                let name = name.copy(alloc)?;
+                match callee.copy(alloc) {
+                    Ok(callee) => self.set(name, callee),
+                    Err(Memory) => Err(Memory),
+                }
+            }
+        }
+    }
+
+    // A second table, in which each name has the same callee. The entries are set from the last to the first,
+    // so that of a name the first one counts.
+    fn copy(&self, alloc: Global) -> Result<CalleeTable, Memory>
+        ensures { IfOk result (λ copy. (f : FunName) → callee_in copy f ≡ callee_in self.now f) }
+    {
+        let mut copy = CalleeTable::new(alloc);
+        let mut at = self.callees.len();
+        while at > 0 {
+            at -= 1;
+            match copy.set_entry(alloc, self, at) {
+                Ok(()) => {}
+                Err(Memory) => {
+                    discard_table(copy);
+                    return Err(Memory);
+                }
+            }
+        }
+        Ok(copy)
     }
 
     // The callee under a name, and the one that stands for `Unknown` where nothing was set.
@@ -198,6 +237,38 @@ impl Summaries {
                 Err(Memory)
             }
         }
+    }
+
+    // Adds a second table of the module at a place of other summaries.
+    fn add_entry(&mut self, from: &Summaries, at: usize) -> Result<(), Memory>
+        ensures { OnOk result ((e : Atom × List (FunName × Callee)) → slice_get from.now at ≡ Some e → (h : Atom) (f : FunName) → found self.new h f ≡ cond (same_home e.0 h) (callee_in e.1 f) (found self.old h f)) }
+    {
+        match from.tables.get_index(at) {
+            None => Ok(()),
+            Some((home, table)) => match table.copy(self.alloc) {
+                Ok(table) => self.add(home, table),
+                Err(Memory) => Err(Memory),
+            },
+        }
+    }
+
+    /// Second summaries, which have the same callee under each module and name. `Memory` if allocation fails.
+    pub fn copy(&self, alloc: Global) -> Result<Summaries, Memory>
+        ensures { IfOk result (λ copy. found copy ≡ found self.now) }
+    {
+        let mut copy = Summaries::new(alloc);
+        let mut at = self.tables.len();
+        while at > 0 {
+            at -= 1;
+            match copy.add_entry(self, at) {
+                Ok(()) => {}
+                Err(Memory) => {
+                    discard_summaries(copy);
+                    return Err(Memory);
+                }
+            }
+        }
+        Ok(copy)
     }
 
     /// The callee under a module and a name: `Unknown` exactly where nothing was set, or `Unknown`

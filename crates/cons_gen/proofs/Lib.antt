@@ -1,0 +1,13 @@
+mod Adding
+mod Constraints
+mod ControlExits
+mod ExpressionExits
+mod FormExits
+mod MadeExits
+mod MemberLaws
+mod PatternExits
+mod PatternRounds
+mod ResultCounts
+mod RowRounds
+mod Runs
+mod VariableLaws

@@ -1,0 +1,44 @@
+-- The constraint of a definition, and that of a clause by itself.
+use Rattle.std.specs.Prelude.{ℕ, ◌+◌, List, [], ◌∷◌, length, map}
+use Rattle.type_kinds.specs.declared.atom.Atom.{Atom}
+use Rattle.core_ast.specs.declared.syntax.VarName.{VarName}
+use Rattle.core_ast.specs.Model as m
+use Rattle.core_scope.specs.Asks.{one_value}
+use Rattle.cons_tree.specs.Constraints.{Cons}
+use Rattle.cons_tree.specs.declared.parts.Part.{Part}
+use Rattle.cons_gen.specs.Scopes.{Scope, bindings, with_bindings}
+use Rattle.cons_gen.specs.Words.{together}
+use Rattle.cons_gen.specs.Passes.{Knowledge}
+use Rattle.cons_gen.specs.Patterns.{outer_span, outer_bindings, outer_rows}
+use Rattle.cons_gen.specs.Spans.{span}
+use Rattle.cons_gen.specs.Rows.{rows}
+
+-- ---- a definition: its parameters have the first slots, and its result the next one
+
+abbrev pub parameter_scope : List VarName → Scope
+parameter_scope xs = record { variables = bindings xs 0; functions = [] }
+
+abbrev pub definition_constraint : Knowledge → Atom → List VarName → m.Tree → Cons Part
+definition_constraint P home xs t = together (rows P home (parameter_scope xs) (length xs) one_value t)
+
+abbrev pub definition_slots : List VarName → m.Tree → ℕ
+definition_slots xs t = length xs + span one_value t
+
+-- ---- a clause, for slots from s on: its patterns, at the slots qs of what is matched, and then its guard
+
+abbrev pub clause_constraint : Knowledge → Atom → Scope → List ℕ → ℕ → m.Patterns → m.Tree → Cons Part
+clause_constraint P home sc qs s ps g =
+    together
+    (together (outer_rows qs s ps)
+    ∷ together (rows P home (with_bindings sc (outer_bindings s ps)) (s + outer_span ps) one_value g)
+    ∷ [])
+
+abbrev pub clause_result : ℕ → m.Patterns → ℕ
+clause_result s ps = s + outer_span ps
+
+-- the slots of the clause's variables, in the order of the text
+abbrev pub clause_params : ℕ → m.Patterns → List ℕ
+clause_params s ps = map (λ b. b.1) (outer_bindings s ps)
+
+abbrev pub clause_slots : ℕ → m.Patterns → m.Tree → ℕ
+clause_slots s ps g = s + outer_span ps + span one_value g

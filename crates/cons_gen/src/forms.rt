@@ -1,0 +1,283 @@
+//! The forms of data and of calls.
+ghost use Rattle.std.specs.Prelude.{◌≡◌, ◌+◌, ◌≤◌, [], ◌∷◌, ◌++◌, length, if◌then◌else◌, IfOk, OnOk};
+ghost use Rattle.type_lattice.specs.Kinds.{of_kind};
+ghost use Rattle.type_lattice.specs.declared.kinds.Kind.TheVariants as kind;
+ghost use Rattle.core_ast.specs.Tree.{all_pairs, all_segments, all_trees, tree};
+ghost use Rattle.core_scope.specs.Asks.{is_raising, one_value};
+ghost use Rattle.cons_tree.specs.Constraints.{only};
+ghost use Rattle.cons_tree.specs.declared.parts.Part.TheVariants as part;
+ghost use Rattle.cons_gen.specs.Passes.{applied_rows, called_rows};
+ghost use Rattle.cons_gen.specs.Rows.{all_rows, pair_rows, rows, segment_rows, variable_rows};
+ghost use Rattle.cons_gen.specs.Scopes.{slot_of};
+ghost use Rattle.cons_gen.specs.Slots.{slots_from};
+ghost use Rattle.cons_gen.specs.Spans.{handed_on, pair_spans, segment_spans, span, spans, value_slots, whatever_asked};
+ghost use Rattle.cons_gen.specs.Words.{bound, equals, function_type, inner_cells, list_rows, literal_type, never};
+ghost use Rattle.cons_gen.specs.steps.Walking.{Adds, Generates, knowing, rows_at, scope_of};
+
+use crate::counts::{handed_on, whatever_asked};
+use crate::expressions::{walk_all, walk_expression};
+use crate::generator::Generator;
+use crate::passes::Surroundings;
+use crate::types::{function_type, literal_type};
+use crate::words::{Elements, inner_cells};
+use cons_tree::{Part, Slot};
+use core_ast::{Expr, FunName, Literal, MapPair, Segment};
+use core_scope::{Ask, is_text};
+use type_kinds::{Atom, Memory};
+use type_lattice::{Kind, Ty};
+
+/// The slots of a list: its own, and those of its inner cells and of its elements.
+#[derive(Drop)]
+pub struct ListSlots {
+    pub value: Slot,
+    pub elements: Elements,
+}
+
+impl Generator {
+    /// A variable: it has the value of the slot that it is bound to.
+    pub fn variable(&mut self, name: &Atom) -> Result<(), Memory>
+        ensures { OnOk result (Adds self.old self.new 1 (variable_rows (slot_of self.old.variables name.now) self.old.next)) }
+    {
+        let own = self.take(1)?;
+        match self.variables.slot_of(name) {
+            Some(slot) => self.equal(slot, own),
+            None => Ok(()),
+        }
+    }
+
+    /// A function of so many arguments.
+    pub fn function(&mut self, count: usize) -> Result<(), Memory>
+        ensures { OnOk result (Adds self.old self.new 1 (bound self.old.next (function_type count))) }
+    {
+        let own = self.take(1)?;
+        self.bound(own, function_type(count))
+    }
+
+    /// A literal.
+    pub fn literal(&mut self, literal: &Literal) -> Result<(), Memory>
+        ensures { OnOk result (Adds self.old self.new 1 (bound self.old.next (literal_type literal.now))) }
+    {
+        let own = self.take(1)?;
+        let ty = literal_type(self.alloc, literal)?;
+        self.bound(own, ty)
+    }
+
+    /// A value of which nothing is known.
+    pub fn free(&mut self) -> Result<(), Memory>
+        ensures { OnOk result (Adds self.old self.new 1 []) }
+    {
+        self.take(1)?;
+        Ok(())
+    }
+}
+
+/// The elements of a list, behind its own slot and its inner cells.
+#[cycle(rows)]
+pub fn walk_elements(
+    made: &mut Generator,
+    about: &Surroundings,
+    items: &[Expr],
+) -> Result<ListSlots, Memory>
+    ensures value { IfOk result (λ list. list.value ≡ made.old.next) }
+    ensures cells { IfOk result (λ list. list.elements.cells ≡ made.old.next + 1) }
+    ensures elements { IfOk result (λ list. list.elements.slots ≡ value_slots (made.old.next + 1 + inner_cells (length items.now)) (all_trees items.now)) }
+    ensures rows { OnOk result (Adds made.old made.new (1 + inner_cells (length items.now) + spans (all_trees items.now)) (all_rows (knowing about.now) about.now.home.now (scope_of made.old) (made.old.next + 1 + inner_cells (length items.now)) (all_trees items.now))) }
+{
+    let value = made.take(1)?;
+    let cells = made.take(inner_cells(items.len()))?;
+    let slots = walk_all(made, about, items)?;
+    let elements = made.elements(cells, slots);
+    Ok(ListSlots { value, elements })
+}
+
+/// The tail of a list with these elements, and the list.
+#[cycle(rows)]
+pub fn walk_tail(
+    made: &mut Generator,
+    about: &Surroundings,
+    list: &ListSlots,
+    tail: &Expr,
+) -> Result<(), Memory>
+    ensures { OnOk result (Adds made.old made.new (span one_value (tree tail.now)) (rows_at about.now made.old one_value (tree tail.now) ++ list_rows list.now.value list.now.elements.cells list.now.elements.slots made.old.next)) }
+{
+    let rest = made.next;
+    walk_expression(made, about, Ask::Exactly(1), tail)?;
+    made.list(list.value, &list.elements, rest)
+}
+
+/// A tuple.
+#[cycle(rows)]
+pub fn walk_tuple(made: &mut Generator, about: &Surroundings, items: &[Expr]) -> Result<(), Memory>
+    ensures { OnOk result (Adds made.old made.new (1 + spans (all_trees items.now)) (all_rows (knowing about.now) about.now.home.now (scope_of made.old) (made.old.next + 1) (all_trees items.now) ++ only (part.Tuple made.old.next (value_slots (made.old.next + 1) (all_trees items.now))) ∷ [])) }
+{
+    let value = made.take(1)?;
+    let elements = walk_all(made, about, items)?;
+    made.add(Part::Tuple(value, elements))
+}
+
+/// The pairs of a map, behind the map's own slot.
+#[cycle(rows)]
+pub fn walk_pairs(
+    made: &mut Generator,
+    about: &Surroundings,
+    pairs: &[MapPair],
+) -> Result<Slot, Memory>
+    ensures value { IfOk result (λ value. value ≡ made.old.next) }
+    ensures rows { OnOk result (Adds made.old made.new (1 + pair_spans (all_pairs pairs.now)) (pair_rows (knowing about.now) about.now.home.now (scope_of made.old) (made.old.next + 1) (all_pairs pairs.now))) }
+{
+    let value = made.take(1)?;
+    for pair in pairs {
+        walk_expression(made, about, Ask::Exactly(1), &pair.key)?;
+        walk_expression(made, about, Ask::Exactly(1), &pair.value)?;
+    }
+    Ok(value)
+}
+
+/// The map that pairs update, and the map that they make.
+#[cycle(rows)]
+pub fn walk_updated(
+    made: &mut Generator,
+    about: &Surroundings,
+    value: Slot,
+    map: &Expr,
+) -> Result<(), Memory>
+    ensures { OnOk result (Adds made.old made.new (span one_value (tree map.now)) (rows_at about.now made.old one_value (tree map.now) ++ bound made.old.next (of_kind kind.Map) ++ bound value (of_kind kind.Map))) }
+{
+    let old = made.next;
+    walk_expression(made, about, Ask::Exactly(1), map)?;
+    made.bound(old, Ty::kind(Kind::Map))?;
+    made.bound(value, Ty::kind(Kind::Map))
+}
+
+/// A binary.
+#[cycle(rows)]
+pub fn walk_binary(
+    made: &mut Generator,
+    about: &Surroundings,
+    segments: &[Segment],
+) -> Result<(), Memory>
+    ensures { OnOk result (Adds made.old made.new (1 + segment_spans (all_segments segments.now)) (segment_rows (knowing about.now) about.now.home.now (scope_of made.old) (made.old.next + 1) (all_segments segments.now) ++ bound made.old.next (of_kind kind.Bitstring))) }
+{
+    let value = made.take(1)?;
+    walk_segments(made, about, segments)?;
+    made.bound(value, Ty::kind(Kind::Bitstring))
+}
+
+// The segments of a binary.
+#[cycle(rows)]
+fn walk_segments(
+    made: &mut Generator,
+    about: &Surroundings,
+    segments: &[Segment],
+) -> Result<(), Memory>
+    ensures { OnOk result (Adds made.old made.new (segment_spans (all_segments segments.now)) (segment_rows (knowing about.now) about.now.home.now (scope_of made.old) made.old.next (all_segments segments.now))) }
+{
+    for segment in segments {
+        walk_expression(made, about, Ask::Exactly(1), &segment.value)?;
+        walk_all(made, about, segment.args.as_slice())?;
+    }
+    Ok(())
+}
+
+/// A value list.
+#[cycle(rows)]
+pub fn walk_values(
+    made: &mut Generator,
+    about: &Surroundings,
+    ask: Ask,
+    items: &[Expr],
+) -> Result<(), Memory>
+    ensures { OnOk result (Adds made.old made.new (handed_on ask + spans (all_trees items.now)) (all_rows (knowing about.now) about.now.home.now (scope_of made.old) (made.old.next + handed_on ask) (all_trees items.now) ++ equals (slots_from made.old.next (handed_on ask)) (value_slots (made.old.next + handed_on ask) (all_trees items.now)))) }
+{
+    let results = made.take_run(handed_on(ask))?;
+    let values = walk_all(made, about, items)?;
+    made.equal_each(results.as_slice(), values.as_slice())
+}
+
+/// The application of a function's name.
+#[cycle(rows)]
+pub fn walk_application(
+    made: &mut Generator,
+    about: &Surroundings,
+    name: &FunName,
+    args: &[Expr],
+) -> Result<(), Memory>
+    ensures { OnOk result (Adds made.old made.new (1 + spans (all_trees args.now)) (all_rows (knowing about.now) about.now.home.now (scope_of made.old) (made.old.next + 1) (all_trees args.now) ++ applied_rows (knowing about.now) about.now.home.now made.old.functions name.now (length args.now) made.old.next (value_slots (made.old.next + 1) (all_trees args.now)))) }
+{
+    let value = made.take(1)?;
+    let slots = walk_all(made, about, args)?;
+    made.application(about, name, value, slots.as_slice())
+}
+
+/// The operator of an application, behind the application's own slot.
+#[cycle(rows)]
+pub fn walk_operator(
+    made: &mut Generator,
+    about: &Surroundings,
+    operator: &Expr,
+) -> Result<Slot, Memory>
+    ensures slot { IfOk result (λ slot. slot ≡ made.old.next + 1) }
+    ensures rows { OnOk result (Adds made.old made.new (1 + span one_value (tree operator.now)) (rows (knowing about.now) about.now.home.now (scope_of made.old) (made.old.next + 1) one_value (tree operator.now))) }
+{
+    made.take(1)?;
+    let slot = made.next;
+    walk_expression(made, about, Ask::Exactly(1), operator)?;
+    Ok(slot)
+}
+
+/// The arguments to which an operator is applied.
+#[cycle(rows)]
+pub fn walk_operands(
+    made: &mut Generator,
+    about: &Surroundings,
+    operator: Slot,
+    args: &[Expr],
+) -> Result<(), Memory>
+    ensures { OnOk result (Adds made.old made.new (spans (all_trees args.now)) (all_rows (knowing about.now) about.now.home.now (scope_of made.old) made.old.next (all_trees args.now) ++ bound operator (function_type (length args.now)))) }
+{
+    walk_all(made, about, args)?;
+    made.bound(operator, function_type(args.len()))
+}
+
+/// A call by a literal module and name, which has so many results.
+#[cycle(rows)]
+pub fn walk_named_call(
+    made: &mut Generator,
+    about: &Surroundings,
+    count: usize,
+    home: &Atom,
+    name: &Atom,
+    args: &[Expr],
+) -> Result<(), Memory>
+    ensures { OnOk result (Adds made.old made.new (count + spans (all_trees args.now)) (all_rows (knowing about.now) about.now.home.now (scope_of made.old) (made.old.next + count) (all_trees args.now) ++ called_rows (knowing about.now) home.now name.now (length args.now) (slots_from made.old.next count) (value_slots (made.old.next + count) (all_trees args.now)))) }
+{
+    let results = made.take_run(count)?;
+    let slots = walk_all(made, about, args)?;
+    made.call(about, home, name, results.as_slice(), slots.as_slice())
+}
+
+// Whether a primop of this name never returns.
+fn is_raising(name: &Atom) -> bool
+    ensures { result ≡ is_raising name.now }
+{
+    is_text(name, b"match_fail") || is_text(name, b"raise") || is_text(name, b"raw_raise")
+}
+
+/// A primop.
+#[cycle(rows)]
+pub fn walk_primop(
+    made: &mut Generator,
+    about: &Surroundings,
+    ask: Ask,
+    name: &Atom,
+    args: &[Expr],
+) -> Result<(), Memory>
+    ensures { OnOk result (Adds made.old made.new (whatever_asked ask + spans (all_trees args.now)) (all_rows (knowing about.now) about.now.home.now (scope_of made.old) (made.old.next + whatever_asked ask) (all_trees args.now) ++ (if is_raising name.now then never (slots_from made.old.next (whatever_asked ask)) else []))) }
+{
+    let results = made.take_run(whatever_asked(ask))?;
+    walk_all(made, about, args)?;
+    if is_raising(name) {
+        return made.never(results.as_slice());
+    }
+    Ok(())
+}
