@@ -1,0 +1,13 @@
+mod Beginnings
+mod Defining
+mod Inferred
+mod Knowing
+mod Listing
+mod Naming
+mod Nexts
+mod Rounding
+mod Settled
+mod SignatureLaws
+mod Steps
+mod Taking
+mod Widening

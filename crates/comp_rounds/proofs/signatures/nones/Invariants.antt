@@ -1,0 +1,6 @@
+use Rattle.std.proofs.Common.{◌≡◌, replicate}
+use Rattle.type_lattice.specs.Types.{none}
+use Rattle.comp_rounds.proofs.signatures.nones.Given as goal
+
+abbrev pub invariant-loop : goal.invariant-loop
+invariant-loop l = l.types ≡ replicate l.counter none

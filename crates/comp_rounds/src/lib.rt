@@ -1,0 +1,17 @@
+//! The signatures of functions that call one another: by rounds, from none upward.
+#![tactic(auto)]
+
+mod components;
+mod entering;
+mod inference;
+mod laws;
+mod members;
+mod parts;
+mod rounds;
+mod signatures;
+
+pub use components::solve_component;
+pub use laws::rounds_laws;
+pub use members::Member;
+pub use parts::{CompOut, CompPart, Listed};
+pub use rounds::component_summaries;
