@@ -1,0 +1,8 @@
+//! Why nothing that the analysis says of a program is false of its runs. The words of the statements are
+//! in `specs/`; here are the laws.
+#![tactic(auto)]
+
+mod facts;
+mod laws;
+
+pub use laws::{constraint_laws, success_typings};
