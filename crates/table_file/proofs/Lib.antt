@@ -1,0 +1,13 @@
+mod CalleeReading
+mod EntryLaws
+mod EntryReading
+mod EntryRules
+mod FieldLaws
+mod FunctionLaws
+mod LeafLaws
+mod OnceLaws
+mod RiseLaws
+mod SameLaws
+mod SigReading
+mod TableLaws
+mod TableReading
