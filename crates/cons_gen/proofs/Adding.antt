@@ -10,7 +10,7 @@ use Rattle.cons_gen.specs.Scopes.{Binding, Scope, with_bindings}
 use Rattle.cons_gen.specs.Words.{Rows, one_of, together}
 use Rattle.cons_gen.specs.declared.generator.Generator.{Generator}
 use Rattle.cons_gen.specs.steps.Walking.{Adds, AddsRest, Binds, BindsRest, Gathers, Pushes, rows_of, scope_of}
-use Rattle.cons_gen.proofs.Constraints.{of_part, of_all, of_any}
+use Rattle.cons_tree.proofs.TreeLaws.{of_part, of_all, of_any}
 
 -- ---- lists
 

@@ -1,5 +1,4 @@
 mod Adding
-mod Constraints
 mod ControlExits
 mod ExpressionExits
 mod FormExits

@@ -1,5 +1,6 @@
 -- The constraint of a definition and of a clause: what the last steps come to.
-use Rattle.std.proofs.Common.{◌≡◌, ℕ, ◌+◌, ◌≤◌, List, [], ◌∷◌, ◌++◌, length, map, take, drop, sym, ap, ◌∙◌, arith}
+use Rattle.std.proofs.Common.{◌≡◌, ℕ, ◌+◌, ◌≤◌, List, [], ◌∷◌, ◌++◌, length, map, take, drop, refl, sym, ap, ap₂, ◌∙◌, arith}
+use Rattle.type_kinds.specs.declared.atom.Atom.{Atom}
 use Rattle.core_ast.specs.declared.syntax.VarName.{VarName}
 use Rattle.core_ast.specs.declared.syntax.Clause.{Clause, out-Clause}
 use Rattle.core_ast.specs.declared.syntax.Pattern.{Pattern}
@@ -7,16 +8,20 @@ use Rattle.core_ast.specs.Model as m
 use Rattle.core_ast.specs.Tree.{all_patterns, clause_parts, tree}
 use Rattle.core_ast.proofs.Trees.{clause-is}
 use Rattle.core_scope.specs.Asks.{one_value}
+use Rattle.type_lattice.specs.Types.{Type4}
 use Rattle.cons_tree.specs.Constraints.{constraint}
-use Rattle.cons_gen.specs.Made.{clause_constraint, clause_params, clause_result, clause_slots, definition_constraint, parameter_scope}
+use Rattle.cons_tree.specs.Named.{just_true}
+use Rattle.cons_gen.specs.Made.{clause_constraint, clause_params, clause_result, clause_slots, definition_constraint, head_rows, parameter_scope}
+use Rattle.cons_gen.specs.Passes.{Knowledge}
 use Rattle.cons_gen.specs.Patterns.{outer_bindings, outer_rows, outer_span}
 use Rattle.cons_gen.specs.Rows.{rows}
 use Rattle.cons_gen.specs.Scopes.{Binding, Scope, bindings, with_bindings}
 use Rattle.cons_gen.specs.Slots.{slots_from}
 use Rattle.cons_gen.specs.Spans.{span}
-use Rattle.cons_gen.specs.Words.{together}
+use Rattle.cons_gen.specs.Words.{bound, together}
 use Rattle.cons_gen.specs.declared.generator.Generator.{Generator}
 use Rattle.cons_gen.specs.declared.passes.Surroundings.{Surroundings}
+use Rattle.cons_gen.specs.steps.Heading.{Heads}
 use Rattle.cons_gen.specs.steps.Walking.{Adds, Binds, Gathers, Generates, bindings_at, knowing, rows_at, rows_of, scope_of}
 use Rattle.cons_gen.proofs.Adding.{append_nil, drop_seam, mapped_length}
 use Rattle.cons_gen.proofs.Runs.{bindings_run}
@@ -79,3 +84,44 @@ module _ (about : Surroundings) where
 
       pub clause_rows_are : Gathers (λ rs. together rs ∷ []) 1 d e → together (rows_of e) ≡ clause_constraint (knowing about) about.home.now sc qs s heads guard
       clause_rows_are four = ap together (four.rows ∙ ap (λ l. take 1 l ++ together (drop 1 l) ∷ []) guarded)
+
+      -- and that the guard is true, as the head of a clause says
+      module _ (f : Generator) (slot : ℕ) (t : Type4) (four : Gathers (λ rs. together rs ∷ []) 1 d e) (at : slot ≡ c.next) (is : t ≡ just_true) (five : Adds e f 0 (bound slot t)) where
+        headed_rows : rows_of f ≡ head_rows (knowing about) about.home.now sc qs s heads guard
+        headed_rows =
+            five.rows
+            ∙ ap (λ l. l ++ bound slot t) (four.rows ∙ ap (λ l. take 1 l ++ together (drop 1 l) ∷ []) guarded)
+            ∙ ap₂ (λ n u. together (outer_rows qs s heads) ∷ together (rows (knowing about) about.home.now (with_bindings sc (outer_bindings s heads)) (s + outer_span heads) one_value guard) ∷ bound n u) (at ∙ clause_slot) is
+
+        headed_end : f.next ≡ clause_slots s heads guard
+        headed_end = let same : e.next + 0 ≡ e.next = omega arith in five.next ∙ same ∙ four.next ∙ clause_end
+
+        headed_variables : f.variables ≡ a.variables ++ outer_bindings s heads
+        headed_variables = five.variables ∙ four.variables ∙ three.variables ∙ named
+
+        headed_functions : f.functions ≡ a.functions
+        headed_functions = five.functions ∙ four.functions ∙ three.functions ∙ two.functions ∙ one.functions
+
+  pub heads_so : (a b c d e f : Generator) (qs : List ℕ) (x : Clause) (ps : List Pattern) (slot : ℕ) (t : Type4) → a.members.items ≡ [] → ps ≡ (out-Clause x).patterns → Binds a b (outer_span (all_patterns ps)) (outer_rows qs a.next (all_patterns ps)) (outer_bindings a.next (all_patterns ps)) → Gathers (λ rs. together rs ∷ []) 0 b c
+      → Generates about c d one_value (tree (out-Clause x).guard) → Gathers (λ rs. together rs ∷ []) 1 d e → slot ≡ c.next → t ≡ just_true → Adds e f 0 (bound slot t) → Heads (knowing about) about.home.now a f qs (clause_parts x).patterns (clause_parts x).guard
+  heads_so a b c d e f qs x ps slot t empty ps_are one two three four at is five =
+      record {
+        next = headed_end a b c d e (scope_of a) qs a.next x ps refl refl empty ps_are one two three f slot t four at is five;
+        rows = headed_rows a b c d e (scope_of a) qs a.next x ps refl refl empty ps_are one two three f slot t four at is five;
+        variables = headed_variables a b c d e (scope_of a) qs a.next x ps refl refl empty ps_are one two three f slot t four at is five;
+        functions = headed_functions a b c d e (scope_of a) qs a.next x ps refl refl empty ps_are one two three f slot t four at is five;
+      }
+
+-- the same told of the scope that was moved out, and of the first slot
+module _ (P : Knowledge) (home : Atom) (a f : Generator) (sc : Scope) (qs : List ℕ) (s : ℕ) (ps : m.Patterns) (g : m.Tree) (scoped : scope_of a ≡ sc) (begins : a.next ≡ s) (made : Heads P home a f qs ps g) where
+  pub told_rows : rows_of f ≡ head_rows P home sc qs s ps g
+  told_rows = made.rows ∙ ap₂ (λ z n. head_rows P home z qs n ps g) scoped begins
+
+  pub told_end : f.next ≡ clause_slots s ps g
+  told_end = made.next ∙ ap (λ n. clause_slots n ps g) begins
+
+  pub told_variables : f.variables ≡ sc.variables ++ outer_bindings s ps
+  told_variables = made.variables ∙ ap₂ (λ z n. z.variables ++ outer_bindings n ps) scoped begins
+
+  pub told_functions : f.functions ≡ sc.functions
+  told_functions = made.functions ∙ ap (λ z. z.functions) scoped

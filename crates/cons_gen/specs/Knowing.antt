@@ -1,9 +1,8 @@
 -- What the code's passes and summaries stand for.
-use Rattle.std.specs.Prelude.{Bool, true, false, List}
+use Rattle.std.specs.Prelude.{Bool, true, false}
 use Rattle.type_kinds.specs.declared.atom.Atom.{Atom}
 use Rattle.core_ast.specs.declared.syntax.FunName.{FunName}
-use Rattle.cons_tree.specs.Callees.{found}
-use Rattle.cons_tree.specs.declared.parts.Callee.{Callee}
+use Rattle.cons_tree.specs.Callees.{Tables, found}
 use Rattle.cons_gen.specs.Members.{is_member}
 use Rattle.cons_gen.specs.Passes.{Knowledge}
 use Rattle.cons_gen.specs.Scopes.{Scope}
@@ -21,7 +20,7 @@ is_own Strict h f = false
 is_own (Lenient members) h f = is_member members h f
 
 -- what a pass knows by these summaries
-abbrev pub knowledge : Pass → List (Atom × List (FunName × Callee)) → Knowledge
+abbrev pub knowledge : Pass → Tables → Knowledge
 knowledge pass known = record { lenient = is_lenient pass; own = is_own pass; callee = found known }
 
 -- what a clause sees that is taken by itself

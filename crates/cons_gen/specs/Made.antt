@@ -4,10 +4,12 @@ use Rattle.type_kinds.specs.declared.atom.Atom.{Atom}
 use Rattle.core_ast.specs.declared.syntax.VarName.{VarName}
 use Rattle.core_ast.specs.Model as m
 use Rattle.core_scope.specs.Asks.{one_value}
-use Rattle.cons_tree.specs.Constraints.{Cons}
+use Rattle.cons_tree.specs.Constraints.{Cons, only}
+use Rattle.cons_tree.specs.Named.{just_true}
 use Rattle.cons_tree.specs.declared.parts.Part.{Part}
+use Rattle.cons_tree.specs.declared.parts.Part.TheVariants.{Bound}
 use Rattle.cons_gen.specs.Scopes.{Scope, bindings, with_bindings}
-use Rattle.cons_gen.specs.Words.{together}
+use Rattle.cons_gen.specs.Words.{Rows, together}
 use Rattle.cons_gen.specs.Passes.{Knowledge}
 use Rattle.cons_gen.specs.Patterns.{outer_span, outer_bindings, outer_rows}
 use Rattle.cons_gen.specs.Spans.{span}
@@ -42,3 +44,11 @@ clause_params s ps = map (λ b. b.1) (outer_bindings s ps)
 
 abbrev pub clause_slots : ℕ → m.Patterns → m.Tree → ℕ
 clause_slots s ps g = s + outer_span ps + span one_value g
+
+-- the head of a clause: its patterns, its guard, and that the guard is true
+abbrev pub head_rows : Knowledge → Atom → Scope → List ℕ → ℕ → m.Patterns → m.Tree → Rows
+head_rows P home sc qs s ps g =
+    together (outer_rows qs s ps)
+    ∷ together (rows P home (with_bindings sc (outer_bindings s ps)) (s + outer_span ps) one_value g)
+    ∷ only (Bound (clause_result s ps) just_true)
+    ∷ []

@@ -7,7 +7,8 @@ use core_ast::{Expr, Form};
 use core_scope::{Ask, call_gives};
 use type_kinds::Atom;
 
-/// How many results a form has that hands what is asked on to its parts.
+/// How many results a form has that hands what is asked on to its parts: as many as are asked for, and none
+/// where any number would do.
 pub fn handed_on(ask: Ask) -> usize
     ensures { result ≡ handed_on ask }
 {
@@ -17,7 +18,8 @@ pub fn handed_on(ask: Ask) -> usize
     }
 }
 
-/// How many results a form has that gives whatever is asked.
+/// How many results a form has that gives whatever is asked: as many as are asked for, and one where any
+/// number would do.
 pub fn whatever_asked(ask: Ask) -> usize
     ensures { result ≡ whatever_asked ask }
 {
@@ -67,7 +69,7 @@ pub fn result_count(ask: Ask, expr: &Expr) -> usize
     }
 }
 
-/// The module and the name of a call, where both are literal.
+/// The module and the name of a call, where both are literal atoms. Takes no memory.
 pub fn call_names<'a>(home: &'a Expr, name: &'a Expr) -> Option<(&'a Atom, &'a Atom)>
     ensures { MatchOption result (call_names (tree home.now) (tree name.now) ≡ None) (λ names. call_names (tree home.now) (tree name.now) ≡ Some (names.0.now, names.1.now)) }
 {

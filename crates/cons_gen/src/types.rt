@@ -11,7 +11,7 @@ use type_kinds::{Atom, Memory};
 use type_lattice::{Kind, Ty};
 use type_sets::{AtomSet, High, IntSet, Low};
 
-/// The type of the functions of so many arguments. Takes no memory.
+/// The type of the functions of so many arguments, or of all functions from 2^32 arguments on. Takes no memory.
 pub fn function_type(count: usize) -> Ty
     ensures { result ≡ function_type count }
 {
@@ -21,7 +21,8 @@ pub fn function_type(count: usize) -> Ty
     }
 }
 
-/// The type of a literal.
+/// The type of a literal. An integer that a set of integers can't hold by itself has the type of all integers, and
+/// a float that of all floats. `Memory` if allocation fails.
 pub fn literal_type(alloc: Global, literal: &Literal) -> Result<Ty, Memory>
     ensures { IfOk result (λ t. t ≡ literal_type literal.now) }
 {
@@ -44,7 +45,7 @@ fn integer_type(n: i128) -> Ty
     all_integers()
 }
 
-/// All integers, and those from 0 on. Take no memory.
+/// The type of all integers. Takes no memory.
 #[tactic(auto, unfolding(cons_tree::specs::Named::integers))]
 pub fn all_integers() -> Ty
     ensures { result ≡ integers }
@@ -52,6 +53,7 @@ pub fn all_integers() -> Ty
     Ty::ints(IntSet::range(Low::Min, High::Max))
 }
 
+/// The type of all integers from 0 on. Takes no memory.
 #[tactic(auto, unfolding(cons_tree::specs::Named::naturals))]
 pub fn all_naturals() -> Ty
     ensures { result ≡ naturals }
@@ -59,7 +61,7 @@ pub fn all_naturals() -> Ty
     Ty::ints(IntSet::range(Low::Zero, High::Max))
 }
 
-/// All floats. Takes no memory.
+/// The type of all floats. Takes no memory.
 #[tactic(auto, unfolding(cons_tree::specs::Named::floats))]
 pub fn all_floats() -> Ty
     ensures { result ≡ floats }

@@ -1,31 +1,26 @@
 -- What a tree of constraints stands for, member by member, and a number that falls on the way down.
 use Rattle.std.proofs.Common.{◌≡◌, ℕ, zero, suc, ◌+◌, ◌<◌, ◌≤◌, List, [], ◌∷◌, length, get_or, drop, refl, sym, ap, ◌∙◌, subst, arith}
 use Rattle.std.proofs.lemmas.List.{drop_more}
-use Rattle.cons_tree.specs.Constraints.{Cons, ConsList, only, all_of, any_of, no_cons, and_cons, layer, constraint, constraints}
+use Rattle.cons_tree.specs.Constraints.{Cons, ConsList, only, all_of, any_of, no_cons, and_cons, constraint, constraints}
 use Rattle.cons_tree.specs.Environments.{Types, State}
 use Rattle.cons_tree.specs.declared.parts.Part.{Part}
-use Rattle.cons_tree.specs.declared.parts.Constraint.{Constraint, out-Constraint}
+use Rattle.cons_tree.specs.declared.parts.Constraint.{Constraint}
 use Rattle.cons_tree.specs.declared.parts.Constraint.TheVariants as tree
-use Rattle.cons_tree.specs.declared.parts.Constraint.TheOpen.{Constraint-F}
-use Rattle.cons_tree.specs.declared.parts.Constraint.TheFolds.{map-Constraint, fold_out-Constraint}
+use Rattle.cons_tree.proofs.TreeLaws as trees
 use Rattle.cons_solve.specs.Environments.{environments, solution}
 use Rattle.cons_solve.specs.Solutions.{joined}
 use Rattle.cons_solve.specs.steps.Passes.{merged}
 
 -- ---- the kinds of constraints
 
-stands_for : (x : Constraint) (y : Constraint-F Constraint) → out-Constraint x ≡ y → constraint x ≡ layer (map-Constraint Constraint (Cons Part) constraint y)
-unfolding constraint
-stands_for x y is = fold_out-Constraint (Cons Part) layer x ∙ ap (λ l. layer (map-Constraint Constraint (Cons Part) constraint l)) is
-
 pub of_part : (x : Constraint) (p : Part) → x ≡ tree.Part p → constraint x ≡ only p
-of_part x p e = ap constraint e ∙ stands_for (tree.Part p) _ (tree.outs-Part p)
+of_part x p e = ap constraint e ∙ trees.of_part p
 
 pub of_all : (x : Constraint) (cs ds : List Constraint) → x ≡ tree.All cs → ds ≡ cs → constraint x ≡ all_of (constraints ds)
-of_all x cs ds e f = ap constraint e ∙ stands_for (tree.All cs) _ (tree.outs-All cs) ∙ ap (λ l. all_of (constraints l)) (sym f)
+of_all x cs ds e f = ap constraint e ∙ trees.of_all cs ∙ ap (λ l. all_of (constraints l)) (sym f)
 
 pub of_any : (x : Constraint) (cs ds : List Constraint) → x ≡ tree.Any cs → ds ≡ cs → constraint x ≡ any_of (constraints ds)
-of_any x cs ds e f = ap constraint e ∙ stands_for (tree.Any cs) _ (tree.outs-Any cs) ∙ ap (λ l. any_of (constraints l)) (sym f)
+of_any x cs ds e f = ap constraint e ∙ trees.of_any cs ∙ ap (λ l. any_of (constraints l)) (sym f)
 
 -- ---- the way down
 

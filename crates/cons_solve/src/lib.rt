@@ -12,3 +12,4 @@ mod solving;
 pub use counted::Steps;
 pub use laws::{environment_laws, heights_fall, solution_laws};
 pub use solutions::{solve, solve_counted, solve_noted};
+pub use solving::solve_slots;

@@ -1,10 +1,10 @@
 -- What second tables of callees answer, which are filled from the last entry to the first.
-use Rattle.std.proofs.Common.{◌≡◌, ℕ, zero, suc, ◌<◌, ◌≤◌, Bool, true, false, cond, List, [], ◌∷◌, length, drop, slice_get, Some, refl, sym, ap, ◌∙◌, drop_of_length-le, arith}
+use Rattle.std.proofs.Common.{◌≡◌, ℕ, zero, suc, ◌<◌, ◌≤◌, Bool, true, false, cond, List, [], ◌∷◌, length, drop, slice_get, None, Some, refl, sym, ap, ◌∙◌, drop_of_length-le, arith}
 use Rattle.std.specs.Prelude.{unwrap_or}
 use Rattle.std.specs.Map.{lookup}
 use Rattle.type_kinds.specs.declared.atom.Atom.{Atom}
 use Rattle.core_ast.specs.declared.syntax.FunName.{FunName}
-use Rattle.cons_tree.specs.Callees.{same_home, same_name, callee_in, callees_of, found}
+use Rattle.cons_tree.specs.Callees.{same_home, same_name, callee_in, callees_of, found, HomeCallees, Tables}
 use Rattle.cons_tree.specs.declared.parts.Callee.{Callee}
 use Rattle.cons_tree.specs.declared.parts.Callee.TheVariants.{Unknown}
 use Rattle.cons_tree.proofs.CalleeLaws.{put_value}
@@ -27,6 +27,9 @@ opened (e ∷ es) (suc i) h =
 pub some_is : {E : Type 0} (x y : E) → Some x ≡ Some y → x ≡ y
 some_is x y e = cc
 
+pub none_some : {E : Type 0} (x : E) → None ≡ Some x → ⊥
+none_some x e = cc
+
 -- ---- equality of names, either way
 
 same_either : (a b : Bool) → (a ≡ true → b ≡ true) → (b ≡ true → a ≡ true) → a ≡ b
@@ -46,44 +49,47 @@ home_either h k =
 
 -- ---- one module
 
-pub none_in : (es new : List (FunName × Callee)) (n : ℕ) → length es ≤ n → ((f : FunName) → callee_in new f ≡ Unknown) → (f : FunName) → callee_in new f ≡ callee_in (drop n es) f
-none_in es new n h is f = is f ∙ ap (λ ds. callee_in ds f) (sym (drop_of_length-le es h))
+pub none_in : (es : HomeCallees) (new : HomeCallees) (n : ℕ) → length es.0 ≤ n → ((f : FunName) → callee_in new f ≡ es.1) → (f : FunName) → callee_in new f ≡ callee_in (drop n es.0, es.1) f
+none_in es new n h is f = is f ∙ ap (λ ds. callee_in (ds, es.1) f) (sym (drop_of_length-le es.0 h))
 
-pub one_in : (es old new : List (FunName × Callee)) (i n : ℕ) → n ≡ suc i → i < length es → ((e : FunName × Callee) → slice_get es i ≡ Some e → (f : FunName) → callee_in new f ≡ cond (same_name e.0 f) e.1 (callee_in old f)) → ((f : FunName) → callee_in old f ≡ callee_in (drop n es) f) → (f : FunName) → callee_in new f ≡ callee_in (drop i es) f
+pub one_in : (es old new : HomeCallees) (i n : ℕ) → n ≡ suc i → i < length es.0 → ((e : FunName × Callee) → slice_get es.0 i ≡ Some e → (f : FunName) → callee_in new f ≡ cond (same_name e.0 f) e.1 (callee_in old f)) → ((f : FunName) → callee_in old f ≡ callee_in (drop n es.0, es.1) f) → (f : FunName) → callee_in new f ≡ callee_in (drop i es.0, es.1) f
 one_in es old new i n after h set is f =
-    let o = opened es i h in
+    let o = opened es.0 i h in
     let e = o.entry in
     set e o.here f
-    ∙ ap (λ c. cond (same_name e.0 f) e.1 c) (is f ∙ ap (λ m. callee_in (drop m es) f) after)
-    ∙ ap (λ b. cond b e.1 (callee_in (drop (suc i) es) f)) (name_either e.0 f)
-    ∙ sym (put_value (same_name f e.0) e.1 (lookup (same_name f) (drop (suc i) es)))
-    ∙ ap (λ ds. callee_in ds f) (sym o.left)
+    ∙ ap (λ c. cond (same_name e.0 f) e.1 c) (is f ∙ ap (λ m. callee_in (drop m es.0, es.1) f) after)
+    ∙ ap (λ b. cond b e.1 (callee_in (drop (suc i) es.0, es.1) f)) (name_either e.0 f)
+    ∙ sym (put_value (same_name f e.0) e.1 es.1 (lookup (same_name f) (drop (suc i) es.0)))
+    ∙ ap (λ ds. callee_in (ds, es.1) f) (sym o.left)
+
+pub all_in : (es new : HomeCallees) (n : ℕ) → n ≡ 0 → ((f : FunName) → callee_in new f ≡ callee_in (drop n es.0, es.1) f) → (f : FunName) → callee_in new f ≡ callee_in es f
+all_in es new n none is f = is f ∙ ap (λ m. callee_in (drop m es.0, es.1) f) none
 
 -- ---- all modules
 
-pub none_found : (es new : List (Atom × List (FunName × Callee))) (n : ℕ) → length es ≤ n → ((h : Atom) (f : FunName) → found new h f ≡ Unknown) → (h : Atom) (f : FunName) → found new h f ≡ found (drop n es) h f
+pub none_found : (es new : Tables) (n : ℕ) → length es ≤ n → ((h : Atom) (f : FunName) → found new h f ≡ Unknown) → (h : Atom) (f : FunName) → found new h f ≡ found (drop n es) h f
 unfolding found
 none_found es new n k is h f = is h f ∙ ap (λ ds. found ds h f) (sym (drop_of_length-le es k))
 
 -- a module's table was put, which answers as another one
-pub table_put : (old new : List (Atom × List (FunName × Callee))) (home : Atom) (t w : List (FunName × Callee)) → ((q : Atom) → lookup (same_home q) new ≡ cond (same_home home q) (Some w) (lookup (same_home q) old)) → ((f : FunName) → callee_in w f ≡ callee_in t f) → (h : Atom) (f : FunName) → found new h f ≡ cond (same_home home h) (callee_in t f) (found old h f)
+pub table_put : (old new : Tables) (home : Atom) (t w : HomeCallees) → ((q : Atom) → lookup (same_home q) new ≡ cond (same_home home q) (Some w) (lookup (same_home q) old)) → ((f : FunName) → callee_in w f ≡ callee_in t f) → (h : Atom) (f : FunName) → found new h f ≡ cond (same_home home h) (callee_in t f) (found old h f)
 unfolding found
-table_put old new home t w put same h f = ap (λ o. callee_in (unwrap_or o []) f) (put h) ∙ by (same_home home h)
+table_put old new home t w put same h f = ap (λ o. callee_in (unwrap_or o ([], Unknown)) f) (put h) ∙ by (same_home home h)
   where
-    by : (b : Bool) → callee_in (unwrap_or (cond b (Some w) (lookup (same_home h) old)) []) f ≡ cond b (callee_in t f) (callee_in (callees_of old h) f)
+    by : (b : Bool) → callee_in (unwrap_or (cond b (Some w) (lookup (same_home h) old)) ([], Unknown)) f ≡ cond b (callee_in t f) (callee_in (callees_of old h) f)
     by true = same f
     by false = refl
 
 -- the first table of a module counts
-first_table : (e : Atom × List (FunName × Callee)) (es : List (Atom × List (FunName × Callee))) (h : Atom) (f : FunName) → found (e ∷ es) h f ≡ cond (same_home e.0 h) (callee_in e.1 f) (found es h f)
+first_table : (e : Atom × HomeCallees) (es : Tables) (h : Atom) (f : FunName) → found (e ∷ es) h f ≡ cond (same_home e.0 h) (callee_in e.1 f) (found es h f)
 unfolding found
 first_table e es h f = by (same_home h e.0) ∙ ap (λ b. cond b (callee_in e.1 f) (callee_in (callees_of es h) f)) (home_either h e.0)
   where
-    by : (b : Bool) → callee_in (unwrap_or (cond b (Some e.1) (lookup (same_home h) es)) []) f ≡ cond b (callee_in e.1 f) (callee_in (callees_of es h) f)
+    by : (b : Bool) → callee_in (unwrap_or (cond b (Some e.1) (lookup (same_home h) es)) ([], Unknown)) f ≡ cond b (callee_in e.1 f) (callee_in (callees_of es h) f)
     by true = refl
     by false = refl
 
-pub one_found : (es old new : List (Atom × List (FunName × Callee))) (i n : ℕ) → n ≡ suc i → i < length es → ((e : Atom × List (FunName × Callee)) → slice_get es i ≡ Some e → (h : Atom) (f : FunName) → found new h f ≡ cond (same_home e.0 h) (callee_in e.1 f) (found old h f)) → ((h : Atom) (f : FunName) → found old h f ≡ found (drop n es) h f) → (h : Atom) (f : FunName) → found new h f ≡ found (drop i es) h f
+pub one_found : (es old new : Tables) (i n : ℕ) → n ≡ suc i → i < length es → ((e : Atom × HomeCallees) → slice_get es i ≡ Some e → (h : Atom) (f : FunName) → found new h f ≡ cond (same_home e.0 h) (callee_in e.1 f) (found old h f)) → ((h : Atom) (f : FunName) → found old h f ≡ found (drop n es) h f) → (h : Atom) (f : FunName) → found new h f ≡ found (drop i es) h f
 one_found es old new i n after k set is h f =
     let o = opened es i k in
     let e = o.entry in
@@ -92,5 +98,5 @@ one_found es old new i n after k set is h f =
     ∙ sym (first_table e (drop (suc i) es) h f)
     ∙ ap (λ ds. found ds h f) (sym o.left)
 
-pub all_found : (es new : List (Atom × List (FunName × Callee))) (n : ℕ) → n ≡ 0 → ((h : Atom) (f : FunName) → found new h f ≡ found (drop n es) h f) → found new ≡ found es
+pub all_found : (es new : Tables) (n : ℕ) → n ≡ 0 → ((h : Atom) (f : FunName) → found new h f ≡ found (drop n es) h f) → found new ≡ found es
 all_found es new n none is = λ i. λ h f. (is h f ∙ ap (λ m. found (drop m es) h f) none) i

@@ -10,3 +10,4 @@ mod RowLaws
 mod SignatureLaws
 mod StepLaws
 pub mod TrailLaws
+pub mod TreeLaws

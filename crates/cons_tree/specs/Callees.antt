@@ -15,16 +15,24 @@ same_home h k = pointwise nat_eq h k
 abbrev pub same_name : FunName → FunName → Bool
 same_name f g = pointwise nat_eq f.name g.name && nat_eq f.arity g.arity
 
--- what was set for a name of one module, and Unknown where nothing was
-abbrev pub callee_in : List (FunName × Callee) → FunName → Callee
-callee_in callees f = unwrap_or (lookup (same_name f) callees) Unknown
+-- what is known of the names of one module: what was set for some, and what stands under every other
+abbrev pub HomeCallees : Type 0
+HomeCallees = List (FunName × Callee) × Callee
 
--- what was set for the names of a module
-abbrev pub callees_of : List (Atom × List (FunName × Callee)) → Atom → List (FunName × Callee)
-callees_of tables h = unwrap_or (lookup (same_home h) tables) []
+-- what is known of the names of several modules
+abbrev pub Tables : Type 0
+Tables = List (Atom × HomeCallees)
 
--- what was set for a name of a module, and Unknown where nothing was
-unfoldable pub found : List (Atom × List (FunName × Callee)) → Atom → FunName → Callee
+-- what was set for a name of one module, and where nothing was what stands under every other name
+abbrev pub callee_in : HomeCallees → FunName → Callee
+callee_in callees f = unwrap_or (lookup (same_name f) callees.0) callees.1
+
+-- what is known of the names of a module: nothing of any, where no more was said
+abbrev pub callees_of : Tables → Atom → HomeCallees
+callees_of tables h = unwrap_or (lookup (same_home h) tables) ([], Unknown)
+
+-- What is known under a module and a name. Where nothing was set it is Undefined in a module that was closed, and else Unknown.
+unfoldable pub found : Tables → Atom → FunName → Callee
 found tables h f = callee_in (callees_of tables h) f
 
 -- the signatures of a summary have so many arguments

@@ -1,11 +1,11 @@
 //! What is known of the functions that a module calls, found by module and name.
-ghost use Rattle.std.specs.Prelude.{◌≡◌, List, cond, slice_get, Some, IfOk, OnOk, OnErr};
+ghost use Rattle.std.specs.Prelude.{◌≡◌, ℕ, cond, slice_get, Some, IfOk, OnOk, OnErr};
 ghost use Rattle.std.specs.Map.{lookup};
 ghost use Rattle.core_ast.specs.declared.syntax.FunName.{FunName};
 ghost use Rattle.type_kinds.specs.declared.atom.Atom.{Atom};
 ghost use Rattle.cons_tree.specs.declared.parts.Callee.{Callee};
-ghost use Rattle.cons_tree.specs.declared.parts.Callee.TheVariants.{Unknown};
-ghost use Rattle.cons_tree.specs.Callees.{Fits, callee_in, found, same_home, same_name};
+ghost use Rattle.cons_tree.specs.declared.parts.Callee.TheVariants.{Undefined, Unknown};
+ghost use Rattle.cons_tree.specs.Callees.{Fits, HomeCallees, callee_in, found, same_home, same_name};
 
 use crate::parts::Callee;
 use core_ast::FunName;
@@ -14,26 +14,27 @@ use std::alloc::{AllocFailed, Global};
 use std::marker::Model;
 use type_kinds::{Atom, Memory};
 
-// The callees of one module, by name.
+// The callees of one module, by name, and the callee under every other name.
 #[derive(Drop)]
 struct CalleeTable {
     callees: IndexMap<FunName, Callee>,
+    rest: Callee,
 }
 
 impl Model for CalleeTable {
-    ghost use Rattle.std.specs.Prelude.{List};
+    ghost use Rattle.std.specs.Prelude.{ℕ, List};
     ghost use Rattle.core_ast.specs.declared.syntax.FunName.{FunName};
     ghost use Rattle.cons_tree.specs.declared.parts.Callee.{Callee};
     ghost use Rattle.cons_tree.specs.Callees.{Fits, callee_in};
     ghost use Rattle.cons_tree.specs.steps.Codes.{callees_code};
 
-    ghost Value = { List (FunName × Callee) };
+    ghost Value = { List (FunName × Callee) × Callee };
 
     ghost coded = { callees_code };
 
-    ghost view = { λ table. table.callees.entries };
+    ghost view = { λ table. (table.callees.entries, table.rest) };
 
-    ghost invariant = { λ table. (f : FunName) → Fits (callee_in table.callees.entries f) f.arity };
+    ghost invariant = { λ table. ((f : FunName) → Fits (callee_in (table.callees.entries, table.rest) f) f.arity) × ((n : ℕ) → Fits table.rest n) };
 }
 
 // Each gives up what a table handed back.
@@ -52,12 +53,12 @@ fn discard_table_before(_before: Option<CalleeTable>) {}
 fn discard_failed_table(_failed: AllocFailed<(Atom, CalleeTable)>) {}
 
 impl CalleeTable {
-    // A table of one callee.
+    // A table of one callee, in a module of which nothing else is known.
     fn one(alloc: Global, name: FunName, callee: Callee) -> Result<CalleeTable, Memory>
         requires { Fits callee name.arity }
         ensures { IfOk result (λ table. (f : FunName) → callee_in table f ≡ cond (same_name name f) callee Unknown) }
     {
-        let mut table = CalleeTable::new(alloc);
+        let mut table = CalleeTable::open(alloc);
         match table.set(name, callee) {
             Ok(()) => Ok(table),
             Err(Memory) => {
@@ -67,12 +68,28 @@ impl CalleeTable {
         }
     }
 
-    // No callees. Takes no memory.
-    fn new(alloc: Global) -> CalleeTable
+    // The table of a module of which nothing is known. Takes no memory.
+    fn open(alloc: Global) -> CalleeTable
         ensures { (f : FunName) → callee_in result f ≡ Unknown }
+    {
+        CalleeTable::of_rest(alloc, Callee::Unknown)
+    }
+
+    // The table of a module that has no functions. Takes no memory.
+    fn closed(alloc: Global) -> CalleeTable
+        ensures { (f : FunName) → callee_in result f ≡ Undefined }
+    {
+        CalleeTable::of_rest(alloc, Callee::Undefined)
+    }
+
+    // The table in which every name has this callee. Takes no memory.
+    fn of_rest(alloc: Global, rest: Callee) -> CalleeTable
+        requires { (n : ℕ) → Fits rest n }
+        ensures { (f : FunName) → callee_in result f ≡ rest }
     {
         CalleeTable {
             callees: IndexMap::new(alloc),
+            rest,
         }
     }
 
@@ -97,7 +114,7 @@ impl CalleeTable {
 
     // Sets what the entry at a place of another table says.
     fn set_entry(&mut self, alloc: Global, table: &CalleeTable, at: usize) -> Result<(), Memory>
-        ensures { OnOk result ((e : FunName × Callee) → slice_get table.now at ≡ Some e → (f : FunName) → callee_in self.new f ≡ cond (same_name e.0 f) e.1 (callee_in self.old f)) }
+        ensures { OnOk result ((e : FunName × Callee) → slice_get (table.now).0 at ≡ Some e → (f : FunName) → callee_in self.new f ≡ cond (same_name e.0 f) e.1 (callee_in self.old f)) }
     {
         match table.callees.get_index(at) {
             None => Ok(()),
@@ -116,7 +133,8 @@ impl CalleeTable {
     fn copy(&self, alloc: Global) -> Result<CalleeTable, Memory>
         ensures { IfOk result (λ copy. (f : FunName) → callee_in copy f ≡ callee_in self.now f) }
     {
-        let mut copy = CalleeTable::new(alloc);
+        let rest = self.rest.copy(alloc)?;
+        let mut copy = CalleeTable::of_rest(alloc, rest);
         let mut at = self.callees.len();
         while at > 0 {
             at -= 1;
@@ -131,15 +149,14 @@ impl CalleeTable {
         Ok(copy)
     }
 
-    // The callee under a name, and the one that stands for `Unknown` where nothing was set.
-    fn find<'a>(&'a self, name: &FunName, unknown: &'a Callee) -> &'a Callee
-        requires { unknown.now ≡ Unknown }
+    // The callee under a name, and where nothing was set the one under every other name.
+    fn find(&self, name: &FunName) -> &Callee
         ensures value { result.now ≡ callee_in self.now name.now }
         ensures fits { Fits result.now name.now.arity }
     {
         match self.callees.get(name) {
             Some(callee) => callee,
-            None => unknown,
+            None => &self.rest,
         }
     }
 }
@@ -154,13 +171,13 @@ pub struct Summaries {
 
 impl Model for Summaries {
     ghost use Rattle.std.specs.Prelude.{◌≡◌, List};
-    ghost use Rattle.core_ast.specs.declared.syntax.FunName.{FunName};
     ghost use Rattle.type_kinds.specs.declared.atom.Atom.{Atom};
+    ghost use Rattle.core_ast.specs.declared.syntax.FunName.{FunName};
     ghost use Rattle.cons_tree.specs.declared.parts.Callee.{Callee};
     ghost use Rattle.cons_tree.specs.declared.parts.Callee.TheVariants.{Unknown};
     ghost use Rattle.cons_tree.specs.steps.Codes.{tables_code};
 
-    ghost Value = { List (Atom × List (FunName × Callee)) };
+    ghost Value = { List (Atom × (List (FunName × Callee) × Callee)) };
 
     ghost coded = { tables_code };
 
@@ -241,7 +258,7 @@ impl Summaries {
 
     // Adds a second table of the module at a place of other summaries.
     fn add_entry(&mut self, from: &Summaries, at: usize) -> Result<(), Memory>
-        ensures { OnOk result ((e : Atom × List (FunName × Callee)) → slice_get from.now at ≡ Some e → (h : Atom) (f : FunName) → found self.new h f ≡ cond (same_home e.0 h) (callee_in e.1 f) (found self.old h f)) }
+        ensures { OnOk result ((e : Atom × HomeCallees) → slice_get from.now at ≡ Some e → (h : Atom) (f : FunName) → found self.new h f ≡ cond (same_home e.0 h) (callee_in e.1 f) (found self.old h f)) }
     {
         match from.tables.get_index(at) {
             None => Ok(()),
@@ -271,14 +288,24 @@ impl Summaries {
         Ok(copy)
     }
 
-    /// The callee under a module and a name: `Unknown` exactly where nothing was set, or `Unknown`
-    /// was. Takes no memory.
+    /// Closes a module, whose functions are all those that are set from now on: each of its names is
+    /// `Undefined`, whatever was set for it before. If allocation fails all is as before.
+    pub fn close(&mut self, home: &Atom) -> Result<(), Memory>
+        ensures closed { OnOk result ((f : FunName) → found self.new home.now f ≡ Undefined) }
+        ensures others { OnOk result ((h : Atom) (f : FunName) → (h ≡ home.now → ⊥) → found self.new h f ≡ found self.old h f) }
+        ensures err { OnErr result (self.new ≡ self.old) }
+    {
+        self.add(home, CalleeTable::closed(self.alloc))
+    }
+
+    /// The callee under a module and a name. Where nothing was set it is `Undefined` in a module that
+    /// was closed, and else `Unknown`. Takes no memory.
     pub fn find(&self, home: &Atom, name: &FunName) -> &Callee
         ensures value { result.now ≡ found self.now home.now name.now }
         ensures fits { Fits result.now name.now.arity }
     {
         match self.tables.get(home) {
-            Some(table) => table.find(name, &self.unknown),
+            Some(table) => table.find(name),
             None => &self.unknown,
         }
     }

@@ -1,7 +1,7 @@
 use Rattle.std.proofs.Common.{map, ap, ◌∙◌}
 use Rattle.cons_tree.specs.Constraints.{constraint}
 use Rattle.cons_gen.specs.Words.{together}
-use Rattle.cons_gen.proofs.Constraints.{of_all}
+use Rattle.cons_tree.proofs.TreeLaws.{of_all}
 use Rattle.cons_gen.proofs.making.finished.Goals as goal
 
 pub returns-clause-constraint : goal.returns-clause-constraint

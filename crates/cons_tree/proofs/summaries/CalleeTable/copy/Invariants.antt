@@ -5,7 +5,7 @@ use Rattle.cons_tree.proofs.summaries.CalleeTable.copy.Given as goal
 
 -- what the entries from this place on say
 abbrev pub invariant-loop-at : goal.invariant-loop-at
-invariant-loop-at l = record { within : l.at ≤ length l.self; says : (f : FunName) → callee_in l.copy f ≡ callee_in (drop l.at l.self) f }
+invariant-loop-at l = record { within : l.at ≤ length l.self.0; says : (f : FunName) → callee_in l.copy f ≡ callee_in (drop l.at l.self.0, l.self.1) f }
 
 abbrev pub decreases-loop-at : goal.decreases-loop-at
 decreases-loop-at l = l.at

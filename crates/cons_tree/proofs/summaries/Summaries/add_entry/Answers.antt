@@ -1,8 +1,13 @@
 use Rattle.std.proofs.Common.{◌≡◌, cond, slice_get, sym, ap, ◌∙◌, subst}
 use Rattle.std.proofs.lemmas.Result.{on_ok_weaker}
 use Rattle.cons_tree.specs.Callees.{same_home, callee_in, found}
-use Rattle.cons_tree.proofs.CopyLaws.{table_put, some_is}
+use Rattle.cons_tree.proofs.CopyLaws.{none_some, table_put, some_is}
 use Rattle.cons_tree.proofs.summaries.Summaries.add_entry.Goals as goal
+
+pub returns-in-None : goal.returns-in-None
+returns-in-None c e is h f =
+    let none = c.in-None.ensures.entry ∙ ap (λ es. slice_get es c.args.at) c.from.view_is in
+    absurd (none_some e (none ∙ is))
 
 pub returns-in-Ok : goal.returns-in-Ok
 returns-in-Ok c =

@@ -1,0 +1,16 @@
+-- The head of a clause: what its steps add to what was made.
+use Rattle.std.specs.Prelude.{◌≡◌, ℕ, List, ◌++◌}
+use Rattle.type_kinds.specs.declared.atom.Atom.{Atom}
+use Rattle.core_ast.specs.Model as m
+use Rattle.cons_gen.specs.Made.{clause_slots, head_rows}
+use Rattle.cons_gen.specs.Passes.{Knowledge}
+use Rattle.cons_gen.specs.Patterns.{outer_bindings}
+use Rattle.cons_gen.specs.declared.generator.Generator.{Generator}
+use Rattle.cons_gen.specs.steps.Walking.{rows_of, scope_of}
+
+-- where nothing was made before, there is the head of a clause with these patterns, at these slots, and this guard
+pub record Heads (P : Knowledge) (home : Atom) (old new : Generator) (qs : List ℕ) (ps : m.Patterns) (g : m.Tree) : Type 0 where
+  pub next : new.next ≡ clause_slots old.next ps g
+  pub rows : rows_of new ≡ head_rows P home (scope_of old) qs old.next ps g
+  pub variables : new.variables ≡ old.variables ++ outer_bindings old.next ps
+  pub functions : new.functions ≡ old.functions
