@@ -14,3 +14,4 @@ mod Labelled
 mod ComponentLists
 mod Numbered
 mod Finished
+mod OneNumbering

@@ -1,4 +1,5 @@
 pub mod Graph
 pub mod Lists
 pub mod Numbering
+pub mod Ready
 pub mod steps

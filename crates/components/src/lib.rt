@@ -4,6 +4,7 @@
 mod component_lists;
 mod graph;
 mod labels;
+mod laws;
 mod node_set;
 mod numbering;
 mod ready;
@@ -13,4 +14,5 @@ mod targets;
 mod tests;
 
 pub use graph::Graph;
+pub use laws::one_numbering;
 pub use numbering::{Comps, components};

@@ -1,7 +1,7 @@
 ghost use Rattle.std.specs.Prelude.{◌≡◌, ℕ, ◌+◌, ◌<◌, ◌^◌, length, Contains, slice_index, IfOk};
 ghost use Rattle.components.specs.Graph.{IsGraph};
 ghost use Rattle.components.specs.Lists.{Ascending};
-ghost use Rattle.components.specs.Numbering.{component_of_node, members_of, callees_of, NumberingNodes, NumberingTogether, NumberingDownward, NumberingUsed, NumberingReady, NumberingMembers, NumberingCallees};
+ghost use Rattle.components.specs.Numbering.{component_of_node, members_of, callees_of, NumberingNodes, NumberingTogether, NumberingDownward, NumberingUsed, NumberingReady, NumberingMembers, NumberingCallees, IsNumbering};
 ghost use Rattle.components.specs.steps.Phases.{StrongComponents, ReadyComponents};
 ghost use Rattle.components.specs.steps.State.{IsSound, Idle, AllClosed, ComponentsAre};
 
@@ -83,6 +83,7 @@ pub fn components(alloc: Global, graph: &Graph) -> Result<Comps, Memory>
     ensures ready { IfOk result (λ comps. NumberingReady graph.now comps) }
     ensures members { IfOk result (λ comps. NumberingMembers graph.now comps) }
     ensures callees { IfOk result (λ comps. NumberingCallees graph.now comps) }
+    ensures kept { IfOk result (λ comps. IsNumbering comps) }
 {
     let _ = graph.count();
     let (found, found_count) = strong_components(alloc, graph)?;

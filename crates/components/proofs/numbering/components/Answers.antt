@@ -29,3 +29,13 @@ returns-clause-callees c =
     subst (λ n. CalleesTo c.args.graph.now c.in_ok-component_of.component_of c.in_ok-callees.callees n) size
     (subst (λ xs. CalleesTo c.args.graph.now xs c.in_ok-callees.callees (length c.as_slice-4.result.now)) c.as_slice-3.ensures c.in_ok-callees.ensures) in
     cs.exact
+
+pub returns-clause-kept : goal.returns-clause-kept
+returns-clause-kept c =
+    let ms : IsMembers c.in_ok-component_of.component_of c.in_ok-members.members c.in_ok-component_of.count =
+    subst (λ xs. IsMembers xs c.in_ok-members.members c.in_ok-component_of.count) c.as_slice-2.ensures c.in_ok-members.ensures in
+    let size : length c.as_slice-4.result.now ≡ c.in_ok-component_of.count = ap length c.as_slice-4.ensures ∙ ms.sizes in
+    let cs : CalleesTo c.args.graph.now c.in_ok-component_of.component_of c.in_ok-callees.callees c.in_ok-component_of.count =
+    subst (λ n. CalleesTo c.args.graph.now c.in_ok-component_of.component_of c.in_ok-callees.callees n) size
+    (subst (λ xs. CalleesTo c.args.graph.now xs c.in_ok-callees.callees (length c.as_slice-4.result.now)) c.as_slice-3.ensures c.in_ok-callees.ensures) in
+    kept_numbering _ _ _ _ _ c.in_ok-component_of.ensures ms cs
