@@ -1,0 +1,4 @@
+mod Listing
+mod Members
+mod Closing
+mod OneKnown
