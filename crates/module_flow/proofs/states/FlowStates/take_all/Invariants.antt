@@ -1,0 +1,6 @@
+use Rattle.std.proofs.Common.{◌≡◌, drop}
+use Rattle.module_flow.specs.States.{takes}
+use Rattle.module_flow.proofs.states.FlowStates.take_all.Given as goal
+
+abbrev pub invariant-loop-gift : goal.invariant-loop-gift
+invariant-loop-gift l = takes l.self (drop l.gift-index l.gifts) ≡ takes l.fn.self l.gifts

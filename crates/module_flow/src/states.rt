@@ -1,0 +1,347 @@
+//! The state of the flow: what each function is entered with, and what it gives.
+ghost use Rattle.std.specs.Prelude.{◌≡◌, ◌++◌, ◌∷◌, [], ◌<◌, length, replicate, IfOk, IfSome, OnErr, OnOk, MatchOption, None, Some};
+ghost use Rattle.type_lattice.specs.Types.{any};
+ghost use Rattle.module_flow.specs.States.{changed, entered, parameters_of, result_of, returning, takes, takes_one, widened, widened_one, widened_parameters};
+ghost use Rattle.module_flow.specs.steps.Placing.{are_same_parameters, is_same_function, is_same_state, place_of};
+
+use crate::types::{any_types, are_same, joins};
+use cons_tree::copy_types;
+use core_ast::FunName;
+use indexmap::IndexMap;
+use std::alloc::{AllocFailed, Global};
+use std::marker::Model;
+use type_kinds::{List, Memory};
+use type_lattice::Ty;
+
+/// A function in the flow.
+#[derive(Drop)]
+pub struct FlowFun {
+    /// The label of its definition.
+    pub label: u32,
+    /// The name that it is defined under.
+    pub name: FunName,
+    /// The types of its parameters, or `None` where it is never entered.
+    pub params: Option<List<Ty>>,
+    /// The type of its result.
+    pub result: Ty,
+}
+
+/// What a walk gives to the state.
+#[derive(Drop)]
+pub enum Gift {
+    /// The function of this label is entered with arguments of these types.
+    Enters(u32, List<Ty>),
+    /// The function of this label gives a value of this type.
+    Returns(u32, Ty),
+}
+
+/// The functions of a module, found by their labels. Contracts see the list of them.
+#[derive(Drop)]
+pub struct FlowStates {
+    alloc: Global,
+    functions: List<FlowFun>,
+    places: IndexMap<u32, usize>,
+}
+
+impl Model for FlowStates {
+    ghost use Rattle.std.specs.Prelude.{◌≡◌, ℕ, List};
+    ghost use Rattle.module_flow.specs.declared.states.FlowFun.{FlowFun};
+    ghost use Rattle.module_flow.specs.steps.Codes.{functions_code};
+    ghost use Rattle.module_flow.specs.steps.Placing.{ArePlaced};
+
+    ghost Value = { List FlowFun };
+
+    ghost coded = { functions_code };
+
+    ghost view = { λ it. it.functions };
+
+    ghost invariant = { λ it. ArePlaced it.functions it.places.entries };
+}
+
+// Gives up what a table handed back.
+fn discard_failed(_failed: AllocFailed<(u32, usize)>) {}
+
+impl FlowStates {
+    /// No functions. Takes no memory.
+    pub fn new(alloc: Global) -> FlowStates
+        ensures { result ≡ [] }
+    {
+        FlowStates {
+            alloc,
+            functions: List::new(alloc),
+            places: IndexMap::new(alloc),
+        }
+    }
+
+    /// The functions.
+    pub fn functions(&self) -> &[FlowFun]
+        ensures { result.now ≡ self.now }
+    {
+        self.functions.as_slice()
+    }
+
+    /// The functions, given up by the state.
+    pub fn into_functions(self) -> List<FlowFun>
+        ensures { result ≡ self }
+    {
+        let FlowStates { functions, .. } = self;
+        functions
+    }
+
+    /// Adds a function last. If allocation fails all is as before.
+    pub fn add(&mut self, function: FlowFun) -> Result<(), Memory>
+        ensures added { OnOk result (self.new ≡ self.old ++ function ∷ []) }
+        ensures unchanged { OnErr result (self.new ≡ self.old) }
+    {
+        let label = function.label;
+        let place = self.functions.len();
+        self.functions.add(function)?;
+        if self.places.contains_key(&label) {
+            return Ok(());
+        }
+        match self.places.insert(label, place) {
+            Ok(_) => Ok(()),
+            Err(failed) => {
+                discard_failed(failed);
+                self.functions.truncate(place);
+                Err(Memory)
+            }
+        }
+    }
+
+    // Where the first function of this label stands.
+    fn place(&self, label: u32) -> Option<usize>
+        ensures there { result ≡ place_of self.now label }
+        ensures within { IfSome result (λ place. place < length self.now) }
+    {
+        self.places.get(&label).copied()
+    }
+
+    /// The types of a function's parameters, or `None` where it isn't entered.
+    pub fn parameters(&self, label: u32) -> Option<&List<Ty>>
+        ensures { MatchOption result (parameters_of self.now label ≡ None) (λ types. parameters_of self.now label ≡ Some types.now) }
+    {
+        match self.place(label) {
+            Some(place) => self.functions.at(place).params.as_ref(),
+            None => None,
+        }
+    }
+
+    /// The type of a function's result.
+    pub fn result(&self, label: u32) -> Result<Ty, Memory>
+        ensures { IfOk result (λ t. t ≡ result_of self.now label) }
+    {
+        match self.place(label) {
+            Some(place) => self.functions.at(place).result.copy(),
+            None => Ok(Ty::none()),
+        }
+    }
+
+    /// A second state, equal to the first.
+    pub fn copy(&self) -> Result<FlowStates, Memory>
+        ensures { IfOk result (λ copy. copy ≡ self.now) }
+    {
+        let mut copies = FlowStates::new(self.alloc);
+        for function in self.functions.as_slice() {
+            copies.add(function.copy(self.alloc)?)?;
+        }
+        Ok(copies)
+    }
+
+    /// Takes what a walk gives, in its order.
+    pub fn take_all(&mut self, gifts: &[Gift]) -> Result<(), Memory>
+        ensures { OnOk result (self.new ≡ takes self.old gifts.now) }
+    {
+        for gift in gifts {
+            self.take(gift)?;
+        }
+        Ok(())
+    }
+
+    // Takes one gift.
+    fn take(&mut self, gift: &Gift) -> Result<(), Memory>
+        ensures { OnOk result (self.new ≡ takes_one self.old gift.now) }
+    {
+        match gift {
+            Gift::Enters(label, types) => self.enter(*label, types.as_slice()),
+            Gift::Returns(label, ty) => self.give(*label, ty),
+        }
+    }
+
+    // A function is entered with arguments of these types.
+    fn enter(&mut self, label: u32, types: &[Ty]) -> Result<(), Memory>
+        ensures { OnOk result (self.new ≡ changed self.old label (λ f. entered f types.now)) }
+    {
+        let Some(place) = self.place(label) else {
+            return Ok(());
+        };
+        let entered = self.functions.at(place).entered(self.alloc, types)?;
+        discard_function(self.functions.replace(place, entered));
+        Ok(())
+    }
+
+    // A function gives a value of this type.
+    fn give(&mut self, label: u32, ty: &Ty) -> Result<(), Memory>
+        ensures { OnOk result (self.new ≡ changed self.old label (λ f. returning f ty.now)) }
+    {
+        let Some(place) = self.place(label) else {
+            return Ok(());
+        };
+        let returning = self.functions.at(place).returning(self.alloc, ty)?;
+        discard_function(self.functions.replace(place, returning));
+        Ok(())
+    }
+
+    /// The state after a late round that made another of it.
+    pub fn widened(&self, made: &FlowStates) -> Result<FlowStates, Memory>
+        ensures { IfOk result (λ wide. wide ≡ widened self.now made.now) }
+    {
+        let mut wide = FlowStates::new(self.alloc);
+        for place in 0..self.functions.len().min(made.functions.len()) {
+            let new = made.functions.at(place);
+            wide.add(self.functions.at(place).widened(self.alloc, new)?)?;
+        }
+        Ok(wide)
+    }
+
+    /// Whether two states are the same.
+    pub fn is_same(&self, other: &FlowStates) -> bool
+        ensures { result ≡ is_same_state self.now other.now }
+    {
+        if self.functions.len() != other.functions.len() {
+            return false;
+        }
+        for place in 0..self.functions.len() {
+            if !self.functions.at(place).is_same(other.functions.at(place)) {
+                return false;
+            }
+        }
+        true
+    }
+}
+
+fn discard_function(_function: FlowFun) {}
+
+// Parameters, copied.
+fn copy_parameters(alloc: Global, params: &Option<List<Ty>>) -> Result<Option<List<Ty>>, Memory>
+    ensures { IfOk result (λ copy. copy ≡ params.now) }
+{
+    match params {
+        Some(types) => Ok(Some(copy_types(alloc, types.as_slice())?)),
+        None => Ok(None),
+    }
+}
+
+// The parameters after a late round that made others of them.
+fn widened_parameters(
+    alloc: Global,
+    old: &Option<List<Ty>>,
+    new: &Option<List<Ty>>,
+) -> Result<Option<List<Ty>>, Memory>
+    ensures { IfOk result (λ params. params ≡ widened_parameters old.now new.now) }
+{
+    match new {
+        None => copy_parameters(alloc, old),
+        Some(types) => match old {
+            None => Ok(Some(any_types(alloc, types.len())?)),
+            Some(before) => {
+                if are_same(before.as_slice(), types.as_slice()) {
+                    return copy_parameters(alloc, old);
+                }
+                Ok(Some(any_types(alloc, before.len())?))
+            }
+        },
+    }
+}
+
+// Whether parameters are the same.
+fn are_same_parameters(one: &Option<List<Ty>>, other: &Option<List<Ty>>) -> bool
+    ensures { result ≡ are_same_parameters one.now other.now }
+{
+    match one {
+        None => other.is_none(),
+        Some(types) => match other {
+            None => false,
+            Some(others) => are_same(types.as_slice(), others.as_slice()),
+        },
+    }
+}
+
+impl FlowFun {
+    /// A second function, equal to the first.
+    pub fn copy(&self, alloc: Global) -> Result<FlowFun, Memory>
+        ensures { IfOk result (λ copy. copy ≡ self.now) }
+    {
+        let name = self.name.copy(alloc)?;
+        let params = copy_parameters(alloc, &self.params)?;
+        let result = self.result.copy()?;
+        Ok(FlowFun {
+            label: self.label,
+            name,
+            params,
+            result,
+        })
+    }
+
+    // The function, entered with arguments of these types.
+    fn entered(&self, alloc: Global, types: &[Ty]) -> Result<FlowFun, Memory>
+        ensures { IfOk result (λ f. f ≡ entered self.now types.now) }
+    {
+        let name = self.name.copy(alloc)?;
+        let params = match &self.params {
+            Some(before) => joins(alloc, before.as_slice(), types)?,
+            None => copy_types(alloc, types)?,
+        };
+        let result = self.result.copy()?;
+        Ok(FlowFun {
+            label: self.label,
+            name,
+            params: Some(params),
+            result,
+        })
+    }
+
+    // The function, giving a value of this type.
+    fn returning(&self, alloc: Global, ty: &Ty) -> Result<FlowFun, Memory>
+        ensures { IfOk result (λ f. f ≡ returning self.now ty.now) }
+    {
+        let name = self.name.copy(alloc)?;
+        let params = copy_parameters(alloc, &self.params)?;
+        let result = self.result.join(alloc, ty)?;
+        Ok(FlowFun {
+            label: self.label,
+            name,
+            params,
+            result,
+        })
+    }
+
+    // The function after a late round that made another of it.
+    fn widened(&self, alloc: Global, new: &FlowFun) -> Result<FlowFun, Memory>
+        ensures { IfOk result (λ f. f ≡ widened_one self.now new.now) }
+    {
+        let name = self.name.copy(alloc)?;
+        let params = widened_parameters(alloc, &self.params, &new.params)?;
+        let result = if self.result == new.result {
+            self.result.copy()?
+        } else {
+            Ty::any()
+        };
+        Ok(FlowFun {
+            label: self.label,
+            name,
+            params,
+            result,
+        })
+    }
+
+    // Whether two states of one function are the same.
+    fn is_same(&self, other: &FlowFun) -> bool
+        ensures { result ≡ is_same_function self.now other.now }
+    {
+        if self.label != other.label || self.name != other.name {
+            return false;
+        }
+        are_same_parameters(&self.params, &other.params) && self.result == other.result
+    }
+}
