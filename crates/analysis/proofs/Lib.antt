@@ -1,0 +1,6 @@
+mod SourceExits
+mod OneReading
+mod OneRead
+mod Readings
+mod Reporting
+mod OneReport

@@ -1,0 +1,6 @@
+pub mod Words
+pub mod Refusals
+pub mod Sources
+pub mod Reading
+pub mod Reports
+pub mod steps

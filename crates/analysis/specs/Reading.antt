@@ -1,0 +1,61 @@
+-- What reading files gives, one after another, each wholly before the next: their modules, or the first refusal.
+use Rattle.std.specs.Prelude.{◌≡◌, ℕ, ◌+◌, List, [], ◌∷◌, length, map, take, slice_get, Option, Some}
+use Rattle.core_ast.specs.Model as m
+use Rattle.core_scope.specs.Checked.{tree_of}
+use Rattle.da_shelf.specs.Counts.{Rose}
+use Rattle.da_shelf.specs.Told.{Files, Holds, Lacks}
+use Rattle.analysis.specs.declared.reading.Source.{Source}
+use Rattle.analysis.specs.declared.reading.ReadFault.{ReadFault}
+use Rattle.analysis.specs.declared.reading.ReadFault.TheVariants.{Refused, Failed, Memory}
+use Rattle.analysis.specs.declared.refusals.SourceFault.{SourceFault}
+use Rattle.analysis.specs.Refusals.{missing}
+use Rattle.analysis.specs.Sources.{room, IsSource, IsAtFault}
+
+-- The files are held, and what they hold is the source of these modules. Before them so many bytes were read, and with them as
+-- many as the last number says.
+abbrev pub AreRead : (told : Option Files) → (before : ℕ) → (files : List (List ℕ)) → List m.Module → (after : ℕ) → Type 0
+AreRead told before [] [] after = after ≡ before
+AreRead told before [] (x ∷ xs) after = ⊥
+AreRead told before (file ∷ files) [] after = ⊥
+AreRead told before (file ∷ files) (x ∷ xs) after =
+    (bytes : List ℕ) × Holds told file bytes × IsSource (room before) bytes x × AreRead told (before + length bytes) files xs after
+
+-- All files before the one at this position were read, so many bytes.
+pub record IsReached (told : Option Files) (files : List (List ℕ)) (at : ℕ) (file : List ℕ) (before : ℕ) : Type 0 where
+  pub there : slice_get files at ≡ Some file
+  pub modules : List m.Module
+  pub read : AreRead told 0 (take at files) modules before
+
+-- The file at this position is reached and isn't held.
+pub record IsMissingAt (told : Option Files) (files : List (List ℕ)) (at : ℕ) : Type 0 where
+  pub file : List ℕ
+  pub before : ℕ
+  pub reached : IsReached told files at file before
+  pub absent : Lacks told file
+
+-- The file at this position is reached and held, and of its bytes, with the number that it may have, this holds.
+pub record HoldsAt (told : Option Files) (files : List (List ℕ)) (at : ℕ) (Is : (most : ℕ) → List ℕ → Type 0) : Type 0 where
+  pub file : List ℕ
+  pub bytes : List ℕ
+  pub before : ℕ
+  pub reached : IsReached told files at file before
+  pub held_so : Holds told file bytes
+  pub is : Is (room before) bytes
+
+-- The file at this position is the first that can't be read, by this fault.
+pub data RefusedAt (told : Option Files) (files : List (List ℕ)) (at : ℕ) (fault : SourceFault) : Type 0 where
+  not_held : fault ≡ missing → IsMissingAt told files at → RefusedAt told files at fault
+  at_fault : HoldsAt told files at (λ most bytes. IsAtFault most bytes fault) → RefusedAt told files at fault
+
+-- the modules of sources
+abbrev pub trees_of : List Source → List m.Module
+trees_of sources = map (λ (s : Source). tree_of s.checked) sources
+
+-- What a fault says of files whose first is the word at the position `first`: the word is that of the file, and it can't be read
+-- by this fault; or it is reached, and the shelf has counted that it failed.
+abbrev pub Fails : (told : Option Files) (files : List (List ℕ)) (first faults_before faults_now : ℕ) → ReadFault → Type 0
+Fails told files first faults_before faults_now (Refused word fault) =
+    (at : ℕ) × (word ≡ first + at) × RefusedAt told files at fault
+Fails told files first faults_before faults_now (Failed word) =
+    (at : ℕ) × (word ≡ first + at) × ((file : List ℕ) × (before : ℕ) × IsReached told files at file before) × Rose faults_before faults_now
+Fails told files first faults_before faults_now Memory = Unit {0}
