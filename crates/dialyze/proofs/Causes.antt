@@ -1,70 +1,30 @@
--- Each refusal, and an accepted source, by what is held.
-use Rattle.std.proofs.Common.{◌≡◌, ◌↔◌, ◌⊎◌, inl, inr, ℕ, List, refl, sym, ◌∙◌, ap, subst, Option, Some, None}
-use Rattle.std.specs.Prelude.{IfSome, nat_eq, if◌then◌else◌}
+-- Each refusal, and accepted modules, by what is held.
+use Rattle.std.proofs.Common.{◌≡◌, ◌↔◌, ◌⊎◌, inl, inr, ℕ, ◌+◌, ◌<◌, ◌≤◌, List, refl, sym, ◌∙◌, ap, subst, Option, Some, None, arith}
+use Rattle.std.specs.Prelude.{IfSome}
+use Rattle.std.proofs.lemmas.Bool.{cases_lt}
+use Rattle.std.proofs.lemmas.List.{length-map}
+use Rattle.type_kinds.specs.declared.atom.Atom.{Atom}
 use Rattle.core_ast.specs.Model as m
 use Rattle.core_scan.specs.declared.token.ScanFault.{ScanFault}
 use Rattle.core_scan.specs.declared.token.ScanFault.TheVariants as s
+use Rattle.core_scope.specs.Sets.{StandsEarlier, FirstDuplicate}
 use Rattle.core_parse.specs.declared.fault.ParseFault.{ParseFault}
 use Rattle.core_parse.specs.declared.fault.ParseFault.TheVariants as p
 use Rattle.core_scope.specs.declared.fault.ScopeRule.{ScopeRule}
 use Rattle.core_scope.specs.declared.fault.ScopeRule.TheVariants.{BoundVariables, DistinctVariables, DefinedFunctions, DistinctFunctions, DefinedExports, Degrees}
 use Rattle.da_shelf.specs.Told.{Files}
-use Rattle.dialyze.specs.declared.refusals.RefusalName.{RefusalName}
-use Rattle.dialyze.specs.declared.refusals.RefusalName.TheVariants as r
-use Rattle.dialyze.specs.declared.refusals.SourceFault.{SourceFault}
+use Rattle.analysis.specs.declared.refusals.RefusalName.TheVariants as r
+use Rattle.analysis.specs.declared.refusals.SourceFault.{SourceFault}
+use Rattle.analysis.specs.Reading.{AreRead, IsMissingAt, HoldsAt, RefusedAt, not_held, at_fault}
+use Rattle.analysis.specs.Refusals.{missing}
+use Rattle.analysis.specs.Sources.{of_the_whole, scan_refusal, parse_refusal, rule_name, IsTooLong, IsNotScanned, IsNotParsed, IsNotAccepted, IsAtFault, too_long, not_scanned, not_parsed, not_accepted}
 use Rattle.dialyze.specs.declared.status.Status.{Status}
-use Rattle.dialyze.specs.declared.status.Status.TheVariants.{Clean, Refused, Warnings}
-use Rattle.dialyze.specs.Refusals.{refusal_number, refused}
-use Rattle.dialyze.specs.Sources.{of_the_whole, scan_refusal, parse_refusal, rule_name, IsSource, IsTooLong, IsNotScanned, IsNotParsed, IsNotAccepted, IsAtFault, too_long, not_scanned, not_parsed, not_accepted}
-use Rattle.dialyze.specs.Outcome.{Judged, faulty, clean, warned, Outcome, usage, lacking, judged, Intended, IsAnswer, missing}
-use Rattle.dialyze.specs.Causes.{IsMissing, NamesSource, IsAcceptedSource, Step, holding, length, tokens, grammar, scopes, step_of}
+use Rattle.dialyze.specs.declared.status.Status.TheVariants.{Clean, Warnings}
+use Rattle.dialyze.specs.Lines.{refused, duplicate}
+use Rattle.dialyze.specs.Outcome.{Checks, ReadsAll, HaveOwnNames, module_names, IsDuplicate, Outcome, usage, many, faulty, twice, clean, warned, Intended, IsAnswer}
+use Rattle.dialyze.specs.Causes.{NamesMissing, NamesSource, NamesTwice, NamesModules, Step, holding, length, tokens, grammar, scopes, step_of}
 use Rattle.dialyze.proofs.CheckExits.{outcome_of}
-use Rattle.dialyze.proofs.OneOutcome.{one_file, held_so, held_not}
-
--- ---- a refusal's status tells its name and its line
-
-abbrev name_of : ℕ → RefusalName
-name_of n =
-    if nat_eq n 1 then r.BadByte
-    else if nat_eq n 2 then r.OpenQuote
-    else if nat_eq n 3 then r.BadEscape
-    else if nat_eq n 4 then r.WideInteger
-    else if nat_eq n 5 then r.Syntax
-    else if nat_eq n 6 then r.TooDeep
-    else if nat_eq n 8 then r.Unbound
-    else if nat_eq n 9 then r.RepeatedVariable
-    else if nat_eq n 10 then r.UndefinedFunction
-    else if nat_eq n 11 then r.RepeatedFunction
-    else if nat_eq n 12 then r.BadExport
-    else if nat_eq n 13 then r.Degree
-    else if nat_eq n 25 then r.TooLong
-    else r.Missing
-
-named_by_number : (name : RefusalName) → name_of (refusal_number name) ≡ name
-named_by_number r.BadByte = refl
-named_by_number r.OpenQuote = refl
-named_by_number r.BadEscape = refl
-named_by_number r.WideInteger = refl
-named_by_number r.Syntax = refl
-named_by_number r.TooDeep = refl
-named_by_number r.Unbound = refl
-named_by_number r.RepeatedVariable = refl
-named_by_number r.UndefinedFunction = refl
-named_by_number r.RepeatedFunction = refl
-named_by_number r.BadExport = refl
-named_by_number r.Degree = refl
-named_by_number r.TooLong = refl
-named_by_number r.Missing = refl
-
-abbrev told_by : Status → SourceFault
-told_by (Refused refusal) = record { name = name_of refusal.number; line = refusal.line }
-told_by _ = missing
-
-told_by_refused : (f : SourceFault) → told_by (refused f) ≡ f
-told_by_refused f = λ i. record { name = named_by_number f.name i; line = f.line }
-
-pub one_refusal : (f g : SourceFault) → refused f ≡ refused g → f ≡ g
-one_refusal f g e = sym (told_by_refused f) ∙ ap told_by e ∙ told_by_refused g
+use Rattle.dialyze.proofs.Numbers.{number_by, word_by, other_by, one_fault_of, one_place, not_other, one_files, not_many}
 
 -- ---- the step that a refusal is of
 
@@ -91,7 +51,7 @@ of_rule DistinctFunctions = refl
 of_rule DefinedExports = refl
 of_rule Degrees = refl
 
-of_scopes : {bytes : List ℕ} {fault : SourceFault} → IsNotAccepted bytes fault → step_of fault.name ≡ scopes
+of_scopes : {most : ℕ} {bytes : List ℕ} {fault : SourceFault} → IsNotAccepted most bytes fault → step_of fault.name ≡ scopes
 of_scopes h = ap (λ f. step_of f.name) (sym h.named) ∙ of_rule h.cause.rule
 
 of_length : {fault : SourceFault} → fault ≡ of_the_whole r.TooLong → step_of fault.name ≡ length
@@ -99,31 +59,31 @@ of_length h = ap (λ f. step_of f.name) h
 
 -- ---- a refusal of one step is of that step alone
 
-never_held : {bytes : List ℕ} {fault : SourceFault} → IsAtFault bytes fault → step_of fault.name ≡ holding → ⊥
+never_held : {most : ℕ} {bytes : List ℕ} {fault : SourceFault} → IsAtFault most bytes fault → step_of fault.name ≡ holding → ⊥
 never_held (too_long h) e = let k = of_length h.1 in absurd cc
 never_held (not_scanned h) e = let k = of_tokens h.cause h.named in absurd cc
 never_held (not_parsed h) e = let k = of_grammar h.cause h.named in absurd cc
 never_held (not_accepted h) e = let k = of_scopes h in absurd cc
 
-by_length : {bytes : List ℕ} {fault : SourceFault} → step_of fault.name ≡ length → IsAtFault bytes fault → IsTooLong bytes fault
+by_length : {most : ℕ} {bytes : List ℕ} {fault : SourceFault} → step_of fault.name ≡ length → IsAtFault most bytes fault → IsTooLong most bytes fault
 by_length e (too_long h) = h
 by_length e (not_scanned h) = let k = of_tokens h.cause h.named in absurd cc
 by_length e (not_parsed h) = let k = of_grammar h.cause h.named in absurd cc
 by_length e (not_accepted h) = let k = of_scopes h in absurd cc
 
-by_tokens : {bytes : List ℕ} {fault : SourceFault} → step_of fault.name ≡ tokens → IsAtFault bytes fault → IsNotScanned bytes fault
+by_tokens : {most : ℕ} {bytes : List ℕ} {fault : SourceFault} → step_of fault.name ≡ tokens → IsAtFault most bytes fault → IsNotScanned most bytes fault
 by_tokens e (too_long h) = let k = of_length h.1 in absurd cc
 by_tokens e (not_scanned h) = h
 by_tokens e (not_parsed h) = let k = of_grammar h.cause h.named in absurd cc
 by_tokens e (not_accepted h) = let k = of_scopes h in absurd cc
 
-by_grammar : {bytes : List ℕ} {fault : SourceFault} → step_of fault.name ≡ grammar → IsAtFault bytes fault → IsNotParsed bytes fault
+by_grammar : {most : ℕ} {bytes : List ℕ} {fault : SourceFault} → step_of fault.name ≡ grammar → IsAtFault most bytes fault → IsNotParsed most bytes fault
 by_grammar e (too_long h) = let k = of_length h.1 in absurd cc
 by_grammar e (not_scanned h) = let k = of_tokens h.cause h.named in absurd cc
 by_grammar e (not_parsed h) = h
 by_grammar e (not_accepted h) = let k = of_scopes h in absurd cc
 
-by_scopes : {bytes : List ℕ} {fault : SourceFault} → step_of fault.name ≡ scopes → IsAtFault bytes fault → IsNotAccepted bytes fault
+by_scopes : {most : ℕ} {bytes : List ℕ} {fault : SourceFault} → step_of fault.name ≡ scopes → IsAtFault most bytes fault → IsNotAccepted most bytes fault
 by_scopes e (too_long h) = let k = of_length h.1 in absurd cc
 by_scopes e (not_scanned h) = let k = of_tokens h.cause h.named in absurd cc
 by_scopes e (not_parsed h) = let k = of_grammar h.cause h.named in absurd cc
@@ -131,99 +91,187 @@ by_scopes e (not_accepted h) = h
 
 -- ---- from the status to the cause
 
-abbrev AtFault : List (List ℕ) → Files → SourceFault → Type 0
-AtFault words held fault = NamesSource words held (λ bytes. IsAtFault bytes fault)
+refused_of_outcome : {words : List (List ℕ)} {held : Files} {status : Status} {output : List ℕ} (at : ℕ) (fault : SourceFault) → Outcome words (Some held) status output
+    → status ≡ refused (1 + at) fault → (files : List (List ℕ)) × Checks words files × RefusedAt (Some held) files at fault
+refused_of_outcome at fault (usage a c d) e = let k = sym a ∙ e in absurd cc
+refused_of_outcome at fault (many a c d) e = absurd ((not_other fault.name).1 (sym (ap number_by (sym a ∙ e))))
+refused_of_outcome {held = held} at fault (faulty files place file other a c d f g) e =
+    let is = sym a ∙ e in
+    (files, d, subst (λ n. RefusedAt (Some held) files n fault) (one_place place at other fault is) (subst (RefusedAt (Some held) files place) (one_fault_of (1 + place) (1 + at) other fault is) g))
+refused_of_outcome at fault (twice files first second file other a c d f g h) e = absurd ((not_other fault.name).0 (sym (ap number_by (sym a ∙ e))))
+refused_of_outcome at fault (clean files reports a c d f g) e = let k = sym a ∙ e in absurd cc
+refused_of_outcome at fault (warned files reports a c d f g) e = let k = sym a ∙ e in absurd cc
 
-judged_fault : {file bytes : List ℕ} {status : Status} {output : List ℕ} {fault : SourceFault} → Judged file bytes status output → status ≡ refused fault → IsAtFault bytes fault
-judged_fault {bytes = bytes} {fault = fault} (faulty g a c d) e = subst (IsAtFault bytes) (one_refusal g fault (sym a ∙ e)) d
-judged_fault (clean x a c d f) e = absurd cc
-judged_fault (warned x a c d f) e = absurd cc
+missing_not_faulty : {told : Option Files} {files : List (List ℕ)} {at : ℕ} → RefusedAt told files at missing → IsMissingAt told files at
+missing_not_faulty (not_held e h) = h
+missing_not_faulty (at_fault h) = absurd (never_held h.is refl)
 
-fault_of_outcome : {words : List (List ℕ)} {held : Files} {status : Status} {output : List ℕ} (fault : SourceFault) → (step_of fault.name ≡ holding → ⊥) → Outcome words held status output → status ≡ refused fault → AtFault words held fault
-fault_of_outcome fault away (usage a c d) e = absurd cc
-fault_of_outcome fault away (lacking file a c d g) e = absurd (away (ap (λ f. step_of f.name) (sym (one_refusal missing fault (sym a ∙ e)))))
-fault_of_outcome fault away (judged file bytes a c d) e = record { file = file; bytes = bytes; command = a; held_so = c; is = judged_fault d e }
+faulty_not_missing : {told : Option Files} {files : List (List ℕ)} {at : ℕ} {fault : SourceFault} → (step_of fault.name ≡ holding → ⊥) → RefusedAt told files at fault
+    → HoldsAt told files at (λ most bytes. IsAtFault most bytes fault)
+faulty_not_missing away (not_held e h) = absurd (away (ap (λ f. step_of f.name) e))
+faulty_not_missing away (at_fault h) = h
 
-missing_of_outcome : {words : List (List ℕ)} {held : Files} {status : Status} {output : List ℕ} → Outcome words held status output → status ≡ refused missing → IsMissing words held
-missing_of_outcome (usage a c d) e = absurd cc
-missing_of_outcome (lacking file a c d g) e = record { file = file; command = d; absent = g }
-missing_of_outcome (judged file bytes a c d) e = absurd (never_held (judged_fault {fault = missing} d e) refl)
+twice_of_outcome : {words : List (List ℕ)} {held : Files} {status : Status} {output : List ℕ} (first second : ℕ) → Outcome words (Some held) status output
+    → status ≡ duplicate (1 + second) (1 + first) → NamesTwice words held first second
+twice_of_outcome first second (usage a c d) e = let k = sym a ∙ e in absurd cc
+twice_of_outcome first second (many a c d) e = let k : 24 ≡ 14 = ap number_by (sym a ∙ e) in absurd (omega (arith, k))
+twice_of_outcome first second (faulty files at file fault a c d f g) e = absurd ((not_other fault.name).0 (ap number_by (sym a ∙ e)))
+twice_of_outcome {held = held} first second (twice files one two file other a c d f g h) e =
+    let is = sym a ∙ e in
+    let k : 1 + two ≡ 1 + second = ap word_by is in
+    let l : 1 + one ≡ 1 + first = ap other_by is in
+    let same : two ≡ second = omega arith in
+    let also : one ≡ first = omega arith in
+    record { files = files; checks = d; twice = subst (λ i. IsDuplicate (Some held) files i second) also (subst (IsDuplicate (Some held) files one) same h) }
+twice_of_outcome first second (clean files reports a c d f g) e = let k = sym a ∙ e in absurd cc
+twice_of_outcome first second (warned files reports a c d f g) e = let k = sym a ∙ e in absurd cc
 
 either_is : {status other : Status} → (status ≡ Clean) ⊎ (status ≡ Warnings) → status ≡ other → (Clean ≡ other → ⊥) → (Warnings ≡ other → ⊥) → ⊥
 either_is (inl a) e f g = f (sym a ∙ e)
 either_is (inr a) e f g = g (sym a ∙ e)
 
-judged_source : {file bytes : List ℕ} {status : Status} {output : List ℕ} → Judged file bytes status output → (status ≡ Clean) ⊎ (status ≡ Warnings) → IsAcceptedSource bytes
-judged_source (faulty g a c d) e = absurd (either_is e a (λ f. cc) (λ f. cc))
-judged_source (clean x a c d f) e = (x, d)
-judged_source (warned x a c d f) e = (x, d)
-
-source_of_outcome : {words : List (List ℕ)} {held : Files} {status : Status} {output : List ℕ} → Outcome words held status output → (status ≡ Clean) ⊎ (status ≡ Warnings) → NamesSource words held IsAcceptedSource
-source_of_outcome (usage a c d) e = absurd (either_is e a (λ f. cc) (λ f. cc))
-source_of_outcome (lacking file a c d g) e = absurd (either_is e a (λ f. cc) (λ f. cc))
-source_of_outcome (judged file bytes a c d) e = record { file = file; bytes = bytes; command = a; held_so = c; is = judged_source d e }
+modules_of_outcome : {words : List (List ℕ)} {held : Files} {status : Status} {output : List ℕ} → Outcome words (Some held) status output
+    → (status ≡ Clean) ⊎ (status ≡ Warnings) → NamesModules words held
+modules_of_outcome (usage a c d) e = absurd (either_is e a (λ f. cc) (λ f. cc))
+modules_of_outcome (many a c d) e = absurd (either_is e a (λ f. cc) (λ f. cc))
+modules_of_outcome (faulty files at file fault a c d f g) e = absurd (either_is e a (λ f. cc) (λ f. cc))
+modules_of_outcome (twice files first second file other a c d f g h) e = absurd (either_is e a (λ f. cc) (λ f. cc))
+modules_of_outcome (clean files reports a c f d g) e = record { files = files; checks = d; modules = g.modules; read = g.read; names = g.names }
+modules_of_outcome (warned files reports a c f d g) e = record { files = files; checks = d; modules = g.modules; read = g.read; names = g.names }
 
 -- ---- from the cause to the status
 
-module _ (one_fault : (bytes : List ℕ) (f g : SourceFault) → IsAtFault bytes f → IsAtFault bytes g → f ≡ g)
-    (never_both : (bytes : List ℕ) (x : m.Module) (fault : SourceFault) → IsSource bytes x → IsAtFault bytes fault → ⊥) where
-  fault_judged : {file bytes more : List ℕ} {status : Status} {output : List ℕ} {fault : SourceFault} → Judged file bytes status output → bytes ≡ more → IsAtFault more fault → status ≡ refused fault
-  fault_judged {fault = fault} (faulty g a c d) e h = a ∙ ap refused (one_fault _ g fault d (subst (λ z. IsAtFault z fault) (sym e) h))
-  fault_judged {fault = fault} (clean x a c d f) e h = absurd (never_both _ x fault d (subst (λ z. IsAtFault z fault) (sym e) h))
-  fault_judged {fault = fault} (warned x a c d f) e h = absurd (never_both _ x fault d (subst (λ z. IsAtFault z fault) (sym e) h))
+order : (i j : ℕ) → (i < j) ⊎ ((j < i) ⊎ (i ≡ j))
+order i j = by (cases_lt i j) (cases_lt j i)
+  where
+    by : (i < j) ⊎ (j ≤ i) → (j < i) ⊎ (i ≤ j) → (i < j) ⊎ ((j < i) ⊎ (i ≡ j))
+    by (inl a) c = inl a
+    by (inr a) (inl c) = inr (inl c)
+    by (inr a) (inr c) = inr (inr (omega arith))
 
-  fault_answered : {words : List (List ℕ)} {held : Files} {status : Status} {output : List ℕ} {fault : SourceFault} → Outcome words held status output → NamesSource words held (λ bytes. IsAtFault bytes fault) → status ≡ refused fault
-  fault_answered (usage a c d) i = absurd (d i.file i.command)
-  fault_answered (lacking file a c d g) i = absurd (held_not _ (one_file i.command d) i.held_so g)
-  fault_answered (judged file bytes a c d) i = fault_judged d (held_so _ (one_file a i.command) c i.held_so) i.is
+earlier : {names : List Atom} {i j : ℕ} → FirstDuplicate names i j → StandsEarlier names j
+earlier {i = i} h = (i, h.before, h.same)
 
-  source_judged : {file bytes more : List ℕ} {status : Status} {output : List ℕ} {x : m.Module} → Judged file bytes status output → bytes ≡ more → IsSource more x → (status ≡ Clean) ⊎ (status ≡ Warnings)
-  source_judged {x = x} (faulty g a c d) e h = absurd (never_both _ x g (subst (λ z. IsSource z x) (sym e) h) d)
-  source_judged (clean y a c d f) e h = inl a
-  source_judged (warned y a c d f) e h = inr a
+-- one module is the first that has the name of one before it
+one_second : (names : List Atom) (i j k l : ℕ) → FirstDuplicate names i j → FirstDuplicate names k l → j ≡ l
+one_second names i j k l h g = by (order j l)
+  where
+    by : (j < l) ⊎ ((l < j) ⊎ (j ≡ l)) → j ≡ l
+    by (inl a) = absurd (g.least j a (earlier h))
+    by (inr (inl a)) = absurd (h.least l a (earlier g))
+    by (inr (inr a)) = a
 
-  source_answered : {words : List (List ℕ)} {held : Files} {status : Status} {output : List ℕ} → Outcome words held status output → NamesSource words held IsAcceptedSource → (status ≡ Clean) ⊎ (status ≡ Warnings)
-  source_answered (usage a c d) i = absurd (d i.file i.command)
-  source_answered (lacking file a c d g) i = absurd (held_not _ (one_file i.command d) i.held_so g)
-  source_answered (judged file bytes a c d) i = source_judged d (held_so _ (one_file a i.command) c i.held_so) i.is.1
+one_first : (names : List Atom) (i j k : ℕ) → FirstDuplicate names i j → FirstDuplicate names k j → i ≡ k
+one_first names i j k h g = by (order i k)
+  where
+    by : (i < k) ⊎ ((k < i) ⊎ (i ≡ k)) → i ≡ k
+    by (inl a) = absurd (g.earliest i a h.same)
+    by (inr (inl a)) = absurd (h.earliest k a g.same)
+    by (inr (inr a)) = a
 
-  missing_answered : {words : List (List ℕ)} {held : Files} {status : Status} {output : List ℕ} → Outcome words held status output → IsMissing words held → status ≡ refused missing
-  missing_answered (usage a c d) i = absurd (d i.file i.command)
-  missing_answered (lacking file a c d g) i = a
-  missing_answered (judged file bytes a c d) i = absurd (held_not _ (one_file a i.command) c i.absent)
+own_or_twice : (xs : List m.Module) (i j : ℕ) → HaveOwnNames xs → FirstDuplicate (module_names xs) i j → ⊥
+own_or_twice xs i j own h =
+    own j (subst (λ n. j < n) (length-map xs (λ (x : m.Module). x.name)) h.within) (earlier h)
+
+module _ (one_list : (held : Files) (files : List (List ℕ)) (xs ys : List m.Module) (a b : ℕ) → AreRead (Some held) 0 files xs a → AreRead (Some held) 0 files ys b → xs ≡ ys)
+    (one_refusal : (held : Files) (files : List (List ℕ)) (i j : ℕ) (f g : SourceFault) → RefusedAt (Some held) files i f → RefusedAt (Some held) files j g → (i ≡ j) × (f ≡ g))
+    (none_refused : (held : Files) (files : List (List ℕ)) (xs : List m.Module) (after i : ℕ) (f : SourceFault) → AreRead (Some held) 0 files xs after → RefusedAt (Some held) files i f → ⊥) where
+  refused_answered : {words : List (List ℕ)} {held : Files} {status : Status} {output : List ℕ} (fs : List (List ℕ)) (at : ℕ) (fault : SourceFault) → Outcome words (Some held) status output
+      → Checks words fs → RefusedAt (Some held) fs at fault → status ≡ refused (1 + at) fault
+  refused_answered fs at fault (usage a c d) checks h = absurd (d (fs, checks.check))
+  refused_answered fs at fault (many a c d) checks h = absurd (not_many checks d.check d.many)
+  refused_answered {held = held} fs at fault (faulty files place file other a c d f g) checks h =
+      let r = one_refusal held fs place at other fault (subst (λ zs. RefusedAt (Some held) zs place other) (one_files d checks) g) h in
+      a ∙ ap (λ n. refused (1 + n) other) r.0 ∙ ap (refused (1 + at)) r.1
+  refused_answered {held = held} fs at fault (twice files first second file other a c d f g i) checks h =
+      absurd (none_refused held fs i.modules i.read.after at fault (subst (λ zs. AreRead (Some held) 0 zs i.modules i.read.after) (one_files d checks) i.read.read) h)
+  refused_answered {held = held} fs at fault (clean files reports a c f d g) checks h =
+      absurd (none_refused held fs g.modules g.read.after at fault (subst (λ zs. AreRead (Some held) 0 zs g.modules g.read.after) (one_files d checks) g.read.read) h)
+  refused_answered {held = held} fs at fault (warned files reports a c f d g) checks h =
+      absurd (none_refused held fs g.modules g.read.after at fault (subst (λ zs. AreRead (Some held) 0 zs g.modules g.read.after) (one_files d checks) g.read.read) h)
+
+  same_modules : {held : Files} {fs gs : List (List ℕ)} {xs ys : List m.Module} → fs ≡ gs → ReadsAll (Some held) fs xs → ReadsAll (Some held) gs ys → xs ≡ ys
+  same_modules {held} {fs} {gs} {xs} {ys} e h k = one_list held gs xs ys h.after k.after (subst (λ zs. AreRead (Some held) 0 zs xs h.after) e h.read) k.read
+
+  twice_answered : {words : List (List ℕ)} {held : Files} {status : Status} {output : List ℕ} (first second : ℕ) → Outcome words (Some held) status output
+      → NamesTwice words held first second → status ≡ duplicate (1 + second) (1 + first)
+  twice_answered first second (usage a c d) h = absurd (d (h.files, h.checks.check))
+  twice_answered first second (many a c d) h = absurd (not_many h.checks d.check d.many)
+  twice_answered {held = held} first second (faulty files at file fault a c d f g) h =
+      absurd (none_refused held h.files h.twice.modules h.twice.read.after at fault h.twice.read.read (subst (λ zs. RefusedAt (Some held) zs at fault) (one_files d h.checks) g))
+  twice_answered first second (twice files one two file other a c d f g i) h =
+      let is : FirstDuplicate (module_names h.twice.modules) one two = subst (λ xs. FirstDuplicate (module_names xs) one two) (same_modules (one_files d h.checks) i.read h.twice.read) i.is in
+      let names = module_names h.twice.modules in
+      let same = one_second names one two first second is h.twice.is in
+      let also = one_first names one second first (subst (FirstDuplicate names one) same is) h.twice.is in
+      a ∙ ap (λ w. duplicate (1 + w) (1 + one)) same ∙ ap (λ w. duplicate (1 + second) (1 + w)) also
+  twice_answered first second (clean files reports a c f d g) h =
+      absurd (own_or_twice h.twice.modules first second (subst HaveOwnNames (same_modules (one_files d h.checks) g.read h.twice.read) g.names) h.twice.is)
+  twice_answered first second (warned files reports a c f d g) h =
+      absurd (own_or_twice h.twice.modules first second (subst HaveOwnNames (same_modules (one_files d h.checks) g.read h.twice.read) g.names) h.twice.is)
+
+  modules_answered : {words : List (List ℕ)} {held : Files} {status : Status} {output : List ℕ} → Outcome words (Some held) status output
+      → NamesModules words held → (status ≡ Clean) ⊎ (status ≡ Warnings)
+  modules_answered (usage a c d) h = absurd (d (h.files, h.checks.check))
+  modules_answered (many a c d) h = absurd (not_many h.checks d.check d.many)
+  modules_answered {held = held} (faulty files at file fault a c d f g) h =
+      absurd (none_refused held h.files h.modules h.read.after at fault h.read.read (subst (λ zs. RefusedAt (Some held) zs at fault) (one_files d h.checks) g))
+  modules_answered (twice files one two file other a c d f g i) h =
+      absurd (own_or_twice i.modules one two (subst HaveOwnNames (sym (same_modules (one_files d h.checks) i.read h.read)) h.names) i.is)
+  modules_answered (clean files reports a c f d g) h = inl a
+  modules_answered (warned files reports a c f d g) h = inr a
 
   -- ---- each answer, both ways
 
   module _ (words : List (List ℕ)) (told : Option Files) (b n : ℕ) (status : Status) (output : List ℕ) (intended : Intended words told b n status output) (answer : IsAnswer status) where
-    told_cases : (P : Files → Type 0) → ((held : Files) → Outcome words held status output → P held) → IfSome told P
+    told_cases : (P : Files → Type 0) → ((held : Files) → Outcome words (Some held) status output → P held) → IfSome told P
     told_cases P by = cases told intended
       where
         cases : (some : Option Files) → Intended words some b n status output → IfSome some P
         cases None h = tt
         cases (Some held) h = by held (outcome_of answer h)
 
-    pub missing_it : IfSome told (λ held. (status ≡ refused missing) ↔ IsMissing words held)
-    missing_it = told_cases (λ held. (status ≡ refused missing) ↔ IsMissing words held) (λ held o. (missing_of_outcome o, missing_answered o))
+    pub missing_it : IfSome told (λ held. (at : ℕ) → (status ≡ refused (1 + at) missing) ↔ NamesMissing words held at)
+    missing_it =
+        told_cases (λ held. (at : ℕ) → (status ≡ refused (1 + at) missing) ↔ NamesMissing words held at)
+        (λ held o at. (λ e. let h = refused_of_outcome at missing o e in record { files = h.0; checks = h.1; missing_at = missing_not_faulty h.2 }, λ h. refused_answered h.files at missing o h.checks (not_held refl h.missing_at)))
 
     -- a fault of a step whose faults are those of a relation
-    at_step : (Is : List ℕ → SourceFault → Type 0) (step : Step) (fault : SourceFault) → (step ≡ holding → ⊥) → ((bytes : List ℕ) → step_of fault.name ≡ step → IsAtFault bytes fault → Is bytes fault)
-        → ((bytes : List ℕ) → Is bytes fault → IsAtFault bytes fault) → (held : Files) → Outcome words held status output → step_of fault.name ≡ step → (status ≡ refused fault) ↔ NamesSource words held (λ bytes. Is bytes fault)
-    at_step Is step fault away to from held o at = (
-      λ e. let i = fault_of_outcome fault (λ h. away (sym at ∙ h)) o e in record { file = i.file; bytes = i.bytes; command = i.command; held_so = i.held_so; is = to i.bytes at i.is },
-      λ i. fault_answered o (record { file = i.file; bytes = i.bytes; command = i.command; held_so = i.held_so; is = from i.bytes i.is }),
+    at_step : (Is : ℕ → List ℕ → SourceFault → Type 0) (step : Step) (fault : SourceFault) → (step ≡ holding → ⊥)
+        → ((most : ℕ) (bytes : List ℕ) → step_of fault.name ≡ step → IsAtFault most bytes fault → Is most bytes fault)
+        → ((most : ℕ) (bytes : List ℕ) → Is most bytes fault → IsAtFault most bytes fault) → (held : Files) → Outcome words (Some held) status output → (at : ℕ)
+        → step_of fault.name ≡ step → (status ≡ refused (1 + at) fault) ↔ NamesSource words held at (λ most bytes. Is most bytes fault)
+    at_step Is step fault away to from held o at of = (
+      λ e. let h = refused_of_outcome at fault o e in let i = faulty_not_missing (λ h. away (sym of ∙ h)) h.2 in record { files = h.0; checks = h.1; source = record { file = i.file; bytes = i.bytes; before = i.before; reached = i.reached; held_so = i.held_so; is = to _ i.bytes of i.is } },
+      λ h. let i = h.source in refused_answered h.files at fault o h.checks (at_fault (record { file = i.file; bytes = i.bytes; before = i.before; reached = i.reached; held_so = i.held_so; is = from _ i.bytes i.is })),
     )
 
-    pub too_long_it : IfSome told (λ held. (fault : SourceFault) → step_of fault.name ≡ length → (status ≡ refused fault) ↔ NamesSource words held (λ bytes. IsTooLong bytes fault))
-    too_long_it = told_cases (λ held. (fault : SourceFault) → step_of fault.name ≡ length → (status ≡ refused fault) ↔ NamesSource words held (λ bytes. IsTooLong bytes fault)) (λ held o fault. at_step IsTooLong length fault (λ e. absurd cc) (λ bytes e h. by_length e h) (λ bytes h. too_long h) held o)
+    pub too_long_it : IfSome told (λ held. (at : ℕ) (fault : SourceFault) → step_of fault.name ≡ length → (status ≡ refused (1 + at) fault) ↔ NamesSource words held at (λ most bytes. IsTooLong most bytes fault))
+    too_long_it =
+        told_cases (λ held. (at : ℕ) (fault : SourceFault) → step_of fault.name ≡ length → (status ≡ refused (1 + at) fault) ↔ NamesSource words held at (λ most bytes. IsTooLong most bytes fault))
+        (λ held o at fault. at_step IsTooLong length fault (λ e. absurd cc) (λ most bytes e h. by_length e h) (λ most bytes h. too_long h) held o at)
 
-    pub not_scanned_it : IfSome told (λ held. (fault : SourceFault) → step_of fault.name ≡ tokens → (status ≡ refused fault) ↔ NamesSource words held (λ bytes. IsNotScanned bytes fault))
-    not_scanned_it = told_cases (λ held. (fault : SourceFault) → step_of fault.name ≡ tokens → (status ≡ refused fault) ↔ NamesSource words held (λ bytes. IsNotScanned bytes fault)) (λ held o fault. at_step IsNotScanned tokens fault (λ e. absurd cc) (λ bytes e h. by_tokens e h) (λ bytes h. not_scanned h) held o)
+    pub not_scanned_it : IfSome told (λ held. (at : ℕ) (fault : SourceFault) → step_of fault.name ≡ tokens → (status ≡ refused (1 + at) fault) ↔ NamesSource words held at (λ most bytes. IsNotScanned most bytes fault))
+    not_scanned_it =
+        told_cases (λ held. (at : ℕ) (fault : SourceFault) → step_of fault.name ≡ tokens → (status ≡ refused (1 + at) fault) ↔ NamesSource words held at (λ most bytes. IsNotScanned most bytes fault))
+        (λ held o at fault. at_step IsNotScanned tokens fault (λ e. absurd cc) (λ most bytes e h. by_tokens e h) (λ most bytes h. not_scanned h) held o at)
 
-    pub not_parsed_it : IfSome told (λ held. (fault : SourceFault) → step_of fault.name ≡ grammar → (status ≡ refused fault) ↔ NamesSource words held (λ bytes. IsNotParsed bytes fault))
-    not_parsed_it = told_cases (λ held. (fault : SourceFault) → step_of fault.name ≡ grammar → (status ≡ refused fault) ↔ NamesSource words held (λ bytes. IsNotParsed bytes fault)) (λ held o fault. at_step IsNotParsed grammar fault (λ e. absurd cc) (λ bytes e h. by_grammar e h) (λ bytes h. not_parsed h) held o)
+    pub not_parsed_it : IfSome told (λ held. (at : ℕ) (fault : SourceFault) → step_of fault.name ≡ grammar → (status ≡ refused (1 + at) fault) ↔ NamesSource words held at (λ most bytes. IsNotParsed most bytes fault))
+    not_parsed_it =
+        told_cases (λ held. (at : ℕ) (fault : SourceFault) → step_of fault.name ≡ grammar → (status ≡ refused (1 + at) fault) ↔ NamesSource words held at (λ most bytes. IsNotParsed most bytes fault))
+        (λ held o at fault. at_step IsNotParsed grammar fault (λ e. absurd cc) (λ most bytes e h. by_grammar e h) (λ most bytes h. not_parsed h) held o at)
 
-    pub not_accepted_it : IfSome told (λ held. (fault : SourceFault) → step_of fault.name ≡ scopes → (status ≡ refused fault) ↔ NamesSource words held (λ bytes. IsNotAccepted bytes fault))
-    not_accepted_it = told_cases (λ held. (fault : SourceFault) → step_of fault.name ≡ scopes → (status ≡ refused fault) ↔ NamesSource words held (λ bytes. IsNotAccepted bytes fault)) (λ held o fault. at_step IsNotAccepted scopes fault (λ e. absurd cc) (λ bytes e h. by_scopes e h) (λ bytes h. not_accepted h) held o)
+    pub not_accepted_it : IfSome told (λ held. (at : ℕ) (fault : SourceFault) → step_of fault.name ≡ scopes → (status ≡ refused (1 + at) fault) ↔ NamesSource words held at (λ most bytes. IsNotAccepted most bytes fault))
+    not_accepted_it =
+        told_cases (λ held. (at : ℕ) (fault : SourceFault) → step_of fault.name ≡ scopes → (status ≡ refused (1 + at) fault) ↔ NamesSource words held at (λ most bytes. IsNotAccepted most bytes fault))
+        (λ held o at fault. at_step IsNotAccepted scopes fault (λ e. absurd cc) (λ most bytes e h. by_scopes e h) (λ most bytes h. not_accepted h) held o at)
 
-    pub checked_it : IfSome told (λ held. ((status ≡ Clean) ⊎ (status ≡ Warnings)) ↔ NamesSource words held IsAcceptedSource)
-    checked_it = told_cases (λ held. ((status ≡ Clean) ⊎ (status ≡ Warnings)) ↔ NamesSource words held IsAcceptedSource) (λ held o. (source_of_outcome o, source_answered o))
+    pub duplicate_it : IfSome told (λ held. (first second : ℕ) → (status ≡ duplicate (1 + second) (1 + first)) ↔ NamesTwice words held first second)
+    duplicate_it =
+        told_cases (λ held. (first second : ℕ) → (status ≡ duplicate (1 + second) (1 + first)) ↔ NamesTwice words held first second)
+        (λ held o first second. (λ e. twice_of_outcome first second o e, λ h. twice_answered first second o h))
+
+    pub checked_it : IfSome told (λ held. ((status ≡ Clean) ⊎ (status ≡ Warnings)) ↔ NamesModules words held)
+    checked_it =
+        told_cases (λ held. ((status ≡ Clean) ⊎ (status ≡ Warnings)) ↔ NamesModules words held)
+        (λ held o. (λ e. modules_of_outcome o e, λ h. modules_answered o h))

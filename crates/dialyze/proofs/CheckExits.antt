@@ -1,76 +1,86 @@
 -- From what a run means to answer to what it answers, once all is written.
-use Rattle.std.proofs.Common.{◌≡◌, ◌↔◌, ℕ, List, refl, sym, ◌∙◌, ap, subst, Option, Some, None}
+use Rattle.std.proofs.Common.{◌≡◌, ◌↔◌, ℕ, List, refl, sym, ◌∙◌, ap, subst, arith, Option, Some, None}
 use Rattle.std.specs.Prelude.{IfSome}
 use Rattle.da_shelf.specs.Counts.{Rose}
 use Rattle.da_shelf.specs.Told.{Files, appended, IsFrontAppended}
+use Rattle.analysis.specs.declared.refusals.Device.TheVariants.{Read, Write}
 use Rattle.dialyze.specs.declared.status.Status.{Status}
 use Rattle.dialyze.specs.declared.status.Status.TheVariants.{DeviceFault, Memory, Usage}
-use Rattle.dialyze.specs.declared.status.Device.TheVariants.{Read, Write}
+use Rattle.dialyze.specs.Lines.{too_many}
 use Rattle.dialyze.specs.Words.{IsNoCommand}
-use Rattle.dialyze.specs.Outcome.{Judged, faulty, clean, warned, Outcome, usage, lacking, judged, Intended, no_command, not_held, checked, unread, Answers, FailsToRead, FailsToWrite, IsAnswer, IsPossible, missing}
+use Rattle.dialyze.proofs.Numbers.{number_by, not_other, not_many}
+use Rattle.dialyze.specs.Outcome.{ChecksTooMany, Outcome, usage, many, faulty, twice, clean, warned, Intended, answered, unread, Answers, FailsToRead, FailsToWrite, IsAnswer, IsPossible, of_file, of_many, of_two}
 
-answer_not : {status other : Status} → IsAnswer status → status ≡ other → (IsAnswer other → ⊥) → ⊥
-answer_not h e no_answer = no_answer (subst IsAnswer e h)
+-- every outcome is an answer
+answers : {words : List (List ℕ)} {told : Option Files} {status : Status} {output : List ℕ} → Outcome words told status output → IsAnswer status
+answers (usage a c d) = subst IsAnswer (sym a) tt
+answers (many a c d) = subst IsAnswer (sym a) tt
+answers (faulty files at file fault a c d f g) = subst IsAnswer (sym a) tt
+answers (twice files first second file other a c d f g h) = subst IsAnswer (sym a) tt
+answers (clean files reports a c d f g) = subst IsAnswer (sym a) tt
+answers (warned files reports a c d f g) = subst IsAnswer (sym a) tt
 
-pub outcome_of : {words : List (List ℕ)} {held : Files} {b n : ℕ} {status : Status} {output : List ℕ} → IsAnswer status → Intended words (Some held) b n status output → Outcome words held status output
-outcome_of h (no_command a c d) = usage a c d
-outcome_of h (not_held file a c d e) = lacking file a c d e
-outcome_of h (checked file bytes a c d) = judged file bytes a c d
-outcome_of h (unread file a c d e) = absurd (answer_not h a (λ x. x))
+pub outcome_of : {words : List (List ℕ)} {told : Option Files} {b n : ℕ} {status : Status} {output : List ℕ} → IsAnswer status → Intended words told b n status output → Outcome words told status output
+outcome_of h (answered o) = o
+outcome_of h (unread at file a c d) = absurd (subst IsAnswer a h)
 
 -- the headline
 pub answers_it : (words : List (List ℕ)) (told : Option Files) (b n : ℕ) (status : Status) (output : List ℕ) (before now : Option (List ℕ)) → Intended words told b n status output → now ≡ appended before output → IsAnswer status → IfSome told (λ held. Answers words held status before now)
 answers_it words None b n status output before now h w a = tt
 answers_it words (Some held) b n status output before now h w a = record { output = output; outcome = outcome_of a h; written = w }
 
--- ---- usage, also where the shelf doesn't tell what it holds
+-- ---- by the words alone, also where the shelf doesn't tell what it holds
 
-no_usage : {file bytes : List ℕ} {status : Status} {output : List ℕ} → Judged file bytes status output → status ≡ Usage → ⊥
-no_usage (faulty f a c d) e = absurd cc
-no_usage (clean x a c d f) e = absurd cc
-no_usage (warned x a c d f) e = absurd cc
+usage_to : {words : List (List ℕ)} {told : Option Files} {status : Status} {output : List ℕ} → Outcome words told status output → status ≡ Usage → IsNoCommand words
+usage_to (usage a c d) e = d
+usage_to (many a c d) e = let k = sym a ∙ e in absurd cc
+usage_to (faulty files at file fault a c d f g) e = let k = sym a ∙ e in absurd cc
+usage_to (twice files first second file other a c d f g h) e = let k = sym a ∙ e in absurd cc
+usage_to (clean files reports a c d f g) e = let k = sym a ∙ e in absurd cc
+usage_to (warned files reports a c d f g) e = let k = sym a ∙ e in absurd cc
 
-usage_to : {words : List (List ℕ)} {told : Option Files} {b n : ℕ} {status : Status} {output : List ℕ} → Intended words told b n status output → status ≡ Usage → IsNoCommand words
-usage_to (no_command a c d) e = d
-usage_to (not_held file a c d f) e = absurd cc
-usage_to (checked file bytes a c d) e = absurd (no_usage d e)
-usage_to (unread file a c d f) e = absurd cc
+usage_from : {words : List (List ℕ)} {told : Option Files} {status : Status} {output : List ℕ} → Outcome words told status output → IsNoCommand words → status ≡ Usage
+usage_from (usage a c d) none = a
+usage_from (many a c d) none = absurd (none (d.files, d.check))
+usage_from (faulty files at file fault a c d f g) none = absurd (none (files, d.check))
+usage_from (twice files first second file other a c d f g h) none = absurd (none (files, d.check))
+usage_from (clean files reports a c f d g) none = absurd (none (files, d.check))
+usage_from (warned files reports a c f d g) none = absurd (none (files, d.check))
 
-usage_from : {words : List (List ℕ)} {told : Option Files} {b n : ℕ} {status : Status} {output : List ℕ} → Intended words told b n status output → IsNoCommand words → status ≡ Usage
-usage_from (no_command a c d) none = a
-usage_from (not_held file a c d f) none = absurd (none file d)
-usage_from (checked file bytes a c d) none = absurd (none file a)
-usage_from (unread file a c d f) none = absurd (none file d)
+pub usage_it : (words : List (List ℕ)) (told : Option Files) (b n : ℕ) (status : Status) (output : List ℕ) → Intended words told b n status output → IsAnswer status → (status ≡ Usage) ↔ IsNoCommand words
+usage_it words told b n status output h answer = (usage_to (outcome_of answer h), usage_from (outcome_of answer h))
 
-pub usage_it : (words : List (List ℕ)) (told : Option Files) (b n : ℕ) (status : Status) (output : List ℕ) → Intended words told b n status output → (status ≡ Usage) ↔ IsNoCommand words
-usage_it words told b n status output h = (usage_to h, usage_from h)
+many_to : {words : List (List ℕ)} {told : Option Files} {status : Status} {output : List ℕ} → Outcome words told status output → status ≡ too_many → ChecksTooMany words
+many_to (usage a c d) e = let k = sym a ∙ e in absurd cc
+many_to (many a c d) e = d
+many_to (faulty files at file fault a c d f g) e = absurd ((not_other fault.name).1 (ap number_by (sym a ∙ e)))
+many_to (twice files first second file other a c d f g h) e = let k : 14 ≡ 24 = ap number_by (sym a ∙ e) in absurd (omega (arith, k))
+many_to (clean files reports a c d f g) e = let k = sym a ∙ e in absurd cc
+many_to (warned files reports a c d f g) e = let k = sym a ∙ e in absurd cc
+
+many_from : {words : List (List ℕ)} {told : Option Files} {status : Status} {output : List ℕ} → Outcome words told status output → ChecksTooMany words → status ≡ too_many
+many_from (usage a c d) h = absurd (d (h.files, h.check))
+many_from (many a c d) h = a
+many_from (faulty files at file fault a c d f g) h = absurd (not_many d h.check h.many)
+many_from (twice files first second file other a c d f g i) h = absurd (not_many d h.check h.many)
+many_from (clean files reports a c f d g) h = absurd (not_many d h.check h.many)
+many_from (warned files reports a c f d g) h = absurd (not_many d h.check h.many)
+
+pub too_many_it : (words : List (List ℕ)) (told : Option Files) (b n : ℕ) (status : Status) (output : List ℕ) → Intended words told b n status output → IsAnswer status → (status ≡ too_many) ↔ ChecksTooMany words
+too_many_it words told b n status output h answer = (many_to (outcome_of answer h), many_from (outcome_of answer h))
 
 -- ---- the faults of devices
 
-no_read : {file bytes : List ℕ} {status : Status} {output : List ℕ} → Judged file bytes status output → status ≡ DeviceFault (Read 1) → ⊥
-no_read (faulty f a c d) e = absurd cc
-no_read (clean x a c d f) e = absurd cc
-no_read (warned x a c d f) e = absurd cc
+read_to : {words : List (List ℕ)} {told : Option Files} {b n : ℕ} {status : Status} {output : List ℕ} {before now : Option (List ℕ)} (word : ℕ) → Intended words told b n status output → now ≡ appended before output → status ≡ DeviceFault (Read word) → FailsToRead words told word b n before now
+read_to word (answered o) w e = absurd (subst IsAnswer e (answers o))
+read_to {before = before} word (unread at file a c d) w e = let k = sym e ∙ a in record { at = at; is = cc; file = file; unread_so = d; written = w ∙ ap (appended before) c }
 
-read_to : {words : List (List ℕ)} {told : Option Files} {b n : ℕ} {status : Status} {output : List ℕ} {before now : Option (List ℕ)} → Intended words told b n status output → now ≡ appended before output → status ≡ DeviceFault (Read 1) → FailsToRead words b n before now
-read_to (no_command a c d) w e = absurd cc
-read_to (not_held file a c d f) w e = absurd cc
-read_to (checked file bytes a c d) w e = absurd (no_read d e)
-read_to {before = before} (unread file a c d f) w e = record { rose = f; file = file; command = d; written = w ∙ ap (appended before) c }
-
-pub read_it : (words : List (List ℕ)) (told : Option Files) (b n : ℕ) (status : Status) (output : List ℕ) (before now : Option (List ℕ)) → Intended words told b n status output → now ≡ appended before output → status ≡ DeviceFault (Read 1) → FailsToRead words b n before now
-read_it words told b n status output before now h w e = read_to h w e
-
-judged_no_write : {file bytes : List ℕ} {status : Status} {output : List ℕ} → Judged file bytes status output → status ≡ DeviceFault Write → ⊥
-judged_no_write (faulty f a c d) e = absurd cc
-judged_no_write (clean x a c d f) e = absurd cc
-judged_no_write (warned x a c d f) e = absurd cc
+pub read_it : (words : List (List ℕ)) (told : Option Files) (b n : ℕ) (status : Status) (output : List ℕ) (before now : Option (List ℕ)) → Intended words told b n status output → now ≡ appended before output → (word : ℕ) → status ≡ DeviceFault (Read word) → FailsToRead words told word b n before now
+read_it words told b n status output before now h w word e = read_to word h w e
 
 no_write : {words : List (List ℕ)} {told : Option Files} {b n : ℕ} {status : Status} {output : List ℕ} → Intended words told b n status output → status ≡ DeviceFault Write → ⊥
-no_write (no_command a c d) e = absurd cc
-no_write (not_held file a c d f) e = absurd cc
-no_write (checked file bytes a c d) e = judged_no_write d e
-no_write (unread file a c d f) e = absurd cc
+no_write (answered o) e = absurd (subst IsAnswer e (answers o))
+no_write (unread at file a c d) e = let k = sym a ∙ e in absurd cc
 
 pub unwritten_it : (words : List (List ℕ)) (told : Option Files) (b n o p : ℕ) (status : Status) (output : List ℕ) (before now : Option (List ℕ)) → Intended words told b n status output → status ≡ DeviceFault Write → FailsToWrite words told b n o p before now
 unwritten_it words told b n o p status output before now h e = absurd (no_write h e)
@@ -78,35 +88,26 @@ unwritten_it words told b n o p status output before now h e = absurd (no_write 
 pub write_it : (words : List (List ℕ)) (told : Option Files) (b n o p : ℕ) (status : Status) (output : List ℕ) (before now : Option (List ℕ)) → Intended words told b n status output → Rose o p → IsFrontAppended before now output → FailsToWrite words told b n o p before now
 write_it words told b n o p status output before now h r w = record { rose = r; status = status; output = output; intended = h; written = w }
 
-judged_no_memory : {file bytes : List ℕ} {status : Status} {output : List ℕ} → Judged file bytes status output → status ≡ Memory → ⊥
-judged_no_memory (faulty f a c d) e = absurd cc
-judged_no_memory (clean x a c d f) e = absurd cc
-judged_no_memory (warned x a c d f) e = absurd cc
-
 no_memory : {words : List (List ℕ)} {told : Option Files} {b n : ℕ} {status : Status} {output : List ℕ} → Intended words told b n status output → status ≡ Memory → ⊥
-no_memory (no_command a c d) e = absurd cc
-no_memory (not_held file a c d f) e = absurd cc
-no_memory (checked file bytes a c d) e = judged_no_memory d e
-no_memory (unread file a c d f) e = absurd cc
+no_memory (answered o) e = absurd (subst IsAnswer e (answers o))
+no_memory (unread at file a c d) e = let k = sym a ∙ e in absurd cc
 
 pub memory_it : (words : List (List ℕ)) (told : Option Files) (b n : ℕ) (status : Status) (output : List ℕ) (before now : Option (List ℕ)) → Intended words told b n status output → status ≡ Memory → now ≡ before
 memory_it words told b n status output before now h e = absurd (no_memory h e)
 
 -- ---- no other status
 
-possible_from : {status other : Status} → status ≡ other → IsPossible other → IsPossible status
-possible_from e h = subst IsPossible (sym e) h
-
-judged_possible : {file bytes : List ℕ} {status : Status} {output : List ℕ} → Judged file bytes status output → IsPossible status
-judged_possible (faulty f a c d) = possible_from a (f, refl)
-judged_possible (clean x a c d f) = possible_from a tt
-judged_possible (warned x a c d f) = possible_from a tt
+possible_outcome : {words : List (List ℕ)} {told : Option Files} {status : Status} {output : List ℕ} → Outcome words told status output → IsPossible status
+possible_outcome (usage a c d) = subst IsPossible (sym a) tt
+possible_outcome (many a c d) = subst IsPossible (sym a) (of_many refl)
+possible_outcome (faulty files at file fault a c d f g) = subst IsPossible (sym a) (of_file at fault refl)
+possible_outcome (twice files first second file other a c d f g h) = subst IsPossible (sym a) (of_two first second refl)
+possible_outcome (clean files reports a c d f g) = subst IsPossible (sym a) tt
+possible_outcome (warned files reports a c d f g) = subst IsPossible (sym a) tt
 
 possible : {words : List (List ℕ)} {told : Option Files} {b n : ℕ} {status : Status} {output : List ℕ} → Intended words told b n status output → IsPossible status
-possible (no_command a c d) = possible_from a tt
-possible (not_held file a c d f) = possible_from a (missing, refl)
-possible (checked file bytes a c d) = judged_possible d
-possible (unread file a c d f) = possible_from a refl
+possible (answered o) = possible_outcome o
+possible (unread at file a c d) = subst IsPossible (sym a) (at, refl)
 
 pub possible_it : (words : List (List ℕ)) (told : Option Files) (b n : ℕ) (status : Status) (output : List ℕ) → Intended words told b n status output → IsPossible status
 possible_it words told b n status output h = possible h

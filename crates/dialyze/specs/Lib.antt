@@ -1,8 +1,7 @@
-pub mod Refusals
-pub mod Sources
-pub mod early
 pub mod Words
 pub mod Codes
+pub mod Lines
+pub mod Truths
 pub mod Outcome
 pub mod Causes
 pub mod steps

@@ -1,30 +1,35 @@
 // The top call.
-ghost use Rattle.std.specs.Prelude.{◌≡◌, ◌↔◌, ◌⊎◌, ℕ, ◌≤◌, Option, IfSome};
+ghost use Rattle.std.specs.Prelude.{◌≡◌, ◌↔◌, ◌⊎◌, ℕ, ◌+◌, ◌≤◌, Option, IfSome};
 ghost use Rattle.da_shelf.specs.Told.{Files};
-ghost use Rattle.dialyze.specs.declared.refusals.SourceFault.{SourceFault};
-ghost use Rattle.dialyze.specs.Words.{texts, IsNoCommand};
-ghost use Rattle.dialyze.specs.Refusals.{refused};
-ghost use Rattle.dialyze.specs.Sources.{IsTooLong, IsNotScanned, IsNotParsed, IsNotAccepted};
-ghost use Rattle.dialyze.specs.Outcome.{Answers, FailsToRead, FailsToWrite, IsAnswer, IsPossible, missing};
-ghost use Rattle.dialyze.specs.Causes.{IsMissing, NamesSource, IsAcceptedSource, length, tokens, grammar, scopes, step_of};
+ghost use Rattle.analysis.specs.declared.refusals.SourceFault.{SourceFault};
+ghost use Rattle.analysis.specs.Refusals.{missing};
+ghost use Rattle.analysis.specs.Sources.{IsTooLong, IsNotScanned, IsNotParsed, IsNotAccepted};
+ghost use Rattle.analysis.specs.Words.{texts};
+ghost use Rattle.dialyze.specs.Words.{IsNoCommand};
+ghost use Rattle.dialyze.specs.Lines.{refused, too_many, duplicate};
+ghost use Rattle.dialyze.specs.Outcome.{Answers, ChecksTooMany, FailsToRead, FailsToWrite, IsAnswer, IsPossible};
+ghost use Rattle.dialyze.specs.Causes.{NamesMissing, NamesSource, NamesTwice, NamesModules, length, tokens, grammar, scopes, step_of};
 
 use crate::answer::{Answer, intended};
-use crate::laws::one_reading;
-use crate::status::{Device, Status};
+use crate::status::Status;
+use analysis::{Device, one_reading_of_files};
 use da_shelf::{Gate, Shelf, Sink, SinkFault, give};
 use std::alloc::Global;
 use type_kinds::Memory;
 
-/// Carries out a command: `check FILE` reads the file from the shelf and writes a line to the sink for
-/// each discrepancy that it finds.
+/// Carries out a command: `check FILE..` reads the files from the shelf, analyses their modules together, and writes
+/// a line to the sink for each discrepancy that it finds: the modules in the order of the words, each module's lines
+/// in the order of its text.
 ///
-/// - `Clean`: the source is an accepted module, and its report is empty.
-/// - `Warnings`: the source is an accepted module, and its report was written.
+/// - `Clean`: the sources are accepted modules with names of their own, and no report has a line.
+/// - `Warnings`: they are, and the reports were written.
 /// - `Usage`: the words are no command.
-/// - `Refused`: the file isn't held (26), has more than 16 MiB (25), or is the source of no accepted
-///   module: by the first fault of its tokens (1 to 4), by the first place at which no module goes on or
-///   the first node too deep (5, 6), or by the first broken rule of scopes and degrees (8 to 13). The
-///   line that was written names the fault and its line in the source.
+/// - `Refused`: more than 1,024 files are named (24). Or the file at the position `word` is the first that isn't held
+///   (26), has more than 16 MiB or more than 64 MiB with those before it (25), or is the source of no accepted module:
+///   by the first fault of its tokens (1 to 4), by the first place at which no module goes on or the first node too
+///   deep (5, 6), or by the first broken rule of scopes and degrees (8 to 13). Or it is the first whose module has the
+///   name of one before it, the earliest of them at the position `other` (14). The line that was written names the
+///   refusal and the file, and its line in the source.
 /// - `DeviceFault`: the shelf or the sink failed, and has counted it.
 /// - `Memory`: there was no memory left, and nothing was written.
 ///
@@ -42,13 +47,15 @@ pub fn dialyze<F: Shelf, K: Sink, G: Gate + Sync>(
 
     // When each answer comes.
     ensures usage { IsAnswer result → (result ≡ Status.Usage) ↔ IsNoCommand (texts words.now) }
-    ensures missing { IsAnswer result → IfSome (F.held shelf.old) (λ held. (result ≡ refused missing) ↔ IsMissing (texts words.now) held) }
-    ensures too_long { IsAnswer result → IfSome (F.held shelf.old) (λ held. (fault : SourceFault) → step_of fault.name ≡ length → (result ≡ refused fault) ↔ NamesSource (texts words.now) held (λ bytes. IsTooLong bytes fault)) }
-    ensures not_scanned { IsAnswer result → IfSome (F.held shelf.old) (λ held. (fault : SourceFault) → step_of fault.name ≡ tokens → (result ≡ refused fault) ↔ NamesSource (texts words.now) held (λ bytes. IsNotScanned bytes fault)) }
-    ensures not_parsed { IsAnswer result → IfSome (F.held shelf.old) (λ held. (fault : SourceFault) → step_of fault.name ≡ grammar → (result ≡ refused fault) ↔ NamesSource (texts words.now) held (λ bytes. IsNotParsed bytes fault)) }
-    ensures not_accepted { IsAnswer result → IfSome (F.held shelf.old) (λ held. (fault : SourceFault) → step_of fault.name ≡ scopes → (result ≡ refused fault) ↔ NamesSource (texts words.now) held (λ bytes. IsNotAccepted bytes fault)) }
-    ensures checked { IsAnswer result → IfSome (F.held shelf.old) (λ held. ((result ≡ Status.Clean) ⊎ (result ≡ Status.Warnings)) ↔ NamesSource (texts words.now) held IsAcceptedSource) }
-    ensures read { result ≡ Status.DeviceFault (Device.Read 1) → FailsToRead (texts words.now) (F.read_faults shelf.old) (F.read_faults shelf.new) (K.written out.old) (K.written out.new) }
+    ensures too_many { IsAnswer result → (result ≡ too_many) ↔ ChecksTooMany (texts words.now) }
+    ensures missing { IsAnswer result → IfSome (F.held shelf.old) (λ held. (at : ℕ) → (result ≡ refused (1 + at) missing) ↔ NamesMissing (texts words.now) held at) }
+    ensures too_long { IsAnswer result → IfSome (F.held shelf.old) (λ held. (at : ℕ) (fault : SourceFault) → step_of fault.name ≡ length → (result ≡ refused (1 + at) fault) ↔ NamesSource (texts words.now) held at (λ most bytes. IsTooLong most bytes fault)) }
+    ensures not_scanned { IsAnswer result → IfSome (F.held shelf.old) (λ held. (at : ℕ) (fault : SourceFault) → step_of fault.name ≡ tokens → (result ≡ refused (1 + at) fault) ↔ NamesSource (texts words.now) held at (λ most bytes. IsNotScanned most bytes fault)) }
+    ensures not_parsed { IsAnswer result → IfSome (F.held shelf.old) (λ held. (at : ℕ) (fault : SourceFault) → step_of fault.name ≡ grammar → (result ≡ refused (1 + at) fault) ↔ NamesSource (texts words.now) held at (λ most bytes. IsNotParsed most bytes fault)) }
+    ensures not_accepted { IsAnswer result → IfSome (F.held shelf.old) (λ held. (at : ℕ) (fault : SourceFault) → step_of fault.name ≡ scopes → (result ≡ refused (1 + at) fault) ↔ NamesSource (texts words.now) held at (λ most bytes. IsNotAccepted most bytes fault)) }
+    ensures duplicate { IsAnswer result → IfSome (F.held shelf.old) (λ held. (first second : ℕ) → (result ≡ duplicate (1 + second) (1 + first)) ↔ NamesTwice (texts words.now) held first second) }
+    ensures checked { IsAnswer result → IfSome (F.held shelf.old) (λ held. ((result ≡ Status.Clean) ⊎ (result ≡ Status.Warnings)) ↔ NamesModules (texts words.now) held) }
+    ensures read { (word : ℕ) → result ≡ Status.DeviceFault (Device.Read word) → FailsToRead (texts words.now) (F.held shelf.old) word (F.read_faults shelf.old) (F.read_faults shelf.new) (K.written out.old) (K.written out.new) }
     ensures write { result ≡ Status.DeviceFault Device.Write → FailsToWrite (texts words.now) (F.held shelf.old) (F.read_faults shelf.old) (F.read_faults shelf.new) (K.faults out.old) (K.faults out.new) (K.written out.old) (K.written out.new) }
     ensures memory { result ≡ Status.Memory → K.written out.new ≡ K.written out.old }
     ensures possible { IsPossible result }
@@ -56,7 +63,7 @@ pub fn dialyze<F: Shelf, K: Sink, G: Gate + Sync>(
     // What stays.
     ensures held { F.held shelf.new ≡ F.held shelf.old }
 {
-    one_reading();
+    one_reading_of_files();
     let Answer { status, output } = match intended(alloc, words, shelf) {
         Ok(answer) => answer,
         Err(Memory) => return Status::Memory,

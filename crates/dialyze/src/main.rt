@@ -6,15 +6,12 @@ ghost use Rattle.std.specs.String.{string_bytes};
 ghost use Rattle.std.specs.Process.{exit_status};
 ghost use Rattle.dialyze.specs.declared.status.Status.{Status as TheStatus};
 ghost use Rattle.dialyze.specs.Codes.{code_of};
-ghost use Rattle.dialyze.specs.Words.{texts, IsNoCommand};
+ghost use Rattle.analysis.specs.Words.{texts};
+ghost use Rattle.dialyze.specs.Words.{IsNoCommand};
 ghost use Rattle.dialyze.specs.Outcome.{IsAnswer, IsPossible};
 
 mod answer;
 mod check;
-mod early;
-mod laws;
-mod refusals;
-mod source;
 mod status;
 mod words;
 

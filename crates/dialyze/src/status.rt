@@ -1,6 +1,8 @@
 ghost use Rattle.std.specs.Prelude.{◌≡◌};
 ghost use Rattle.dialyze.specs.Codes.{code_of};
 
+use analysis::{Device, Refusal};
+
 /// How a run ended.
 #[derive(Clone, Copy, Debug, PartialEq, Eq)]
 pub enum Status {
@@ -18,24 +20,6 @@ pub enum Status {
     Memory,
     /// The words are no command.
     Usage,
-}
-
-/// A refusal: its number, the positions among the words of the file that it speaks of and of another,
-/// and the line. A number that a refusal lacks is 0.
-#[derive(Clone, Copy, Debug, PartialEq, Eq)]
-pub struct Refusal {
-    pub number: u8,
-    pub word: u32,
-    pub line: u32,
-    pub other: u32,
-}
-
-/// The device that failed, and the position among the words of the file that was read or replaced.
-#[derive(Clone, Copy, Debug, PartialEq, Eq)]
-pub enum Device {
-    Read(u32),
-    Replace(u32),
-    Write,
 }
 
 impl Status {

@@ -1,7 +1,6 @@
-use crate::answer::MISSING;
 use crate::check::dialyze;
-use crate::refusals::{RefusalName, SourceFault};
-use crate::status::{Device, Status};
+use crate::status::Status;
+use analysis::{Device, MISSING, Refusal, RefusalName, SourceFault};
 use da_shelf::{MemShelf, MemSink, OpenGate};
 use std::alloc::Global;
 use std::test::Fail;
@@ -24,41 +23,73 @@ const LOST_REPORT: &str = "'m':2: function 'f'/0 has no local return
 
 const USAGE: &str = "usage: dialyze check [--plt T] [--out T2] [--workers N] FILE.. | make N\n";
 
-// What a run answers and writes, where `m.core` is held with this text.
-fn run(alloc: Global, words: &[&str], text: &str) -> Result<(Status, Vec<u8>), Fail> {
+// What a run answers and writes, where these files are held.
+fn run_with(
+    alloc: Global,
+    words: &[&str],
+    files: &[(&str, &str)],
+) -> Result<(Status, Vec<u8>), Fail> {
     let mut shelf = MemShelf::new(alloc, List::new(alloc), List::new(alloc));
-    shelf.put("m.core", text.as_bytes())?;
+    for (name, text) in files {
+        shelf.put(name, text.as_bytes())?;
+    }
     let mut sink = MemSink::new(alloc, 4096, 4096, List::new(alloc))?;
     let status = dialyze(alloc, words, &mut shelf, &mut sink, &OpenGate);
     let written = Vec::from_slice(alloc, sink.bytes())?;
     Ok((status, written))
 }
 
+// The same, where `m.core` is held with this text.
+fn run(alloc: Global, words: &[&str], text: &str) -> Result<(Status, Vec<u8>), Fail> {
+    run_with(alloc, words, &[("m.core", text)])
+}
+
 #[test]
 fn checks_sources(rt: HostRuntime) -> Result<(), Fail> {
-    let loops = "module 'm' ['f'/0] attributes []\n'f'/0 = fun () -> apply 'f'/0()\nend\n";
     let widest =
         "module 'm' ['f'/0] attributes []\n'f'/0 = fun () -> 170141183460469231731687303715884105727\nend\n";
     let server =
         "module 'r4' ['loop'/0] attributes []\n'loop'/0 = fun () ->\n  receive\n    <X> when 'true' -> apply 'loop'/0()\n  after 'infinity' -> 'true'\nend\n";
     let map = "module 'm' ['f'/0] attributes []\n'f'/0 = fun () -> ~{'a'=>1}~\nend\n";
-    let one_line =
-        "module 'm' ['f'/0] attributes [] 'f'/0 = fun () -> {call 'm':'p'(),call 'm':'q'(1)} end";
-    let many =
-        "'m':1: function 'f'/0 has no local return\n'm':1: the call 'm':'p'/0 never returns\n'm':1: the call 'm':'q'/1 never returns\n";
-    let cycle =
-        "module 'm' ['f'/0,'g'/0,'h'/0] attributes []\n'f'/0 = fun () -> apply 'g'/0()\n'g'/0 = fun () -> {apply 'f'/0(),call 'm':'f'(1)}\n'h'/0 = fun () -> apply 'f'/0()\nend\n";
-    let cycle_report =
-        "'m':2: the call 'g'/0 never returns\n'm':3: function 'g'/0 has no local return\n'm':3: the call 'm':'f'/1 never returns\n";
+    let sum =
+        "module 'r2' ['f'/1] attributes []\n'f'/1 = fun (X) -> call 'erlang':'+'(X,'a')\nend\n";
+    let sum_report =
+        "'r2':2: function 'f'/1 has no local return\n'r2':2: the call 'erlang':'+'/2 never returns\n";
+    let clauses =
+        "module 'r3' ['f'/1,'g'/0] attributes []\n'f'/1 = fun (X) ->\n  case X of <{'ok',Y}> when 'true' -> Y end\n'g'/0 = fun () ->\n  apply 'f'/1('error')\nend\n";
+    let clauses_report =
+        "'r3':4: function 'g'/0 has no local return\n'r3':5: the call 'f'/1 never returns\n";
+    let raises =
+        "module 'r5' ['c'/0] attributes []\n'e'/0 = fun () -> call 'erlang':'error'('x')\n'c'/0 = fun () -> apply 'e'/0()\nend\n";
+    let deep =
+        "module 'r7' ['f'/0] attributes []\n'f'/0 = fun () -> case {{{'b'}}} of\n<{{{'a'}}}> when 'true' -> 'p'\n<_> when 'true' -> 'q' end\nend\n";
+    let refined =
+        "module 'r8' ['f'/0] attributes []\n'f'/0 = fun () -> apply 'h'/1(1)\n'h'/1 = fun (X) ->\n  case X of\n    <'a'> when 'true' -> 'p'\n    <1> when 'true' -> 'q'\n  end\nend\n";
+    let escapes =
+        "module 'r8' ['f'/0] attributes []\n'f'/0 = fun () -> do call 'erlang':'!'('p','h'/1) apply 'h'/1(1)\n'h'/1 = fun (X) ->\n  case X of\n    <'a'> when 'true' -> 'p'\n    <1> when 'true' -> 'q'\n  end\nend\n";
+    let float =
+        "module 'r15' ['f'/0] attributes [] 'f'/0 = fun () -> case 1.0 of <2.0> when 'true' -> 'a' end end";
     let cases = [
         (EMPTY, Status::Clean, ""),
-        (loops, Status::Clean, ""),
         (widest, Status::Clean, ""),
         (server, Status::Clean, ""),
         (map, Status::Clean, ""),
+        (sum, Status::Warnings, sum_report),
+        (clauses, Status::Warnings, clauses_report),
+        (raises, Status::Clean, ""),
+        (
+            deep,
+            Status::Warnings,
+            "'r7':3: this clause can never match\n",
+        ),
+        (
+            refined,
+            Status::Warnings,
+            "'r8':5: this clause can never match\n",
+        ),
+        (escapes, Status::Clean, ""),
+        (float, Status::Clean, ""),
         (LOST, Status::Warnings, LOST_REPORT),
-        (one_line, Status::Warnings, many),
-        (cycle, Status::Warnings, cycle_report),
     ];
     for (text, status, output) in cases {
         let answer = run(rt.alloc(), &["check", "m.core"], text)?;
@@ -67,6 +98,89 @@ fn checks_sources(rt: HostRuntime) -> Result<(), Fail> {
     }
     Ok(())
 }
+
+// Two modules whose functions call each other, and one that calls what another doesn't have.
+#[test]
+fn checks_modules_together(rt: HostRuntime) -> Result<(), Fail> {
+    let ring_a =
+        "module 'a' ['f'/1] attributes []\n'f'/1 = fun (X) -> case X of\n  <0> when 'true' -> 'z'\n  <Y> when 'true' -> call 'b':'g'(Y) end\nend\n";
+    let ring_b = "module 'b' ['g'/1] attributes []\n'g'/1 = fun (X) -> call 'a':'f'(X)\nend\n";
+    let caller = "module 'a' ['f'/0] attributes []\n'f'/0 = fun () -> call 'b':'p'()\nend\n";
+    let nothing = "module 'b' [] attributes [] end\n";
+    let alone: &[&str] = &["check", "a.core"];
+    let both: &[&str] = &["check", "a.core", "b.core"];
+    let turned: &[&str] = &["check", "b.core", "a.core"];
+    let undefined =
+        "'a':2: function 'f'/0 has no local return\n'a':2: the call 'b':'p'/0 never returns\n";
+    let cases = [
+        (both, ring_a, ring_b, Status::Clean, ""),
+        (turned, ring_a, ring_b, Status::Clean, ""),
+        (both, caller, nothing, Status::Warnings, undefined),
+        (turned, caller, nothing, Status::Warnings, undefined),
+        (
+            alone,
+            caller,
+            nothing,
+            Status::Warnings,
+            "'a':2: unknown function 'b':'p'/0\n",
+        ),
+        (
+            alone,
+            ring_a,
+            ring_b,
+            Status::Warnings,
+            "'a':4: unknown function 'b':'g'/1\n",
+        ),
+    ];
+    for (words, a, b, status, output) in cases {
+        let answer = run_with(rt.alloc(), words, &[("a.core", a), ("b.core", b)])?;
+        assert_eq!(rt; answer.0, status, "{a}");
+        assert_eq!(rt; answer.1.as_slice(), output.as_bytes(), "{a}");
+    }
+    Ok(())
+}
+
+// Two files with one module, the first fault in the order of the words, and too many files.
+#[test]
+fn refuses_files_together(rt: HostRuntime) -> Result<(), Fail> {
+    let alloc = rt.alloc();
+    let answer = run_with(alloc, &["check", "e.core", "e.core"], &[("e.core", EMPTY)])?;
+    let twice = Refusal {
+        number: 14,
+        word: 2,
+        line: 0,
+        other: 1,
+    };
+    assert_eq!(rt; answer.0, Status::Refused(twice));
+    assert_eq!(rt;
+        answer.1.as_slice(),
+        b"e.core: refused 14 DuplicateModule with e.core\n".as_slice()
+    );
+    let words = ["check", "e.core", "e.core", "x.core", "q.core"];
+    let answer = run_with(alloc, &words, &[("e.core", EMPTY), ("q.core", "?")])?;
+    assert_eq!(rt; answer.0, Status::Refused(MISSING.refusal(3)));
+    assert_eq!(rt;
+        answer.1.as_slice(),
+        b"x.core: refused 26 Missing\n".as_slice()
+    );
+    for (count, wanted) in [(1024u32, twice), (1025, TOO_MANY)] {
+        let mut words: List<&str> = List::new(alloc);
+        words.push("check").ok().ok_or("memory")?;
+        for _ in 0..count {
+            words.push("e.core").ok().ok_or("memory")?;
+        }
+        let answer = run_with(alloc, words.as_slice(), &[("e.core", EMPTY)])?;
+        assert_eq!(rt; answer.0, Status::Refused(wanted), "{count}");
+    }
+    Ok(())
+}
+
+const TOO_MANY: Refusal = Refusal {
+    number: 24,
+    word: 0,
+    line: 0,
+    other: 0,
+};
 
 #[test]
 fn knows_its_words(rt: HostRuntime) -> Result<(), Fail> {
@@ -83,7 +197,7 @@ fn knows_its_words(rt: HostRuntime) -> Result<(), Fail> {
         ["m.core", "check"],
     ];
     let three = [
-        ["check", "m.core", "m.core"],
+        ["check", "m.core", "-m.core"],
         ["check", "--plt", "t"],
         ["check", "--plt=t", "m.core"],
         ["check", "m.core", ""],
@@ -107,7 +221,7 @@ fn knows_its_words(rt: HostRuntime) -> Result<(), Fail> {
 }
 
 fn refused(name: RefusalName, line: u32) -> Status {
-    SourceFault { name, line }.status()
+    Status::Refused(SourceFault { name, line }.refusal(1))
 }
 
 // One source for each refusal that has a line: the second line of a module that exports `'f'/0`.
@@ -196,27 +310,27 @@ fn knows_how_deep(rt: HostRuntime) -> Result<(), Fail> {
 fn tells_of_devices(rt: HostRuntime) -> Result<(), Fail> {
     let alloc = rt.alloc();
     let answer = run(alloc, &["check", "x.core"], EMPTY)?;
-    assert_eq!(rt; answer.0, MISSING.status());
+    assert_eq!(rt; answer.0, Status::Refused(MISSING.refusal(1)));
     assert_eq!(rt;
         answer.1.as_slice(),
         b"x.core: refused 26 Missing\n".as_slice()
     );
 
     let mut reads = List::new(alloc);
-    reads.push(1).ok().ok_or("memory")?;
+    reads.push(2).ok().ok_or("memory")?;
     let mut shelf = MemShelf::new(alloc, reads, List::new(alloc));
     shelf.put("e.core", EMPTY.as_bytes())?;
     let mut sink = MemSink::new(alloc, 4096, 4096, List::new(alloc))?;
     let status = dialyze(
         alloc,
-        &["check", "e.core"],
+        &["check", "e.core", "f.core"],
         &mut shelf,
         &mut sink,
         &OpenGate,
     );
-    assert_eq!(rt; status, Status::DeviceFault(Device::Read(1)));
-    assert_eq!(rt; sink.bytes(), b"e.core: device fault read\n".as_slice());
-    // the second read doesn't fail
+    assert_eq!(rt; status, Status::DeviceFault(Device::Read(2)));
+    assert_eq!(rt; sink.bytes(), b"f.core: device fault read\n".as_slice());
+    // the third read doesn't fail
     let status = dialyze(
         alloc,
         &["check", "e.core"],

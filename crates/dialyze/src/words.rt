@@ -1,21 +1,33 @@
-ghost use Rattle.std.specs.Prelude.{◌≡◌, ◌↔◌, IsTrue, IfSome, IfNone};
-ghost use Rattle.dialyze.specs.Words.{texts, IsFile, IsCheck, IsNoCommand};
+ghost use Rattle.std.specs.Prelude.{◌≡◌, ◌↔◌, IsTrue};
+ghost use Rattle.analysis.specs.Words.{texts};
+ghost use Rattle.dialyze.specs.Words.{AreFiles, IsFile, IsCommand};
 
-/// The file that the words ask to check, and `None` where they are no command.
-pub fn file_of<'a>(words: &[&'a str]) -> Option<&'a str>
-    ensures some { IfSome result (λ file. IsCheck (texts words.now) file.now) }
-    ensures none { IfNone result (IsNoCommand (texts words.now)) }
+/// Whether the words are a command: `check`, and then one file or more.
+pub fn is_command(words: &[&str]) -> bool
+    ensures { IsTrue result ↔ IsCommand (texts words.now) }
 {
-    match words {
-        [command, file] => {
-            if *command == "check" && is_file(file) {
-                Some(file)
-            } else {
-                None
-            }
-        }
-        _ => None,
+    let Some((command, files)) = words.split_first() else {
+        return false;
+    };
+    if *command != "check" {
+        return false;
     }
+    if files.is_empty() {
+        return false;
+    }
+    are_files(files)
+}
+
+// Whether each word is a file's name.
+fn are_files(words: &[&str]) -> bool
+    ensures { IsTrue result ↔ AreFiles (texts words.now) }
+{
+    for word in words {
+        if !is_file(word) {
+            return false;
+        }
+    }
+    true
 }
 
 // Whether a word is a file's name: it isn't empty and doesn't begin with `-`.

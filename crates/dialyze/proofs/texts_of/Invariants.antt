@@ -1,6 +1,6 @@
 use Rattle.std.proofs.Common.{◌≡◌, map, take}
 use Rattle.std.specs.String.{string_bytes}
-use Rattle.dialyze.specs.Words.{texts}
+use Rattle.analysis.specs.Words.{texts}
 use Rattle.dialyze.proofs.texts_of.Given as goal
 
 abbrev pub invariant-loop-word : goal.invariant-loop-word

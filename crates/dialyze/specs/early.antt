@@ -1,4 +1,0 @@
-pub mod Fails
-pub mod Dead
-pub mod Findings
-pub mod steps

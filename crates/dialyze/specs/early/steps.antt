@@ -1,4 +1,0 @@
-pub mod Judged
-pub mod Walked
-pub mod Settled
-pub mod Reported
