@@ -29,6 +29,10 @@ fn is_unknown(known: &Summaries, home: &Atom, name: &FunName) -> bool {
     matches!(known.find(home, name), Callee::Unknown)
 }
 
+fn is_undefined(known: &Summaries, home: &Atom, name: &FunName) -> bool {
+    matches!(known.find(home, name), Callee::Undefined)
+}
+
 // Sets a callee, finds it under its own name alone, and sets another in its place.
 fn is_found(
     known: &mut Summaries,
@@ -68,6 +72,28 @@ fn is_replaced(
     Ok(first && second && other)
 }
 
+// Closes a module in which a callee was set, and sets another one, which a copy has too.
+fn is_closed(
+    alloc: Global,
+    known: &mut Summaries,
+    home: &Atom,
+    other: &Atom,
+    f: &FunName,
+    g: &FunName,
+) -> Result<bool, Memory> {
+    known.set(home, f, Callee::Unknown)?;
+    known.close(home)?;
+    let closed = is_undefined(known, home, f) && is_undefined(known, home, g);
+    known.set(home, g, Callee::Unknown)?;
+    let copy = known.copy(alloc)?;
+    Ok(
+        closed
+            && is_undefined(&copy, home, f)
+            && is_unknown(&copy, home, g)
+            && is_unknown(&copy, other, f),
+    )
+}
+
 #[test]
 fn callees_are_found(rt: HostRuntime) -> Result<(), Memory> {
     let alloc = rt.alloc();
@@ -88,5 +114,17 @@ fn a_summary_is_replaced(rt: HostRuntime) -> Result<(), Memory> {
     let g = name(alloc, b'g')?;
     let mut known = Summaries::new(alloc);
     assert!(rt; is_replaced(alloc, &mut known, &home, &f, &g)?);
+    Ok(())
+}
+
+#[test]
+fn a_module_is_closed(rt: HostRuntime) -> Result<(), Memory> {
+    let alloc = rt.alloc();
+    let home = Atom::new(alloc, b"m")?;
+    let other = Atom::new(alloc, b"n")?;
+    let f = name(alloc, b'f')?;
+    let g = name(alloc, b'g')?;
+    let mut known = Summaries::new(alloc);
+    assert!(rt; is_closed(alloc, &mut known, &home, &other, &f, &g)?);
     Ok(())
 }
