@@ -3,5 +3,7 @@ pub mod Forms
 pub mod Names
 pub mod Items
 mod NotedTrees
-mod Bare
-mod BareForms
+mod SameItems
+mod SameForms
+mod WithPlaces
+mod OneTree

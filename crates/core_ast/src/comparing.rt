@@ -1,11 +1,12 @@
-// Whether two modules are the same apart from places.
+// Whether two modules are the same apart from places, and whether two definitions are equal.
 ghost use Rattle.std.specs.Prelude.{◌≡◌, ◌↔◌, IsTrue, map};
 ghost use Rattle.core_ast.specs.Tree.{all_defs, module_tree};
-ghost use Rattle.core_ast.specs.Same.{bare_mark, bare_variable, bare_defs, Same};
+ghost use Rattle.core_ast.specs.Compared.{compared_mark, compared_place, compared_variable};
+ghost use Rattle.core_ast.specs.Same.{bare_defs, Same};
 
 use crate::comparing_trees::same_definition;
 use crate::syntax::{FunDef, FunName, Literal, Mark, Module, Note, VarName};
-use type_kinds::Shared;
+use type_kinds::{Place, Shared};
 
 /// Whether two modules are equal apart from their places: in names, exports, definitions, forms,
 /// labels and notes. Takes no memory.
@@ -22,7 +23,15 @@ pub fn same(a: &Module, b: &Module) -> bool
         && same_definitions(a.defs.as_slice(), b.defs.as_slice())
 }
 
-// Whether the definitions of two modules are the same.
+/// Whether two definitions are the same value, with all their labels, places and notes. Takes no
+/// memory.
+pub fn equal_definition(a: &FunDef, b: &FunDef) -> bool
+    ensures { IsTrue result ↔ (a.now ≡ b.now) }
+{
+    same_definition(true, a, b)
+}
+
+// Whether the definitions of two modules are the same apart from places.
 fn same_definitions(a: &[Shared<FunDef>], b: &[Shared<FunDef>]) -> bool
     ensures { IsTrue result ↔ (bare_defs (all_defs a.now) ≡ bare_defs (all_defs b.now)) }
 {
@@ -30,7 +39,7 @@ fn same_definitions(a: &[Shared<FunDef>], b: &[Shared<FunDef>]) -> bool
         return false;
     }
     for i in 0..a.len() {
-        if !same_definition(a[i].get(), b[i].get()) {
+        if !same_definition(false, a[i].get(), b[i].get()) {
             return false;
         }
     }
@@ -79,29 +88,36 @@ pub fn same_note(a: &Note, b: &Note) -> bool
     a.line == b.line && a.generated == b.generated
 }
 
-/// Whether two marks are equal apart from their places.
-pub fn same_mark(a: &Mark, b: &Mark) -> bool
-    ensures { IsTrue result ↔ (bare_mark a.now ≡ bare_mark b.now) }
+// Whether two places are equal, or aren't compared.
+fn same_place(places: bool, a: &Place, b: &Place) -> bool
+    ensures { IsTrue result ↔ (compared_place places a.now ≡ compared_place places b.now) }
 {
-    a.label == b.label && same_note(&a.note, &b.note)
+    !places || (a.byte == b.byte && a.line == b.line)
 }
 
-/// Whether two variables of lists are equal apart from their places.
-pub fn same_variable(a: &VarName, b: &VarName) -> bool
-    ensures { IsTrue result ↔ (bare_variable a.now ≡ bare_variable b.now) }
+/// Whether two marks are equal, apart from their places where those aren't compared.
+pub fn same_mark(places: bool, a: &Mark, b: &Mark) -> bool
+    ensures { IsTrue result ↔ (compared_mark places a.now ≡ compared_mark places b.now) }
 {
-    a.name.is(&b.name) && same_note(&a.note, &b.note)
+    a.label == b.label && same_note(&a.note, &b.note) && same_place(places, &a.place, &b.place)
 }
 
-/// Whether two lists of variables are equal apart from their places.
-pub fn same_variables(a: &[VarName], b: &[VarName]) -> bool
-    ensures { IsTrue result ↔ (map bare_variable a.now ≡ map bare_variable b.now) }
+/// Whether two variables of lists are equal, apart from their places where those aren't compared.
+pub fn same_variable(places: bool, a: &VarName, b: &VarName) -> bool
+    ensures { IsTrue result ↔ (compared_variable places a.now ≡ compared_variable places b.now) }
+{
+    a.name.is(&b.name) && same_note(&a.note, &b.note) && same_place(places, &a.place, &b.place)
+}
+
+/// Whether two lists of variables are equal, apart from their places where those aren't compared.
+pub fn same_variables(places: bool, a: &[VarName], b: &[VarName]) -> bool
+    ensures { IsTrue result ↔ (map (compared_variable places) a.now ≡ map (compared_variable places) b.now) }
 {
     if a.len() != b.len() {
         return false;
     }
     for i in 0..a.len() {
-        if !same_variable(&a[i], &b[i]) {
+        if !same_variable(places, &a[i], &b[i]) {
             return false;
         }
     }

@@ -14,7 +14,7 @@ mod pattern_makers;
 mod readers;
 mod syntax;
 
-pub use comparing::same;
+pub use comparing::{equal_definition, same, same_name};
 pub use drops::{
     discard, discard_all, discard_clause, discard_clauses, discard_definition, discard_definitions,
     discard_fun, discard_functions, discard_module, discard_pair, discard_pairs, discard_pattern,

@@ -1,5 +1,5 @@
--- The parts of trees without their places, one by one, as two trees are compared.
-use Rattle.std.specs.Prelude.{◌≡◌, Option, Some, None, map}
+-- What is compared of the parts of trees, one by one.
+use Rattle.std.specs.Prelude.{◌≡◌, Bool, Option, Some, None, map}
 use Rattle.core_ast.specs.declared.syntax.Expr.{Expr}
 use Rattle.core_ast.specs.declared.syntax.TryOf.{TryOf}
 use Rattle.core_ast.specs.declared.syntax.FunDefOf.{FunDefOf}
@@ -7,39 +7,39 @@ use Rattle.core_ast.specs.declared.syntax.StepOf.{StepOf}
 use Rattle.core_ast.specs.declared.syntax.StepOf.TheVariants.{Let, Do}
 use Rattle.core_ast.specs.Model as m
 use Rattle.core_ast.specs.Tree.{tree, ClauseParts, PairParts, PatPairParts, SegmentParts, PatSegmentParts}
-use Rattle.core_ast.specs.Same.{bare_mark, bare_variable, bare, bare_all, bare_pattern, bare_patterns}
+use Rattle.core_ast.specs.Compared.{compared_mark, compared_variable, compared, compared_all, compared_pattern, compared_patterns}
 
--- The parts of a list's item without their places.
-abbrev pub bare_pair : PairParts → PairParts
-bare_pair p = record { exact = p.exact; key = bare p.key; value = bare p.value }
+-- What is compared of the parts of a list's item.
+abbrev pub compared_pair : Bool → PairParts → PairParts
+compared_pair places p = record { exact = p.exact; key = compared places p.key; value = compared places p.value }
 
-abbrev pub bare_segment : SegmentParts → SegmentParts
-bare_segment s = record { value = bare s.value; args = bare_all s.args }
+abbrev pub compared_segment : Bool → SegmentParts → SegmentParts
+compared_segment places s = record { value = compared places s.value; args = compared_all places s.args }
 
-abbrev pub bare_step : StepOf m.Tree → StepOf m.Tree
-bare_step (Let k xs t) = Let (bare_mark k) (map bare_variable xs) (bare t)
-bare_step (Do k t) = Do (bare_mark k) (bare t)
+abbrev pub compared_step : Bool → StepOf m.Tree → StepOf m.Tree
+compared_step places (Let k xs t) = Let (compared_mark places k) (map (compared_variable places) xs) (compared places t)
+compared_step places (Do k t) = Do (compared_mark places k) (compared places t)
 
-abbrev pub bare_clause : ClauseParts → ClauseParts
-bare_clause c = record { mark = bare_mark c.mark; patterns = bare_patterns c.patterns; guard = bare c.guard; body = bare c.body }
+abbrev pub compared_clause : Bool → ClauseParts → ClauseParts
+compared_clause places c = record { mark = compared_mark places c.mark; patterns = compared_patterns places c.patterns; guard = compared places c.guard; body = compared places c.body }
 
-abbrev pub bare_def : FunDefOf m.Tree → FunDefOf m.Tree
-bare_def d = record { name = d.name; mark = bare_mark d.mark; fun = record { params = map bare_variable d.fun.params; body = bare d.fun.body } }
+abbrev pub compared_def : Bool → FunDefOf m.Tree → FunDefOf m.Tree
+compared_def places d = record { name = d.name; mark = compared_mark places d.mark; fun = record { params = map (compared_variable places) d.fun.params; body = compared places d.fun.body } }
 
-abbrev pub bare_pat_pair : PatPairParts → PatPairParts
-bare_pat_pair p = record { key = bare p.key; value = bare_pattern p.value }
+abbrev pub compared_pat_pair : Bool → PatPairParts → PatPairParts
+compared_pat_pair places p = record { key = compared places p.key; value = compared_pattern places p.value }
 
-abbrev pub bare_pat_segment : PatSegmentParts → PatSegmentParts
-bare_pat_segment s = record { value = bare_pattern s.value; args = bare_all s.args }
+abbrev pub compared_pat_segment : Bool → PatSegmentParts → PatSegmentParts
+compared_pat_segment places s = record { value = compared_pattern places s.value; args = compared_all places s.args }
 
 -- The parts of two `try`s, and the maps that two maps update, are the same.
-abbrev pub SameTry : TryOf Expr → TryOf Expr → Type 0
-SameTry x y = (bare (tree x.arg) ≡ bare (tree y.arg)) × (bare (tree x.body) ≡ bare (tree y.body)) × (bare (tree x.handler) ≡ bare (tree y.handler)) × (map bare_variable x.vars ≡ map bare_variable y.vars) × (map bare_variable x.catch_vars ≡ map bare_variable y.catch_vars)
+abbrev pub SameTry : Bool → TryOf Expr → TryOf Expr → Type 0
+SameTry places x y = (compared places (tree x.arg) ≡ compared places (tree y.arg)) × (compared places (tree x.body) ≡ compared places (tree y.body)) × (compared places (tree x.handler) ≡ compared places (tree y.handler)) × (map (compared_variable places) x.vars ≡ map (compared_variable places) y.vars) × (map (compared_variable places) x.catch_vars ≡ map (compared_variable places) y.catch_vars)
 
-abbrev pub SameUpdated : Option Expr → Option Expr → Type 0
-SameUpdated (Some x) (Some y) = bare (tree x) ≡ bare (tree y)
-SameUpdated None None = Unit {0}
-SameUpdated x y = ⊥
+abbrev pub SameUpdated : Bool → Option Expr → Option Expr → Type 0
+SameUpdated places (Some x) (Some y) = compared places (tree x) ≡ compared places (tree y)
+SameUpdated places None None = Unit {0}
+SameUpdated places x y = ⊥
 
 -- An expression that is no variable, name, literal, tuple, value list or binary; and one that is no fun,
 -- list, map, application, primitive operation or `catch` either.

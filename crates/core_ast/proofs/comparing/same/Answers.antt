@@ -1,6 +1,6 @@
 use Rattle.core_ast.specs.Tree.{all_defs, module_tree}
 use Rattle.core_ast.specs.Same.{bare_defs}
-use Rattle.core_ast.proofs.BareForms.{along, last, ends, stops, module_same}
+use Rattle.core_ast.proofs.SameForms.{along, last, ends, stops, module_same}
 use Rattle.core_ast.proofs.comparing.same.Goals as goal
 
 pub returns-then-not-is : goal.returns-then-not-is

@@ -1,5 +1,5 @@
 use Rattle.std.proofs.Common.{arith}
-use Rattle.core_ast.proofs.Bare.{through, names_same, begun, one_more, unlike, alike, other_length}
+use Rattle.core_ast.proofs.SameItems.{through, names_same, begun, one_more, unlike, alike, other_length}
 use Rattle.core_ast.proofs.comparing.same_names.Goals as goal
 
 pub loop-i-init : goal.loop-i-init

@@ -1,4 +1,4 @@
-use Rattle.core_ast.proofs.Bare.{SoFar}
+use Rattle.core_ast.proofs.SameItems.{SoFar}
 use Rattle.core_ast.proofs.comparing.same_names.Given as goal
 
 abbrev pub invariant-loop-i : goal.invariant-loop-i

@@ -1,5 +1,5 @@
 use Rattle.std.proofs.Common.{arith}
-use Rattle.core_ast.proofs.Bare.{begun, one_more, unlike, alike, other_length}
+use Rattle.core_ast.proofs.SameItems.{begun, one_more, unlike, alike, other_length}
 use Rattle.core_ast.proofs.comparing.same_variables.Goals as goal
 
 pub loop-i-init : goal.loop-i-init

@@ -1,36 +1,36 @@
 use Rattle.std.proofs.Common.{◌+◌, ◌*◌}
 use Rattle.core_ast.specs.Tree.{tree, pattern_tree, clause_parts, pair_parts, pat_pair_parts, segment_parts, pat_segment_parts, step_tree, def_tree}
-use Rattle.core_ast.specs.Same.{bare, bare_pattern}
-use Rattle.core_ast.specs.steps.Comparing.{bare_pair, bare_segment, bare_step, bare_clause, bare_def, bare_pat_pair, bare_pat_segment}
-use Rattle.core_ast.proofs.Bare.{SoFar}
+use Rattle.core_ast.specs.Compared.{compared, compared_pattern}
+use Rattle.core_ast.specs.steps.Comparing.{compared_pair, compared_segment, compared_step, compared_clause, compared_def, compared_pat_pair, compared_pat_segment}
+use Rattle.core_ast.proofs.SameItems.{SoFar}
 use Rattle.core_ast.proofs.comparing_trees.+same.Given as goal
 
 abbrev pub invariant-same_all-loop-i : goal.invariant-same_all-loop-i
-invariant-same_all-loop-i l = SoFar (λ e. bare (tree e)) l.a l.b l.i
+invariant-same_all-loop-i l = SoFar (λ e. compared l.places (tree e)) l.a l.b l.i
 
 abbrev pub invariant-same_pairs-loop-i : goal.invariant-same_pairs-loop-i
-invariant-same_pairs-loop-i l = SoFar (λ e. bare_pair (pair_parts e)) l.a l.b l.i
+invariant-same_pairs-loop-i l = SoFar (λ e. compared_pair l.places (pair_parts e)) l.a l.b l.i
 
 abbrev pub invariant-same_segments-loop-i : goal.invariant-same_segments-loop-i
-invariant-same_segments-loop-i l = SoFar (λ e. bare_segment (segment_parts e)) l.a l.b l.i
+invariant-same_segments-loop-i l = SoFar (λ e. compared_segment l.places (segment_parts e)) l.a l.b l.i
 
 abbrev pub invariant-same_steps-loop-i : goal.invariant-same_steps-loop-i
-invariant-same_steps-loop-i l = SoFar (λ e. bare_step (step_tree e)) l.a l.b l.i
+invariant-same_steps-loop-i l = SoFar (λ e. compared_step l.places (step_tree e)) l.a l.b l.i
 
 abbrev pub invariant-same_clauses-loop-i : goal.invariant-same_clauses-loop-i
-invariant-same_clauses-loop-i l = SoFar (λ e. bare_clause (clause_parts e)) l.a l.b l.i
+invariant-same_clauses-loop-i l = SoFar (λ e. compared_clause l.places (clause_parts e)) l.a l.b l.i
 
 abbrev pub invariant-same_defs-loop-i : goal.invariant-same_defs-loop-i
-invariant-same_defs-loop-i l = SoFar (λ e. bare_def (def_tree e)) l.a l.b l.i
+invariant-same_defs-loop-i l = SoFar (λ e. compared_def l.places (def_tree e)) l.a l.b l.i
 
 abbrev pub invariant-same_patterns-loop-i : goal.invariant-same_patterns-loop-i
-invariant-same_patterns-loop-i l = SoFar (λ e. bare_pattern (pattern_tree e)) l.a l.b l.i
+invariant-same_patterns-loop-i l = SoFar (λ e. compared_pattern l.places (pattern_tree e)) l.a l.b l.i
 
 abbrev pub invariant-same_pat_pairs-loop-i : goal.invariant-same_pat_pairs-loop-i
-invariant-same_pat_pairs-loop-i l = SoFar (λ e. bare_pat_pair (pat_pair_parts e)) l.a l.b l.i
+invariant-same_pat_pairs-loop-i l = SoFar (λ e. compared_pat_pair l.places (pat_pair_parts e)) l.a l.b l.i
 
 abbrev pub invariant-same_pat_segments-loop-i : goal.invariant-same_pat_segments-loop-i
-invariant-same_pat_segments-loop-i l = SoFar (λ e. bare_pat_segment (pat_segment_parts e)) l.a l.b l.i
+invariant-same_pat_segments-loop-i l = SoFar (λ e. compared_pat_segment l.places (pat_segment_parts e)) l.a l.b l.i
 
 -- the deeper a value, the more; at one depth a list more than its item, and an item than its expression
 

@@ -1,4 +1,4 @@
--- Equality apart from places: item by item of lists, and form by form of trees.
+-- Equality of trees, with places or apart from them: item by item of lists.
 use Rattle.std.proofs.Common.{◌≡◌, ℕ, suc, true≢false, ◌+◌, ◌<◌, ◌≤◌, ◌↔◌, List, [], ◌∷◌, map, length, drop, get_or, Bool, true, false, IsTrue, refl, sym, ap, ◌∙◌, subst, add-one, drop-cons}
 use mathlib.Core.Bool.{not, beq}
 use denote.Param.Weighed.{most, at_most}
@@ -15,8 +15,8 @@ use Rattle.core_ast.specs.declared.syntax.PatSegment.{PatSegment}
 use Rattle.core_ast.specs.declared.syntax.Pattern.{Pattern}
 use Rattle.core_ast.specs.Model as m
 use Rattle.core_ast.specs.Tree.{ClauseParts, PairParts, PatPairParts, SegmentParts, PatSegmentParts, trees, patterns, pairs, pat_pairs, segments, pat_segments, clauses, steps, defs, tree, pattern_tree, clause_parts, pair_parts, pat_pair_parts, segment_parts, pat_segment_parts, step_tree, def_tree, all_trees, all_patterns, all_clauses, all_pairs, all_pat_pairs, all_segments, all_pat_segments, all_steps, all_defs}
-use Rattle.core_ast.specs.Same.{bare_mark, bare_variable, bare, bare_all, bare_pairs, bare_segments, bare_steps, bare_clauses, bare_defs, bare_pattern, bare_patterns, bare_pat_pairs, bare_pat_segments}
-use Rattle.core_ast.specs.steps.Comparing.{bare_pair, bare_segment, bare_step, bare_clause, bare_def, bare_pat_pair, bare_pat_segment}
+use Rattle.core_ast.specs.Compared.{compared_mark, compared_variable, compared, compared_all, compared_pairs, compared_segments, compared_steps, compared_clauses, compared_defs, compared_pattern, compared_patterns, compared_pat_pairs, compared_pat_segments}
+use Rattle.core_ast.specs.steps.Comparing.{compared_pair, compared_segment, compared_step, compared_clause, compared_def, compared_pat_pair, compared_pat_segment}
 
 -- ---- tests
 
@@ -112,13 +112,6 @@ unfolding un_trees
 un_trees-has [] = refl
 un_trees-has (y ∷ ys) = ap (λ zs. y ∷ zs) (un_trees-has ys)
 
-all-made : (xs : List Expr) → bare_all (all_trees xs) ≡ trees (map (λ e. bare (tree e)) xs)
-all-made [] = refl
-all-made (x ∷ xs) = ap (m.and_tree (bare (tree x))) (all-made xs)
-
-pub all_same : (xs ys : List Expr) → (map (λ e. bare (tree e)) xs ≡ map (λ e. bare (tree e)) ys) ↔ (bare_all (all_trees xs) ≡ bare_all (all_trees ys))
-all_same = by_items (λ e. bare (tree e)) (λ xs. bare_all (all_trees xs)) trees un_trees all-made un_trees-has
-
 un_pairs : m.Pairs → List PairParts
 un_pairs m.no_pair = []
 un_pairs (m.and_pair e k v ps) = (record { exact = e; key = k; value = v }) ∷ un_pairs ps
@@ -127,13 +120,6 @@ un_pairs-has : (ys : List PairParts) → un_pairs (pairs ys) ≡ ys
 unfolding un_pairs
 un_pairs-has [] = refl
 un_pairs-has (y ∷ ys) = ap (λ zs. y ∷ zs) (un_pairs-has ys)
-
-pairs-made : (xs : List MapPair) → bare_pairs (all_pairs xs) ≡ pairs (map (λ e. bare_pair (pair_parts e)) xs)
-pairs-made [] = refl
-pairs-made (x ∷ xs) = ap (m.and_pair (pair_parts x).exact (bare (pair_parts x).key) (bare (pair_parts x).value)) (pairs-made xs)
-
-pub pairs_same : (xs ys : List MapPair) → (map (λ e. bare_pair (pair_parts e)) xs ≡ map (λ e. bare_pair (pair_parts e)) ys) ↔ (bare_pairs (all_pairs xs) ≡ bare_pairs (all_pairs ys))
-pairs_same = by_items (λ e. bare_pair (pair_parts e)) (λ xs. bare_pairs (all_pairs xs)) pairs un_pairs pairs-made un_pairs-has
 
 un_segments : m.Segments → List SegmentParts
 un_segments m.no_segment = []
@@ -144,13 +130,6 @@ unfolding un_segments
 un_segments-has [] = refl
 un_segments-has (y ∷ ys) = ap (λ zs. y ∷ zs) (un_segments-has ys)
 
-segments-made : (xs : List Segment) → bare_segments (all_segments xs) ≡ segments (map (λ e. bare_segment (segment_parts e)) xs)
-segments-made [] = refl
-segments-made (x ∷ xs) = ap (m.and_segment (bare (segment_parts x).value) (bare_all (segment_parts x).args)) (segments-made xs)
-
-pub segments_same : (xs ys : List Segment) → (map (λ e. bare_segment (segment_parts e)) xs ≡ map (λ e. bare_segment (segment_parts e)) ys) ↔ (bare_segments (all_segments xs) ≡ bare_segments (all_segments ys))
-segments_same = by_items (λ e. bare_segment (segment_parts e)) (λ xs. bare_segments (all_segments xs)) segments un_segments segments-made un_segments-has
-
 un_clauses : m.Clauses → List ClauseParts
 un_clauses m.no_clause = []
 un_clauses (m.and_clause k ps g b cs) = (record { mark = k; patterns = ps; guard = g; body = b }) ∷ un_clauses cs
@@ -159,13 +138,6 @@ un_clauses-has : (ys : List ClauseParts) → un_clauses (clauses ys) ≡ ys
 unfolding un_clauses
 un_clauses-has [] = refl
 un_clauses-has (y ∷ ys) = ap (λ zs. y ∷ zs) (un_clauses-has ys)
-
-clauses-made : (xs : List Clause) → bare_clauses (all_clauses xs) ≡ clauses (map (λ e. bare_clause (clause_parts e)) xs)
-clauses-made [] = refl
-clauses-made (x ∷ xs) = ap (m.and_clause (bare_mark (clause_parts x).mark) (bare_patterns (clause_parts x).patterns) (bare (clause_parts x).guard) (bare (clause_parts x).body)) (clauses-made xs)
-
-pub clauses_same : (xs ys : List Clause) → (map (λ e. bare_clause (clause_parts e)) xs ≡ map (λ e. bare_clause (clause_parts e)) ys) ↔ (bare_clauses (all_clauses xs) ≡ bare_clauses (all_clauses ys))
-clauses_same = by_items (λ e. bare_clause (clause_parts e)) (λ xs. bare_clauses (all_clauses xs)) clauses un_clauses clauses-made un_clauses-has
 
 un_defs : m.Defs → List (FunDefOf m.Tree)
 un_defs m.no_def = []
@@ -176,13 +148,6 @@ unfolding un_defs
 un_defs-has [] = refl
 un_defs-has (y ∷ ys) = ap (λ zs. y ∷ zs) (un_defs-has ys)
 
-defs-made : (xs : List (FunDefOf Expr)) → bare_defs (all_defs xs) ≡ defs (map (λ e. bare_def (def_tree e)) xs)
-defs-made [] = refl
-defs-made (x ∷ xs) = ap (m.and_def x.name (bare_mark x.mark) (map bare_variable x.fun.params) (bare (tree x.fun.body))) (defs-made xs)
-
-pub defs_same : (xs ys : List (FunDefOf Expr)) → (map (λ e. bare_def (def_tree e)) xs ≡ map (λ e. bare_def (def_tree e)) ys) ↔ (bare_defs (all_defs xs) ≡ bare_defs (all_defs ys))
-defs_same = by_items (λ e. bare_def (def_tree e)) (λ xs. bare_defs (all_defs xs)) defs un_defs defs-made un_defs-has
-
 un_patterns : m.Patterns → List m.Pattern
 un_patterns m.no_pattern = []
 un_patterns (m.and_pattern t ts) = t ∷ un_patterns ts
@@ -191,13 +156,6 @@ un_patterns-has : (ys : List m.Pattern) → un_patterns (patterns ys) ≡ ys
 unfolding un_patterns
 un_patterns-has [] = refl
 un_patterns-has (y ∷ ys) = ap (λ zs. y ∷ zs) (un_patterns-has ys)
-
-patterns-made : (xs : List Pattern) → bare_patterns (all_patterns xs) ≡ patterns (map (λ e. bare_pattern (pattern_tree e)) xs)
-patterns-made [] = refl
-patterns-made (x ∷ xs) = ap (m.and_pattern (bare_pattern (pattern_tree x))) (patterns-made xs)
-
-pub patterns_same : (xs ys : List Pattern) → (map (λ e. bare_pattern (pattern_tree e)) xs ≡ map (λ e. bare_pattern (pattern_tree e)) ys) ↔ (bare_patterns (all_patterns xs) ≡ bare_patterns (all_patterns ys))
-patterns_same = by_items (λ e. bare_pattern (pattern_tree e)) (λ xs. bare_patterns (all_patterns xs)) patterns un_patterns patterns-made un_patterns-has
 
 un_pat_pairs : m.PatPairs → List PatPairParts
 un_pat_pairs m.no_pat_pair = []
@@ -208,13 +166,6 @@ unfolding un_pat_pairs
 un_pat_pairs-has [] = refl
 un_pat_pairs-has (y ∷ ys) = ap (λ zs. y ∷ zs) (un_pat_pairs-has ys)
 
-pat_pairs-made : (xs : List PatPair) → bare_pat_pairs (all_pat_pairs xs) ≡ pat_pairs (map (λ e. bare_pat_pair (pat_pair_parts e)) xs)
-pat_pairs-made [] = refl
-pat_pairs-made (x ∷ xs) = ap (m.and_pat_pair (bare (pat_pair_parts x).key) (bare_pattern (pat_pair_parts x).value)) (pat_pairs-made xs)
-
-pub pat_pairs_same : (xs ys : List PatPair) → (map (λ e. bare_pat_pair (pat_pair_parts e)) xs ≡ map (λ e. bare_pat_pair (pat_pair_parts e)) ys) ↔ (bare_pat_pairs (all_pat_pairs xs) ≡ bare_pat_pairs (all_pat_pairs ys))
-pat_pairs_same = by_items (λ e. bare_pat_pair (pat_pair_parts e)) (λ xs. bare_pat_pairs (all_pat_pairs xs)) pat_pairs un_pat_pairs pat_pairs-made un_pat_pairs-has
-
 un_pat_segments : m.PatSegments → List PatSegmentParts
 un_pat_segments m.no_pat_segment = []
 un_pat_segments (m.and_pat_segment v args ss) = (record { value = v; args = args }) ∷ un_pat_segments ss
@@ -223,13 +174,6 @@ un_pat_segments-has : (ys : List PatSegmentParts) → un_pat_segments (pat_segme
 unfolding un_pat_segments
 un_pat_segments-has [] = refl
 un_pat_segments-has (y ∷ ys) = ap (λ zs. y ∷ zs) (un_pat_segments-has ys)
-
-pat_segments-made : (xs : List PatSegment) → bare_pat_segments (all_pat_segments xs) ≡ pat_segments (map (λ e. bare_pat_segment (pat_segment_parts e)) xs)
-pat_segments-made [] = refl
-pat_segments-made (x ∷ xs) = ap (m.and_pat_segment (bare_pattern (pat_segment_parts x).value) (bare_all (pat_segment_parts x).args)) (pat_segments-made xs)
-
-pub pat_segments_same : (xs ys : List PatSegment) → (map (λ e. bare_pat_segment (pat_segment_parts e)) xs ≡ map (λ e. bare_pat_segment (pat_segment_parts e)) ys) ↔ (bare_pat_segments (all_pat_segments xs) ≡ bare_pat_segments (all_pat_segments ys))
-pat_segments_same = by_items (λ e. bare_pat_segment (pat_segment_parts e)) (λ xs. bare_pat_segments (all_pat_segments xs)) pat_segments un_pat_segments pat_segments-made un_pat_segments-has
 
 un_steps : m.Steps → List (StepOf m.Tree)
 un_steps m.no_step = []
@@ -242,10 +186,68 @@ un_steps-has [] = refl
 un_steps-has (Let k xs t ∷ ys) = ap (λ zs. Let k xs t ∷ zs) (un_steps-has ys)
 un_steps-has (Do k t ∷ ys) = ap (λ zs. Do k t ∷ zs) (un_steps-has ys)
 
-steps-made : (xs : List (StepOf Expr)) → bare_steps (all_steps xs) ≡ steps (map (λ e. bare_step (step_tree e)) xs)
-steps-made [] = refl
-steps-made (Let k vs e ∷ xs) = ap (m.and_let (bare_mark k) (map bare_variable vs) (bare (tree e))) (steps-made xs)
-steps-made (Do k e ∷ xs) = ap (m.and_do (bare_mark k) (bare (tree e))) (steps-made xs)
+-- places: whether places are compared
+module _ (places : Bool) where
+  all-made : (xs : List Expr) → compared_all places (all_trees xs) ≡ trees (map (λ e. compared places (tree e)) xs)
+  all-made [] = refl
+  all-made (x ∷ xs) = ap (m.and_tree (compared places (tree x))) (all-made xs)
 
-pub steps_same : (xs ys : List (StepOf Expr)) → (map (λ e. bare_step (step_tree e)) xs ≡ map (λ e. bare_step (step_tree e)) ys) ↔ (bare_steps (all_steps xs) ≡ bare_steps (all_steps ys))
-steps_same = by_items (λ e. bare_step (step_tree e)) (λ xs. bare_steps (all_steps xs)) steps un_steps steps-made un_steps-has
+  pub all_same : (xs ys : List Expr) → (map (λ e. compared places (tree e)) xs ≡ map (λ e. compared places (tree e)) ys) ↔ (compared_all places (all_trees xs) ≡ compared_all places (all_trees ys))
+  all_same = by_items (λ e. compared places (tree e)) (λ xs. compared_all places (all_trees xs)) trees un_trees all-made un_trees-has
+
+  pairs-made : (xs : List MapPair) → compared_pairs places (all_pairs xs) ≡ pairs (map (λ e. compared_pair places (pair_parts e)) xs)
+  pairs-made [] = refl
+  pairs-made (x ∷ xs) = ap (m.and_pair (pair_parts x).exact (compared places (pair_parts x).key) (compared places (pair_parts x).value)) (pairs-made xs)
+
+  pub pairs_same : (xs ys : List MapPair) → (map (λ e. compared_pair places (pair_parts e)) xs ≡ map (λ e. compared_pair places (pair_parts e)) ys) ↔ (compared_pairs places (all_pairs xs) ≡ compared_pairs places (all_pairs ys))
+  pairs_same = by_items (λ e. compared_pair places (pair_parts e)) (λ xs. compared_pairs places (all_pairs xs)) pairs un_pairs pairs-made un_pairs-has
+
+  segments-made : (xs : List Segment) → compared_segments places (all_segments xs) ≡ segments (map (λ e. compared_segment places (segment_parts e)) xs)
+  segments-made [] = refl
+  segments-made (x ∷ xs) = ap (m.and_segment (compared places (segment_parts x).value) (compared_all places (segment_parts x).args)) (segments-made xs)
+
+  pub segments_same : (xs ys : List Segment) → (map (λ e. compared_segment places (segment_parts e)) xs ≡ map (λ e. compared_segment places (segment_parts e)) ys) ↔ (compared_segments places (all_segments xs) ≡ compared_segments places (all_segments ys))
+  segments_same = by_items (λ e. compared_segment places (segment_parts e)) (λ xs. compared_segments places (all_segments xs)) segments un_segments segments-made un_segments-has
+
+  clauses-made : (xs : List Clause) → compared_clauses places (all_clauses xs) ≡ clauses (map (λ e. compared_clause places (clause_parts e)) xs)
+  clauses-made [] = refl
+  clauses-made (x ∷ xs) = ap (m.and_clause (compared_mark places (clause_parts x).mark) (compared_patterns places (clause_parts x).patterns) (compared places (clause_parts x).guard) (compared places (clause_parts x).body)) (clauses-made xs)
+
+  pub clauses_same : (xs ys : List Clause) → (map (λ e. compared_clause places (clause_parts e)) xs ≡ map (λ e. compared_clause places (clause_parts e)) ys) ↔ (compared_clauses places (all_clauses xs) ≡ compared_clauses places (all_clauses ys))
+  clauses_same = by_items (λ e. compared_clause places (clause_parts e)) (λ xs. compared_clauses places (all_clauses xs)) clauses un_clauses clauses-made un_clauses-has
+
+  defs-made : (xs : List (FunDefOf Expr)) → compared_defs places (all_defs xs) ≡ defs (map (λ e. compared_def places (def_tree e)) xs)
+  defs-made [] = refl
+  defs-made (x ∷ xs) = ap (m.and_def x.name (compared_mark places x.mark) (map (compared_variable places) x.fun.params) (compared places (tree x.fun.body))) (defs-made xs)
+
+  pub defs_same : (xs ys : List (FunDefOf Expr)) → (map (λ e. compared_def places (def_tree e)) xs ≡ map (λ e. compared_def places (def_tree e)) ys) ↔ (compared_defs places (all_defs xs) ≡ compared_defs places (all_defs ys))
+  defs_same = by_items (λ e. compared_def places (def_tree e)) (λ xs. compared_defs places (all_defs xs)) defs un_defs defs-made un_defs-has
+
+  patterns-made : (xs : List Pattern) → compared_patterns places (all_patterns xs) ≡ patterns (map (λ e. compared_pattern places (pattern_tree e)) xs)
+  patterns-made [] = refl
+  patterns-made (x ∷ xs) = ap (m.and_pattern (compared_pattern places (pattern_tree x))) (patterns-made xs)
+
+  pub patterns_same : (xs ys : List Pattern) → (map (λ e. compared_pattern places (pattern_tree e)) xs ≡ map (λ e. compared_pattern places (pattern_tree e)) ys) ↔ (compared_patterns places (all_patterns xs) ≡ compared_patterns places (all_patterns ys))
+  patterns_same = by_items (λ e. compared_pattern places (pattern_tree e)) (λ xs. compared_patterns places (all_patterns xs)) patterns un_patterns patterns-made un_patterns-has
+
+  pat_pairs-made : (xs : List PatPair) → compared_pat_pairs places (all_pat_pairs xs) ≡ pat_pairs (map (λ e. compared_pat_pair places (pat_pair_parts e)) xs)
+  pat_pairs-made [] = refl
+  pat_pairs-made (x ∷ xs) = ap (m.and_pat_pair (compared places (pat_pair_parts x).key) (compared_pattern places (pat_pair_parts x).value)) (pat_pairs-made xs)
+
+  pub pat_pairs_same : (xs ys : List PatPair) → (map (λ e. compared_pat_pair places (pat_pair_parts e)) xs ≡ map (λ e. compared_pat_pair places (pat_pair_parts e)) ys) ↔ (compared_pat_pairs places (all_pat_pairs xs) ≡ compared_pat_pairs places (all_pat_pairs ys))
+  pat_pairs_same = by_items (λ e. compared_pat_pair places (pat_pair_parts e)) (λ xs. compared_pat_pairs places (all_pat_pairs xs)) pat_pairs un_pat_pairs pat_pairs-made un_pat_pairs-has
+
+  pat_segments-made : (xs : List PatSegment) → compared_pat_segments places (all_pat_segments xs) ≡ pat_segments (map (λ e. compared_pat_segment places (pat_segment_parts e)) xs)
+  pat_segments-made [] = refl
+  pat_segments-made (x ∷ xs) = ap (m.and_pat_segment (compared_pattern places (pat_segment_parts x).value) (compared_all places (pat_segment_parts x).args)) (pat_segments-made xs)
+
+  pub pat_segments_same : (xs ys : List PatSegment) → (map (λ e. compared_pat_segment places (pat_segment_parts e)) xs ≡ map (λ e. compared_pat_segment places (pat_segment_parts e)) ys) ↔ (compared_pat_segments places (all_pat_segments xs) ≡ compared_pat_segments places (all_pat_segments ys))
+  pat_segments_same = by_items (λ e. compared_pat_segment places (pat_segment_parts e)) (λ xs. compared_pat_segments places (all_pat_segments xs)) pat_segments un_pat_segments pat_segments-made un_pat_segments-has
+
+  steps-made : (xs : List (StepOf Expr)) → compared_steps places (all_steps xs) ≡ steps (map (λ e. compared_step places (step_tree e)) xs)
+  steps-made [] = refl
+  steps-made (Let k vs e ∷ xs) = ap (m.and_let (compared_mark places k) (map (compared_variable places) vs) (compared places (tree e))) (steps-made xs)
+  steps-made (Do k e ∷ xs) = ap (m.and_do (compared_mark places k) (compared places (tree e))) (steps-made xs)
+
+  pub steps_same : (xs ys : List (StepOf Expr)) → (map (λ e. compared_step places (step_tree e)) xs ≡ map (λ e. compared_step places (step_tree e)) ys) ↔ (compared_steps places (all_steps xs) ≡ compared_steps places (all_steps ys))
+  steps_same = by_items (λ e. compared_step places (step_tree e)) (λ xs. compared_steps places (all_steps xs)) steps un_steps steps-made un_steps-has
