@@ -11,3 +11,4 @@ mod SignatureLaws
 mod StepLaws
 pub mod TrailLaws
 pub mod TreeLaws
+mod SameEntries

@@ -1,11 +1,12 @@
 pub mod Callees
+pub mod Codes
 pub mod Constraints
 pub mod Environments
 pub mod Facts
 pub mod Frames
 pub mod Named
 pub mod Narrowing
+pub mod SameBy
 pub mod Satisfied
 pub mod Signatures
 pub mod Trails
-pub mod steps

@@ -3,6 +3,7 @@
 #![tactic(auto)]
 
 mod copies;
+mod equality;
 mod laws;
 mod named;
 mod narrowing;

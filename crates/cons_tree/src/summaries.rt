@@ -14,6 +14,8 @@ use std::alloc::{AllocFailed, Global};
 use std::marker::Model;
 use type_kinds::{Atom, Memory};
 
+mod equality;
+
 // The callees of one module, by name, and the callee under every other name.
 #[derive(Drop)]
 struct CalleeTable {
@@ -26,7 +28,7 @@ impl Model for CalleeTable {
     ghost use Rattle.core_ast.specs.declared.syntax.FunName.{FunName};
     ghost use Rattle.cons_tree.specs.declared.parts.Callee.{Callee};
     ghost use Rattle.cons_tree.specs.Callees.{Fits, callee_in};
-    ghost use Rattle.cons_tree.specs.steps.Codes.{callees_code};
+    ghost use Rattle.cons_tree.specs.Codes.{callees_code};
 
     ghost Value = { List (FunName × Callee) × Callee };
 
@@ -175,7 +177,7 @@ impl Model for Summaries {
     ghost use Rattle.core_ast.specs.declared.syntax.FunName.{FunName};
     ghost use Rattle.cons_tree.specs.declared.parts.Callee.{Callee};
     ghost use Rattle.cons_tree.specs.declared.parts.Callee.TheVariants.{Unknown};
-    ghost use Rattle.cons_tree.specs.steps.Codes.{tables_code};
+    ghost use Rattle.cons_tree.specs.Codes.{tables_code};
 
     ghost Value = { List (Atom × (List (FunName × Callee) × Callee)) };
 
