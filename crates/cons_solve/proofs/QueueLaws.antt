@@ -1,5 +1,5 @@
 -- Members that wait: rousing them, and the queue.
-use Rattle.std.proofs.Common.{◌≡◌, ℕ, zero, suc, ◌+◌, ◌<◌, ◌≤◌, Bool, true, false, List, [], ◌∷◌, ◌++◌, length, get_or, set, drop, Option, Some, None, refl, sym, ap, ◌∙◌, subst, arith, inl, inr, ◌⊎◌, true≢false}
+use Rattle.std.proofs.Common.{◌≡◌, ℕ, zero, suc, ◌+◌, ◌-◌, ◌<◌, ◌≤◌, Bool, true, false, List, [], ◌∷◌, ◌++◌, length, get_or, set, drop, Option, Some, None, refl, sym, ap, ◌∙◌, subst, arith, inl, inr, ◌⊎◌, true≢false}
 use Rattle.std.specs.Prelude.{slice_get, nat_eq, unwrap_or, MatchOption, IfSome, IfNone}
 use Rattle.std.specs.Map.{lookup}
 use Rattle.std.proofs.lemmas.Bool.{cases_eq}
@@ -204,22 +204,22 @@ pub queued_none : (f : List Bool) (q : List ℕ) → ((j : ℕ) → get_or f j f
 queued_none f q h e =
     subst (Queued f) (sym e) (record { stands = λ j on. absurd (true≢false (sym on ∙ h j)); flagged = λ j has. absurd has; once = tt })
 
--- the members before a place are roused
-abbrev pub UpTo : List Bool → ℕ → Type 0
-UpTo f i = (j : ℕ) → j < i → get_or f j true ≡ false → ⊥
+-- the last so many members of n are roused
+abbrev pub LastOf : List Bool → ℕ → ℕ → Type 0
+LastOf f n i = (j : ℕ) → j < n → n ≤ j + i → get_or f j true ≡ false → ⊥
 
-pub up_to_more : (n i : ℕ) (f g : List Bool) → i < n → Roused n (i ∷ []) f g → UpTo f i → UpTo g (i + 1)
-up_to_more n i f g l r u j low off = let p = r.calm j off in elim (cases_eq j i) [
-  | inl e ↦ p.1 (λ same. omega (arith, same, e, l)) (inl (sym e))
-  | inr other ↦ u j (omega (arith, low, other)) p.0
+pub last_more : (n i : ℕ) (f g : List Bool) → i < n → Roused n ((n - 1 - i) ∷ []) f g → LastOf f n i → LastOf g n (i + 1)
+last_more n i f g l r u j low far off = let p = r.calm j off in elim (cases_eq j (n - 1 - i)) [
+  | inl e ↦ p.1 (λ same. omega (arith, same, low)) (inl (sym e))
+  | inr other ↦ u j low (omega (arith, far, l, low, other)) p.0
 ]
 
-pub up_to_all : (f : List Bool) (n i : ℕ) → n ≤ i → length f ≡ n → UpTo f i → (j : ℕ) → get_or f j true ≡ true
-up_to_all f n i l long u j = by (get_or f j true) refl
+pub last_all : (f : List Bool) (n i : ℕ) → n ≤ i → length f ≡ n → LastOf f n i → (j : ℕ) → get_or f j true ≡ true
+last_all f n i l long u j = by (get_or f j true) refl
   where
     by : (b : Bool) → get_or f j true ≡ b → b ≡ true
     by true e = refl
-    by false e = let low = in_reach f j e in absurd (u j (omega (arith, low, l, long)) e)
+    by false e = let low = in_reach f j e in absurd (u j (omega (arith, low, long)) (omega (arith, l)) e)
 
 -- ---- the next member
 

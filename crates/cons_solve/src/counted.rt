@@ -102,7 +102,7 @@ fn count_work<L: Ledger>(
     let index = index_of(alloc, members)?;
     let mut flags = all_calm(alloc, members.len())?;
     let mut queue = List::new(alloc);
-    rouse_all(members.len(), &mut flags, &mut queue)?;
+    rouse_all(members, &mut flags, &mut queue)?;
     'turns: loop {
         let Some(at) = next(&flags, &mut queue) else {
             return Ok(true);

@@ -2,7 +2,7 @@
 ghost use Rattle.std.specs.Prelude.{◌≡◌, ◌<◌, ◌++◌, ◌∷◌, [], ℕ, true, false, IfOk, IfSome, IfNone, length, get_or};
 ghost use Rattle.cons_solve.specs.steps.Places.{here, Queued, Roused, Woke};
 
-use cons_tree::{Former, Slot};
+use cons_tree::{Constraint, Former, Slot};
 use indexmap::IndexMap;
 use std::alloc::Global;
 use type_kinds::{List, Memory};
@@ -97,22 +97,56 @@ pub fn all_calm(alloc: Global, count: usize) -> Result<List<bool>, Memory>
     Ok(flags)
 }
 
-/// Puts every member into the queue.
-pub fn rouse_all(
-    count: usize,
+// Puts the members that are lists or alternatives into the queue, the first one last.
+fn rouse_lists(
+    members: &[Constraint],
     flags: &mut List<bool>,
     queue: &mut List<usize>,
 ) -> Result<(), Memory>
+    requires { Queued flags.old queue.old }
+    ensures long { IfOk result (λ _. length flags.new ≡ length flags.old) }
+    ensures queued { IfOk result (λ _. Queued flags.new queue.new) }
+{
+    let count = members.len();
+    for placed in 0..count {
+        let at = count - 1 - placed;
+        match &members[at] {
+            Constraint::Part(_) => {}
+            Constraint::All(_) | Constraint::Any(_) => rouse_one(count, at, flags, queue)?,
+        }
+    }
+    Ok(())
+}
+
+// Puts every member that isn't there into the queue, the first one last.
+fn rouse_each(count: usize, flags: &mut List<bool>, queue: &mut List<usize>) -> Result<(), Memory>
     requires long { length flags.old ≡ count }
     requires queued { Queued flags.old queue.old }
     ensures long { IfOk result (λ _. length flags.new ≡ count) }
     ensures queued { IfOk result (λ _. Queued flags.new queue.new) }
     ensures roused { IfOk result (λ _. (j : ℕ) → get_or flags.new j true ≡ true) }
 {
-    for at in 0..count {
-        rouse_one(count, at, flags, queue)?;
+    for placed in 0..count {
+        rouse_one(count, count - 1 - placed, flags, queue)?;
     }
     Ok(())
+}
+
+/// Puts every member into the queue, so that the parts are solved first, and then lists and alternatives,
+/// both in their order.
+pub fn rouse_all(
+    members: &[Constraint],
+    flags: &mut List<bool>,
+    queue: &mut List<usize>,
+) -> Result<(), Memory>
+    requires long { length flags.old ≡ length members.now }
+    requires queued { Queued flags.old queue.old }
+    ensures long { IfOk result (λ _. length flags.new ≡ length members.now) }
+    ensures queued { IfOk result (λ _. Queued flags.new queue.new) }
+    ensures roused { IfOk result (λ _. (j : ℕ) → get_or flags.new j true ≡ true) }
+{
+    rouse_lists(members, flags, queue)?;
+    rouse_each(members.len(), flags, queue)
 }
 
 /// The next member in the queue. With none there, no flag is up.

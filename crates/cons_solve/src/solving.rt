@@ -71,7 +71,7 @@ fn work(
     let index = index_of(alloc, members)?;
     let mut flags = all_calm(alloc, members.len())?;
     let mut queue = List::new(alloc);
-    rouse_all(members.len(), &mut flags, &mut queue)?;
+    rouse_all(members, &mut flags, &mut queue)?;
     'turns: loop {
         let Some(at) = next(&flags, &mut queue) else {
             return Ok(true);
