@@ -7,7 +7,7 @@ use Rattle.core_ast.specs.declared.syntax.Mark.{Mark}
 use Rattle.core_ast.specs.Model as m
 use Rattle.call_graph.specs.declared.table.FunctionTable.{FunctionTable}
 use Rattle.call_graph.specs.declared.table.Resolved.{Resolved}
-use Rattle.call_graph.specs.declared.table.Resolved.TheVariants.{NotHandedIn, NotExported, Function}
+use Rattle.call_graph.specs.declared.table.Resolved.TheVariants.{BuiltIn, NotHandedIn, NotExported, Function}
 use Rattle.call_graph.specs.Targets.{CallTarget, targets}
 use Rattle.call_graph.specs.Targets.CallTarget.{defined, inner, remote}
 use Rattle.call_graph.specs.Calls.{ModuleFunction, functions_of, GoesTo, Calls}
@@ -50,6 +50,7 @@ listed_is (Some k) j h = elim (contains_cases k [] j h) [
 ]
 
 reached_is : (r : Resolved) (j : ℕ) → Contains (reached_number r) j → r ≡ Function j
+reached_is BuiltIn j h = absurd (contains_none j h)
 reached_is NotHandedIn j h = absurd (contains_none j h)
 reached_is NotExported j h = absurd (contains_none j h)
 reached_is (Function k) j h = elim (contains_cases k [] j h) [

@@ -1,4 +1,4 @@
--- Worked examples: the targets of expressions, and the functions of modules.
+-- Worked examples: the targets of expressions, the functions of modules, and the calls that go to none.
 use Rattle.std.proofs.Common.{◌≡◌, [], ◌∷◌, List, refl, None, codes, false}
 use Rattle.type_kinds.specs.declared.atom.Atom.{Atom}
 use Rattle.core_ast.specs.declared.syntax.Mark.{Mark}
@@ -9,6 +9,7 @@ use Rattle.core_scope.specs.Asks.{function_name}
 use Rattle.call_graph.specs.Targets.{targets}
 use Rattle.call_graph.specs.Targets.CallTarget.{defined, inner, remote}
 use Rattle.call_graph.specs.Calls.{ModuleFunction, functions_of}
+use Rattle.call_graph.specs.Outside.{Called, outside_of}
 
 -- ---- words for the examples
 
@@ -92,3 +93,28 @@ function_of home exports f t = record { home = home; exports = exports; name = f
 two_modules : functions_of (module_of (codes "m") (f ∷ []) (m.and_def f mark [] nil (one_def g nil)) ∷ module_of (codes "n") [] (one_def f nil) ∷ [])
     ≡ function_of (codes "m") (f ∷ []) f nil ∷ function_of (codes "m") (f ∷ []) g nil ∷ function_of (codes "n") [] f nil ∷ []
 two_modules = refl
+
+-- ---- calls that go to no function
+
+-- modules, of which the first exports one function, and the second none
+abbrev two : List m.Module
+two = module_of (codes "m") (f ∷ []) (m.and_def f mark [] nil (one_def g nil)) ∷ module_of (codes "n") [] (one_def f nil) ∷ []
+
+abbrev outside : m.Tree → List Called
+outside t = outside_of two (function_of (codes "m") [] g t)
+
+-- a function that its module exports is reached, one that it doesn't export isn't, nor one that it lacks, also where the call stands in that module
+not_exported : outside (m.tuple mark (m.and_tree (call (codes "m") (codes "f") (only nil)) (m.and_tree (call (codes "m") (codes "g") (only nil)) (only (call (codes "n") (codes "f") (only nil))))))
+    ≡ (codes "m", g) ∷ (codes "n", f) ∷ []
+not_exported = refl
+
+not_there : outside (m.tuple mark (m.and_tree (call (codes "m") (codes "f") m.no_tree) (only (call (codes "o") (codes "f") (only nil))))) ≡ (codes "m", function_name (codes "f") 0) ∷ (codes "o", f) ∷ []
+not_there = refl
+
+-- an argument stands behind the call that has it, and a call that stands twice is listed twice
+twice : outside (call (codes "o") (codes "g") (only (call (codes "o") (codes "g") (only nil)))) ≡ (codes "o", g) ∷ (codes "o", g) ∷ []
+twice = refl
+
+-- built-in functions, names that are applied, and a call whose module is computed are left out
+left_out : outside (m.tuple mark (m.and_tree (call (codes "erlang") (codes "h") m.no_tree) (m.and_tree (apply g m.no_tree) (only (m.call mark (m.variable mark (codes "M")) (atom (codes "h")) m.no_tree))))) ≡ []
+left_out = refl

@@ -1,6 +1,7 @@
 -- The loops that add pairs: what each round keeps.
-use Rattle.std.proofs.Common.{◌≡◌, ◌↔◌, ℕ, ◌+◌, ◌<◌, ◌≤◌, ◌⊎◌, inl, inr, List, [], ◌∷◌, ◌++◌, Contains, length, drop, get_or, sym, ap, ◌∙◌, subst, add-one, drop-cons, length-append}
+use Rattle.std.proofs.Common.{◌≡◌, ◌↔◌, ℕ, ◌+◌, ◌<◌, ◌≤◌, ◌⊎◌, inl, inr, List, [], ◌∷◌, ◌++◌, Contains, length, drop, get_or, map, sym, ap, ◌∙◌, subst, add-one, drop-cons, length-append}
 use Rattle.std.specs.Prelude.{slice_index}
+use Rattle.std.proofs.lemmas.List.{map-append}
 use Rattle.components.specs.Graph.{Leads}
 use Rattle.type_kinds.specs.declared.atom.Atom.{Atom}
 use Rattle.core_ast.specs.declared.syntax.FunName.{FunName}
@@ -16,8 +17,9 @@ use Rattle.call_graph.specs.declared.walk.CallWalk.{CallWalk}
 use Rattle.call_graph.specs.Targets.{targets}
 use Rattle.call_graph.specs.Calls.{ModuleFunction, functions_in, module_functions, functions_of, Calls}
 use Rattle.call_graph.specs.Tables.{IsTableOf}
-use Rattle.call_graph.specs.steps.Walking.{callees, callees_in, PairsFrom}
-use Rattle.call_graph.proofs.Notes.{with_callees}
+use Rattle.call_graph.specs.Outside.{Called}
+use Rattle.call_graph.specs.steps.Walking.{callees, callees_in, all_missed, missed_in, PairsFrom}
+use Rattle.call_graph.proofs.Notes.{append_assoc, append_nil, with_notes}
 use Rattle.call_graph.proofs.Lookups.{contains_first, contains_later, contains_cases, contains_none}
 use Rattle.call_graph.proofs.DistinctKeys.{modules}
 use Rattle.call_graph.proofs.Built.{next_item, drop_past}
@@ -126,12 +128,37 @@ next_value xs i within = drop-cons xs i 0 within ∙ ap (λ n. slice_index xs i 
 abbrev pub function_at : Atom → List FunName → FunDefOf Expr → ModuleFunction
 function_at home exports d = record { home = home; exports = exports; name = d.name; mark = d.mark; params = d.fun.params; body = tree d.fun.body }
 
--- What the walk through a body finds is what the function calls.
+-- ---- lists of outside calls
+
+-- One more function's.
+pub one_more : {X Y : Type 0} (v : X → Y) (done new goal : List Y) (fs rest : List X) (f : X) (y : Y) → fs ≡ f ∷ rest → y ≡ v f → new ≡ done ++ y ∷ [] → done ++ map v fs ≡ goal → new ++ map v rest ≡ goal
+one_more v done new goal fs rest f y split is added before =
+    ap (λ l. l ++ map v rest) added ∙ append_assoc done (y ∷ []) (map v rest) ∙ ap (λ z. done ++ z ∷ map v rest) is ∙ ap (λ l. done ++ map v l) (sym split) ∙ before
+
+-- Those of more functions.
+pub some_more : {X Y : Type 0} (v : X → Y) (done new goal : List Y) (fs gs rest : List X) → fs ≡ gs ++ rest → new ≡ done ++ map v gs → done ++ map v fs ≡ goal → new ++ map v rest ≡ goal
+some_more v done new goal fs gs rest split added before =
+    ap (λ l. l ++ map v rest) added ∙ append_assoc done (map v gs) (map v rest) ∙ ap (λ l. done ++ l) (sym (map-append v gs rest)) ∙ ap (λ l. done ++ map v l) (sym split) ∙ before
+
+-- No function is left.
+pub all_added : {X Y : Type 0} (v : X → Y) (done goal : List Y) (fs : List X) → fs ≡ [] → done ++ map v fs ≡ goal → done ≡ goal
+all_added v done goal fs none before = sym (append_nil done) ∙ ap (λ l. done ++ map v l) (sym none) ∙ before
+
+-- ---- what the walk through a body finds
+
+-- The numbers are those of the functions that the function calls.
 pub body_callees : (w w1 : CallWalk) (t : FunctionTable) (home : Atom) (exports : List FunName) (d e : FunDefOf Expr) (body : Expr) (cs : List ℕ) → w.table ≡ t → w.home ≡ home → w.locals ≡ [] → e ≡ d → body ≡ e.fun.body
-    → w1 ≡ with_callees w (callees w.table w.home (targets w.locals (tree body))) → cs ≡ w1.callees → cs ≡ callees_in t (function_at home exports d)
+    → (let found = targets w.locals (tree body) in w1 ≡ with_notes w (callees w.table w.home found) (all_missed w.table found)) → cs ≡ w1.callees → cs ≡ callees_in t (function_at home exports d)
 body_callees w w1 t home exports d e body cs table_is home_is outside same body_is one cs_is =
     cs_is ∙ ap (λ v. v.callees) one ∙ ap (λ x. callees x w.home (targets w.locals (tree body))) table_is ∙ ap (λ x. callees t x (targets w.locals (tree body))) home_is ∙ ap (λ ls. callees t home (targets ls (tree body))) outside
     ∙ ap (λ b. callees t home (targets [] (tree b))) body_is ∙ ap (λ x. callees t home (targets [] (tree x.fun.body))) same
+
+-- The outside calls are the function's.
+pub body_missed : (w w1 : CallWalk) (t : FunctionTable) (home : Atom) (exports : List FunName) (d e : FunDefOf Expr) (body : Expr) (cs : List Called) → w.table ≡ t → w.locals ≡ [] → e ≡ d → body ≡ e.fun.body
+    → (let found = targets w.locals (tree body) in w1 ≡ with_notes w (callees w.table w.home found) (all_missed w.table found)) → cs ≡ w1.outside → cs ≡ missed_in t (function_at home exports d)
+body_missed w w1 t home exports d e body cs table_is outside same body_is one cs_is =
+    cs_is ∙ ap (λ v. v.outside) one ∙ ap (λ x. all_missed x (targets w.locals (tree body))) table_is ∙ ap (λ ls. all_missed t (targets ls (tree body))) outside
+    ∙ ap (λ b. all_missed t (targets [] (tree b))) body_is ∙ ap (λ x. all_missed t (targets [] (tree x.fun.body))) same
 
 pub left_longer : (home : Atom) (exports : List FunName) (ds : List (FunDefOf Expr)) (i : ℕ) (d : FunDefOf Expr) → i < length ds → d ≡ get_or ds i d → length (functions_in home exports (all_defs (drop i ds))) ≡ length (functions_in home exports (all_defs (drop (i + 1) ds))) + 1
 left_longer home exports ds i d within is = ap length (next_function home exports ds i d within is) ∙ sym (add-one (length (functions_in home exports (all_defs (drop (i + 1) ds)))))

@@ -8,4 +8,5 @@ mod DistinctKeys
 mod Tables
 mod Built
 mod CalledFunctions
+mod OutsideCalls
 mod GraphRounds

@@ -6,7 +6,8 @@ use Rattle.core_ast.specs.declared.syntax.FunName.{FunName}
 use Rattle.call_graph.specs.declared.table.FunctionTable.{FunctionTable}
 use Rattle.call_graph.specs.declared.walk.CallWalk.{CallWalk}
 use Rattle.call_graph.specs.Targets.{CallTarget}
-use Rattle.call_graph.specs.steps.Walking.{callee, callees, noting}
+use Rattle.call_graph.specs.Outside.{Called}
+use Rattle.call_graph.specs.steps.Walking.{callee, callees, missed, all_missed, noting}
 
 pub append_assoc : {X : Type 0} (xs ys zs : List X) → (xs ++ ys) ++ zs ≡ xs ++ (ys ++ zs)
 append_assoc [] ys zs = refl
@@ -20,22 +21,31 @@ pub callees-append : (table : FunctionTable) (home : Atom) (ps qs : List CallTar
 callees-append table home [] qs = refl
 callees-append table home (p ∷ ps) qs = ap (λ l. callee table home p ++ l) (callees-append table home ps qs) ∙ sym (append_assoc (callee table home p) (callees table home ps) (callees table home qs))
 
-abbrev pub with_callees : CallWalk → List ℕ → CallWalk
-with_callees w ns = record w { callees = ns }
+pub all_missed-append : (table : FunctionTable) (ps qs : List CallTarget) → all_missed table (ps ++ qs) ≡ all_missed table ps ++ all_missed table qs
+all_missed-append table [] qs = refl
+all_missed-append table (p ∷ ps) qs = ap (λ l. missed table p ++ l) (all_missed-append table ps qs) ∙ sym (append_assoc (missed table p) (all_missed table ps) (all_missed table qs))
+
+abbrev pub with_notes : CallWalk → List ℕ → List Called → CallWalk
+with_notes w ns cs = record w { callees = ns; outside = cs }
+
+same_notes : (w : CallWalk) {ns ms : List ℕ} {cs ds : List Called} → ns ≡ ms → cs ≡ ds → with_notes w ns cs ≡ with_notes w ms ds
+same_notes w numbers calls = λ i. with_notes w (numbers i) (calls i)
 
 abbrev pub with_locals : CallWalk → List FunName → CallWalk
 with_locals w fs = record w { locals = fs }
 
 -- Targets met one after another.
 pub noted_twice : (w : CallWalk) (ps qs : List CallTarget) → noting (noting w ps) qs ≡ noting w (ps ++ qs)
-noted_twice w ps qs = ap (with_callees w) (append_assoc w.callees (callees w.table w.home ps) (callees w.table w.home qs) ∙ ap (λ l. w.callees ++ l) (sym (callees-append w.table w.home ps qs)))
+noted_twice w ps qs =
+    same_notes w (append_assoc w.callees (callees w.table w.home ps) (callees w.table w.home qs) ∙ ap (λ l. w.callees ++ l) (sym (callees-append w.table w.home ps qs)))
+    (append_assoc w.outside (all_missed w.table ps) (all_missed w.table qs) ∙ ap (λ l. w.outside ++ l) (sym (all_missed-append w.table ps qs)))
 
 pub noted_none : (w : CallWalk) → w ≡ noting w []
-noted_none w = sym (ap (with_callees w) (append_nil w.callees))
+noted_none w = sym (same_notes w (append_nil w.callees) (append_nil w.outside))
 
 -- One target met.
-pub noted_one : (w : CallWalk) (t : CallTarget) → with_callees w (w.callees ++ callee w.table w.home t) ≡ noting w (t ∷ [])
-noted_one w t = ap (λ l. with_callees w (w.callees ++ l)) (sym (append_nil (callee w.table w.home t)))
+pub noted_one : (w : CallWalk) (t : CallTarget) → with_notes w (w.callees ++ callee w.table w.home t) (w.outside ++ missed w.table t) ≡ noting w (t ∷ [])
+noted_one w t = same_notes w (ap (λ l. w.callees ++ l) (sym (append_nil (callee w.table w.home t)))) (ap (λ l. w.outside ++ l) (sym (append_nil (missed w.table t))))
 
 -- ---- steps one after another
 

@@ -13,7 +13,8 @@ use Rattle.core_scope.specs.Names.{Distinct, same_atom, same_function, has_funct
 use Rattle.call_graph.specs.declared.keys.FunctionKey.{FunctionKey}
 use Rattle.call_graph.specs.declared.table.FunctionEntry.{FunctionEntry}
 use Rattle.call_graph.specs.declared.table.FunctionTable.{FunctionTable}
-use Rattle.call_graph.specs.declared.table.Resolved.TheVariants.{NotHandedIn, NotExported, Function}
+use Rattle.call_graph.specs.declared.table.Resolved.{Resolved}
+use Rattle.call_graph.specs.declared.table.Resolved.TheVariants.{BuiltIn, NotHandedIn, NotExported, Function}
 use Rattle.call_graph.specs.Calls.{ModuleFunction, functions_in, module_functions, functions_of}
 use Rattle.call_graph.specs.Tables.{key_of, same_key, entry_at, number_in, own_number, reached, resolved, IsReached, IsTableOf}
 use Rattle.call_graph.specs.steps.Building.{function_key, entry_of, numbered}
@@ -22,7 +23,7 @@ use Rattle.call_graph.proofs.DistinctKeys.{names}
 
 -- ---- tests of names
 
-or_true : (a b : Bool) → b ≡ true → (a || b) ≡ true
+pub or_true : (a b : Bool) → b ≡ true → (a || b) ≡ true
 or_true true b e = refl
 or_true false b e = e
 
@@ -36,34 +37,34 @@ any_contained (y ∷ ys) x h = elim (contains_cases y ys x h) [
 contained_any : (xs : List Atom) (x : Atom) → list_any (same_atom x) xs ≡ true → Contains xs x
 contained_any xs x h = Contains-list_any same_atom (λ a b e. (bytes_decides a b).0 e) xs x h
 
-other_atom : (x y : Atom) → same_atom x y ≡ false → x ≡ y → ⊥
+pub other_atom : (x y : Atom) → same_atom x y ≡ false → x ≡ y → ⊥
 other_atom x y h e = absurd (let t : same_atom x y ≡ true = (bytes_decides x y).1 e in cc)
 
-not_same : (x y : Atom) → (x ≡ y → ⊥) → same_atom x y ≡ false
+pub not_same : (x y : Atom) → (x ≡ y → ⊥) → same_atom x y ≡ false
 not_same x y d = by (same_atom x y) refl
   where
     by : (b : Bool) → same_atom x y ≡ b → same_atom x y ≡ false
     by true e = absurd (d ((bytes_decides x y).0 e))
     by false e = e
 
-function_is : (f g : FunName) → same_function f g ≡ true → f ≡ g
+pub function_is : (f g : FunName) → same_function f g ≡ true → f ≡ g
 function_is f g h =
     let b = both_true (same_atom f.name g.name) (nat_eq f.arity g.arity) h in
     let n : f.name ≡ g.name = (bytes_decides f.name g.name).0 b.0 in
     let a : f.arity ≡ g.arity = eqb-true f.arity g.arity b.1 in
     λ i. record { name = n i; arity = a i }
 
-function_itself : (f : FunName) → same_function f f ≡ true
+pub function_itself : (f : FunName) → same_function f f ≡ true
 function_itself f = ap (λ s. s && nat_eq f.arity f.arity) ((bytes_decides f.name f.name).1 refl) ∙ eq-eqb f.arity f.arity refl
 
-has_contained : (fs : List FunName) (f : FunName) → Contains fs f → has_function fs f ≡ true
+pub has_contained : (fs : List FunName) (f : FunName) → Contains fs f → has_function fs f ≡ true
 has_contained [] f h = absurd (contains_none f h)
 has_contained (g ∷ gs) f h = elim (contains_cases g gs f h) [
   | inl e ↦ ap (λ b. b || has_function gs f) (subst (λ x. same_function f x ≡ true) (sym e) (function_itself f))
   | inr c ↦ or_true (same_function f g) (has_function gs f) (has_contained gs f c)
 ]
 
-contained_has : (fs : List FunName) (f : FunName) → has_function fs f ≡ true → Contains fs f
+pub contained_has : (fs : List FunName) (f : FunName) → has_function fs f ≡ true → Contains fs f
 contained_has fs f h = Contains-list_any same_function function_is fs f h
 
 -- ---- the homes of functions
@@ -82,7 +83,7 @@ home_of (x ∷ xs) g h = elim (Contains-append_cases (module_functions x) (funct
   | inr c ↦ contains_later x.name (names xs) g.home (home_of xs g c)
 ]
 
-at_contains : {X : Type 0} (xs : List X) (j : ℕ) (x : X) → slice_get xs j ≡ Some x → Contains xs x
+pub at_contains : {X : Type 0} (xs : List X) (j : ℕ) (x : X) → slice_get xs j ≡ Some x → Contains xs x
 at_contains [] j x h = absurd cc
 at_contains (y ∷ ys) zero x h = subst (λ z. Contains (z ∷ ys) x) (let e : x ≡ y = cc in e) (contains_first x ys)
 at_contains (y ∷ ys) (suc j) x h = contains_later y ys x (at_contains ys j x h)
@@ -102,13 +103,14 @@ exported_number e j h = by e.exported refl h
     by true x h = (x, cc)
     by false x h = absurd cc
 
-handed_in : (o : Option FunctionEntry) → reached o ≡ NotHandedIn → ⊥
-handed_in None h = absurd cc
-handed_in (Some e) h = by e.exported h
+-- What is reached in a module that was handed in.
+handed_in : (r : Resolved) (o : Option FunctionEntry) → reached o ≡ r → (r ≡ NotHandedIn → ⊥) × (r ≡ BuiltIn → ⊥)
+handed_in r None h = (λ e. absurd cc, λ e. absurd cc)
+handed_in r (Some e) h = by e.exported h
   where
-    by : (b : Bool) → (if b then Function e.number else NotExported) ≡ NotHandedIn → ⊥
-    by true h = absurd cc
-    by false h = absurd cc
+    by : (b : Bool) → (if b then Function e.number else NotExported) ≡ r → (r ≡ NotHandedIn → ⊥) × (r ≡ BuiltIn → ⊥)
+    by true h = (λ e. absurd cc, λ e. absurd cc)
+    by false h = (λ e. absurd cc, λ e. absurd cc)
 
 -- ---- what a table answers
 
@@ -139,7 +141,7 @@ module _ (xs : List m.Module) (table : FunctionTable) (entries : table.functions
   reaches_is : (home : Atom) (f : FunName) (j : ℕ) → resolved table home f ≡ Function j → (g : ModuleFunction) × (slice_get (functions_of xs) j ≡ Some g) × IsReached home f g
   reaches_is home f j h = by (same_atom home erlang) refl (list_any (same_atom home) table.modules.keys) (entry_at table (key_of home f)) refl h
     where
-      by : (a : Bool) → same_atom home erlang ≡ a → (b : Bool) (o : Option FunctionEntry) → entry_at table (key_of home f) ≡ o → (if a then NotHandedIn else if b then reached o else NotHandedIn) ≡ Function j
+      by : (a : Bool) → same_atom home erlang ≡ a → (b : Bool) (o : Option FunctionEntry) → entry_at table (key_of home f) ≡ o → (if a then BuiltIn else if b then reached o else NotHandedIn) ≡ Function j
           → (g : ModuleFunction) × (slice_get (functions_of xs) j ≡ Some g) × IsReached home f g
       by true a b o is h = absurd cc
       by false a false o is h = absurd cc
@@ -158,30 +160,45 @@ module _ (xs : List m.Module) (table : FunctionTable) (entries : table.functions
       let here : entry_at table (key_of home f) ≡ Some (entry_of j g) = ap (entry_at table) (sym (key_named home f g r.0 r.3)) ∙ there j g h.1 in
       let listed : list_any (same_atom home) table.modules.keys ≡ true = modules home ∙ any_contained (names xs) home (subst (Contains (names xs)) r.0 (home_of xs g (at_contains (functions_of xs) j g h.1))) in
       let exported : has_function g.exports g.name ≡ true = has_contained g.exports g.name (subst (Contains g.exports) (sym r.3) r.2) in
-      ap (λ a. if a then NotHandedIn else if list_any (same_atom home) table.modules.keys then reached (entry_at table (key_of home f)) else NotHandedIn) (not_same home erlang r.1)
+      ap (λ a. if a then BuiltIn else if list_any (same_atom home) table.modules.keys then reached (entry_at table (key_of home f)) else NotHandedIn) (not_same home erlang r.1)
       ∙ ap (λ b. if b then reached (entry_at table (key_of home f)) else NotHandedIn) listed ∙ ap reached here ∙ ap (λ b. if b then Function j else NotExported) exported
 
-  elsewhere_is : (home : Atom) (f : FunName) → resolved table home f ≡ NotHandedIn → (home ≡ erlang) ⊎ (Contains (names xs) home → ⊥)
+  -- what a module's name answers: `erlang` or not, and whether it is among the modules
+  abbrev answer : Bool → Bool → Option FunctionEntry → Resolved
+  answer a b o = if a then BuiltIn else if b then reached o else NotHandedIn
+
+  built_in_is : (home : Atom) (f : FunName) → resolved table home f ≡ BuiltIn → home ≡ erlang
+  built_in_is home f h = by (same_atom home erlang) refl (list_any (same_atom home) table.modules.keys) h
+    where
+      by : (a : Bool) → same_atom home erlang ≡ a → (b : Bool) → answer a b (entry_at table (key_of home f)) ≡ BuiltIn → home ≡ erlang
+      by true a b h = (bytes_decides home erlang).0 a
+      by false a true h = absurd ((handed_in BuiltIn (entry_at table (key_of home f)) h).1 refl)
+      by false a false h = absurd cc
+
+  built_in_of : (home : Atom) (f : FunName) → home ≡ erlang → resolved table home f ≡ BuiltIn
+  built_in_of home f e = ap (λ a. answer a (list_any (same_atom home) table.modules.keys) (entry_at table (key_of home f))) ((bytes_decides home erlang).1 e)
+
+  elsewhere_is : (home : Atom) (f : FunName) → resolved table home f ≡ NotHandedIn → (home ≡ erlang → ⊥) × (Contains (names xs) home → ⊥)
   elsewhere_is home f h = by (same_atom home erlang) refl (list_any (same_atom home) table.modules.keys) refl h
     where
-      by : (a : Bool) → same_atom home erlang ≡ a → (b : Bool) → list_any (same_atom home) table.modules.keys ≡ b → (if a then NotHandedIn else if b then reached (entry_at table (key_of home f)) else NotHandedIn) ≡ NotHandedIn → (home ≡ erlang) ⊎ (Contains (names xs) home → ⊥)
-      by true a b l h = inl ((bytes_decides home erlang).0 a)
-      by false a true l h = absurd (handed_in (entry_at table (key_of home f)) h)
-      by false a false l h = inr (λ c. absurd (let t : list_any (same_atom home) table.modules.keys ≡ true = modules home ∙ any_contained (names xs) home c in cc))
+      by : (a : Bool) → same_atom home erlang ≡ a → (b : Bool) → list_any (same_atom home) table.modules.keys ≡ b → answer a b (entry_at table (key_of home f)) ≡ NotHandedIn → (home ≡ erlang → ⊥) × (Contains (names xs) home → ⊥)
+      by true a b l h = absurd cc
+      by false a true l h = absurd ((handed_in NotHandedIn (entry_at table (key_of home f)) h).0 refl)
+      by false a false l h = (other_atom home erlang a, λ c. absurd (let t : list_any (same_atom home) table.modules.keys ≡ true = modules home ∙ any_contained (names xs) home c in cc))
 
-  elsewhere_of : (home : Atom) (f : FunName) → (home ≡ erlang) ⊎ (Contains (names xs) home → ⊥) → resolved table home f ≡ NotHandedIn
-  elsewhere_of home f (inl e) = ap (λ a. if a then NotHandedIn else if list_any (same_atom home) table.modules.keys then reached (entry_at table (key_of home f)) else NotHandedIn) ((bytes_decides home erlang).1 e)
-  elsewhere_of home f (inr d) = by (same_atom home erlang) (list_any (same_atom home) table.modules.keys) refl
+  elsewhere_of : (home : Atom) (f : FunName) → (home ≡ erlang → ⊥) × (Contains (names xs) home → ⊥) → resolved table home f ≡ NotHandedIn
+  elsewhere_of home f d =
+      ap (λ a. answer a (list_any (same_atom home) table.modules.keys) (entry_at table (key_of home f))) (not_same home erlang d.0) ∙ by (list_any (same_atom home) table.modules.keys) refl
     where
-      by : (a b : Bool) → list_any (same_atom home) table.modules.keys ≡ b → (if a then NotHandedIn else if b then reached (entry_at table (key_of home f)) else NotHandedIn) ≡ NotHandedIn
-      by true b l = refl
-      by false true l = absurd (d (contained_any (names xs) home (sym (modules home) ∙ l)))
-      by false false l = refl
+      by : (b : Bool) → list_any (same_atom home) table.modules.keys ≡ b → answer false b (entry_at table (key_of home f)) ≡ NotHandedIn
+      by true l = absurd (d.1 (contained_any (names xs) home (sym (modules home) ∙ l)))
+      by false l = refl
 
   pub table_answers : table.count ≡ length (functions_of xs) → IsTableOf xs table
   table_answers count = record {
     count = count;
     own = λ home f j. (own_is home f j, own_of home f j);
     reaches = λ home f j. (reaches_is home f j, reaches_of home f j);
+    built_in = λ home f. (built_in_is home f, built_in_of home f);
     elsewhere = λ home f. (elsewhere_is home f, elsewhere_of home f);
   }

@@ -1,4 +1,5 @@
 pub mod Targets
 pub mod Calls
+pub mod Outside
 pub mod Tables
 pub mod steps

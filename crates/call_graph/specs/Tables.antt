@@ -11,7 +11,7 @@ use Rattle.call_graph.specs.declared.keys.FunctionKey.{FunctionKey}
 use Rattle.call_graph.specs.declared.table.FunctionEntry.{FunctionEntry}
 use Rattle.call_graph.specs.declared.table.FunctionTable.{FunctionTable}
 use Rattle.call_graph.specs.declared.table.Resolved.{Resolved}
-use Rattle.call_graph.specs.declared.table.Resolved.TheVariants.{NotHandedIn, NotExported, Function}
+use Rattle.call_graph.specs.declared.table.Resolved.TheVariants.{BuiltIn, NotHandedIn, NotExported, Function}
 use Rattle.call_graph.specs.Calls.{ModuleFunction, functions_of}
 
 -- ---- look-ups
@@ -37,10 +37,10 @@ abbrev pub reached : Option FunctionEntry → Resolved
 reached None = NotExported
 reached (Some e) = if e.exported then Function e.number else NotExported
 
--- What a call by literal module and name reaches. The module `erlang` is never one of those handed in.
+-- What a call by literal module and name reaches. The module `erlang` is the built-in functions, and never one of those handed in.
 abbrev pub resolved : FunctionTable → (home : Atom) → FunName → Resolved
 resolved table home f =
-    if same_atom home erlang then NotHandedIn else if list_any (same_atom home) table.modules.keys then reached (entry_at table (key_of home f)) else NotHandedIn
+    if same_atom home erlang then BuiltIn else if list_any (same_atom home) table.modules.keys then reached (entry_at table (key_of home f)) else NotHandedIn
 
 -- ---- the table of modules
 
@@ -53,4 +53,5 @@ pub record IsTableOf (xs : List m.Module) (table : FunctionTable) : Type 0 where
   pub count : table.count ≡ length (functions_of xs)
   pub own : (home : Atom) (f : FunName) (j : ℕ) → (own_number table home f ≡ Some j) ↔ ((g : ModuleFunction) × (slice_get (functions_of xs) j ≡ Some g) × (g.home ≡ home) × (g.name ≡ f))
   pub reaches : (home : Atom) (f : FunName) (j : ℕ) → (resolved table home f ≡ Function j) ↔ ((g : ModuleFunction) × (slice_get (functions_of xs) j ≡ Some g) × IsReached home f g)
-  pub elsewhere : (home : Atom) (f : FunName) → (resolved table home f ≡ NotHandedIn) ↔ ((home ≡ erlang) ⊎ (Contains (map (λ x. x.name) xs) home → ⊥))
+  pub built_in : (home : Atom) (f : FunName) → (resolved table home f ≡ BuiltIn) ↔ (home ≡ erlang)
+  pub elsewhere : (home : Atom) (f : FunName) → (resolved table home f ≡ NotHandedIn) ↔ ((home ≢ erlang) × (Contains (map (λ x. x.name) xs) home → ⊥))

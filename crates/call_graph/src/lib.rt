@@ -1,12 +1,15 @@
-//! The call graph: which functions of modules that are analysed together call which.
+//! The call graph: which functions of modules that are analysed together call which, and which calls leave them.
 #![tactic(auto)]
 
 mod expressions;
 mod keys;
+mod laws;
 mod pairs;
 mod patterns;
 mod table;
 mod walk;
 
-pub use pairs::graph;
+pub use laws::outside_laws;
+pub use pairs::{AllCalls, all_calls, graph};
 pub use table::{FunctionTable, Resolved, discard_table, function_table};
+pub use walk::OutsideCall;

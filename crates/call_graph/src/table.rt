@@ -31,7 +31,9 @@ pub struct FunctionEntry {
 /// What a call by literal module and name reaches.
 #[derive(Clone, Copy, Debug, PartialEq, Eq)]
 pub enum Resolved {
-    /// A module that isn't among those that were handed in, or the module `erlang`.
+    /// The module `erlang`, whose functions are the built-in ones, also where a module of that name was handed in.
+    BuiltIn,
+    /// Another module that isn't among those that were handed in.
     NotHandedIn,
     /// A module that was handed in and doesn't export such a function.
     NotExported,
@@ -156,7 +158,7 @@ impl FunctionTable {
         ensures { IfOk result (λ to. to ≡ resolved self.now home.now (function_name name.now count)) }
     {
         if is_text(home, b"erlang") {
-            return Ok(Resolved::NotHandedIn);
+            return Ok(Resolved::BuiltIn);
         }
         if !self.modules.contains(home) {
             return Ok(Resolved::NotHandedIn);

@@ -1,7 +1,8 @@
 // The state of the walk through a body, and its small steps.
-ghost use Rattle.std.specs.Prelude.{◌≡◌, ℕ, [], ◌++◌, OnOk};
+ghost use Rattle.std.specs.Prelude.{◌≡◌, ℕ, [], ◌∷◌, ◌++◌, OnOk};
 ghost use Rattle.core_ast.specs.Named.{literal_atom, local_name};
 ghost use Rattle.core_ast.specs.Tree.{all_defs, tree};
+ghost use Rattle.core_scope.specs.Asks.{function_name};
 ghost use Rattle.core_scope.specs.Names.{defined_names};
 ghost use Rattle.call_graph.specs.Targets.{applied, called, targets_of};
 ghost use Rattle.call_graph.specs.steps.Walking.{defining, listed, noting};
@@ -12,14 +13,20 @@ use core_scope::Names;
 use std::alloc::Global;
 use type_kinds::{Atom, List, Memory};
 
-/// What a walk knows: all functions, the module of the body, the names of the `letrec` functions around, and
-/// the numbers of the functions that the body calls, as far as it was walked.
+/// A call by literal module and name that goes to no function of modules that are analysed together: the
+/// module's name, and the function's, with the number of arguments as its arity.
+pub type OutsideCall = (Atom, FunName);
+
+/// What a walk knows: all functions, the module of the body, the names of the `letrec` functions around, and,
+/// as far as the body was walked, the numbers of the functions that it calls and its outside calls.
 #[derive(Drop)]
 pub struct CallWalk {
+    alloc: Global,
     pub table: FunctionTable,
     pub home: Atom,
     pub locals: Names<FunName>,
     pub callees: List<u32>,
+    pub outside: List<OutsideCall>,
 }
 
 impl CallWalk {
@@ -29,13 +36,32 @@ impl CallWalk {
         ensures home { result.home ≡ home }
         ensures locals { result.locals ≡ [] }
         ensures callees { result.callees ≡ [] }
+        ensures outside { result.outside ≡ [] }
     {
         CallWalk {
+            alloc,
             table,
             home,
             locals: Names::new(alloc),
             callees: List::new(alloc),
+            outside: List::new(alloc),
         }
+    }
+
+    /// Forgets what was noted, before another body is walked.
+    pub fn forget(&mut self)
+        ensures { self.new ≡ record self.old { callees = []; outside = [] } }
+    {
+        self.callees.truncate(0);
+        self.outside.truncate(0);
+    }
+
+    /// Takes the outside calls out.
+    pub fn take_outside(&mut self) -> List<OutsideCall>
+        ensures result { result ≡ self.old.outside }
+        ensures rest { self.new ≡ record self.old { outside = [] } }
+    {
+        std::mem::replace(&mut self.outside, List::new(self.alloc))
     }
 
     // Notes a function that is called, if there is one.
@@ -46,6 +72,18 @@ impl CallWalk {
             Some(number) => self.callees.add(number),
             None => Ok(()),
         }
+    }
+
+    // Notes a call that goes to no function. `Memory` for 2^32 arguments or more, too.
+    fn note_outside(&mut self, home: &Atom, name: &Atom, count: usize) -> Result<(), Memory>
+        ensures { OnOk result (self.new ≡ record self.old { outside = self.old.outside ++ (home.now, function_name name.now count) ∷ [] }) }
+    {
+        let Ok(arity) = u32::try_from(count) else {
+            return Err(Memory);
+        };
+        let home = home.copy(self.alloc)?;
+        let name = name.copy(self.alloc)?;
+        self.outside.add((home, FunName { name, arity }))
     }
 
     /// Notes what an application of this operator calls, with any number of arguments.
@@ -62,7 +100,7 @@ impl CallWalk {
         self.note(number)
     }
 
-    /// Notes what a call of this module and name reaches, with so many arguments.
+    /// Notes what a call of this module and name reaches, with so many arguments, or that it reaches nothing.
     pub fn note_called(&mut self, home: &Expr, name: &Expr, count: usize) -> Result<(), Memory>
         ensures { OnOk result (self.new ≡ noting self.old (targets_of (called count (literal_atom (tree home.now)) (literal_atom (tree name.now))))) }
     {
@@ -74,7 +112,8 @@ impl CallWalk {
         };
         match self.table.called(home, name, count)? {
             Resolved::Function(number) => self.note(Some(number)),
-            Resolved::NotHandedIn | Resolved::NotExported => Ok(()),
+            Resolved::NotHandedIn | Resolved::NotExported => self.note_outside(home, name, count),
+            Resolved::BuiltIn => Ok(()),
         }
     }
 
