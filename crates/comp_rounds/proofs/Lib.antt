@@ -11,3 +11,4 @@ mod SignatureLaws
 mod Steps
 mod Taking
 mod Widening
+mod SameMembers

@@ -1,7 +1,9 @@
 pub mod Agreeing
+pub mod Codes
 pub mod Definitions
 pub mod Members
 pub mod Parts
 pub mod Rounds
 pub mod Signatures
 pub mod Takes
+pub mod Works

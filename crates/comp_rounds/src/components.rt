@@ -71,7 +71,7 @@ fn enter_listed(
 fn enter_inputs(
     alloc: Global,
     known: &mut Summaries,
-    callees: &[List<Listed>],
+    callees: &[Shared<List<Listed>>],
     inputs: &[Shared<CompOut>],
 ) -> Result<(), Memory>
     ensures { OnOk result (found known.new ≡ with_inputs (found known.old) callees.now inputs.now) }
@@ -81,7 +81,7 @@ fn enter_inputs(
             Some(input) => input.get().summaries.as_slice(),
             None => &[],
         };
-        enter_listed(alloc, known, callees[at].as_slice(), summaries)?;
+        enter_listed(alloc, known, callees[at].get().as_slice(), summaries)?;
     }
     Ok(())
 }

@@ -3,15 +3,18 @@
 
 mod components;
 mod entering;
+mod equality;
 mod inference;
 mod laws;
 mod members;
 mod parts;
 mod rounds;
 mod signatures;
+mod work;
 
 pub use components::solve_component;
 pub use laws::rounds_laws;
 pub use members::Member;
 pub use parts::{CompOut, CompPart, Listed};
 pub use rounds::component_summaries;
+pub use work::{CompWork, discard_part};
