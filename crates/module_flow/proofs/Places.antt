@@ -2,12 +2,15 @@
 use Rattle.std.proofs.Common.{◌≡◌, ℕ, zero, suc, ◌<◌, Bool, true, false, cond, List, [], ◌∷◌, ◌++◌, length, get_or, set, slice_get, Option, Some, None, nat_eq, refl, sym, ap, ◌∙◌, subst, arith, eqb-true}
 use Rattle.std.specs.Prelude.{if◌then◌else◌, IfOk, IfSome, MatchOption, Result, is_some, option_copied}
 use denote.Bor.{Bor}
+use Rattle.std.proofs.lemmas.List.{set-get_or}
 use Rattle.std.proofs.lemmas.Option.{get_or_from_slice_get}
 use Rattle.std.specs.Map.{lookup}
 use Rattle.type_lattice.specs.Types.{Type4}
 use Rattle.module_flow.specs.declared.states.FlowFun.{FlowFun}
 use Rattle.module_flow.specs.States.{FlowState, changed, parameters_of, result_of}
-use Rattle.module_flow.specs.steps.Placing.{ArePlaced, after_one, place_of}
+use Rattle.module_flow.specs.steps.Kept.{functions_at}
+use Rattle.module_flow.specs.steps.Placing.{ArePlaced, after_one, is_same_function, place_of}
+use Rattle.module_flow.proofs.Sameness.{function_equal}
 
 -- ---- one step along a state
 
@@ -105,6 +108,51 @@ result_told fs st l i f r same at there is =
 pub changed_told : (fs st new : FlowState) (l i : ℕ) (change : FlowFun → FlowFun) (f g : FlowFun) → fs ≡ st → Some i ≡ place_of st l → slice_get fs i ≡ Some f → g ≡ change f → new ≡ set fs i g → new ≡ changed st l change
 changed_told fs st new l i change f g same at there is after =
     after ∙ ap (λ gs. set gs i g) same ∙ ap (set st i) is ∙ sym (changed_there st l i change f (sym at) (kept_there fs st i f same there))
+
+-- where the change leaves the function as it is
+set_itself : (fs : FlowState) (i : ℕ) (f : FlowFun) → slice_get fs i ≡ Some f → set fs i f ≡ fs
+set_itself fs i f there = ap (set fs i) (sym (at_slice fs i f f there)) ∙ set-get_or fs i f
+
+pub unchanged_told : (fs st : FlowState) (l i : ℕ) (change : FlowFun → FlowFun) (f g : FlowFun) (b : Bool) → fs ≡ st → Some i ≡ place_of st l → slice_get fs i ≡ Some f → g ≡ change f → b ≡ is_same_function f g → b ≡ true → st ≡ changed st l change
+unchanged_told fs st l i change f g b same at there is told holds =
+    let here = kept_there fs st i f same there in
+    sym (changed_there st l i change f (sym at) here ∙ ap (set st i) (sym is ∙ sym (function_equal f g (sym told ∙ holds))) ∙ set_itself st i f here)
+
+-- ---- the function of a label
+
+pub label_at : (fs : FlowState) (l i : ℕ) (f : FlowFun) → place_of fs l ≡ Some i → slice_get fs i ≡ Some f → f.label ≡ l
+label_at [] l i f e there = absurd cc
+label_at (g ∷ fs) l zero f e there = by (nat_eq g.label l) refl (place_of fs l) e
+  where
+    by : (b : Bool) → nat_eq g.label l ≡ b → (o : Option ℕ) → cond b (Some 0) (after_one o) ≡ Some 0 → f.label ≡ l
+    by true q o h = let s : g ≡ f = cc in ap (λ x. x.label) (sym s) ∙ eqb-true g.label l q
+    by false q None h = absurd cc
+    by false q (Some j) h = let s : suc j ≡ 0 = cc in absurd (omega arith)
+label_at (g ∷ fs) l (suc i) f e there = by (nat_eq g.label l) (place_of fs l) refl e (label_at fs l i f)
+  where
+    by : (b : Bool) (o : Option ℕ) → place_of fs l ≡ o → cond b (Some 0) (after_one o) ≡ Some (suc i) → (place_of fs l ≡ Some i → slice_get fs i ≡ Some f → f.label ≡ l) → f.label ≡ l
+    by true o q h more = let s : 0 ≡ suc i = cc in absurd (omega arith)
+    by false None q h more = absurd cc
+    by false (Some j) q h more =
+        let s : suc j ≡ suc i = cc in
+        let t : j ≡ i = omega arith in
+        more (q ∙ ap Some t) there
+
+pub label_told : (fs st : FlowState) (l i : ℕ) (f : FlowFun) → fs ≡ st → Some i ≡ place_of st l → slice_get fs i ≡ Some f → f.label ≡ l
+label_told fs st l i f same at there = label_at st l i f (sym at) (kept_there fs st i f same there)
+
+pub functions_none : (fs : FlowState) (l : ℕ) → place_of fs l ≡ None → functions_at fs l ≡ []
+functions_none [] l e = refl
+functions_none (f ∷ fs) l e = step_none (nat_eq f.label l) (place_of fs l) (f ∷ []) (functions_at fs l) [] e (functions_none fs l)
+
+functions_there : (fs : FlowState) (l i : ℕ) (d : FlowFun) → place_of fs l ≡ Some i → functions_at fs l ≡ get_or fs i d ∷ []
+functions_there [] l i d e = absurd cc
+functions_there (f ∷ fs) l i d e =
+    step_some (λ g. g ∷ []) (nat_eq f.label l) (place_of fs l) i f fs d (functions_at fs l) e (λ j h. functions_there fs l j d h)
+
+pub functions_told : (fs st : FlowState) (l i : ℕ) (f : FlowFun) → fs ≡ st → Some i ≡ place_of st l → slice_get fs i ≡ Some f → functions_at st l ≡ f ∷ []
+functions_told fs st l i f same at there =
+    functions_there st l i f (sym at) ∙ ap (λ g. g ∷ []) (at_slice st i f f (kept_there fs st i f same there))
 
 -- ---- a state that keeps its labels
 

@@ -131,7 +131,7 @@ widened_parameters_of (f ∷ fs) (n ∷ ns) l e =
     by false more = more
 
 module _ (same : (s t : Type4) → IsTrue (is_same s t) ↔ (s ≡ t)) where
-  widened_result_of : (fs ns : FlowState) (l : ℕ) → labels_of ns ≡ labels_of fs → result_of (widened fs ns) l ≡ widened_result (result_of fs l) (result_of ns l)
+  pub widened_result_of : (fs ns : FlowState) (l : ℕ) → labels_of ns ≡ labels_of fs → result_of (widened fs ns) l ≡ widened_result (result_of fs l) (result_of ns l)
   widened_result_of [] [] l e = sym (ap (λ b. cond b none any) ((same none none).1 refl))
   widened_result_of [] (n ∷ ns) l e = absurd cc
   widened_result_of (f ∷ fs) [] l e = absurd cc

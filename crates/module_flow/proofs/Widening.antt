@@ -123,7 +123,7 @@ module _ (same : (s t : Type4) → IsTrue (is_same s t) ↔ (s ≡ t)) where
 
   -- ---- what made nothing else of a state
 
-  parameters_itself : (p : Option (List Type4)) → widened_parameters p p ≡ p
+  pub parameters_itself : (p : Option (List Type4)) → widened_parameters p p ≡ p
   parameters_itself None = refl
   parameters_itself (Some ts) = ap (λ b. Some (cond b ts (anys ts))) (same_itself ts)
 

@@ -9,19 +9,20 @@ ghost use Rattle.module_flow.specs.Around.{at_node};
 ghost use Rattle.module_flow.specs.Findings.{found_in_functions};
 ghost use Rattle.module_flow.specs.Flow.{findings, functions_reported, gives_nothing, last_state, unless_entered};
 ghost use Rattle.module_flow.specs.Functions.{defined_labels};
-ghost use Rattle.module_flow.specs.Gifts.{gifts_of_functions};
 ghost use Rattle.module_flow.specs.Scopes.{outermost};
-ghost use Rattle.module_flow.specs.States.{next_state, parameters_of, takes};
+ghost use Rattle.module_flow.specs.States.{parameters_of};
 ghost use Rattle.module_flow.specs.Unknown.{unknown_functions};
 ghost use Rattle.module_flow.specs.steps.Walking.{noting, world_of};
 
 use crate::around::Around;
+use crate::changes::Changes;
 use crate::functions::Functions;
-use crate::rounds::{JOINED_ROUNDS, first_state, made_of, next_state, walk_module};
-use crate::states::{FlowFun, FlowStates};
+use crate::rounds::{first_state, walk_module};
+use crate::states::{FlowFun, FlowStates, JOINED_ROUNDS};
 use crate::unknown::unknown_functions;
+use crate::visits::{first_visits, walk_again};
 use crate::walk::{About, Walk};
-use cons_tree::{Callee, Summaries};
+use cons_tree::{Callee, Summaries, type_facts};
 use core_ast::{FunDef, Module};
 use core_scope::Checked;
 use std::alloc::Global;
@@ -65,20 +66,6 @@ pub fn flow(alloc: Global, checked: &Checked, known: &Summaries) -> Result<FlowO
     })
 }
 
-// The state after the round of this number.
-fn after_round(
-    alloc: Global,
-    about: &About,
-    around: Around,
-    defs: &[Shared<FunDef>],
-    round: usize,
-) -> Result<FlowStates, Memory>
-    ensures { IfOk result (λ next. next ≡ next_state round about.now.state.now (takes about.now.state.now (gifts_of_functions (world_of about.now) outermost (all_defs defs.now)))) }
-{
-    let made = made_of(alloc, about, around, defs)?;
-    next_state(round, about.state, made)
-}
-
 // The first state that a round leaves unchanged.
 fn last_state(
     alloc: Global,
@@ -91,8 +78,12 @@ fn last_state(
     requires labels { tops.now.labels ≡ defined_labels (all_defs source.now.defs) }
     ensures { IfOk result (λ state. state ≡ last_state (found known.now) (module_tree source.now)) }
 {
+    type_facts();
     decision_laws();
+    let defs = source.defs.as_slice();
     let mut state = first_state(alloc, source)?;
+    let mut visits = first_visits(alloc, defs)?;
+    let mut changes = Changes::new(alloc);
     let count = state.functions().len();
     for round in 0..JOINED_ROUNDS + 2 * count {
         let about = About {
@@ -101,10 +92,8 @@ fn last_state(
             known,
             state: &state,
         };
-        let next = after_round(alloc, &about, around, source.defs.as_slice(), round)?;
-        let unchanged = state.is_same(&next);
-        state = next;
-        if unchanged {
+        let gifts = walk_again(alloc, &about, around, defs, &mut visits, &changes, round)?;
+        if !state.take_round(gifts.as_slice(), &mut changes, round, round + 1)? {
             return Ok(state);
         }
     }

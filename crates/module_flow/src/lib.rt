@@ -4,6 +4,7 @@
 
 mod around;
 mod calls;
+mod changes;
 mod control;
 mod expressions;
 mod flowing;
@@ -16,6 +17,7 @@ mod rounds;
 mod states;
 mod types;
 mod unknown;
+mod visits;
 mod walk;
 
 pub use flowing::{FlowOut, flow};

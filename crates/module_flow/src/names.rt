@@ -50,6 +50,21 @@ pub fn names_of_module(alloc: Global, defs: &[Shared<FunDef>]) -> Result<NameWal
     Ok(walk)
 }
 
+/// What a walk through one function of a module notes: the functions that are defined in it, itself first.
+pub fn names_of_function(alloc: Global, def: &FunDef) -> Result<NameWalk, Memory>
+    ensures { IfOk result (λ walk. walk.functions ≡ named_functions (functions_of_defs (all_defs (def.now ∷ [])))) }
+{
+    let mut walk = NameWalk {
+        alloc,
+        defined: Functions::new(alloc),
+        labels: List::new(alloc),
+        functions: List::new(alloc),
+    };
+    walk.define(def)?;
+    note_names(&mut walk, def.fun.body.get())?;
+    Ok(walk)
+}
+
 // The functions of a module, which the walk has as defined.
 fn note_module(walk: &mut NameWalk, defs: &[Shared<FunDef>]) -> Result<(), Memory>
     ensures { OnOk result (walk.new ≡ noting walk.old (in_defs (defined_around walk.old) (all_defs defs.now))) }

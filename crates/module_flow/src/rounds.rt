@@ -1,4 +1,4 @@
-//! Where the flow begins, and its rounds.
+//! Where the flow begins, and the walk of all functions.
 ghost use Rattle.std.specs.Prelude.{◌≡◌, ◌∷◌, ◌++◌, ◌||◌, [], ℕ, cond, map, nat_eq, None, replicate, Some, IfOk, OnOk};
 ghost use Rattle.core_ast.specs.Tree.{all_defs, module_tree};
 ghost use Rattle.type_lattice.specs.Types.{any};
@@ -6,7 +6,6 @@ ghost use Rattle.module_flow.specs.Findings.{found_in_functions};
 ghost use Rattle.module_flow.specs.Flow.{exported_labels, first_state, has_label};
 ghost use Rattle.module_flow.specs.Gifts.{gifts_of_functions};
 ghost use Rattle.module_flow.specs.Scopes.{outermost};
-ghost use Rattle.module_flow.specs.States.{next_state, takes};
 ghost use Rattle.module_flow.specs.steps.Beginning.{begun};
 ghost use Rattle.module_flow.specs.steps.Walking.{world_of};
 
@@ -23,9 +22,6 @@ use std::alloc::{AllocFailed, Global};
 use std::marker::Model;
 use type_kinds::{List, Memory, Shared};
 use type_lattice::Ty;
-
-/// The number of rounds that take all that a walk gives.
-pub const JOINED_ROUNDS: usize = 12;
 
 // Labels of functions, to be looked up.
 #[derive(Drop)]
@@ -195,29 +191,4 @@ pub fn walk_module(
         walk_function(&mut walker, about, around, def.get())?;
     }
     Ok(walker)
-}
-
-/// What a round makes of a state.
-pub fn made_of(
-    alloc: Global,
-    about: &About,
-    around: Around,
-    defs: &[Shared<FunDef>],
-) -> Result<FlowStates, Memory>
-    ensures { IfOk result (λ made. made ≡ takes about.now.state.now (gifts_of_functions (world_of about.now) outermost (all_defs defs.now))) }
-{
-    let walker = walk_module(alloc, about, around, defs, false)?;
-    let mut made = about.state.copy()?;
-    made.take_all(walker.gifts.as_slice())?;
-    Ok(made)
-}
-
-/// The state after the round of this number, from what the round makes of it.
-pub fn next_state(round: usize, old: &FlowStates, made: FlowStates) -> Result<FlowStates, Memory>
-    ensures { IfOk result (λ next. next ≡ next_state round old.now made) }
-{
-    if round < JOINED_ROUNDS {
-        return Ok(made);
-    }
-    old.widened(&made)
 }

@@ -1,9 +1,13 @@
 //! The state of the flow: what each function is entered with, and what it gives.
-ghost use Rattle.std.specs.Prelude.{◌≡◌, ◌++◌, ◌∷◌, [], ◌<◌, length, replicate, IfOk, IfSome, OnErr, OnOk, MatchOption, None, Some};
+ghost use Rattle.std.specs.Prelude.{◌≡◌, ◌++◌, ◌∷◌, [], ◌<◌, false, length, replicate, IfOk, IfSome, OnErr, OnOk, MatchOption, None, Some};
 ghost use Rattle.type_lattice.specs.Types.{any};
-ghost use Rattle.module_flow.specs.States.{changed, entered, parameters_of, result_of, returning, takes, takes_one, widened, widened_one, widened_parameters};
-ghost use Rattle.module_flow.specs.steps.Placing.{are_same_parameters, is_same_function, is_same_state, place_of};
+ghost use Rattle.module_flow.specs.States.{changed, entered, next_state, parameters_of, result_of, returning, takes, takes_one, widened_one, widened_parameters};
+ghost use Rattle.module_flow.specs.steps.Kept.{functions_at, functions_given, widens};
+ghost use Rattle.module_flow.specs.steps.Placing.{are_same_parameters, is_same_function, place_of};
+ghost use Rattle.module_flow.specs.steps.Reading.{label_of};
+ghost use Rattle.module_flow.specs.steps.Visits.{Noted};
 
+use crate::changes::Changes;
 use crate::types::{any_types, are_same, joins};
 use cons_tree::copy_types;
 use core_ast::FunName;
@@ -11,7 +15,10 @@ use indexmap::IndexMap;
 use std::alloc::{AllocFailed, Global};
 use std::marker::Model;
 use type_kinds::{List, Memory};
-use type_lattice::Ty;
+use type_lattice::{Ty, decision_laws};
+
+/// The number of rounds that take all that a walk gives.
+pub const JOINED_ROUNDS: usize = 12;
 
 /// A function in the flow.
 #[derive(Drop)]
@@ -137,30 +144,68 @@ impl FlowStates {
         }
     }
 
-    /// A second state, equal to the first.
-    pub fn copy(&self) -> Result<FlowStates, Memory>
-        ensures { IfOk result (λ copy. copy ≡ self.now) }
+    /// Takes what the walks of a round gave, in their order, and notes what it changes as changed before the next round. Tells
+    /// whether anything may have changed.
+    pub fn take_round(
+        &mut self,
+        gifts: &[Gift],
+        changes: &mut Changes,
+        round: usize,
+        next: usize,
+    ) -> Result<bool, Memory>
+        ensures after { OnOk result (self.new ≡ next_state round self.old (takes self.old gifts.now)) }
+        ensures noted { IfOk result (λ changed. Noted self.old self.new changes.old.rounds changes.new.rounds next changed) }
     {
-        let mut copies = FlowStates::new(self.alloc);
-        for function in self.functions.as_slice() {
-            copies.add(function.copy(self.alloc)?)?;
+        if round < JOINED_ROUNDS {
+            return self.take_all(gifts, changes, next);
         }
-        Ok(copies)
+        decision_laws();
+        let before = self.functions_given(gifts)?;
+        let changed = self.take_all(gifts, changes, next)?;
+        self.widen_all(before.as_slice())?;
+        Ok(changed)
     }
 
-    /// Takes what a walk gives, in its order.
-    pub fn take_all(&mut self, gifts: &[Gift]) -> Result<(), Memory>
-        ensures { OnOk result (self.new ≡ takes self.old gifts.now) }
+    // Takes gifts, in their order.
+    fn take_all(
+        &mut self,
+        gifts: &[Gift],
+        changes: &mut Changes,
+        next: usize,
+    ) -> Result<bool, Memory>
+        ensures after { OnOk result (self.new ≡ takes self.old gifts.now) }
+        ensures noted { IfOk result (λ changed. Noted self.old self.new changes.old.rounds changes.new.rounds next changed) }
     {
+        let mut changed = false;
         for gift in gifts {
-            self.take(gift)?;
+            if self.take_noting(gift, changes, next)? {
+                changed = true;
+            }
         }
-        Ok(())
+        Ok(changed)
     }
 
-    // Takes one gift.
-    fn take(&mut self, gift: &Gift) -> Result<(), Memory>
-        ensures { OnOk result (self.new ≡ takes_one self.old gift.now) }
+    // Takes one gift, and notes it if it changes the state.
+    fn take_noting(
+        &mut self,
+        gift: &Gift,
+        changes: &mut Changes,
+        next: usize,
+    ) -> Result<bool, Memory>
+        ensures after { OnOk result (self.new ≡ takes_one self.old gift.now) }
+        ensures noted { IfOk result (λ changed. Noted self.old self.new changes.old.rounds changes.new.rounds next changed) }
+    {
+        if !self.take(gift)? {
+            return Ok(false);
+        }
+        changes.note(gift.label(), next)?;
+        Ok(true)
+    }
+
+    // Takes one gift, and tells whether it changes the state.
+    fn take(&mut self, gift: &Gift) -> Result<bool, Memory>
+        ensures after { OnOk result (self.new ≡ takes_one self.old gift.now) }
+        ensures still { IfOk result (λ changed. changed ≡ false → self.new ≡ self.old) }
     {
         match gift {
             Gift::Enters(label, types) => self.enter(*label, types.as_slice()),
@@ -169,54 +214,93 @@ impl FlowStates {
     }
 
     // A function is entered with arguments of these types.
-    fn enter(&mut self, label: u32, types: &[Ty]) -> Result<(), Memory>
-        ensures { OnOk result (self.new ≡ changed self.old label (λ f. entered f types.now)) }
+    fn enter(&mut self, label: u32, types: &[Ty]) -> Result<bool, Memory>
+        ensures after { OnOk result (self.new ≡ changed self.old label (λ f. entered f types.now)) }
+        ensures still { IfOk result (λ changed. changed ≡ false → self.new ≡ self.old) }
     {
         let Some(place) = self.place(label) else {
-            return Ok(());
+            return Ok(false);
         };
-        let entered = self.functions.at(place).entered(self.alloc, types)?;
+        let function = self.functions.at(place);
+        let entered = function.entered(self.alloc, types)?;
+        if function.is_same(&entered) {
+            discard_function(entered);
+            return Ok(false);
+        }
         discard_function(self.functions.replace(place, entered));
-        Ok(())
+        Ok(true)
     }
 
     // A function gives a value of this type.
-    fn give(&mut self, label: u32, ty: &Ty) -> Result<(), Memory>
-        ensures { OnOk result (self.new ≡ changed self.old label (λ f. returning f ty.now)) }
+    fn give(&mut self, label: u32, ty: &Ty) -> Result<bool, Memory>
+        ensures after { OnOk result (self.new ≡ changed self.old label (λ f. returning f ty.now)) }
+        ensures still { IfOk result (λ changed. changed ≡ false → self.new ≡ self.old) }
     {
         let Some(place) = self.place(label) else {
-            return Ok(());
+            return Ok(false);
         };
-        let returning = self.functions.at(place).returning(self.alloc, ty)?;
+        let function = self.functions.at(place);
+        let returning = function.returning(self.alloc, ty)?;
+        if function.is_same(&returning) {
+            discard_function(returning);
+            return Ok(false);
+        }
         discard_function(self.functions.replace(place, returning));
+        Ok(true)
+    }
+
+    // The functions that gifts are for, one for each gift.
+    fn functions_given(&self, gifts: &[Gift]) -> Result<List<FlowFun>, Memory>
+        ensures { IfOk result (λ list. list ≡ functions_given self.now gifts.now) }
+    {
+        let mut list = List::new(self.alloc);
+        for gift in gifts {
+            self.add_function(gift.label(), &mut list)?;
+        }
+        Ok(list)
+    }
+
+    // Adds the function of a label, where one stands.
+    fn add_function(&self, label: u32, list: &mut List<FlowFun>) -> Result<(), Memory>
+        ensures { OnOk result (list.new ≡ list.old ++ functions_at self.now label) }
+    {
+        match self.place(label) {
+            Some(place) => list.add(self.functions.at(place).copy(self.alloc)?),
+            None => Ok(()),
+        }
+    }
+
+    // Widens the functions that were these before a late round.
+    fn widen_all(&mut self, before: &[FlowFun]) -> Result<(), Memory>
+        ensures { OnOk result (self.new ≡ widens self.old before.now) }
+    {
+        for old in before {
+            self.widen(old)?;
+        }
         Ok(())
     }
 
-    /// The state after a late round that made another of it.
-    pub fn widened(&self, made: &FlowStates) -> Result<FlowStates, Memory>
-        ensures { IfOk result (λ wide. wide ≡ widened self.now made.now) }
+    // Widens the function that was this one before a late round.
+    fn widen(&mut self, old: &FlowFun) -> Result<(), Memory>
+        ensures { OnOk result (self.new ≡ changed self.old old.now.label (λ n. widened_one old.now n)) }
     {
-        let mut wide = FlowStates::new(self.alloc);
-        for place in 0..self.functions.len().min(made.functions.len()) {
-            let new = made.functions.at(place);
-            wide.add(self.functions.at(place).widened(self.alloc, new)?)?;
-        }
-        Ok(wide)
+        let Some(place) = self.place(old.label) else {
+            return Ok(());
+        };
+        let wide = old.widened(self.alloc, self.functions.at(place))?;
+        discard_function(self.functions.replace(place, wide));
+        Ok(())
     }
+}
 
-    /// Whether two states are the same.
-    pub fn is_same(&self, other: &FlowStates) -> bool
-        ensures { result ≡ is_same_state self.now other.now }
+impl Gift {
+    /// The label of the function that it is for.
+    pub fn label(&self) -> u32
+        ensures { result ≡ label_of self.now }
     {
-        if self.functions.len() != other.functions.len() {
-            return false;
+        match self {
+            Gift::Enters(label, _) | Gift::Returns(label, _) => *label,
         }
-        for place in 0..self.functions.len() {
-            if !self.functions.at(place).is_same(other.functions.at(place)) {
-                return false;
-            }
-        }
-        true
     }
 }
 

@@ -9,8 +9,8 @@ use Rattle.type_lattice.specs.Types.{any}
 use Rattle.cons_gen.specs.Words.{function_type, literal_type}
 use Rattle.module_flow.specs.steps.Walking.{world_of, sight_of}
 use Rattle.module_flow.proofs.ExpressionExits.{applied_gives, applied_noted, binary_noted, call_gives, call_noted, case_noted, catch_noted, chain_form_noted, form_given, form_silent, fun_noted, kept, letrec_form_noted, listed_noted, named_call_gives, named_call_noted, new_map_noted, operator_gives, operator_noted, primop_noted, read_one, read_three, read_two, receive_noted, try_noted, tuple_noted, unnamed_call, updated_map_noted, value_is, values_noted}
-use Rattle.module_flow.proofs.FormExits.{told_last, told_none, updated_all, updated_told}
-use Rattle.module_flow.proofs.FormRounds.{all_given_round, all_round, next_pair, next_segment, next_tree, pairs_given_round, pairs_round, segments_given_round, segments_round}
+use Rattle.module_flow.proofs.FormExits.{updated_told}
+use Rattle.module_flow.proofs.FormRounds.{next_pair, next_segment, pairs_given_round, pairs_round, segments_given_round, segments_round}
 use Rattle.module_flow.proofs.+flow.Goals as goal
 use Rattle.module_flow.specs.Around.{under}
 use Rattle.module_flow.specs.Findings.{found_in_steps}

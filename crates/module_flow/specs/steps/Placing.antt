@@ -30,9 +30,3 @@ are_same_parameters (Some ts) (Some us) = are_same ts us
 abbrev pub is_same_function : FlowFun → FlowFun → Bool
 is_same_function f g =
     nat_eq f.label g.label && same_function f.name g.name && are_same_parameters f.params g.params && is_same f.result g.result
-
-abbrev pub is_same_state : FlowState → FlowState → Bool
-is_same_state [] [] = true
-is_same_state [] (g ∷ gs) = false
-is_same_state (f ∷ fs) [] = false
-is_same_state (f ∷ fs) (g ∷ gs) = is_same_function f g && is_same_state fs gs

@@ -1,30 +1,62 @@
-use Rattle.std.proofs.Common.{◌≡◌, ◌≤◌, length, refl, sym, ap, ◌∙◌, arith}
-use Rattle.core_ast.specs.Tree.{all_defs, module_tree}
+use Rattle.std.proofs.Common.{◌≡◌, ◌≤◌, length, map, sym, ap, ◌∙◌, arith}
+use Rattle.core_ast.specs.Tree.{module_tree}
 use Rattle.cons_tree.specs.Callees.{found}
 use Rattle.module_flow.specs.Flow.{first_state, last_round, made_of}
-use Rattle.module_flow.specs.Gifts.{gifts_of_functions}
-use Rattle.module_flow.specs.Scopes.{outermost}
-use Rattle.module_flow.specs.States.{next_state, takes}
-use Rattle.module_flow.specs.World.{World}
-use Rattle.module_flow.proofs.Beginnings.{round_made}
-use Rattle.module_flow.proofs.Sameness.{state_equal}
+use Rattle.module_flow.specs.States.{next_state}
+use Rattle.module_flow.specs.steps.Visits.{first_visit}
+use Rattle.module_flow.proofs.Absorbing.{JoinFacts, join_facts}
+use Rattle.module_flow.proofs.RoundsAgain.{is_made, settled_next}
 use Rattle.module_flow.proofs.Settling as settling
+use Rattle.module_flow.proofs.VisitRounds.{first_settled, settled_long}
 use Rattle.module_flow.proofs.flowing.last_state.Goals as goal
 
-pub returns-then-unchanged : goal.returns-then-unchanged
-returns-then-unchanged c =
-    let x = module_tree c.args.source.now in
+pub loop-round-init : goal.loop-round-init
+loop-round-init c = record {
+  state = c.in_ok-state.ensures;
+  settled = first_settled
+      (record { callee = found c.args.known.now; home = c.args.source.now.name; names = c.args.tops.now.names; labels = c.args.tops.now.labels; state = c.in_ok-state.state })
+      c.new-changes.result.rounds c.args.source.now.defs c.in_ok-visits.visits c.new-changes.ensures (c.in_ok-visits.ensures ∙ ap (map first_visit) c.as_slice-defs.ensures);
+}
+
+pub walk_again-requires : goal.walk_again-requires
+walk_again-requires c =
+    settled_long
+    (record { callee = found c.args.known.now; home = c.args.source.now.name; names = c.args.tops.now.names; labels = c.args.tops.now.labels; state = c.loop-round.state })
+    c.loop-round.changes.rounds c.loop-round.round c.args.source.now.defs c.loop-round.visits c.loop-round.invariant.settled
+    ∙ sym (ap length c.as_slice-defs.ensures)
+
+pub loop-round-preserved : goal.loop-round-preserved
+loop-round-preserved c =
+    let same = c.decision_laws.ensures.same in
+    let F : JoinFacts = join_facts same c.type_facts.ensures in
     let callees = found c.args.known.now in
+    let source = c.args.source.now in
     let state = c.loop-round.state in
-    let next = c.in_ok-next.next in
-    let count : length c.functions-count.result.now ≡ length (first_state x) =
+    let next = c.take_round.new.self in
+    let made : next ≡ next_state c.loop-round.round state (made_of callees (module_tree source) state) =
+    is_made F callees source c.args.tops.now.names c.args.tops.now.labels state next c.loop-round.changes.rounds c.take_round.new.changes.rounds c.loop-round.round c.as_slice-defs.result.now c.loop-round.visits c.walk_again.new.visits c.in_ok-gifts.gifts c.as_slice.result.now c.in_ok-take_round.field-0
+    c.as_slice-defs.ensures c.loop-round.invariant.settled c.in_ok-gifts.ensures.gifts c.in_ok-gifts.ensures.visits c.as_slice.ensures c.in_ok-take_round.ensures.after c.requires.names c.requires.labels
+    in
+    record {
+      state = settling.next_round same callees (module_tree source) c.loop-round.round state next c.loop-round.invariant.state made;
+      settled = settled_next F callees source c.args.tops.now.names c.args.tops.now.labels state next c.loop-round.changes.rounds c.take_round.new.changes.rounds c.loop-round.round c.as_slice-defs.result.now c.loop-round.visits c.walk_again.new.visits c.in_ok-gifts.gifts c.as_slice.result.now c.in_ok-take_round.field-0
+          c.as_slice-defs.ensures c.loop-round.invariant.settled c.in_ok-gifts.ensures.gifts c.in_ok-gifts.ensures.visits c.as_slice.ensures c.in_ok-take_round.ensures.after c.in_ok-take_round.ensures.noted;
+    }
+
+pub returns-then-not-branch : goal.returns-then-not-branch
+returns-then-not-branch c =
+    let same = c.decision_laws.ensures.same in
+    let F : JoinFacts = join_facts same c.type_facts.ensures in
+    let callees = found c.args.known.now in
+    let source = c.args.source.now in
+    let state = c.loop-round.state in
+    let next = c.take_round.new.self in
+    let count : length c.functions-count.result.now ≡ length (first_state (module_tree source)) =
     ap length (c.functions-count.ensures ∙ c.in_ok-state.ensures)
     in
-    let within : c.loop-round.round ≤ last_round callees x = omega arith in
-    let W : World = record { callee = callees; home = x.name; names = c.args.tops.now.names; labels = c.args.tops.now.labels; state = state } in
-    let made : takes state (gifts_of_functions W outermost (all_defs c.as_slice.result.now)) ≡ made_of callees x state =
-    ap (λ ds. takes state (gifts_of_functions W outermost (all_defs ds))) c.as_slice.ensures ∙ round_made callees x W refl refl c.requires.names c.requires.labels
+    let within : c.loop-round.round ≤ last_round callees (module_tree source) = omega arith in
+    let made : next ≡ next_state c.loop-round.round state (made_of callees (module_tree source) state) =
+    is_made F callees source c.args.tops.now.names c.args.tops.now.labels state next c.loop-round.changes.rounds c.take_round.new.changes.rounds c.loop-round.round c.as_slice-defs.result.now c.loop-round.visits c.walk_again.new.visits c.in_ok-gifts.gifts c.as_slice.result.now c.in_ok-take_round.field-0
+    c.as_slice-defs.ensures c.loop-round.invariant.settled c.in_ok-gifts.ensures.gifts c.in_ok-gifts.ensures.visits c.as_slice.ensures c.in_ok-take_round.ensures.after c.requires.names c.requires.labels
     in
-    settling.first_still c.decision_laws.ensures.same callees x c.loop-round.round state next within c.loop-round.invariant
-    (c.in_ok-next.ensures ∙ ap (next_state c.loop-round.round state) made)
-    (sym (state_equal state next (sym c.is_same-unchanged.ensures ∙ c.if-unchanged.true)))
+    settling.first_still same callees (module_tree source) c.loop-round.round state next within c.loop-round.invariant.state made (c.in_ok-take_round.ensures.noted.still c.if-not-branch.true)

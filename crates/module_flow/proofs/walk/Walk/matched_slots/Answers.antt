@@ -1,6 +1,3 @@
-use Rattle.std.proofs.Common.{Some, None, [], ◌∷◌, replicate}
-use Rattle.core_ast.specs.Tree.{all_trees}
-use Rattle.module_flow.specs.Scopes.{variable_names}
 use Rattle.module_flow.proofs.WalkSteps.{name_of_variable, names_of_others, names_of_values, slots_as}
 use Rattle.module_flow.proofs.walk.Walk.matched_slots.Goals as goal
 

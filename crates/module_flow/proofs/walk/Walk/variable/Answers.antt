@@ -1,4 +1,4 @@
-use Rattle.std.proofs.Common.{◌≡◌, Some, sym}
+use Rattle.std.proofs.Common.{◌≡◌, Some}
 use Rattle.cons_gen.specs.Scopes.{slot_of}
 use Rattle.module_flow.specs.steps.Walking.{sight_of}
 use Rattle.module_flow.proofs.WalkSteps.{variable_anew}
