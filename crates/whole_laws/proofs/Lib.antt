@@ -1,8 +1,8 @@
-mod Frames
-mod Components
-mod Named
-mod Tables
-mod Wholes
+pub mod Frames
+pub mod Components
+pub mod Named
+pub mod Tables
+pub mod Wholes
 mod Orderless
-mod Orders
+pub mod Orders
 mod OneOrder

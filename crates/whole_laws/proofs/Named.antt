@@ -113,7 +113,7 @@ abbrev pub NamedOnce : List Function → Type 0
 NamedOnce [] = Unit {0}
 NamedOnce (g ∷ gs) = (is_member gs g.home g.name ≡ false) × NamedOnce gs
 
-not_member : (gs : List Function) (h : Atom) (f : FunName) → (is_member gs h f ≡ true → ⊥) → is_member gs h f ≡ false
+pub not_member : (gs : List Function) (h : Atom) (f : FunName) → (is_member gs h f ≡ true → ⊥) → is_member gs h f ≡ false
 not_member gs h f lacks = by (is_member gs h f) refl
   where
     by : (b : Bool) → is_member gs h f ≡ b → is_member gs h f ≡ false

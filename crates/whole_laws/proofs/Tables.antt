@@ -168,7 +168,7 @@ module _ (first : Callees) (fs : List Function) (once : NamedOnce fs) (c : Numbe
           absurd (true≢false (sym (ap₂ (is_member fs) r.home_is r.name_is ∙ member_at fs r.place r.function r.there) ∙ none))
 
   module _ (i : ℕ) (g : Function) (there : slice_get fs i ≡ Some g) (low : i < length fs) where
-    other_component : (n : ℕ) → (component_of_node c i ≡ n → ⊥) → is_member (gs n) g.home g.name ≡ false
+    pub other_component : (n : ℕ) → (component_of_node c i ≡ n → ⊥) → is_member (gs n) g.home g.name ≡ false
     other_component n differs = by (is_member (gs n) g.home g.name) refl
       where
         by : (b : Bool) → is_member (picked fs (members_of c n)) g.home g.name ≡ b → is_member (picked fs (members_of c n)) g.home g.name ≡ false

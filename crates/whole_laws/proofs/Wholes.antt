@@ -57,7 +57,7 @@ accepted_sound (x ∷ xs) h p has =
     ]
 
 -- a name that is found among names is one of them
-has_contains : (fs : List FunName) (f : FunName) → has_function fs f ≡ true → Contains fs f
+pub has_contains : (fs : List FunName) (f : FunName) → has_function fs f ≡ true → Contains fs f
 has_contains [] f e = absurd (true≢false (sym e))
 has_contains (g ∷ fs) f e = by (same_function f g) refl e (has_contains fs f)
   where
@@ -65,7 +65,7 @@ has_contains (g ∷ fs) f e = by (same_function f g) refl e (has_contains fs f)
     by true is e later = subst (Contains (g ∷ fs)) (sym (name_is f g is)) (first_there g fs)
     by false is e later = later_there g f fs (later e)
 
-contains_has : (fs : List FunName) (f : FunName) → Contains fs f → has_function fs f ≡ true
+pub contains_has : (fs : List FunName) (f : FunName) → Contains fs f → has_function fs f ≡ true
 contains_has [] f has = absurd (none_there f has)
 contains_has (g ∷ fs) f has =
     elim (there_cases g f fs has) [
@@ -131,11 +131,11 @@ no_summary c s (inr e) k = let n : None ≡ Some s = sym (ap summary_of e) ∙ k
 
 -- ---- the functions of a component
 
-each_but : (gs : List Function) (c d : Callees) (home : Atom) (ts : List CallTarget) → ((t : CallTarget) → Contains ts t → AgreesBut gs c d home t) → EachBut gs c d home ts
+pub each_but : (gs : List Function) (c d : Callees) (home : Atom) (ts : List CallTarget) → ((t : CallTarget) → Contains ts t → AgreesBut gs c d home t) → EachBut gs c d home ts
 each_but gs c d home [] h = tt
 each_but gs c d home (t ∷ ts) h = (h t (first_there t ts), each_but gs c d home ts (λ u has. h u (later_there t u ts has)))
 
-all_but : (gs : List Function) (c d : Callees) (ks : List Function) → Each (λ k. EachBut gs c d k.home (targets [] k.body)) ks → AllBut gs c d ks
+pub all_but : (gs : List Function) (c d : Callees) (ks : List Function) → Each (λ k. EachBut gs c d k.home (targets [] k.body)) ks → AllBut gs c d ks
 all_but gs c d [] h = tt
 all_but gs c d (k ∷ ks) h = (h.0, all_but gs c d ks h.1)
 

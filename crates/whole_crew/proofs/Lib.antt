@@ -1,0 +1,4 @@
+mod Laid
+mod Listed
+mod Outputs
+mod Same
