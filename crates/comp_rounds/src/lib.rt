@@ -13,6 +13,7 @@ mod signatures;
 mod work;
 
 pub use components::solve_component;
+pub use entering::enter_summaries;
 pub use laws::rounds_laws;
 pub use members::Member;
 pub use parts::{CompOut, CompPart, Listed};

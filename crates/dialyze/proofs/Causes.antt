@@ -24,7 +24,7 @@ use Rattle.dialyze.specs.Lines.{refused, duplicate}
 use Rattle.dialyze.specs.Outcome.{Checks, ReadsAll, HaveOwnNames, module_names, IsDuplicate, Outcome, usage, many, faulty, twice, clean, warned, Intended, IsAnswer}
 use Rattle.dialyze.specs.Causes.{NamesMissing, NamesSource, NamesTwice, NamesModules, Step, holding, length, tokens, grammar, scopes, step_of}
 use Rattle.dialyze.proofs.CheckExits.{outcome_of}
-use Rattle.dialyze.proofs.Numbers.{number_by, word_by, other_by, one_fault_of, one_place, not_other, one_files, not_many}
+use Rattle.dialyze.proofs.Numbers.{number_by, word_by, other_by, one_fault_of, one_word, not_other, one_files, not_many}
 
 -- ---- the step that a refusal is of
 
@@ -91,16 +91,32 @@ by_scopes e (not_accepted h) = h
 
 -- ---- from the status to the cause
 
-refused_of_outcome : {words : List (List ℕ)} {held : Files} {status : Status} {output : List ℕ} (at : ℕ) (fault : SourceFault) → Outcome words (Some held) status output
-    → status ≡ refused (1 + at) fault → (files : List (List ℕ)) × Checks words files × RefusedAt (Some held) files at fault
-refused_of_outcome at fault (usage a c d) e = let k = sym a ∙ e in absurd cc
-refused_of_outcome at fault (many a c d) e = absurd ((not_other fault.name).1 (sym (ap number_by (sym a ∙ e))))
-refused_of_outcome {held = held} at fault (faulty files place file other a c d f g) e =
+-- the word at this position names a file that is refused by this fault
+record RefusedHere (words : List (List ℕ)) (held : Files) (word : ℕ) (fault : SourceFault) : Type 0 where
+  pub start : ℕ
+  pub files : List (List ℕ)
+  pub checks : Checks words start files
+  pub at : ℕ
+  pub place : word ≡ start + at
+  pub refused_so : RefusedAt (Some held) files at fault
+
+refused_of_outcome : {words : List (List ℕ)} {held : Files} {status : Status} {output : List ℕ} (word : ℕ) (fault : SourceFault) → Outcome words (Some held) status output
+    → status ≡ refused word fault → RefusedHere words held word fault
+refused_of_outcome word fault (usage a c d) e = let k = sym a ∙ e in absurd cc
+refused_of_outcome word fault (many a c d) e = absurd ((not_other fault.name).1 (sym (ap number_by (sym a ∙ e))))
+refused_of_outcome {held = held} word fault (faulty start files at file other a c d f g) e =
     let is = sym a ∙ e in
-    (files, d, subst (λ n. RefusedAt (Some held) files n fault) (one_place place at other fault is) (subst (RefusedAt (Some held) files place) (one_fault_of (1 + place) (1 + at) other fault is) g))
-refused_of_outcome at fault (twice files first second file other a c d f g h) e = absurd ((not_other fault.name).0 (sym (ap number_by (sym a ∙ e))))
-refused_of_outcome at fault (clean files reports a c d f g) e = let k = sym a ∙ e in absurd cc
-refused_of_outcome at fault (warned files reports a c d f g) e = let k = sym a ∙ e in absurd cc
+    record {
+      start = start;
+      files = files;
+      checks = d;
+      at = at;
+      place = sym (one_word (start + at) word other fault is);
+      refused_so = subst (RefusedAt (Some held) files at) (one_fault_of (start + at) word other fault is) g;
+    }
+refused_of_outcome word fault (twice start files first second file other a c d f g h) e = absurd ((not_other fault.name).0 (sym (ap number_by (sym a ∙ e))))
+refused_of_outcome word fault (clean start files reports a c d f g) e = let k = sym a ∙ e in absurd cc
+refused_of_outcome word fault (warned start files reports a c d f g) e = let k = sym a ∙ e in absurd cc
 
 missing_not_faulty : {told : Option Files} {files : List (List ℕ)} {at : ℕ} → RefusedAt told files at missing → IsMissingAt told files at
 missing_not_faulty (not_held e h) = h
@@ -111,20 +127,16 @@ faulty_not_missing : {told : Option Files} {files : List (List ℕ)} {at : ℕ} 
 faulty_not_missing away (not_held e h) = absurd (away (ap (λ f. step_of f.name) e))
 faulty_not_missing away (at_fault h) = h
 
-twice_of_outcome : {words : List (List ℕ)} {held : Files} {status : Status} {output : List ℕ} (first second : ℕ) → Outcome words (Some held) status output
-    → status ≡ duplicate (1 + second) (1 + first) → NamesTwice words held first second
-twice_of_outcome first second (usage a c d) e = let k = sym a ∙ e in absurd cc
-twice_of_outcome first second (many a c d) e = let k : 24 ≡ 14 = ap number_by (sym a ∙ e) in absurd (omega (arith, k))
-twice_of_outcome first second (faulty files at file fault a c d f g) e = absurd ((not_other fault.name).0 (ap number_by (sym a ∙ e)))
-twice_of_outcome {held = held} first second (twice files one two file other a c d f g h) e =
+twice_of_outcome : {words : List (List ℕ)} {held : Files} {status : Status} {output : List ℕ} (word other : ℕ) → Outcome words (Some held) status output
+    → status ≡ duplicate word other → NamesTwice words held word other
+twice_of_outcome word other (usage a c d) e = let k = sym a ∙ e in absurd cc
+twice_of_outcome word other (many a c d) e = let k : 24 ≡ 14 = ap number_by (sym a ∙ e) in absurd (omega (arith, k))
+twice_of_outcome word other (faulty start files at file fault a c d f g) e = absurd ((not_other fault.name).0 (ap number_by (sym a ∙ e)))
+twice_of_outcome word other (twice start files first second file that a c d f g h) e =
     let is = sym a ∙ e in
-    let k : 1 + two ≡ 1 + second = ap word_by is in
-    let l : 1 + one ≡ 1 + first = ap other_by is in
-    let same : two ≡ second = omega arith in
-    let also : one ≡ first = omega arith in
-    record { files = files; checks = d; twice = subst (λ i. IsDuplicate (Some held) files i second) also (subst (IsDuplicate (Some held) files one) same h) }
-twice_of_outcome first second (clean files reports a c d f g) e = let k = sym a ∙ e in absurd cc
-twice_of_outcome first second (warned files reports a c d f g) e = let k = sym a ∙ e in absurd cc
+    record { start = start; files = files; checks = d; first = first; second = second; place = sym (ap word_by is); other_place = sym (ap other_by is); twice = h }
+twice_of_outcome word other (clean start files reports a c d f g) e = let k = sym a ∙ e in absurd cc
+twice_of_outcome word other (warned start files reports a c d f g) e = let k = sym a ∙ e in absurd cc
 
 either_is : {status other : Status} → (status ≡ Clean) ⊎ (status ≡ Warnings) → status ≡ other → (Clean ≡ other → ⊥) → (Warnings ≡ other → ⊥) → ⊥
 either_is (inl a) e f g = f (sym a ∙ e)
@@ -134,10 +146,10 @@ modules_of_outcome : {words : List (List ℕ)} {held : Files} {status : Status} 
     → (status ≡ Clean) ⊎ (status ≡ Warnings) → NamesModules words held
 modules_of_outcome (usage a c d) e = absurd (either_is e a (λ f. cc) (λ f. cc))
 modules_of_outcome (many a c d) e = absurd (either_is e a (λ f. cc) (λ f. cc))
-modules_of_outcome (faulty files at file fault a c d f g) e = absurd (either_is e a (λ f. cc) (λ f. cc))
-modules_of_outcome (twice files first second file other a c d f g h) e = absurd (either_is e a (λ f. cc) (λ f. cc))
-modules_of_outcome (clean files reports a c f d g) e = record { files = files; checks = d; modules = g.modules; read = g.read; names = g.names }
-modules_of_outcome (warned files reports a c f d g) e = record { files = files; checks = d; modules = g.modules; read = g.read; names = g.names }
+modules_of_outcome (faulty start files at file fault a c d f g) e = absurd (either_is e a (λ f. cc) (λ f. cc))
+modules_of_outcome (twice start files first second file other a c d f g h) e = absurd (either_is e a (λ f. cc) (λ f. cc))
+modules_of_outcome (clean start files reports a c f d g) e = record { start = start; files = files; checks = d; modules = g.modules; read = g.read; names = g.names }
+modules_of_outcome (warned start files reports a c f d g) e = record { start = start; files = files; checks = d; modules = g.modules; read = g.read; names = g.names }
 
 -- ---- from the cause to the status
 
@@ -176,50 +188,53 @@ own_or_twice xs i j own h =
 module _ (one_list : (held : Files) (files : List (List ℕ)) (xs ys : List m.Module) (a b : ℕ) → AreRead (Some held) 0 files xs a → AreRead (Some held) 0 files ys b → xs ≡ ys)
     (one_refusal : (held : Files) (files : List (List ℕ)) (i j : ℕ) (f g : SourceFault) → RefusedAt (Some held) files i f → RefusedAt (Some held) files j g → (i ≡ j) × (f ≡ g))
     (none_refused : (held : Files) (files : List (List ℕ)) (xs : List m.Module) (after i : ℕ) (f : SourceFault) → AreRead (Some held) 0 files xs after → RefusedAt (Some held) files i f → ⊥) where
-  refused_answered : {words : List (List ℕ)} {held : Files} {status : Status} {output : List ℕ} (fs : List (List ℕ)) (at : ℕ) (fault : SourceFault) → Outcome words (Some held) status output
-      → Checks words fs → RefusedAt (Some held) fs at fault → status ≡ refused (1 + at) fault
-  refused_answered fs at fault (usage a c d) checks h = absurd (d (fs, checks.check))
-  refused_answered fs at fault (many a c d) checks h = absurd (not_many checks d.check d.many)
-  refused_answered {held = held} fs at fault (faulty files place file other a c d f g) checks h =
-      let r = one_refusal held fs place at other fault (subst (λ zs. RefusedAt (Some held) zs place other) (one_files d checks) g) h in
-      a ∙ ap (λ n. refused (1 + n) other) r.0 ∙ ap (refused (1 + at)) r.1
-  refused_answered {held = held} fs at fault (twice files first second file other a c d f g i) checks h =
-      absurd (none_refused held fs i.modules i.read.after at fault (subst (λ zs. AreRead (Some held) 0 zs i.modules i.read.after) (one_files d checks) i.read.read) h)
-  refused_answered {held = held} fs at fault (clean files reports a c f d g) checks h =
-      absurd (none_refused held fs g.modules g.read.after at fault (subst (λ zs. AreRead (Some held) 0 zs g.modules g.read.after) (one_files d checks) g.read.read) h)
-  refused_answered {held = held} fs at fault (warned files reports a c f d g) checks h =
-      absurd (none_refused held fs g.modules g.read.after at fault (subst (λ zs. AreRead (Some held) 0 zs g.modules g.read.after) (one_files d checks) g.read.read) h)
+  refused_answered : {words : List (List ℕ)} {held : Files} {status : Status} {output : List ℕ} (start : ℕ) (fs : List (List ℕ)) (at word : ℕ) (fault : SourceFault)
+      → Outcome words (Some held) status output → Checks words start fs → word ≡ start + at → RefusedAt (Some held) fs at fault → status ≡ refused word fault
+  refused_answered start fs at word fault (usage a c d) checks e h = absurd (d (checks.workers, start, fs, checks.check))
+  refused_answered start fs at word fault (many a c d) checks e h = absurd (not_many checks d.check d.many)
+  refused_answered {held = held} start fs at word fault (faulty begins files place file other a c d f g) checks e h =
+      let one = one_files d checks in
+      let r = one_refusal held fs place at other fault (subst (λ zs. RefusedAt (Some held) zs place other) one.1 g) h in
+      a ∙ ap (λ n. refused (n + place) other) one.0 ∙ ap (λ n. refused (start + n) other) r.0 ∙ ap (refused (start + at)) r.1 ∙ ap (λ w. refused w fault) (sym e)
+  refused_answered {held = held} start fs at word fault (twice begins files first second file other a c d f g i) checks e h =
+      absurd (none_refused held fs i.modules i.read.after at fault (subst (λ zs. AreRead (Some held) 0 zs i.modules i.read.after) (one_files d checks).1 i.read.read) h)
+  refused_answered {held = held} start fs at word fault (clean begins files reports a c f d g) checks e h =
+      absurd (none_refused held fs g.modules g.read.after at fault (subst (λ zs. AreRead (Some held) 0 zs g.modules g.read.after) (one_files d checks).1 g.read.read) h)
+  refused_answered {held = held} start fs at word fault (warned begins files reports a c f d g) checks e h =
+      absurd (none_refused held fs g.modules g.read.after at fault (subst (λ zs. AreRead (Some held) 0 zs g.modules g.read.after) (one_files d checks).1 g.read.read) h)
 
   same_modules : {held : Files} {fs gs : List (List ℕ)} {xs ys : List m.Module} → fs ≡ gs → ReadsAll (Some held) fs xs → ReadsAll (Some held) gs ys → xs ≡ ys
   same_modules {held} {fs} {gs} {xs} {ys} e h k = one_list held gs xs ys h.after k.after (subst (λ zs. AreRead (Some held) 0 zs xs h.after) e h.read) k.read
 
-  twice_answered : {words : List (List ℕ)} {held : Files} {status : Status} {output : List ℕ} (first second : ℕ) → Outcome words (Some held) status output
-      → NamesTwice words held first second → status ≡ duplicate (1 + second) (1 + first)
-  twice_answered first second (usage a c d) h = absurd (d (h.files, h.checks.check))
-  twice_answered first second (many a c d) h = absurd (not_many h.checks d.check d.many)
-  twice_answered {held = held} first second (faulty files at file fault a c d f g) h =
-      absurd (none_refused held h.files h.twice.modules h.twice.read.after at fault h.twice.read.read (subst (λ zs. RefusedAt (Some held) zs at fault) (one_files d h.checks) g))
-  twice_answered first second (twice files one two file other a c d f g i) h =
-      let is : FirstDuplicate (module_names h.twice.modules) one two = subst (λ xs. FirstDuplicate (module_names xs) one two) (same_modules (one_files d h.checks) i.read h.twice.read) i.is in
+  twice_answered : {words : List (List ℕ)} {held : Files} {status : Status} {output : List ℕ} (word other : ℕ) → Outcome words (Some held) status output
+      → NamesTwice words held word other → status ≡ duplicate word other
+  twice_answered word other (usage a c d) h = absurd (d (h.checks.workers, h.start, h.files, h.checks.check))
+  twice_answered word other (many a c d) h = absurd (not_many h.checks d.check d.many)
+  twice_answered {held = held} word other (faulty start files at file fault a c d f g) h =
+      absurd (none_refused held h.files h.twice.modules h.twice.read.after at fault h.twice.read.read (subst (λ zs. RefusedAt (Some held) zs at fault) (one_files d h.checks).1 g))
+  twice_answered word other (twice start files one two file that a c d f g i) h =
+      let begins = one_files d h.checks in
+      let is : FirstDuplicate (module_names h.twice.modules) one two = subst (λ xs. FirstDuplicate (module_names xs) one two) (same_modules begins.1 i.read h.twice.read) i.is in
       let names = module_names h.twice.modules in
-      let same = one_second names one two first second is h.twice.is in
-      let also = one_first names one second first (subst (FirstDuplicate names one) same is) h.twice.is in
-      a ∙ ap (λ w. duplicate (1 + w) (1 + one)) same ∙ ap (λ w. duplicate (1 + second) (1 + w)) also
-  twice_answered first second (clean files reports a c f d g) h =
-      absurd (own_or_twice h.twice.modules first second (subst HaveOwnNames (same_modules (one_files d h.checks) g.read h.twice.read) g.names) h.twice.is)
-  twice_answered first second (warned files reports a c f d g) h =
-      absurd (own_or_twice h.twice.modules first second (subst HaveOwnNames (same_modules (one_files d h.checks) g.read h.twice.read) g.names) h.twice.is)
+      let same = one_second names one two h.first h.second is h.twice.is in
+      let also = one_first names one h.second h.first (subst (FirstDuplicate names one) same is) h.twice.is in
+      a ∙ ap (λ n. duplicate (n + two) (n + one)) begins.0 ∙ ap (λ n. duplicate (h.start + n) (h.start + one)) same ∙ ap (λ n. duplicate (h.start + h.second) (h.start + n)) also
+      ∙ ap (λ w. duplicate w (h.start + h.first)) (sym h.place) ∙ ap (duplicate word) (sym h.other_place)
+  twice_answered word other (clean start files reports a c f d g) h =
+      absurd (own_or_twice h.twice.modules h.first h.second (subst HaveOwnNames (same_modules (one_files d h.checks).1 g.read h.twice.read) g.names) h.twice.is)
+  twice_answered word other (warned start files reports a c f d g) h =
+      absurd (own_or_twice h.twice.modules h.first h.second (subst HaveOwnNames (same_modules (one_files d h.checks).1 g.read h.twice.read) g.names) h.twice.is)
 
   modules_answered : {words : List (List ℕ)} {held : Files} {status : Status} {output : List ℕ} → Outcome words (Some held) status output
       → NamesModules words held → (status ≡ Clean) ⊎ (status ≡ Warnings)
-  modules_answered (usage a c d) h = absurd (d (h.files, h.checks.check))
+  modules_answered (usage a c d) h = absurd (d (h.checks.workers, h.start, h.files, h.checks.check))
   modules_answered (many a c d) h = absurd (not_many h.checks d.check d.many)
-  modules_answered {held = held} (faulty files at file fault a c d f g) h =
-      absurd (none_refused held h.files h.modules h.read.after at fault h.read.read (subst (λ zs. RefusedAt (Some held) zs at fault) (one_files d h.checks) g))
-  modules_answered (twice files one two file other a c d f g i) h =
-      absurd (own_or_twice i.modules one two (subst HaveOwnNames (sym (same_modules (one_files d h.checks) i.read h.read)) h.names) i.is)
-  modules_answered (clean files reports a c f d g) h = inl a
-  modules_answered (warned files reports a c f d g) h = inr a
+  modules_answered {held = held} (faulty start files at file fault a c d f g) h =
+      absurd (none_refused held h.files h.modules h.read.after at fault h.read.read (subst (λ zs. RefusedAt (Some held) zs at fault) (one_files d h.checks).1 g))
+  modules_answered (twice start files one two file other a c d f g i) h =
+      absurd (own_or_twice i.modules one two (subst HaveOwnNames (sym (same_modules (one_files d h.checks).1 i.read h.read)) h.names) i.is)
+  modules_answered (clean start files reports a c f d g) h = inl a
+  modules_answered (warned start files reports a c f d g) h = inr a
 
   -- ---- each answer, both ways
 
@@ -231,45 +246,48 @@ module _ (one_list : (held : Files) (files : List (List ℕ)) (xs ys : List m.Mo
         cases None h = tt
         cases (Some held) h = by held (outcome_of answer h)
 
-    pub missing_it : IfSome told (λ held. (at : ℕ) → (status ≡ refused (1 + at) missing) ↔ NamesMissing words held at)
+    pub missing_it : IfSome told (λ held. (word : ℕ) → (status ≡ refused word missing) ↔ NamesMissing words held word)
     missing_it =
-        told_cases (λ held. (at : ℕ) → (status ≡ refused (1 + at) missing) ↔ NamesMissing words held at)
-        (λ held o at. (λ e. let h = refused_of_outcome at missing o e in record { files = h.0; checks = h.1; missing_at = missing_not_faulty h.2 }, λ h. refused_answered h.files at missing o h.checks (not_held refl h.missing_at)))
+        told_cases (λ held. (word : ℕ) → (status ≡ refused word missing) ↔ NamesMissing words held word)
+        (λ held o word. (
+          λ e. let h = refused_of_outcome word missing o e in record { start = h.start; files = h.files; checks = h.checks; at = h.at; place = h.place; missing_at = missing_not_faulty h.refused_so },
+          λ h. refused_answered h.start h.files h.at word missing o h.checks h.place (not_held refl h.missing_at),
+        ))
 
     -- a fault of a step whose faults are those of a relation
     at_step : (Is : ℕ → List ℕ → SourceFault → Type 0) (step : Step) (fault : SourceFault) → (step ≡ holding → ⊥)
         → ((most : ℕ) (bytes : List ℕ) → step_of fault.name ≡ step → IsAtFault most bytes fault → Is most bytes fault)
-        → ((most : ℕ) (bytes : List ℕ) → Is most bytes fault → IsAtFault most bytes fault) → (held : Files) → Outcome words (Some held) status output → (at : ℕ)
-        → step_of fault.name ≡ step → (status ≡ refused (1 + at) fault) ↔ NamesSource words held at (λ most bytes. Is most bytes fault)
-    at_step Is step fault away to from held o at of = (
-      λ e. let h = refused_of_outcome at fault o e in let i = faulty_not_missing (λ h. away (sym of ∙ h)) h.2 in record { files = h.0; checks = h.1; source = record { file = i.file; bytes = i.bytes; before = i.before; reached = i.reached; held_so = i.held_so; is = to _ i.bytes of i.is } },
-      λ h. let i = h.source in refused_answered h.files at fault o h.checks (at_fault (record { file = i.file; bytes = i.bytes; before = i.before; reached = i.reached; held_so = i.held_so; is = from _ i.bytes i.is })),
+        → ((most : ℕ) (bytes : List ℕ) → Is most bytes fault → IsAtFault most bytes fault) → (held : Files) → Outcome words (Some held) status output → (word : ℕ)
+        → step_of fault.name ≡ step → (status ≡ refused word fault) ↔ NamesSource words held word (λ most bytes. Is most bytes fault)
+    at_step Is step fault away to from held o word of = (
+      λ e. let h = refused_of_outcome word fault o e in let i = faulty_not_missing (λ h. away (sym of ∙ h)) h.refused_so in record { start = h.start; files = h.files; checks = h.checks; at = h.at; place = h.place; source = record { file = i.file; bytes = i.bytes; before = i.before; reached = i.reached; held_so = i.held_so; is = to _ i.bytes of i.is } },
+      λ h. let i = h.source in refused_answered h.start h.files h.at word fault o h.checks h.place (at_fault (record { file = i.file; bytes = i.bytes; before = i.before; reached = i.reached; held_so = i.held_so; is = from _ i.bytes i.is })),
     )
 
-    pub too_long_it : IfSome told (λ held. (at : ℕ) (fault : SourceFault) → step_of fault.name ≡ length → (status ≡ refused (1 + at) fault) ↔ NamesSource words held at (λ most bytes. IsTooLong most bytes fault))
+    pub too_long_it : IfSome told (λ held. (word : ℕ) (fault : SourceFault) → step_of fault.name ≡ length → (status ≡ refused word fault) ↔ NamesSource words held word (λ most bytes. IsTooLong most bytes fault))
     too_long_it =
-        told_cases (λ held. (at : ℕ) (fault : SourceFault) → step_of fault.name ≡ length → (status ≡ refused (1 + at) fault) ↔ NamesSource words held at (λ most bytes. IsTooLong most bytes fault))
-        (λ held o at fault. at_step IsTooLong length fault (λ e. absurd cc) (λ most bytes e h. by_length e h) (λ most bytes h. too_long h) held o at)
+        told_cases (λ held. (word : ℕ) (fault : SourceFault) → step_of fault.name ≡ length → (status ≡ refused word fault) ↔ NamesSource words held word (λ most bytes. IsTooLong most bytes fault))
+        (λ held o word fault. at_step IsTooLong length fault (λ e. absurd cc) (λ most bytes e h. by_length e h) (λ most bytes h. too_long h) held o word)
 
-    pub not_scanned_it : IfSome told (λ held. (at : ℕ) (fault : SourceFault) → step_of fault.name ≡ tokens → (status ≡ refused (1 + at) fault) ↔ NamesSource words held at (λ most bytes. IsNotScanned most bytes fault))
+    pub not_scanned_it : IfSome told (λ held. (word : ℕ) (fault : SourceFault) → step_of fault.name ≡ tokens → (status ≡ refused word fault) ↔ NamesSource words held word (λ most bytes. IsNotScanned most bytes fault))
     not_scanned_it =
-        told_cases (λ held. (at : ℕ) (fault : SourceFault) → step_of fault.name ≡ tokens → (status ≡ refused (1 + at) fault) ↔ NamesSource words held at (λ most bytes. IsNotScanned most bytes fault))
-        (λ held o at fault. at_step IsNotScanned tokens fault (λ e. absurd cc) (λ most bytes e h. by_tokens e h) (λ most bytes h. not_scanned h) held o at)
+        told_cases (λ held. (word : ℕ) (fault : SourceFault) → step_of fault.name ≡ tokens → (status ≡ refused word fault) ↔ NamesSource words held word (λ most bytes. IsNotScanned most bytes fault))
+        (λ held o word fault. at_step IsNotScanned tokens fault (λ e. absurd cc) (λ most bytes e h. by_tokens e h) (λ most bytes h. not_scanned h) held o word)
 
-    pub not_parsed_it : IfSome told (λ held. (at : ℕ) (fault : SourceFault) → step_of fault.name ≡ grammar → (status ≡ refused (1 + at) fault) ↔ NamesSource words held at (λ most bytes. IsNotParsed most bytes fault))
+    pub not_parsed_it : IfSome told (λ held. (word : ℕ) (fault : SourceFault) → step_of fault.name ≡ grammar → (status ≡ refused word fault) ↔ NamesSource words held word (λ most bytes. IsNotParsed most bytes fault))
     not_parsed_it =
-        told_cases (λ held. (at : ℕ) (fault : SourceFault) → step_of fault.name ≡ grammar → (status ≡ refused (1 + at) fault) ↔ NamesSource words held at (λ most bytes. IsNotParsed most bytes fault))
-        (λ held o at fault. at_step IsNotParsed grammar fault (λ e. absurd cc) (λ most bytes e h. by_grammar e h) (λ most bytes h. not_parsed h) held o at)
+        told_cases (λ held. (word : ℕ) (fault : SourceFault) → step_of fault.name ≡ grammar → (status ≡ refused word fault) ↔ NamesSource words held word (λ most bytes. IsNotParsed most bytes fault))
+        (λ held o word fault. at_step IsNotParsed grammar fault (λ e. absurd cc) (λ most bytes e h. by_grammar e h) (λ most bytes h. not_parsed h) held o word)
 
-    pub not_accepted_it : IfSome told (λ held. (at : ℕ) (fault : SourceFault) → step_of fault.name ≡ scopes → (status ≡ refused (1 + at) fault) ↔ NamesSource words held at (λ most bytes. IsNotAccepted most bytes fault))
+    pub not_accepted_it : IfSome told (λ held. (word : ℕ) (fault : SourceFault) → step_of fault.name ≡ scopes → (status ≡ refused word fault) ↔ NamesSource words held word (λ most bytes. IsNotAccepted most bytes fault))
     not_accepted_it =
-        told_cases (λ held. (at : ℕ) (fault : SourceFault) → step_of fault.name ≡ scopes → (status ≡ refused (1 + at) fault) ↔ NamesSource words held at (λ most bytes. IsNotAccepted most bytes fault))
-        (λ held o at fault. at_step IsNotAccepted scopes fault (λ e. absurd cc) (λ most bytes e h. by_scopes e h) (λ most bytes h. not_accepted h) held o at)
+        told_cases (λ held. (word : ℕ) (fault : SourceFault) → step_of fault.name ≡ scopes → (status ≡ refused word fault) ↔ NamesSource words held word (λ most bytes. IsNotAccepted most bytes fault))
+        (λ held o word fault. at_step IsNotAccepted scopes fault (λ e. absurd cc) (λ most bytes e h. by_scopes e h) (λ most bytes h. not_accepted h) held o word)
 
-    pub duplicate_it : IfSome told (λ held. (first second : ℕ) → (status ≡ duplicate (1 + second) (1 + first)) ↔ NamesTwice words held first second)
+    pub duplicate_it : IfSome told (λ held. (word other : ℕ) → (status ≡ duplicate word other) ↔ NamesTwice words held word other)
     duplicate_it =
-        told_cases (λ held. (first second : ℕ) → (status ≡ duplicate (1 + second) (1 + first)) ↔ NamesTwice words held first second)
-        (λ held o first second. (λ e. twice_of_outcome first second o e, λ h. twice_answered first second o h))
+        told_cases (λ held. (word other : ℕ) → (status ≡ duplicate word other) ↔ NamesTwice words held word other)
+        (λ held o word other. (λ e. twice_of_outcome word other o e, λ h. twice_answered word other o h))
 
     pub checked_it : IfSome told (λ held. ((status ≡ Clean) ⊎ (status ≡ Warnings)) ↔ NamesModules words held)
     checked_it =

@@ -1,5 +1,5 @@
 -- From what a run means to answer to what it answers, once all is written.
-use Rattle.std.proofs.Common.{◌≡◌, ◌↔◌, ℕ, List, refl, sym, ◌∙◌, ap, subst, arith, Option, Some, None}
+use Rattle.std.proofs.Common.{◌≡◌, ◌↔◌, ℕ, ◌+◌, ◌<◌, ◌≤◌, List, refl, sym, ◌∙◌, ap, subst, arith, Option, Some, None}
 use Rattle.std.specs.Prelude.{IfSome}
 use Rattle.da_shelf.specs.Counts.{Rose}
 use Rattle.da_shelf.specs.Told.{Files, appended, IsFrontAppended}
@@ -8,21 +8,21 @@ use Rattle.dialyze.specs.declared.status.Status.{Status}
 use Rattle.dialyze.specs.declared.status.Status.TheVariants.{DeviceFault, Memory, Usage}
 use Rattle.dialyze.specs.Lines.{too_many}
 use Rattle.dialyze.specs.Words.{IsNoCommand}
-use Rattle.dialyze.proofs.Numbers.{number_by, not_other, not_many}
+use Rattle.dialyze.proofs.Numbers.{number_by, not_other, not_many, start_late}
 use Rattle.dialyze.specs.Outcome.{ChecksTooMany, Outcome, usage, many, faulty, twice, clean, warned, Intended, answered, unread, Answers, FailsToRead, FailsToWrite, IsAnswer, IsPossible, of_file, of_many, of_two}
 
 -- every outcome is an answer
 answers : {words : List (List ℕ)} {told : Option Files} {status : Status} {output : List ℕ} → Outcome words told status output → IsAnswer status
 answers (usage a c d) = subst IsAnswer (sym a) tt
 answers (many a c d) = subst IsAnswer (sym a) tt
-answers (faulty files at file fault a c d f g) = subst IsAnswer (sym a) tt
-answers (twice files first second file other a c d f g h) = subst IsAnswer (sym a) tt
-answers (clean files reports a c d f g) = subst IsAnswer (sym a) tt
-answers (warned files reports a c d f g) = subst IsAnswer (sym a) tt
+answers (faulty start files at file fault a c d f g) = subst IsAnswer (sym a) tt
+answers (twice start files first second file other a c d f g h) = subst IsAnswer (sym a) tt
+answers (clean start files reports a c d f g) = subst IsAnswer (sym a) tt
+answers (warned start files reports a c d f g) = subst IsAnswer (sym a) tt
 
 pub outcome_of : {words : List (List ℕ)} {told : Option Files} {b n : ℕ} {status : Status} {output : List ℕ} → IsAnswer status → Intended words told b n status output → Outcome words told status output
 outcome_of h (answered o) = o
-outcome_of h (unread at file a c d) = absurd (subst IsAnswer a h)
+outcome_of h (unread start at file a c d) = absurd (subst IsAnswer a h)
 
 -- the headline
 pub answers_it : (words : List (List ℕ)) (told : Option Files) (b n : ℕ) (status : Status) (output : List ℕ) (before now : Option (List ℕ)) → Intended words told b n status output → now ≡ appended before output → IsAnswer status → IfSome told (λ held. Answers words held status before now)
@@ -34,18 +34,18 @@ answers_it words (Some held) b n status output before now h w a = record { outpu
 usage_to : {words : List (List ℕ)} {told : Option Files} {status : Status} {output : List ℕ} → Outcome words told status output → status ≡ Usage → IsNoCommand words
 usage_to (usage a c d) e = d
 usage_to (many a c d) e = let k = sym a ∙ e in absurd cc
-usage_to (faulty files at file fault a c d f g) e = let k = sym a ∙ e in absurd cc
-usage_to (twice files first second file other a c d f g h) e = let k = sym a ∙ e in absurd cc
-usage_to (clean files reports a c d f g) e = let k = sym a ∙ e in absurd cc
-usage_to (warned files reports a c d f g) e = let k = sym a ∙ e in absurd cc
+usage_to (faulty start files at file fault a c d f g) e = let k = sym a ∙ e in absurd cc
+usage_to (twice start files first second file other a c d f g h) e = let k = sym a ∙ e in absurd cc
+usage_to (clean start files reports a c d f g) e = let k = sym a ∙ e in absurd cc
+usage_to (warned start files reports a c d f g) e = let k = sym a ∙ e in absurd cc
 
 usage_from : {words : List (List ℕ)} {told : Option Files} {status : Status} {output : List ℕ} → Outcome words told status output → IsNoCommand words → status ≡ Usage
 usage_from (usage a c d) none = a
-usage_from (many a c d) none = absurd (none (d.files, d.check))
-usage_from (faulty files at file fault a c d f g) none = absurd (none (files, d.check))
-usage_from (twice files first second file other a c d f g h) none = absurd (none (files, d.check))
-usage_from (clean files reports a c f d g) none = absurd (none (files, d.check))
-usage_from (warned files reports a c f d g) none = absurd (none (files, d.check))
+usage_from (many a c d) none = absurd (none (d.workers, d.start, d.files, d.check))
+usage_from (faulty start files at file fault a c d f g) none = absurd (none (d.workers, start, files, d.check))
+usage_from (twice start files first second file other a c d f g h) none = absurd (none (d.workers, start, files, d.check))
+usage_from (clean start files reports a c f d g) none = absurd (none (d.workers, start, files, d.check))
+usage_from (warned start files reports a c f d g) none = absurd (none (d.workers, start, files, d.check))
 
 pub usage_it : (words : List (List ℕ)) (told : Option Files) (b n : ℕ) (status : Status) (output : List ℕ) → Intended words told b n status output → IsAnswer status → (status ≡ Usage) ↔ IsNoCommand words
 usage_it words told b n status output h answer = (usage_to (outcome_of answer h), usage_from (outcome_of answer h))
@@ -53,18 +53,18 @@ usage_it words told b n status output h answer = (usage_to (outcome_of answer h)
 many_to : {words : List (List ℕ)} {told : Option Files} {status : Status} {output : List ℕ} → Outcome words told status output → status ≡ too_many → ChecksTooMany words
 many_to (usage a c d) e = let k = sym a ∙ e in absurd cc
 many_to (many a c d) e = d
-many_to (faulty files at file fault a c d f g) e = absurd ((not_other fault.name).1 (ap number_by (sym a ∙ e)))
-many_to (twice files first second file other a c d f g h) e = let k : 14 ≡ 24 = ap number_by (sym a ∙ e) in absurd (omega (arith, k))
-many_to (clean files reports a c d f g) e = let k = sym a ∙ e in absurd cc
-many_to (warned files reports a c d f g) e = let k = sym a ∙ e in absurd cc
+many_to (faulty start files at file fault a c d f g) e = absurd ((not_other fault.name).1 (ap number_by (sym a ∙ e)))
+many_to (twice start files first second file other a c d f g h) e = let k : 14 ≡ 24 = ap number_by (sym a ∙ e) in absurd (omega (arith, k))
+many_to (clean start files reports a c d f g) e = let k = sym a ∙ e in absurd cc
+many_to (warned start files reports a c d f g) e = let k = sym a ∙ e in absurd cc
 
 many_from : {words : List (List ℕ)} {told : Option Files} {status : Status} {output : List ℕ} → Outcome words told status output → ChecksTooMany words → status ≡ too_many
-many_from (usage a c d) h = absurd (d (h.files, h.check))
+many_from (usage a c d) h = absurd (d (h.workers, h.start, h.files, h.check))
 many_from (many a c d) h = a
-many_from (faulty files at file fault a c d f g) h = absurd (not_many d h.check h.many)
-many_from (twice files first second file other a c d f g i) h = absurd (not_many d h.check h.many)
-many_from (clean files reports a c f d g) h = absurd (not_many d h.check h.many)
-many_from (warned files reports a c f d g) h = absurd (not_many d h.check h.many)
+many_from (faulty start files at file fault a c d f g) h = absurd (not_many d h.check h.many)
+many_from (twice start files first second file other a c d f g i) h = absurd (not_many d h.check h.many)
+many_from (clean start files reports a c f d g) h = absurd (not_many d h.check h.many)
+many_from (warned start files reports a c f d g) h = absurd (not_many d h.check h.many)
 
 pub too_many_it : (words : List (List ℕ)) (told : Option Files) (b n : ℕ) (status : Status) (output : List ℕ) → Intended words told b n status output → IsAnswer status → (status ≡ too_many) ↔ ChecksTooMany words
 too_many_it words told b n status output h answer = (many_to (outcome_of answer h), many_from (outcome_of answer h))
@@ -73,14 +73,14 @@ too_many_it words told b n status output h answer = (many_to (outcome_of answer 
 
 read_to : {words : List (List ℕ)} {told : Option Files} {b n : ℕ} {status : Status} {output : List ℕ} {before now : Option (List ℕ)} (word : ℕ) → Intended words told b n status output → now ≡ appended before output → status ≡ DeviceFault (Read word) → FailsToRead words told word b n before now
 read_to word (answered o) w e = absurd (subst IsAnswer e (answers o))
-read_to {before = before} word (unread at file a c d) w e = let k = sym e ∙ a in record { at = at; is = cc; file = file; unread_so = d; written = w ∙ ap (appended before) c }
+read_to {before = before} word (unread start at file a c d) w e = let k = sym e ∙ a in record { start = start; at = at; is = cc; file = file; unread_so = d; written = w ∙ ap (appended before) c }
 
 pub read_it : (words : List (List ℕ)) (told : Option Files) (b n : ℕ) (status : Status) (output : List ℕ) (before now : Option (List ℕ)) → Intended words told b n status output → now ≡ appended before output → (word : ℕ) → status ≡ DeviceFault (Read word) → FailsToRead words told word b n before now
 read_it words told b n status output before now h w word e = read_to word h w e
 
 no_write : {words : List (List ℕ)} {told : Option Files} {b n : ℕ} {status : Status} {output : List ℕ} → Intended words told b n status output → status ≡ DeviceFault Write → ⊥
 no_write (answered o) e = absurd (subst IsAnswer e (answers o))
-no_write (unread at file a c d) e = let k = sym a ∙ e in absurd cc
+no_write (unread start at file a c d) e = let k = sym a ∙ e in absurd cc
 
 pub unwritten_it : (words : List (List ℕ)) (told : Option Files) (b n o p : ℕ) (status : Status) (output : List ℕ) (before now : Option (List ℕ)) → Intended words told b n status output → status ≡ DeviceFault Write → FailsToWrite words told b n o p before now
 unwritten_it words told b n o p status output before now h e = absurd (no_write h e)
@@ -90,7 +90,7 @@ write_it words told b n o p status output before now h r w = record { rose = r; 
 
 no_memory : {words : List (List ℕ)} {told : Option Files} {b n : ℕ} {status : Status} {output : List ℕ} → Intended words told b n status output → status ≡ Memory → ⊥
 no_memory (answered o) e = absurd (subst IsAnswer e (answers o))
-no_memory (unread at file a c d) e = let k = sym a ∙ e in absurd cc
+no_memory (unread start at file a c d) e = let k = sym a ∙ e in absurd cc
 
 pub memory_it : (words : List (List ℕ)) (told : Option Files) (b n : ℕ) (status : Status) (output : List ℕ) (before now : Option (List ℕ)) → Intended words told b n status output → status ≡ Memory → now ≡ before
 memory_it words told b n status output before now h e = absurd (no_memory h e)
@@ -100,14 +100,14 @@ memory_it words told b n status output before now h e = absurd (no_memory h e)
 possible_outcome : {words : List (List ℕ)} {told : Option Files} {status : Status} {output : List ℕ} → Outcome words told status output → IsPossible status
 possible_outcome (usage a c d) = subst IsPossible (sym a) tt
 possible_outcome (many a c d) = subst IsPossible (sym a) (of_many refl)
-possible_outcome (faulty files at file fault a c d f g) = subst IsPossible (sym a) (of_file at fault refl)
-possible_outcome (twice files first second file other a c d f g h) = subst IsPossible (sym a) (of_two first second refl)
-possible_outcome (clean files reports a c d f g) = subst IsPossible (sym a) tt
-possible_outcome (warned files reports a c d f g) = subst IsPossible (sym a) tt
+possible_outcome (faulty start files at file fault a c d f g) = subst IsPossible (sym a) (of_file (start + at) fault (omega (arith, start_late d)) refl)
+possible_outcome (twice start files first second file other a c d f g h) = subst IsPossible (sym a) (of_two (start + second) (start + first) (omega (arith, start_late d)) (omega (arith, h.is.before)) refl)
+possible_outcome (clean start files reports a c d f g) = subst IsPossible (sym a) tt
+possible_outcome (warned start files reports a c d f g) = subst IsPossible (sym a) tt
 
 possible : {words : List (List ℕ)} {told : Option Files} {b n : ℕ} {status : Status} {output : List ℕ} → Intended words told b n status output → IsPossible status
 possible (answered o) = possible_outcome o
-possible (unread at file a c d) = subst IsPossible (sym a) (at, refl)
+possible (unread start at file a c d) = subst IsPossible (sym a) (omega (arith, start_late d.checks))
 
 pub possible_it : (words : List (List ℕ)) (told : Option Files) (b n : ℕ) (status : Status) (output : List ℕ) → Intended words told b n status output → IsPossible status
 possible_it words told b n status output h = possible h

@@ -5,3 +5,4 @@ mod Joined
 mod Numbers
 mod Truths
 mod WordExits
+mod WorkerNumbers

@@ -1,6 +1,6 @@
 -- What the status of a refusal tells, and what the words of a command tell.
-use Rattle.std.proofs.Common.{◌≡◌, ◌≢◌, ℕ, ◌+◌, ◌<◌, List, [], ◌∷◌, refl, sym, ◌∙◌, ap, arith, length}
-use Rattle.std.specs.Prelude.{nat_eq, if◌then◌else◌}
+use Rattle.std.proofs.Common.{◌≡◌, ◌≢◌, ℕ, ◌+◌, ◌<◌, ◌≤◌, List, [], ◌∷◌, ◌++◌, refl, sym, ◌∙◌, ap, subst, arith, length}
+use Rattle.std.specs.Prelude.{nat_eq, codes, if◌then◌else◌}
 use Rattle.analysis.specs.declared.refusals.RefusalName.{RefusalName}
 use Rattle.analysis.specs.declared.refusals.RefusalName.TheVariants as r
 use Rattle.analysis.specs.declared.refusals.SourceFault.{SourceFault}
@@ -8,7 +8,7 @@ use Rattle.analysis.specs.Refusals.{refusal_number, missing}
 use Rattle.dialyze.specs.declared.status.Status.{Status}
 use Rattle.dialyze.specs.declared.status.Status.TheVariants.{Refused}
 use Rattle.dialyze.specs.Lines.{refused}
-use Rattle.dialyze.specs.Words.{IsCheck, most_files}
+use Rattle.dialyze.specs.Words.{AreFiles, AreOptions, no_option, workers_option, IsCheck, most_files}
 use Rattle.dialyze.specs.Outcome.{Checks}
 
 -- ---- a refusal's status tells its name and its line
@@ -68,8 +68,8 @@ told_by_refused w f = λ i. record { name = named_by_number f.name i; line = f.l
 pub one_fault_of : (v w : ℕ) (f g : SourceFault) → refused v f ≡ refused w g → f ≡ g
 one_fault_of v w f g e = sym (told_by_refused v f) ∙ ap told_by e ∙ told_by_refused w g
 
-pub one_place : (i j : ℕ) (f g : SourceFault) → refused (1 + i) f ≡ refused (1 + j) g → i ≡ j
-one_place i j f g e = let k : 1 + i ≡ 1 + j = ap word_by e in omega arith
+pub one_word : (v w : ℕ) (f g : SourceFault) → refused v f ≡ refused w g → v ≡ w
+one_word v w f g e = ap word_by e
 
 -- a source is refused by none of the numbers of the other refusals
 abbrev pub IsOther : ℕ → Type 0
@@ -97,10 +97,38 @@ rest : List (List ℕ) → List (List ℕ)
 rest [] = []
 rest (w ∷ ws) = ws
 
-pub one_files : {words fs gs : List (List ℕ)} → Checks words fs → Checks words gs → fs ≡ gs
-unfolding rest
-one_files h k = ap rest (sym h.check.command ∙ k.check.command)
+second : List (List ℕ) → List ℕ
+second ws = front (rest ws)
+  where
+    front : List (List ℕ) → List ℕ
+    front [] = []
+    front (v ∷ vs) = v
 
-pub not_many : {words fs gs : List (List ℕ)} → Checks words fs → IsCheck words gs → (most_files < length gs) → ⊥
+-- files are told from the options before them
+one_split : (options others files those : List (List ℕ)) (v w : ℕ) → options ++ files ≡ others ++ those → AreOptions options v → AreOptions others w → AreFiles files → AreFiles those
+    → (options ≡ others) × (files ≡ those)
+unfolding rest second
+one_split options others files those v w e (no_option a x) (no_option b y) named also =
+    (a ∙ sym b, sym (ap (λ os. os ++ files) a) ∙ e ∙ ap (λ os. os ++ those) b)
+one_split options others files those v w e (no_option a x) (workers_option b least most) named also =
+    absurd ((subst AreFiles (sym (ap (λ os. os ++ files) a) ∙ e ∙ ap (λ os. os ++ those) b) named).0 refl)
+one_split options others files those v w e (workers_option a least most) (no_option b y) named also =
+    absurd ((subst AreFiles (sym (ap (λ os. os ++ those) b) ∙ sym e ∙ ap (λ os. os ++ files) a) also).0 refl)
+one_split options others files those v w e (workers_option a least most) (workers_option b few many) named also =
+    let whole = sym (ap (λ os. os ++ files) a) ∙ e ∙ ap (λ os. os ++ those) b in
+    (a ∙ ap (λ d. codes "--workers" ∷ d ∷ []) (ap second whole) ∙ sym b, ap (λ ws. rest (rest ws)) whole)
+
+one_check : {words files those : List (List ℕ)} {v w start other : ℕ} → IsCheck words v start files → IsCheck words w other those → (start ≡ other) × (files ≡ those)
 unfolding rest
-not_many h k long = let few = h.few in let e = ap (λ w. length (rest w)) (sym h.check.command ∙ k.command) in absurd (omega arith)
+one_check {words} {files} {those} {v} {w} h k =
+    let same = one_split h.options k.options files those v w (ap rest (sym h.command ∙ k.command)) h.asked k.asked h.named k.named in
+    (h.place ∙ ap (λ os. 1 + length os) same.0 ∙ sym k.place, same.1)
+
+pub one_files : {words files those : List (List ℕ)} {start other : ℕ} → Checks words start files → Checks words other those → (start ≡ other) × (files ≡ those)
+one_files h k = one_check h.check k.check
+
+pub not_many : {words files those : List (List ℕ)} {w start other : ℕ} → Checks words start files → IsCheck words w other those → (most_files < length those) → ⊥
+not_many h k long = let few = h.few in let e = ap (λ fs. length fs) (one_check h.check k).1 in absurd (omega arith)
+
+pub start_late : {words files : List (List ℕ)} {start : ℕ} → Checks words start files → 1 ≤ start
+start_late h = let e = h.check.place in omega arith

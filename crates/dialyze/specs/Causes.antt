@@ -1,5 +1,5 @@
 -- When each answer comes.
-use Rattle.std.specs.Prelude.{ℕ, List, Some}
+use Rattle.std.specs.Prelude.{◌≡◌, ℕ, ◌+◌, List, Some}
 use Rattle.core_ast.specs.Model as m
 use Rattle.da_shelf.specs.Told.{Files}
 use Rattle.analysis.specs.declared.refusals.RefusalName.{RefusalName}
@@ -7,29 +7,42 @@ use Rattle.analysis.specs.declared.refusals.RefusalName.TheVariants as r
 use Rattle.analysis.specs.Reading.{HoldsAt, IsMissingAt}
 use Rattle.dialyze.specs.Outcome.{Checks, ReadsAll, HaveOwnNames, IsDuplicate}
 
--- The words name files, all of those before the one at this position are read, and it isn't held.
-pub record NamesMissing (words : List (List ℕ)) (held : Files) (at : ℕ) : Type 0 where
+-- The word at this position names a file, all files before it are read, and it isn't held.
+pub record NamesMissing (words : List (List ℕ)) (held : Files) (word : ℕ) : Type 0 where
+  pub start : ℕ
   pub files : List (List ℕ)
-  pub checks : Checks words files
+  pub checks : Checks words start files
+  pub at : ℕ
+  pub place : word ≡ start + at
   pub missing_at : IsMissingAt (Some held) files at
 
--- The words name files, all of those before the one at this position are read, it is held, and of its bytes, with the number that
--- it may have, this holds.
-pub record NamesSource (words : List (List ℕ)) (held : Files) (at : ℕ) (Is : (most : ℕ) → List ℕ → Type 0) : Type 0 where
+-- The word at this position names a file, all files before it are read, it is held, and of its bytes, with the number that it may
+-- have, this holds.
+pub record NamesSource (words : List (List ℕ)) (held : Files) (word : ℕ) (Is : (most : ℕ) → List ℕ → Type 0) : Type 0 where
+  pub start : ℕ
   pub files : List (List ℕ)
-  pub checks : Checks words files
+  pub checks : Checks words start files
+  pub at : ℕ
+  pub place : word ≡ start + at
   pub source : HoldsAt (Some held) files at Is
 
--- The words name files that are all read, and the module of the second of two is the first that has the name of one before it.
-pub record NamesTwice (words : List (List ℕ)) (held : Files) (first second : ℕ) : Type 0 where
+-- The words name files that are all read, and the module of that at the position `word` is the first that has the name of one
+-- before it, of which that at the position `other` is the earliest.
+pub record NamesTwice (words : List (List ℕ)) (held : Files) (word other : ℕ) : Type 0 where
+  pub start : ℕ
   pub files : List (List ℕ)
-  pub checks : Checks words files
+  pub checks : Checks words start files
+  pub first : ℕ
+  pub second : ℕ
+  pub place : word ≡ start + second
+  pub other_place : other ≡ start + first
   pub twice : IsDuplicate (Some held) files first second
 
 -- The words name files that are all read, and their modules have names of their own.
 pub record NamesModules (words : List (List ℕ)) (held : Files) : Type 0 where
+  pub start : ℕ
   pub files : List (List ℕ)
-  pub checks : Checks words files
+  pub checks : Checks words start files
   pub modules : List m.Module
   pub read : ReadsAll (Some held) files modules
   pub names : HaveOwnNames modules

@@ -17,15 +17,18 @@ use Rattle.dialyze.specs.Lines.{usage_line, refused, too_many, too_many_line, du
 use Rattle.dialyze.specs.Truths.{NothingIsFalse}
 use Rattle.dialyze.specs.Words.{IsCheck, IsNoCommand, most_files}
 
--- The words ask for a check of these files, and there aren't too many.
-pub record Checks (words files : List (List ℕ)) : Type 0 where
-  pub check : IsCheck words files
+-- The words ask for a check of these files, of which the first is the word at the position `start`, and there aren't too many.
+pub record Checks (words : List (List ℕ)) (start : ℕ) (files : List (List ℕ)) : Type 0 where
+  pub workers : ℕ
+  pub check : IsCheck words workers start files
   pub few : length files ≤ most_files
 
 -- The words ask for a check of too many files.
 pub record ChecksTooMany (words : List (List ℕ)) : Type 0 where
+  pub workers : ℕ
+  pub start : ℕ
   pub files : List (List ℕ)
-  pub check : IsCheck words files
+  pub check : IsCheck words workers start files
   pub many : most_files < length files
 
 -- All files are read, as these modules.
@@ -53,19 +56,19 @@ pub record IsDuplicate (told : Option Files) (files : List (List ℕ)) (first se
   pub is : FirstDuplicate (module_names modules) first second
 
 -- The status and the output of a run, by the words and by what is held, where contracts see it. The file of number i is the word
--- of number i + 1.
+-- of number start + i.
 pub data Outcome (words : List (List ℕ)) (told : Option Files) (status : Status) (output : List ℕ) : Type 0 where
   usage : status ≡ Usage → output ≡ usage_line → IsNoCommand words → Outcome words told status output
   many : status ≡ too_many → output ≡ too_many_line → ChecksTooMany words → Outcome words told status output
-  faulty : (files : List (List ℕ)) (at : ℕ) (file : List ℕ) (fault : SourceFault) → status ≡ refused (1 + at) fault
-      → output ≡ refusal_line file fault → Checks words files → slice_get files at ≡ Some file → RefusedAt told files at fault
+  faulty : (start : ℕ) (files : List (List ℕ)) (at : ℕ) (file : List ℕ) (fault : SourceFault) → status ≡ refused (start + at) fault
+      → output ≡ refusal_line file fault → Checks words start files → slice_get files at ≡ Some file → RefusedAt told files at fault
       → Outcome words told status output
-  twice : (files : List (List ℕ)) (first second : ℕ) (file other : List ℕ) → status ≡ duplicate (1 + second) (1 + first)
-      → output ≡ duplicate_line file other → Checks words files → slice_get files second ≡ Some file
+  twice : (start : ℕ) (files : List (List ℕ)) (first second : ℕ) (file other : List ℕ) → status ≡ duplicate (start + second) (start + first)
+      → output ≡ duplicate_line file other → Checks words start files → slice_get files second ≡ Some file
       → slice_get files first ≡ Some other → IsDuplicate told files first second → Outcome words told status output
-  clean : (files reports : List (List ℕ)) → status ≡ Clean → output ≡ [] → output ≡ concat reports → Checks words files
+  clean : (start : ℕ) (files reports : List (List ℕ)) → status ≡ Clean → output ≡ [] → output ≡ concat reports → Checks words start files
       → IsReported told files reports → Outcome words told status output
-  warned : (files reports : List (List ℕ)) → status ≡ Warnings → output ≢ [] → output ≡ concat reports → Checks words files
+  warned : (start : ℕ) (files reports : List (List ℕ)) → status ≡ Warnings → output ≢ [] → output ≡ concat reports → Checks words start files
       → IsReported told files reports → Outcome words told status output
 
 -- An answer of the analysis: not a failed allocation, and not the fault of a device.
@@ -74,11 +77,11 @@ IsAnswer (DeviceFault device) = ⊥
 IsAnswer Memory = ⊥
 IsAnswer status = Unit {0}
 
--- The file at this position was reached, and the shelf failed.
-pub record IsUnread (words : List (List ℕ)) (told : Option Files) (at : ℕ) (file : List ℕ) (faults_before faults_now : ℕ) : Type 0 where
+-- The file at this position, where the first is the word at the position `start`, was reached, and the shelf failed.
+pub record IsUnread (words : List (List ℕ)) (told : Option Files) (start at : ℕ) (file : List ℕ) (faults_before faults_now : ℕ) : Type 0 where
   pub rose : Rose faults_before faults_now
   pub files : List (List ℕ)
-  pub checks : Checks words files
+  pub checks : Checks words start files
   pub before : ℕ
   pub reached : IsReached told files at file before
 
@@ -86,8 +89,8 @@ pub record IsUnread (words : List (List ℕ)) (told : Option Files) (at : ℕ) (
 -- it.
 pub data Intended (words : List (List ℕ)) (told : Option Files) (faults_before faults_now : ℕ) (status : Status) (output : List ℕ) : Type 0 where
   answered : Outcome words told status output → Intended words told faults_before faults_now status output
-  unread : (at : ℕ) (file : List ℕ) → status ≡ DeviceFault (Read (1 + at)) → output ≡ read_fault_line file
-      → IsUnread words told at file faults_before faults_now → Intended words told faults_before faults_now status output
+  unread : (start at : ℕ) (file : List ℕ) → status ≡ DeviceFault (Read (start + at)) → output ≡ read_fault_line file
+      → IsUnread words told start at file faults_before faults_now → Intended words told faults_before faults_now status output
 
 -- The run wrote its output, and its status and output are those of the words and of what is held.
 pub record Answers (words : List (List ℕ)) (held : Files) (status : Status) (written_before written_now : Option (List ℕ)) : Type 0 where
@@ -97,10 +100,11 @@ pub record Answers (words : List (List ℕ)) (held : Files) (status : Status) (w
 
 -- The shelf failed at the file of this position among the words and counted it, and the line that says so was written.
 pub record FailsToRead (words : List (List ℕ)) (told : Option Files) (word : ℕ) (faults_before faults_now : ℕ) (written_before written_now : Option (List ℕ)) : Type 0 where
+  pub start : ℕ
   pub at : ℕ
-  pub is : word ≡ 1 + at
+  pub is : word ≡ start + at
   pub file : List ℕ
-  pub unread_so : IsUnread words told at file faults_before faults_now
+  pub unread_so : IsUnread words told start at file faults_before faults_now
   pub written : written_now ≡ appended written_before (read_fault_line file)
 
 -- The sink failed and counted it, and a front of the output was written that the run meant to give.
@@ -113,14 +117,14 @@ pub record FailsToWrite (words : List (List ℕ)) (told : Option Files) (faults_
 
 -- The status of a refusal.
 pub data IsRefusal (status : Status) : Type 0 where
-  of_file : (at : ℕ) (fault : SourceFault) → status ≡ refused (1 + at) fault → IsRefusal status
+  of_file : (word : ℕ) (fault : SourceFault) → 1 ≤ word → status ≡ refused word fault → IsRefusal status
   of_many : status ≡ too_many → IsRefusal status
-  of_two : (first second : ℕ) → status ≡ duplicate (1 + second) (1 + first) → IsRefusal status
+  of_two : (word other : ℕ) → 1 ≤ other → other < word → status ≡ duplicate word other → IsRefusal status
 
 -- The statuses that a run may have.
 abbrev pub IsPossible : Status → Type 0
 IsPossible (Refused refusal) = IsRefusal (Refused refusal)
 IsPossible (TableFault number) = ⊥
-IsPossible (DeviceFault (Read position)) = (at : ℕ) × (position ≡ 1 + at)
+IsPossible (DeviceFault (Read position)) = 1 ≤ position
 IsPossible (DeviceFault (Replace position)) = ⊥
 IsPossible status = Unit {0}

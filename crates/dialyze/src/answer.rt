@@ -7,18 +7,20 @@ ghost use Rattle.analysis.specs.Refusals.{line, refusal_line};
 ghost use Rattle.analysis.specs.Words.{texts};
 ghost use Rattle.dialyze.specs.Lines.{usage_line, refused, too_many, too_many_line, duplicate, duplicate_line, read_fault_line};
 ghost use Rattle.dialyze.specs.Outcome.{Intended};
-ghost use Rattle.dialyze.specs.Words.{most_files};
+ghost use Rattle.dialyze.specs.Words.{most_workers};
 ghost use Rattle.dialyze.specs.steps.Judged.{Judged, SaysWhether, first_of, second_of};
 
 use crate::status::Status;
-use crate::words::is_command;
+use crate::words::command_of;
 use analysis::{
     Device, Fault, ReadFault, Refusal, Source, SourceFault, analyse, discard_sources, read_sources,
 };
 use core_scope::SetFault;
-use da_shelf::Shelf;
+use da_shelf::{Gate, Shelf};
 use finding_laws::findings_hold;
 use std::alloc::Global;
+use std::sync::Wait;
+use std::thread::Threads;
 use type_kinds::{Bytes, List, Memory};
 
 /// How many files a check may name.
@@ -33,46 +35,75 @@ pub struct Answer {
 
 /// What a run means to answer.
 #[tactic(auto, using(crate::proofs::AnswerExits::intended_exits))]
-pub fn intended<F: Shelf>(alloc: Global, words: &[&str], shelf: &mut F) -> Result<Answer, Memory>
+pub fn intended<R: Threads + Wait + Sync, F: Shelf, G: Gate + Sync>(
+    rt: &R,
+    alloc: Global,
+    words: &[&str],
+    shelf: &mut F,
+    gate: &G,
+) -> Result<Answer, Memory>
     ensures intended { IfOk result (λ a. Intended (texts words.now) (F.held shelf.old) (F.read_faults shelf.old) (F.read_faults shelf.new) a.status a.output) }
     ensures held { F.held shelf.new ≡ F.held shelf.old }
     ensures counted { F.read_faults shelf.old ≤ F.read_faults shelf.new }
 {
-    if !is_command(words) {
+    let Some(command) = command_of(words) else {
         return usage(alloc);
-    }
-    if words.len() > MOST_FILES + 1 {
+    };
+    let files = &words[command.start..];
+    if files.len() > MOST_FILES {
         return too_many(alloc);
     }
-    match read_sources(alloc, words, 1, shelf) {
-        Ok(sources) => judge(alloc, &words[1..], sources),
+    let start = command.start as u32;
+    match read_sources(alloc, words, start, shelf) {
+        Ok(sources) => judge(rt, alloc, files, start, sources, command.workers, gate),
         Err(ReadFault::Refused(word, fault)) => refuse(alloc, words[word as usize], word, fault),
         Err(ReadFault::Failed(word)) => unread(alloc, words[word as usize], word),
         Err(ReadFault::Memory) => Err(Memory),
     }
 }
 
-// What a check of the sources that files hold answers. The sources are given up.
-fn judge(alloc: Global, files: &[&str], sources: List<Source>) -> Result<Answer, Memory>
-    requires few { length files.now ≤ most_files }
+// What a check of the sources that files hold answers, where the first file is the word at the position `start`. The sources are
+// given up.
+fn judge<R: Threads + Wait + Sync, G: Gate + Sync>(
+    rt: &R,
+    alloc: Global,
+    files: &[&str],
+    start: u32,
+    sources: List<Source>,
+    workers: u32,
+    gate: &G,
+) -> Result<Answer, Memory>
+    requires few { start + length files.now < 2 ^ 32 }
+    requires least { 1 ≤ workers }
+    requires most { workers ≤ most_workers }
     requires whole { length files.now ≡ length (trees_of sources) }
-    ensures { IfOk result (λ a. Judged (texts files.now) (trees_of sources) a.status a.output) }
+    ensures { IfOk result (λ a. Judged start (texts files.now) (trees_of sources) a.status a.output) }
 {
-    let answer = judged(alloc, files, sources.as_slice());
+    let answer = judged(rt, alloc, files, start, sources.as_slice(), workers, gate);
     discard_sources(sources);
     answer
 }
 
 // The same for sources that are kept.
-fn judged(alloc: Global, files: &[&str], sources: &[Source]) -> Result<Answer, Memory>
-    requires few { length files.now ≤ most_files }
+fn judged<R: Threads + Wait + Sync, G: Gate + Sync>(
+    rt: &R,
+    alloc: Global,
+    files: &[&str],
+    start: u32,
+    sources: &[Source],
+    workers: u32,
+    gate: &G,
+) -> Result<Answer, Memory>
+    requires few { start + length files.now < 2 ^ 32 }
+    requires least { 1 ≤ workers }
+    requires most { workers ≤ most_workers }
     requires whole { length files.now ≡ length (trees_of sources.now) }
-    ensures { IfOk result (λ a. Judged (texts files.now) (trees_of sources.now) a.status a.output) }
+    ensures { IfOk result (λ a. Judged start (texts files.now) (trees_of sources.now) a.status a.output) }
 {
     findings_hold();
-    match analyse(alloc, sources) {
+    match analyse(rt, alloc, sources, workers, gate) {
         Ok(analysis) => reported(alloc, analysis.reports.as_slice()),
-        Err(Fault::Set(fault)) => twice(alloc, files, first_of(fault), second_of(fault)),
+        Err(Fault::Set(fault)) => twice(alloc, files, start, first_of(fault), second_of(fault)),
         Err(Fault::Memory) => Err(Memory),
     }
 }
@@ -95,17 +126,24 @@ fn second_of(fault: SetFault) -> u32
     }
 }
 
-// The answer where the modules of the files at these positions have one name.
-fn twice(alloc: Global, files: &[&str], first: u32, second: u32) -> Result<Answer, Memory>
+// The answer where the modules of the files at these positions have one name, where the first file is the word at the position
+// `start`.
+fn twice(
+    alloc: Global,
+    files: &[&str],
+    start: u32,
+    first: u32,
+    second: u32,
+) -> Result<Answer, Memory>
     requires first { first < length files.now }
     requires second { second < length files.now }
-    requires few { length files.now ≤ most_files }
-    ensures status { IfOk result (λ a. a.status ≡ duplicate (second + 1) (first + 1)) }
+    requires few { start + length files.now < 2 ^ 32 }
+    ensures status { IfOk result (λ a. a.status ≡ duplicate (start + second) (start + first)) }
     ensures output { IfOk result (λ a. (file other : List ℕ) → slice_get (texts files.now) second ≡ Some file → slice_get (texts files.now) first ≡ Some other → a.output ≡ duplicate_line file other) }
 {
     let file = files[second as usize];
     let other = files[first as usize];
-    duplicate(alloc, file, second + 1, other, first + 1)
+    duplicate(alloc, file, start + second, other, start + first)
 }
 
 // The reports one after the other.

@@ -1,5 +1,5 @@
 // The top call.
-ghost use Rattle.std.specs.Prelude.{◌≡◌, ◌↔◌, ◌⊎◌, ℕ, ◌+◌, ◌≤◌, Option, IfSome};
+ghost use Rattle.std.specs.Prelude.{◌≡◌, ◌↔◌, ◌⊎◌, ℕ, ◌≤◌, Option, IfSome};
 ghost use Rattle.da_shelf.specs.Told.{Files};
 ghost use Rattle.analysis.specs.declared.refusals.SourceFault.{SourceFault};
 ghost use Rattle.analysis.specs.Refusals.{missing};
@@ -15,11 +15,15 @@ use crate::status::Status;
 use analysis::{Device, one_reading_of_files};
 use da_shelf::{Gate, Shelf, Sink, SinkFault, give};
 use std::alloc::Global;
+use std::sync::Wait;
+use std::thread::Threads;
 use type_kinds::Memory;
 
-/// Carries out a command: `check FILE..` reads the files from the shelf, analyses their modules together, and writes
-/// a line to the sink for each discrepancy that it finds: the modules in the order of the words, each module's lines
-/// in the order of its text.
+/// Carries out a command: `check [--workers N] FILE..` reads the files from the shelf, analyses their modules together by
+/// so many workers, from 1 to 64, and writes a line to the sink for each discrepancy that it finds: the modules in the order
+/// of the words, each module's lines in the order of its text. The answer is the same whatever the number of workers. Each
+/// component of functions is solved between `enter` and `leave` of the gate. The call may wait for workers; what it promises
+/// holds where it returns.
 ///
 /// - `Clean`: the sources are accepted modules with names of their own, and no report has a line.
 /// - `Warnings`: they are, and the reports were written.
@@ -35,12 +39,13 @@ use type_kinds::Memory;
 ///
 /// Nothing that the shelf holds changes.
 #[tactic(auto, using(crate::proofs::CheckExits::check_exits))]
-pub fn dialyze<F: Shelf, K: Sink, G: Gate + Sync>(
+pub fn dialyze<R: Threads + Wait + Sync, F: Shelf, K: Sink, G: Gate + Sync>(
+    rt: &R,
     alloc: Global,
     words: &[&str],
     shelf: &mut F,
     out: &mut K,
-    _gate: &G,
+    gate: &G,
 ) -> Status
     // The headline: the status, and the bytes written, are those of the words and of what is held.
     ensures outcome { IsAnswer result → IfSome (F.held shelf.old) (λ held. Answers (texts words.now) held result (K.written out.old) (K.written out.new)) }
@@ -48,12 +53,12 @@ pub fn dialyze<F: Shelf, K: Sink, G: Gate + Sync>(
     // When each answer comes.
     ensures usage { IsAnswer result → (result ≡ Status.Usage) ↔ IsNoCommand (texts words.now) }
     ensures too_many { IsAnswer result → (result ≡ too_many) ↔ ChecksTooMany (texts words.now) }
-    ensures missing { IsAnswer result → IfSome (F.held shelf.old) (λ held. (at : ℕ) → (result ≡ refused (1 + at) missing) ↔ NamesMissing (texts words.now) held at) }
-    ensures too_long { IsAnswer result → IfSome (F.held shelf.old) (λ held. (at : ℕ) (fault : SourceFault) → step_of fault.name ≡ length → (result ≡ refused (1 + at) fault) ↔ NamesSource (texts words.now) held at (λ most bytes. IsTooLong most bytes fault)) }
-    ensures not_scanned { IsAnswer result → IfSome (F.held shelf.old) (λ held. (at : ℕ) (fault : SourceFault) → step_of fault.name ≡ tokens → (result ≡ refused (1 + at) fault) ↔ NamesSource (texts words.now) held at (λ most bytes. IsNotScanned most bytes fault)) }
-    ensures not_parsed { IsAnswer result → IfSome (F.held shelf.old) (λ held. (at : ℕ) (fault : SourceFault) → step_of fault.name ≡ grammar → (result ≡ refused (1 + at) fault) ↔ NamesSource (texts words.now) held at (λ most bytes. IsNotParsed most bytes fault)) }
-    ensures not_accepted { IsAnswer result → IfSome (F.held shelf.old) (λ held. (at : ℕ) (fault : SourceFault) → step_of fault.name ≡ scopes → (result ≡ refused (1 + at) fault) ↔ NamesSource (texts words.now) held at (λ most bytes. IsNotAccepted most bytes fault)) }
-    ensures duplicate { IsAnswer result → IfSome (F.held shelf.old) (λ held. (first second : ℕ) → (result ≡ duplicate (1 + second) (1 + first)) ↔ NamesTwice (texts words.now) held first second) }
+    ensures missing { IsAnswer result → IfSome (F.held shelf.old) (λ held. (word : ℕ) → (result ≡ refused word missing) ↔ NamesMissing (texts words.now) held word) }
+    ensures too_long { IsAnswer result → IfSome (F.held shelf.old) (λ held. (word : ℕ) (fault : SourceFault) → step_of fault.name ≡ length → (result ≡ refused word fault) ↔ NamesSource (texts words.now) held word (λ most bytes. IsTooLong most bytes fault)) }
+    ensures not_scanned { IsAnswer result → IfSome (F.held shelf.old) (λ held. (word : ℕ) (fault : SourceFault) → step_of fault.name ≡ tokens → (result ≡ refused word fault) ↔ NamesSource (texts words.now) held word (λ most bytes. IsNotScanned most bytes fault)) }
+    ensures not_parsed { IsAnswer result → IfSome (F.held shelf.old) (λ held. (word : ℕ) (fault : SourceFault) → step_of fault.name ≡ grammar → (result ≡ refused word fault) ↔ NamesSource (texts words.now) held word (λ most bytes. IsNotParsed most bytes fault)) }
+    ensures not_accepted { IsAnswer result → IfSome (F.held shelf.old) (λ held. (word : ℕ) (fault : SourceFault) → step_of fault.name ≡ scopes → (result ≡ refused word fault) ↔ NamesSource (texts words.now) held word (λ most bytes. IsNotAccepted most bytes fault)) }
+    ensures duplicate { IsAnswer result → IfSome (F.held shelf.old) (λ held. (word other : ℕ) → (result ≡ duplicate word other) ↔ NamesTwice (texts words.now) held word other) }
     ensures checked { IsAnswer result → IfSome (F.held shelf.old) (λ held. ((result ≡ Status.Clean) ⊎ (result ≡ Status.Warnings)) ↔ NamesModules (texts words.now) held) }
     ensures read { (word : ℕ) → result ≡ Status.DeviceFault (Device.Read word) → FailsToRead (texts words.now) (F.held shelf.old) word (F.read_faults shelf.old) (F.read_faults shelf.new) (K.written out.old) (K.written out.new) }
     ensures write { result ≡ Status.DeviceFault Device.Write → FailsToWrite (texts words.now) (F.held shelf.old) (F.read_faults shelf.old) (F.read_faults shelf.new) (K.faults out.old) (K.faults out.new) (K.written out.old) (K.written out.new) }
@@ -64,7 +69,7 @@ pub fn dialyze<F: Shelf, K: Sink, G: Gate + Sync>(
     ensures held { F.held shelf.new ≡ F.held shelf.old }
 {
     one_reading_of_files();
-    let Answer { status, output } = match intended(alloc, words, shelf) {
+    let Answer { status, output } = match intended(rt, alloc, words, shelf, gate) {
         Ok(answer) => answer,
         Err(Memory) => return Status::Memory,
     };

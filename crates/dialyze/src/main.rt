@@ -22,18 +22,26 @@ use std::alloc::Global;
 use std::env;
 use std::io::ErrorKind;
 use std::process::ExitCode;
+use std::rt::Files;
+use std::sync::Wait;
+use std::thread::Threads;
 use type_kinds::{List, Memory};
 
 fn main(rt: HostRuntime) -> ExitCode {
-    exit_code(&rt)
+    let words = words_of(&rt);
+    exit_code(&rt, rt.alloc(), words)
 }
 
-// The code of the status that the run ends with.
-fn exit_code(rt: &HostRuntime) -> ExitCode
+// The code of the status that the run on these words ends with.
+fn exit_code<R: Threads + Wait + Sync + Files + Print>(
+    rt: &R,
+    alloc: Global,
+    words: Result<Option<Vec<String>>, Memory>,
+) -> ExitCode
     ensures { (status : TheStatus) × IsPossible status × (exit_status result ≡ code_of status) }
 {
-    let status = match words_of(rt) {
-        Ok(Some(words)) => run(rt, &words),
+    let status = match words {
+        Ok(Some(words)) => run(rt, alloc, &words),
         Ok(None) => Status::Usage,
         Err(Memory) => Status::Memory,
     };
@@ -61,26 +69,35 @@ fn words_of(rt: &HostRuntime) -> Result<Option<Vec<String>>, Memory> {
 
 // Carries the command out on files and the standard output. Where the words are no command the
 // answer is a usage, except that allocation or the output may fail first.
-fn run(rt: &HostRuntime, words: &Vec<String>) -> Status
+fn run<R: Threads + Wait + Sync + Files + Print>(
+    rt: &R,
+    alloc: Global,
+    words: &Vec<String>,
+) -> Status
     ensures usage { IsAnswer result → (result ≡ Status.Usage) ↔ IsNoCommand (map string_bytes words.now.items) }
     ensures possible { IsPossible result }
 {
-    match run_with(rt, words) {
+    match run_with(rt, alloc, words) {
         Ok(status) => status,
         Err(Memory) => Status::Memory,
     }
 }
 
 // The same. An error says that allocation failed before `dialyze` was called.
-fn run_with(rt: &HostRuntime, words: &Vec<String>) -> Result<Status, Memory>
+fn run_with<R: Threads + Wait + Sync + Files + Print>(
+    rt: &R,
+    alloc: Global,
+    words: &Vec<String>,
+) -> Result<Status, Memory>
     ensures usage { IfOk result (λ status. IsAnswer status → (status ≡ Status.Usage) ↔ IsNoCommand (map string_bytes words.now.items)) }
     ensures possible { IfOk result IsPossible }
 {
-    let texts = texts_of(rt.alloc(), words)?;
-    let mut shelf = FileShelf::new(rt, rt.alloc())?;
+    let texts = texts_of(alloc, words)?;
+    let mut shelf = FileShelf::new(rt, alloc)?;
     let mut out = StdoutSink::new(rt)?;
     Ok(dialyze(
-        rt.alloc(),
+        rt,
+        alloc,
         texts.as_slice(),
         &mut shelf,
         &mut out,

@@ -2,7 +2,6 @@ use crate::check::dialyze;
 use crate::status::Status;
 use analysis::{Device, MISSING, Refusal, RefusalName, SourceFault};
 use da_shelf::{MemShelf, MemSink, OpenGate};
-use std::alloc::Global;
 use std::test::Fail;
 use type_kinds::List;
 
@@ -25,23 +24,24 @@ const USAGE: &str = "usage: dialyze check [--plt T] [--out T2] [--workers N] FIL
 
 // What a run answers and writes, where these files are held.
 fn run_with(
-    alloc: Global,
+    rt: &HostRuntime,
     words: &[&str],
     files: &[(&str, &str)],
 ) -> Result<(Status, Vec<u8>), Fail> {
+    let alloc = rt.alloc();
     let mut shelf = MemShelf::new(alloc, List::new(alloc), List::new(alloc));
     for (name, text) in files {
         shelf.put(name, text.as_bytes())?;
     }
     let mut sink = MemSink::new(alloc, 4096, 4096, List::new(alloc))?;
-    let status = dialyze(alloc, words, &mut shelf, &mut sink, &OpenGate);
+    let status = dialyze(rt, alloc, words, &mut shelf, &mut sink, &OpenGate);
     let written = Vec::from_slice(alloc, sink.bytes())?;
     Ok((status, written))
 }
 
 // The same, where `m.core` is held with this text.
-fn run(alloc: Global, words: &[&str], text: &str) -> Result<(Status, Vec<u8>), Fail> {
-    run_with(alloc, words, &[("m.core", text)])
+fn run(rt: &HostRuntime, words: &[&str], text: &str) -> Result<(Status, Vec<u8>), Fail> {
+    run_with(rt, words, &[("m.core", text)])
 }
 
 #[test]
@@ -92,7 +92,7 @@ fn checks_sources(rt: HostRuntime) -> Result<(), Fail> {
         (LOST, Status::Warnings, LOST_REPORT),
     ];
     for (text, status, output) in cases {
-        let answer = run(rt.alloc(), &["check", "m.core"], text)?;
+        let answer = run(&rt, &["check", "m.core"], text)?;
         assert_eq!(rt; answer.0, status, "{text}");
         assert_eq!(rt; answer.1.as_slice(), output.as_bytes(), "{text}");
     }
@@ -133,7 +133,7 @@ fn checks_modules_together(rt: HostRuntime) -> Result<(), Fail> {
         ),
     ];
     for (words, a, b, status, output) in cases {
-        let answer = run_with(rt.alloc(), words, &[("a.core", a), ("b.core", b)])?;
+        let answer = run_with(&rt, words, &[("a.core", a), ("b.core", b)])?;
         assert_eq!(rt; answer.0, status, "{a}");
         assert_eq!(rt; answer.1.as_slice(), output.as_bytes(), "{a}");
     }
@@ -144,7 +144,7 @@ fn checks_modules_together(rt: HostRuntime) -> Result<(), Fail> {
 #[test]
 fn refuses_files_together(rt: HostRuntime) -> Result<(), Fail> {
     let alloc = rt.alloc();
-    let answer = run_with(alloc, &["check", "e.core", "e.core"], &[("e.core", EMPTY)])?;
+    let answer = run_with(&rt, &["check", "e.core", "e.core"], &[("e.core", EMPTY)])?;
     let twice = Refusal {
         number: 14,
         word: 2,
@@ -157,7 +157,7 @@ fn refuses_files_together(rt: HostRuntime) -> Result<(), Fail> {
         b"e.core: refused 14 DuplicateModule with e.core\n".as_slice()
     );
     let words = ["check", "e.core", "e.core", "x.core", "q.core"];
-    let answer = run_with(alloc, &words, &[("e.core", EMPTY), ("q.core", "?")])?;
+    let answer = run_with(&rt, &words, &[("e.core", EMPTY), ("q.core", "?")])?;
     assert_eq!(rt; answer.0, Status::Refused(MISSING.refusal(3)));
     assert_eq!(rt;
         answer.1.as_slice(),
@@ -169,7 +169,7 @@ fn refuses_files_together(rt: HostRuntime) -> Result<(), Fail> {
         for _ in 0..count {
             words.push("e.core").ok().ok_or("memory")?;
         }
-        let answer = run_with(alloc, words.as_slice(), &[("e.core", EMPTY)])?;
+        let answer = run_with(&rt, words.as_slice(), &[("e.core", EMPTY)])?;
         assert_eq!(rt; answer.0, Status::Refused(wanted), "{count}");
     }
     Ok(())
@@ -201,22 +201,53 @@ fn knows_its_words(rt: HostRuntime) -> Result<(), Fail> {
         ["check", "--plt", "t"],
         ["check", "--plt=t", "m.core"],
         ["check", "m.core", ""],
+        ["check", "--workers", "2"],
+        ["check", "--workers=2", "m.core"],
     ];
-    let answer = run(rt.alloc(), &none, EMPTY)?;
+    let four = [
+        ["check", "--workers", "0", "m.core"],
+        ["check", "--workers", "65", "m.core"],
+        ["check", "--workers", "02", "m.core"],
+        ["check", "--workers", "+2", "m.core"],
+        ["check", "--workers", "2x", "m.core"],
+        ["check", "--workers", "", "m.core"],
+        ["check", "m.core", "--workers", "2"],
+        ["check", "--workers", "2", "--plt"],
+    ];
+    let answer = run(&rt, &none, EMPTY)?;
     assert_eq!(rt; answer.0, Status::Usage);
     for words in one {
-        let answer = run(rt.alloc(), &words, EMPTY)?;
+        let answer = run(&rt, &words, EMPTY)?;
         assert_eq!(rt; answer.0, Status::Usage);
         assert_eq!(rt; answer.1.as_slice(), USAGE.as_bytes());
     }
     for words in two {
-        let answer = run(rt.alloc(), &words, EMPTY)?;
+        let answer = run(&rt, &words, EMPTY)?;
         assert_eq!(rt; answer.0, Status::Usage);
     }
     for words in three {
-        let answer = run(rt.alloc(), &words, EMPTY)?;
+        let answer = run(&rt, &words, EMPTY)?;
         assert_eq!(rt; answer.0, Status::Usage);
     }
+    for words in four {
+        let answer = run(&rt, &words, EMPTY)?;
+        assert_eq!(rt; answer.0, Status::Usage);
+    }
+    Ok(())
+}
+
+// Any number of workers gives the same report; files stand behind the option.
+#[test]
+fn works_in_threads(rt: HostRuntime) -> Result<(), Fail> {
+    for workers in ["1", "2", "10", "64"] {
+        let words = ["check", "--workers", workers, "m.core"];
+        let answer = run(&rt, &words, LOST)?;
+        assert_eq!(rt; answer.0, Status::Warnings, "{workers}");
+        assert_eq!(rt; answer.1.as_slice(), LOST_REPORT.as_bytes(), "{workers}");
+    }
+    let words = ["check", "--workers", "2", "m.core", "x.core"];
+    let answer = run(&rt, &words, EMPTY)?;
+    assert_eq!(rt; answer.0, Status::Refused(MISSING.refusal(4)));
     Ok(())
 }
 
@@ -258,19 +289,19 @@ fn refuses_by_name_and_line(rt: HostRuntime) -> Result<(), Fail> {
     ];
     for (body, name, told) in bodies {
         let text = format!(in rt.alloc(); "{head}{body} end")?;
-        let answer = run(rt.alloc(), &["check", "m.core"], text.as_str())?;
+        let answer = run(&rt, &["check", "m.core"], text.as_str())?;
         assert_eq!(rt; answer.0, refused(name, 2), "{body}");
         let line = format!(in rt.alloc(); "m.core:2: refused {told}\n")?;
         assert_eq!(rt; answer.1.as_slice(), line.as_bytes(), "{body}");
     }
     let unfinished = run(
-        rt.alloc(),
+        &rt,
         &["check", "m.core"],
         "module 'e' [] attributes []\n",
     )?;
     assert_eq!(rt; unfinished.0, refused(RefusalName::Syntax, 2));
     let export = run(
-        rt.alloc(),
+        &rt,
         &["check", "m.core"],
         "module 'e'\n ['f'/0]\n attributes [] end",
     )?;
@@ -300,7 +331,7 @@ fn knows_how_deep(rt: HostRuntime) -> Result<(), Fail> {
             text.push_str("}")?;
         }
         text.push_str(" end")?;
-        let answer = run(alloc, &["check", "m.core"], text.as_str())?;
+        let answer = run(&rt, &["check", "m.core"], text.as_str())?;
         assert_eq!(rt; answer.0, status, "{depth}");
     }
     Ok(())
@@ -309,7 +340,7 @@ fn knows_how_deep(rt: HostRuntime) -> Result<(), Fail> {
 #[test]
 fn tells_of_devices(rt: HostRuntime) -> Result<(), Fail> {
     let alloc = rt.alloc();
-    let answer = run(alloc, &["check", "x.core"], EMPTY)?;
+    let answer = run(&rt, &["check", "x.core"], EMPTY)?;
     assert_eq!(rt; answer.0, Status::Refused(MISSING.refusal(1)));
     assert_eq!(rt;
         answer.1.as_slice(),
@@ -322,6 +353,7 @@ fn tells_of_devices(rt: HostRuntime) -> Result<(), Fail> {
     shelf.put("e.core", EMPTY.as_bytes())?;
     let mut sink = MemSink::new(alloc, 4096, 4096, List::new(alloc))?;
     let status = dialyze(
+        &rt,
         alloc,
         &["check", "e.core", "f.core"],
         &mut shelf,
@@ -332,6 +364,7 @@ fn tells_of_devices(rt: HostRuntime) -> Result<(), Fail> {
     assert_eq!(rt; sink.bytes(), b"f.core: device fault read\n".as_slice());
     // the third read doesn't fail
     let status = dialyze(
+        &rt,
         alloc,
         &["check", "e.core"],
         &mut shelf,
@@ -354,6 +387,7 @@ fn stops_at_a_failed_write(rt: HostRuntime) -> Result<(), Fail> {
         shelf.put("m.core", LOST.as_bytes())?;
         let mut sink = MemSink::new(alloc, 10, 4096, writes)?;
         let status = dialyze(
+            &rt,
             alloc,
             &["check", "m.core"],
             &mut shelf,
@@ -377,20 +411,21 @@ fn stops_at_a_failed_write(rt: HostRuntime) -> Result<(), Fail> {
 }
 
 // What a run answers and writes where the first write fails.
-fn run_without_output(alloc: Global, words: &[&str]) -> Result<(Status, usize), Fail> {
+fn run_without_output(rt: &HostRuntime, words: &[&str]) -> Result<(Status, usize), Fail> {
+    let alloc = rt.alloc();
     let mut shelf = MemShelf::new(alloc, List::new(alloc), List::new(alloc));
     shelf.put("m.core", LOST.as_bytes())?;
     let mut writes = List::new(alloc);
     writes.push(1).ok().ok_or("memory")?;
     let mut sink = MemSink::new(alloc, 4096, 4096, writes)?;
-    let status = dialyze(alloc, words, &mut shelf, &mut sink, &OpenGate);
+    let status = dialyze(rt, alloc, words, &mut shelf, &mut sink, &OpenGate);
     Ok((status, sink.bytes().len()))
 }
 
 #[test]
 fn tells_of_a_failed_output(rt: HostRuntime) -> Result<(), Fail> {
     for words in [["check", "m.core"], ["check", "x.core"], ["check", "-"]] {
-        let answer = run_without_output(rt.alloc(), &words)?;
+        let answer = run_without_output(&rt, &words)?;
         assert_eq!(rt; answer.0, Status::DeviceFault(Device::Write));
         assert_eq!(rt; answer.1, 0);
     }

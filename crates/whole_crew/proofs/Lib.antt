@@ -1,4 +1,8 @@
+mod Closing
+mod Crossing
 mod Laid
 mod Listed
+mod Loops
 mod Outputs
 mod Same
+mod Works

@@ -1,5 +1,5 @@
 -- The parts from which the components of modules that are analysed together are solved, each apart from the others.
-use Rattle.std.specs.Prelude.{◌≡◌, ◌≢◌, ℕ, List, [], map, Some, Contains, slice_get}
+use Rattle.std.specs.Prelude.{◌≡◌, ◌≢◌, ℕ, ◌<◌, List, [], length, map, Some, Contains, slice_get}
 use Rattle.core_ast.specs.Model as m
 use Rattle.core_scope.specs.Asks.{erlang}
 use Rattle.call_graph.specs.Calls.{ModuleFunction, functions_of, GoesTo}
@@ -8,12 +8,15 @@ use Rattle.call_graph.specs.Targets.CallTarget.{defined, inner, remote}
 use Rattle.components.specs.Numbering.{Numbering, members_of, callees_of}
 use Rattle.cons_tree.specs.Callees.{found}
 use Rattle.cons_tree.specs.declared.parts.Summary.{Summary}
+use Rattle.components.specs.Ready.{IsReadyNumbering}
+use Rattle.comp_rounds.specs.declared.parts.CompOut.{CompOut}
 use Rattle.comp_rounds.specs.declared.parts.CompPart.{CompPart}
 use Rattle.comp_rounds.specs.Members.{function_of}
 use Rattle.comp_rounds.specs.Parts.{Listed}
 use Rattle.comp_rounds.specs.Rounds.{Callees, Function, summaries}
 use Rattle.whole_summaries.specs.Functions.{all_functions, picked}
 use Rattle.whole_summaries.specs.Known.{module_names, at_first, after_components}
+use Rattle.whole_summaries.specs.Whole.{IsCallGraph}
 
 -- the functions of a component
 abbrev pub functions_in : List m.Module → Numbering → ℕ → List Function
@@ -45,3 +48,12 @@ pub record IsPartOf (xs : List m.Module) (c : Numbering) (n : ℕ) (part : CompP
 -- the summaries of a component, by what is known when all before it are solved
 abbrev pub summaries_of : List m.Module → Numbering → ℕ → List Summary
 summaries_of xs c n = summaries (after_components (at_first (module_names xs)) (all_functions xs) c n) (functions_in xs c n)
+
+-- the outputs are the summaries of the components, each by what is known when all before it are solved
+pub record AreSummariesOf (first : Callees) (fs : List Function) (c : Numbering) (outputs : List CompOut) : Type 0 where
+  pub counted : length outputs ≡ c.count
+  pub each : (n : ℕ) → n < c.count → slice_get outputs n ≡ Some (record { summaries = summaries (after_components first fs c n) (picked fs (members_of c n)) })
+
+-- the numbering has the components of the modules' functions in ready order
+abbrev pub IsNumberingOf : List m.Module → Numbering → Type 0
+IsNumberingOf xs c = (graph : List (List ℕ)) × IsCallGraph xs graph × IsReadyNumbering graph c

@@ -7,5 +7,7 @@ mod known;
 mod laws;
 mod solving;
 
+pub use functions::{all_members, discard_members, members_at};
+pub use known::closed;
 pub use laws::one_known;
 pub use solving::{Solved, solve_modules};

@@ -17,13 +17,13 @@ pub data SaysWhether (status : Status) (output : List ℕ) : Type 0 where
   says_no : status ≡ Clean → output ≡ [] → SaysWhether status output
   says_yes : status ≡ Warnings → output ≢ [] → SaysWhether status output
 
--- What a check answers whose files are read as these modules.
-pub data Judged (files : List (List ℕ)) (xs : List m.Module) (status : Status) (output : List ℕ) : Type 0 where
-  names_one : (first second : ℕ) (file other : List ℕ) → status ≡ duplicate (1 + second) (1 + first) → output ≡ duplicate_line file other
+-- What a check answers whose files, the first of which is the word at the position `start`, are read as these modules.
+pub data Judged (start : ℕ) (files : List (List ℕ)) (xs : List m.Module) (status : Status) (output : List ℕ) : Type 0 where
+  names_one : (first second : ℕ) (file other : List ℕ) → status ≡ duplicate (start + second) (start + first) → output ≡ duplicate_line file other
       → slice_get files second ≡ Some file → slice_get files first ≡ Some other → FirstDuplicate (module_names xs) first second
-      → Judged files xs status output
+      → Judged start files xs status output
   analysed : (reports : List (List ℕ)) → HaveOwnNames xs → IsAnalysis xs reports → NothingIsFalse xs → output ≡ concat reports → SaysWhether status output
-      → Judged files xs status output
+      → Judged start files xs status output
 
 -- the positions that a fault of a set names
 abbrev pub first_of : SetFault → ℕ
