@@ -1,4 +1,4 @@
-use call_graph::graph;
+use call_graph::{all_calls, graph};
 use components::{Comps, components};
 use core_parse::{lexed_weight, parse};
 use core_scan::{end_place, scan};
@@ -6,7 +6,7 @@ use core_scope::{Checked, check, check_set};
 use std::alloc::Global;
 use std::process::Abort;
 use std::test::Fail;
-use type_kinds::{List, Memory};
+use type_kinds::{Bytes, List, Memory};
 
 // The module that a text spells.
 fn module_of(rt: &impl Abort, alloc: Global, text: &[u8]) -> Result<Checked, Fail> {
@@ -24,8 +24,8 @@ fn module_of(rt: &impl Abort, alloc: Global, text: &[u8]) -> Result<Checked, Fai
     }
 }
 
-// The components of the functions of modules.
-fn components_of(rt: &impl Abort, alloc: Global, texts: &[&[u8]]) -> Result<Comps, Fail> {
+// The modules that texts spell.
+fn modules_of(rt: &impl Abort, alloc: Global, texts: &[&[u8]]) -> Result<List<Checked>, Fail> {
     let mut mods = List::new(alloc);
     for text in texts {
         mods.add(module_of(rt, alloc, text)?)?;
@@ -33,6 +33,12 @@ fn components_of(rt: &impl Abort, alloc: Global, texts: &[&[u8]]) -> Result<Comp
     if mods.len() > 1000 {
         panic!(rt; "too many: {texts:?}");
     }
+    Ok(mods)
+}
+
+// The components of the functions of modules.
+fn components_of(rt: &impl Abort, alloc: Global, texts: &[&[u8]]) -> Result<Comps, Fail> {
+    let mods = modules_of(rt, alloc, texts)?;
     let sources = mods.as_slice();
     match check_set(sources) {
         Ok(()) => {
@@ -144,4 +150,52 @@ end",
         7,
         &[(0, 1), (1, 3), (5, 6), (6, 1)],
     )
+}
+
+// The outside calls of the functions of modules: a line for each function.
+fn outside_text(rt: &impl Abort, alloc: Global, texts: &[&[u8]]) -> Result<Bytes, Fail> {
+    let mods = modules_of(rt, alloc, texts)?;
+    let sources = mods.as_slice();
+    if check_set(sources).is_err() {
+        panic!(rt; "one name twice: {texts:?}");
+    }
+    let calls = all_calls(alloc, sources)?;
+    let mut out = Bytes::new(alloc);
+    for outside in calls.outside.as_slice() {
+        for (home, name) in outside.as_slice() {
+            home.text(&mut out)?;
+            out.append(b":")?;
+            name.name.text(&mut out)?;
+            out.append(b"/")?;
+            out.append_decimal(name.arity)?;
+            out.append(b" ")?;
+        }
+        out.append(b"\n")?;
+    }
+    Ok(out)
+}
+
+#[test]
+fn calls_leave_modules(rt: HostRuntime) -> Result<(), Fail> {
+    // not exported, not defined, with another number of arguments, of no module that is handed in, twice, and of `erlang`
+    let found = outside_text(
+        &rt,
+        rt.alloc(),
+        &[
+            b"module 'm' ['a'/0] attributes []
+'a'/0 = fun () -> do call 'm':'b'() do call 'm':'c'() do call 'n':'a'(1) do call 'n':'a'() call 'erlang':'f'()
+'b'/0 = fun () -> apply 'b'/0(call 'm':'a'())
+'c'/0 = fun () -> call 'o':'a'(call 'o':'a'(1,2),call 'erlang':'self'())
+end",
+            b"module 'n' ['a'/0] attributes []
+'a'/0 = fun () -> let <M> = 'n' in call M:'b'()
+end",
+            b"module 'erlang' [] attributes []
+'f'/0 = fun () -> call 'm':'f'()
+end",
+        ],
+    )?;
+    let expected = b"'m':'b'/0 'm':'c'/0 'n':'a'/1 \n\n'o':'a'/2 'o':'a'/2 \n\n'm':'f'/0 \n";
+    assert_eq!(rt; found.as_slice(), expected.as_slice());
+    Ok(())
 }
