@@ -1,4 +1,5 @@
-//! Tests of the crew on whole modules: the answer is that of one thread.
+//! Tests on whole modules: success typings that are worked out by hand, and the crew's answer, which is that of one
+//! thread.
 #![tactic(auto)]
 
 #[cfg(test)]
