@@ -10,8 +10,6 @@ mod lists;
 mod modules;
 mod notes;
 mod patterns;
-#[cfg(test)]
-mod tests;
 
 pub use laws::{
     canonical_text_has_one_reading, fitting_module_is_read_back, line_lexed,

@@ -21,6 +21,3 @@ pub use places::end_place;
 pub use scanner::scan;
 pub use sort::{LARGEST_ARITY, Sort, fits, same, sort_of};
 pub use token::{ScanFault, Token, TokenKind};
-
-#[cfg(test)]
-mod tests;

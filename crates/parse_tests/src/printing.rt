@@ -1,8 +1,8 @@
 // Texts and the canonical text of each, worked out from the rules by hand. What is printed is read
 // again, and is the same module.
-use crate::print;
 use core_ast::{Module, discard_module, same};
 use core_parse::{lexed_weight, parse};
+use core_print::print;
 use core_scan::{end_place, scan};
 use std::process::Abort;
 use std::test::Fail;

@@ -1,5 +1,5 @@
 // Texts with their tokens or faults, worked out from the rules by hand.
-use crate::{ScanFault, Sort, Token, TokenKind, end_place, fits, same, scan, sort_of};
+use core_scan::{ScanFault, Sort, Token, TokenKind, end_place, fits, same, scan, sort_of};
 use std::process::Abort;
 use std::test::Fail;
 use type_kinds::Place;
@@ -365,7 +365,7 @@ fn check_sorts(
     }
     match scan(host.alloc(), text) {
         Ok(tokens) => {
-            let got = tokens.as_slice().iter().map(sort_of);
+            let got = tokens.as_slice().iter().map(|token| sort_of(token));
             assert!(rt; got.eq(want.iter().copied()), "at {text:?}");
         }
         Err(fault) => panic!(rt; "{fault:?}"),
