@@ -95,14 +95,7 @@ fn run_with<R: Threads + Wait + Sync + Files + Print>(
     let texts = texts_of(alloc, words)?;
     let mut shelf = FileShelf::new(rt, alloc)?;
     let mut out = StdoutSink::new(rt)?;
-    Ok(dialyze(
-        rt,
-        alloc,
-        texts.as_slice(),
-        &mut shelf,
-        &mut out,
-        &OpenGate,
-    ))
+    Ok(dialyze(rt, alloc, texts.as_slice(), &mut shelf, &mut out, &OpenGate))
 }
 
 // The words as texts.

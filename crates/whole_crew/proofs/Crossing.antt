@@ -4,7 +4,7 @@ use denote.RattleType.{RattleType}
 use denote.Struct.Field.{bool-field}
 use denote.Struct.Tuple.{TupleAt}
 use denote.Param.SendFields.{declared_send, declared_sync}
-use denote.Param.Send.{IsSend, IsSync, sendable, view_send, view_sync, recorded_send, recorded_sync, struct_send, struct_sync}
+use denote.Param.Send.{IsSend, IsSync, sendable, view_send, view_sync}
 use Rattle.std.proofs.Crossing.{crosses}
 use Rattle.std.proofs.alloc.Global.TheSendSync as Global
 use Rattle.std.below.std_heap.proofs.GlobalAllocator.TheSendSync as Heap
@@ -36,18 +36,15 @@ use Rattle.cons_tree.specs.contracts.parts.Sig as Sig
 use Rattle.cons_tree.specs.contracts.parts.Callee as Callee
 use Rattle.cons_tree.specs.contracts.summaries.CalleeTable as CalleeTable
 use Rattle.cons_tree.specs.contracts.summaries.Summaries as Summaries
-
 use Rattle.std.proofs.option.Option.TheSendSync as Maybe
 use Rattle.type_kinds.proofs.boxed.Boxed.TheSendSync as Boxed
 use Rattle.type_kinds.proofs.shared.Shared.TheSendSync as Shared
-use Rattle.type_kinds.specs.contracts.shared.Shared as SharedType
 use Rattle.type_kinds.specs.contracts.list.List as ListType
 use Rattle.core_ast.proofs.syntax.Form.TheLaws.TheKnot as Tree
 use Rattle.core_ast.proofs.syntax.FunDefOf.TheSendSync as Definition
 use Rattle.core_ast.proofs.syntax.FunOf.TheSendSync as Fun
 use Rattle.core_ast.proofs.syntax.Literal.TheSendSync as Literal
 use Rattle.core_ast.proofs.syntax.Mark.TheSendSync as Mark
-use Rattle.core_ast.proofs.syntax.Note.TheSendSync as Note
 use Rattle.core_ast.proofs.syntax.StepOf.TheSendSync as Step
 use Rattle.core_ast.proofs.syntax.TryOf.TheSendSync as Try
 use Rattle.core_ast.proofs.syntax.VarName.TheSendSync as Variable
@@ -58,6 +55,7 @@ use Rattle.comp_rounds.specs.contracts.members.Member as Member
 use Rattle.comp_rounds.specs.contracts.parts.CompPart as CompPart
 use Rattle.comp_rounds.specs.contracts.parts.CompOut as CompOut
 use Rattle.comp_rounds.specs.contracts.work.CompWork as CompWork
+
 ty_send : IsSend Ty.the_row
 ty_send = search (Parts.the_send, Parts.the_sync, crosses, crosses_both, sendable) depth 60 fits 20000
 
@@ -113,12 +111,46 @@ pub summaries_sync : IsSync Summaries.the_row
 summaries_sync = view_sync Summaries.TheInside.the_row _ _ _ _ (declared_sync Summaries.TheInside.the_type (Global.the_sync, (atoms_sync CalleeTable.the_row table_sync, (callee_sync, tt))))
 
 def_send : IsSend (FunDefOf.the_row Expr.the_row)
-def_send = search (Maybe.the_field_send, Maybe.the_send, Definition.the_field_send, Definition.the_send, Name.the_field_send, Fun.the_send, Literal.the_field_send, Mark.the_field_send,
-  Step.the_send, Try.the_send, Variable.the_field_send, Atom.the_send, Boxed.the_send, Listed.the_send, crosses, Tree.crosses, sendable) depth 60 fits 20000
+def_send = search (
+  Maybe.the_field_send,
+  Maybe.the_send,
+  Definition.the_field_send,
+  Definition.the_send,
+  Name.the_field_send,
+  Fun.the_send,
+  Literal.the_field_send,
+  Mark.the_field_send,
+  Step.the_send,
+  Try.the_send,
+  Variable.the_field_send,
+  Atom.the_send,
+  Boxed.the_send,
+  Listed.the_send,
+  crosses,
+  Tree.crosses,
+  sendable,
+) depth 60 fits 20000
 
 def_sync : IsSync (FunDefOf.the_row Expr.the_row)
-def_sync = search (Maybe.the_field_sync, Maybe.the_sync, Definition.the_field_sync, Definition.the_sync, Name.the_field_sync, Fun.the_sync, Literal.the_field_sync, Mark.the_field_sync,
-  Step.the_sync, Try.the_sync, Variable.the_field_sync, Atom.the_sync, Boxed.the_sync, Listed.the_sync, crosses, Tree.crosses, sendable) depth 60 fits 20000
+def_sync = search (
+  Maybe.the_field_sync,
+  Maybe.the_sync,
+  Definition.the_field_sync,
+  Definition.the_sync,
+  Name.the_field_sync,
+  Fun.the_sync,
+  Literal.the_field_sync,
+  Mark.the_field_sync,
+  Step.the_sync,
+  Try.the_sync,
+  Variable.the_field_sync,
+  Atom.the_sync,
+  Boxed.the_sync,
+  Listed.the_sync,
+  crosses,
+  Tree.crosses,
+  sendable,
+) depth 60 fits 20000
 
 member_send : IsSend Member.the_row
 member_send = declared_send Member.the_type (Atom.the_send, (Shared.the_send (FunDefOf.the_row Expr.the_row) def_send def_sync, (search sendable, tt)))

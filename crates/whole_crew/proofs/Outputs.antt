@@ -20,7 +20,6 @@ use Rattle.whole_summaries.specs.Known.{module_names}
 use Rattle.whole_summaries.specs.Whole.{IsCallGraph}
 use Rattle.whole_laws.proofs.Named.{first_there, later_there}
 use Rattle.whole_crew.specs.Parts.{functions_in, listed, IsPartOf, summaries_of}
-use Rattle.whole_crew.proofs.Laid.{outputs}
 use Rattle.whole_crew.proofs.Same.{component_same}
 
 -- the output of a part, by what it has

@@ -78,6 +78,23 @@ fn close_outside(
     }
 }
 
+// Closes the modules of the functions of these numbers, and those that they call outside.
+fn close_all(
+    known: &mut Summaries,
+    homes: &Names<Atom>,
+    members: &List<Member>,
+    outside: &List<List<OutsideCall>>,
+    numbers: &[u32],
+) -> Result<(), Memory>
+    ensures { OnOk result (found known.new ≡ closing_all homes.now (found known.old) (named_for (map function_of members.now) outside.now numbers.now)) }
+{
+    for number in numbers {
+        close_own(known, homes, members, *number)?;
+        close_outside(known, homes, outside, *number)?;
+    }
+    Ok(())
+}
+
 /// What is fixed for the functions of these numbers: each module that one of them is of or calls outside is closed, if
 /// it is handed in. `Memory` if allocation fails.
 pub fn fixed_for(
@@ -90,9 +107,11 @@ pub fn fixed_for(
     ensures { IfOk result (λ known. found known ≡ closing_all homes.now nothing (named_for (map function_of members.now) outside.now numbers.now)) }
 {
     let mut known = Summaries::new(alloc);
-    for number in numbers {
-        close_own(&mut known, homes, members, *number)?;
-        close_outside(&mut known, homes, outside, *number)?;
+    match close_all(&mut known, homes, members, outside, numbers) {
+        Ok(()) => Ok(known),
+        Err(Memory) => {
+            drop(known);
+            Err(Memory)
+        }
     }
-    Ok(known)
 }

@@ -32,11 +32,11 @@ fn part_at(
     ensures { IfOk result (λ part. IsMadeOf (map function_of members.now) homes.now outside.now lists.now comps.now component part) }
 {
     let numbers = comps.members(component).as_slice();
-    let fixed = fixed_for(alloc, homes, members, outside, numbers)?;
     let callees = lists_at(alloc, lists, comps.callees(component).as_slice())?;
-    let members = members_at(alloc, members, numbers)?;
+    let own = members_at(alloc, members, numbers)?;
+    let fixed = fixed_for(alloc, homes, members, outside, numbers)?;
     Ok(CompPart {
-        members,
+        members: own,
         fixed,
         callees,
     })

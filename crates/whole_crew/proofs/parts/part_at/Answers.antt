@@ -10,4 +10,4 @@ lists_at-requires c =
 pub returns : goal.returns
 returns c =
     part_made (map function_of c.args.members.now) c.args.homes.now c.args.outside.now c.args.lists.now c.args.comps.now c.args.component _ c.as_slice-numbers.result.now c.as_slice.result.now
-    (c.as_slice-numbers.ensures ∙ c.members.ensures.members) (c.as_slice.ensures ∙ c.callees.ensures.callees) c.in_ok-members.ensures c.in_ok-fixed.ensures c.in_ok-callees.ensures
+    (c.as_slice-numbers.ensures ∙ c.members.ensures.members) (c.as_slice.ensures ∙ c.callees.ensures.callees) c.in_ok-own.ensures c.in_ok-fixed.ensures c.in_ok-callees.ensures
