@@ -122,3 +122,7 @@ pattern_segments_of {n = n} z = record { says = z.says; passes = z.passes; agree
 
 pub pattern_pairs_of : {d n : ℕ} {ts left : List Token} {made : List t.PatPairParts} {p : ℕ} → ReadsItems s.CloseMap (pattern_pair d) number_pat_pair n ts made left p → ReadsPatternPairs d n ts (t.pat_pairs made) left p
 pattern_pairs_of {n = n} z = record { says = z.says; passes = z.passes; agrees = pat_pairs_each n z.says ∙ ap (λ (r : List t.PatPairParts × ℕ). let w : m.PatPairs × ℕ = (t.pat_pairs r.0, r.1) in w) z.agrees }
+
+-- A pair of a pattern that is read, as the pair that is kept.
+pub pattern_pair_kept : {d n : ℕ} {ts left : List Token} {made kept : t.PatPairParts} {p : ℕ} → kept ≡ made → ReadsPatternPair d n ts made left p → ReadsPatternPair d n ts kept left p
+pattern_pair_kept {d = d} {n = n} {ts = ts} {left = left} {p = p} e z = subst (λ k. ReadsPatternPair d n ts k left p) (sym e) z

@@ -204,3 +204,7 @@ module _ (d n : ℕ) (ts us : List Token) (items : List MapPair) (p : ℕ) (e : 
 pub one_is_some : (items made : List MapPair) (x : MapPair) → made ≡ items ++ x ∷ [] → made ≡ [] → ⊥
 one_is_some [] made x e h = absurd cc
 one_is_some (y ∷ ys) made x e h = absurd cc
+
+-- A pair that is read, as the pair that is kept.
+pub pair_kept : {d n : ℕ} {ts left : List Token} {made kept : lists.PairParts} {p : ℕ} → kept ≡ made → ReadsPair d n ts made left p → ReadsPair d n ts kept left p
+pair_kept {d = d} {n = n} {ts = ts} {left = left} {p = p} e z = subst (λ k. ReadsPair d n ts k left p) (sym e) z

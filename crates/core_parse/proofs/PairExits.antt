@@ -22,7 +22,7 @@ use Rattle.core_parse.specs.steps.Track.{Branch, Goes, MatchesBranch, itself, St
 use Rattle.core_parse.specs.steps.Faults.{Refuses, Starts, RanOut}
 use Rattle.core_parse.specs.steps.Matches.{Sight}
 use Rattle.core_parse.specs.steps.Starters.{opens_with}
-use Rattle.core_parse.specs.steps.Pairs.{number_updated, ReadsMapPairs, ReadsBarePair, ReadsValue, ReadsValueOf, RefusesValue, exact_sign, updated_tree}
+use Rattle.core_parse.specs.steps.Pairs.{number_updated, ReadsMapPairs, ReadsBarePair, ReadsValue, ReadsValueOf, RefusesValue, exact_sign, updated_tree, read_pair}
 use Rattle.core_parse.specs.steps.Readings.{mark, ReadsAnnotation, ReadsExpression, ReadsBareExpression, ReadsOtherExpression, ReadsPair}
 use Rattle.core_parse.proofs.Moves.{◌>>◌, pass, stay, expand}
 use Rattle.core_parse.proofs.Places.{taken, halted, Shut, through, refused, refused_in, ran_out, drop, drop_second}
@@ -114,6 +114,13 @@ module _ (d n : ℕ) (us : List Token) where
 -- The pair of a key and a value that is read.
 pub pair_valued : (d n : ℕ) (us left : List Token) (exact : Bool) (v : m.Tree) (p : ℕ) → ReadsValue d n us exact v left p → (key : m.Tree) (made : lists.PairParts) → made ≡ record { exact = exact; key = key; value = v } → ReadsValueOf d n key us made left p
 pair_valued d n us left exact v p z key made g = record { value = subst (λ (r : lists.PairParts). ReadsValue d n us r.exact r.value left p) (sym g) z; key_is = ap (λ (r : lists.PairParts). r.key) g }
+
+-- The same of the pair that a reader answers.
+pub pair_carried : (d n : ℕ) (us left : List Token) (exact : Bool) (v : m.Tree) (p : ℕ) → ReadsValue d n us exact v left p → (key : m.Tree) (made : lists.PairParts) → made ≡ record { exact = exact; key = key; value = v } → (ws : List Token) → ws ≡ left → (q : ℕ) → q ≡ p → ReadsValueOf d n key us made ws q
+pair_carried d n us left exact v p z key made g ws e q h = subst (λ l. ReadsValueOf d n key us made l q) (sym e) (subst (λ k. ReadsValueOf d n key us made left k) (sym h) (pair_valued d n us left exact v p z key made g))
+
+pub pair_parts_are : (exact o : Bool) (key k value v : Expr) → exact ≡ o → key ≡ k → value ≡ v → read_pair exact key value ≡ read_pair o k v
+pair_parts_are exact o key k value v e f g = ap (λ (x : Bool). read_pair x key value) e ∙ ap (λ (x : Expr). read_pair o x value) f ∙ ap (λ (x : Expr). read_pair o k x) g
 
 -- the numbers of a pair
 map_pair_is : (n p q : ℕ) (k k' v : m.Tree) (made : lists.PairParts) → number n k ≡ (k', p) → number p v ≡ (made.value, q) → made.key ≡ k' → number_pairs n (m.and_pair made.exact k v m.no_pair) ≡ (lists.pairs (made ∷ []), q)

@@ -78,18 +78,16 @@ pub fn annotated<'a>(
     ensures lighter { IfOk result (λ r. weight r.rest.now ≤ weight tokens.now) }
     ensures err { IfErr result (λ e. Refuses annotation_part tokens.now e) }
 {
-    match annotation(alloc, tokens) {
-        Ok(found) => match noted(alloc, expr, found.note) {
-            Ok(expr) => Ok(ReadAnnotated {
-                expr,
-                rest: found.rest,
-            }),
-            Err(Memory) => Err(Fault::Memory),
-        },
+    let ReadAnnotation { note, rest } = match annotation(alloc, tokens) {
+        Ok(found) => found,
         Err(fault) => {
             discard(expr);
-            Err(fault)
+            return Err(fault);
         }
+    };
+    match noted(alloc, expr, note) {
+        Ok(expr) => Ok(ReadAnnotated { expr, rest }),
+        Err(Memory) => Err(Fault::Memory),
     }
 }
 

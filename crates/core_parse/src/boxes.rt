@@ -3,7 +3,7 @@ ghost use Rattle.std.specs.Bool.{OnTrue, OnFalse};
 ghost use Rattle.core_ast.specs.Notes.{note_tree, noted_pattern as noted_pattern_tree, noted_step as noted_step_tree};
 ghost use Rattle.core_ast.specs.Tree.{tree, pattern_tree, step_tree};
 
-use core_ast::{Expr, MapPair, Note, PatPair, Pattern, Step};
+use core_ast::{Expr, Note, Pattern, Step};
 use std::alloc::Global;
 use type_kinds::{Boxed, List, Memory};
 
@@ -63,14 +63,6 @@ pub fn discard_pattern(_pattern: Boxed<Pattern>) {}
 /// Gives a step up.
 #[inline(never)]
 pub fn discard_step(_step: Boxed<Step>) {}
-
-/// Gives the pair of a map up.
-#[inline(never)]
-pub fn discard_pair(_pair: Boxed<MapPair>) {}
-
-/// Gives the pair of a map pattern up.
-#[inline(never)]
-pub fn discard_pattern_pair(_pair: Boxed<PatPair>) {}
 
 /// The expression with another note. If allocation fails it is given up.
 #[inline(never)]

@@ -1,4 +1,5 @@
-ghost use Rattle.std.specs.Prelude.{◌≡◌, ◌+◌, ◌^◌, ◌<◌, ◌≤◌, [], ◌∷◌, true, false, length, IfOk, IfErr};
+ghost use Rattle.std.specs.Prelude.{◌≡◌, ◌+◌, ◌^◌, ◌<◌, ◌≤◌, ◌++◌, [], ◌∷◌, true, false, length, IfOk, IfErr};
+ghost use Rattle.core_ast.specs.declared.syntax.Clause.{Clause};
 ghost use Rattle.core_ast.specs.Tree.{tree, pattern_tree, patterns as patterns_of, all_clauses, all_patterns, clause_parts};
 ghost use Rattle.core_parse.specs.Grammar.{clauses_to, clause as clause_of};
 ghost use Rattle.core_parse.specs.steps.Clauses.{ends_clauses, ReadsMoreClauses, ReadsHead, ReadsSeveral, RefusesSeveral, ReadsEither, RefusesEither};
@@ -7,13 +8,14 @@ ghost use Rattle.core_parse.specs.steps.Readings.{ReadsClause};
 ghost use Rattle.core_parse.specs.Weights.{weight};
 
 use crate::annotations::{ReadAnnotatedPattern, annotated_pattern, annotation};
-use crate::boxes::{discard, discard_pattern, kept, pushed};
+use crate::boxes::{discard, discard_pattern, pushed};
 use crate::expressions::{ReadExpression, expression};
 use crate::fault::Fault;
 use crate::leaves::{DEEPEST, First, mark, next, no_note, take, text_of};
+use crate::part_nodes::with_clause;
 use crate::pattern_brackets::{ReadInBrackets, in_brackets, named, noted_variable};
+use crate::pattern_nodes;
 use crate::patterns::{ReadPattern, ReadPatterns, bare_pattern, patterns};
-use crate::{part_nodes, pattern_nodes};
 use core_ast::{Clause, Pattern, VarName, discard_clauses, discard_patterns};
 use core_scan::{Sort, Token, same};
 use std::alloc::Global;
@@ -22,13 +24,6 @@ use type_kinds::{Boxed, List, Memory, Place};
 /// Clauses, and what follows the token that closes them.
 pub struct ReadClauses<'a> {
     pub items: List<Clause>,
-    pub rest: &'a [Token],
-    pub label: u32,
-}
-
-/// A clause, and what follows it.
-pub struct ReadClause<'a> {
-    pub clause: Boxed<Clause>,
     pub rest: &'a [Token],
     pub label: u32,
 }
@@ -80,41 +75,37 @@ pub fn clauses<'a>(
                 label: next_label,
             });
         }
-        match clause(alloc, left, depth, next_label) {
+        match clause(alloc, left, items, depth, next_label) {
             Ok(
-                ReadClause {
-                    clause,
+                ReadClauses {
+                    items: grown,
                     rest,
                     label,
                 },
             ) => {
-                items = match kept(items, clause) {
-                    Ok(items) => items,
-                    Err(Memory) => return Err(Fault::Memory),
-                };
+                items = grown;
                 left = rest;
                 next_label = label;
             }
-            Err(fault) => {
-                discard_clauses(items);
-                return Err(fault);
-            }
+            Err(fault) => return Err(fault),
         }
     }
 }
 
-/// The clause that comes first, with or without annotation brackets.
+/// These clauses and the one that comes first, with or without annotation brackets. On an error they are
+/// given up.
 #[cycle(expressions)]
 #[inline(never)]
 pub fn clause<'a>(
     alloc: Global,
     tokens: &'a [Token],
+    items: List<Clause>,
     depth: u32,
     label: u32,
-) -> Result<ReadClause<'a>, Fault>
+) -> Result<ReadClauses<'a>, Fault>
     requires shallow { depth ≤ 401 }
     requires labels { label + 1 + weight tokens.now < 2 ^ 32 }
-    ensures ok { IfOk result (λ r. ReadsClause depth label tokens.now (clause_parts r.clause) r.rest.now r.label) }
+    ensures ok { IfOk result (λ r. (clause : Clause) × ReadsClause depth label tokens.now (clause_parts clause) r.rest.now r.label × (r.items ≡ items ++ clause ∷ [])) }
     ensures labels { IfOk result (λ r. r.label + weight r.rest.now ≤ label + weight tokens.now) }
     ensures shorter { IfOk result (λ r. length r.rest.now < length tokens.now) }
     ensures err { IfErr result (λ e. Refuses (clause_of depth) tokens.now e) }
@@ -127,7 +118,10 @@ pub fn clause<'a>(
         label: next_label,
     } = match head(alloc, tokens, depth, label + 1) {
         Ok(found) => found,
-        Err(fault) => return Err(fault),
+        Err(fault) => {
+            discard_clauses(items);
+            return Err(fault);
+        }
     };
     let mark = mark(label, place);
     let ReadExpression {
@@ -137,6 +131,7 @@ pub fn clause<'a>(
     } = match expression(alloc, rest, depth, next_label) {
         Ok(found) => found,
         Err(fault) => {
+            discard_clauses(items);
             discard_patterns(patterns);
             return Err(fault);
         }
@@ -144,6 +139,7 @@ pub fn clause<'a>(
     let rest = match take(rest, Sort::Arrow) {
         Ok(found) => found,
         Err(fault) => {
+            discard_clauses(items);
             discard_patterns(patterns);
             discard(guard);
             return Err(fault);
@@ -156,27 +152,24 @@ pub fn clause<'a>(
     } = match expression(alloc, rest, depth, label) {
         Ok(found) => found,
         Err(fault) => {
+            discard_clauses(items);
             discard_patterns(patterns);
             discard(guard);
             return Err(fault);
         }
     };
     if !noted {
-        return match part_nodes::clause(alloc, mark, patterns, guard, body) {
-            Ok(clause) => Ok(ReadClause {
-                clause,
-                rest,
-                label,
-            }),
+        return match with_clause(items, mark, patterns, guard, body) {
+            Ok(items) => Ok(ReadClauses { items, rest, label }),
             Err(Memory) => Err(Fault::Memory),
         };
     }
     match annotation(alloc, rest) {
         Ok(found) => {
             let mark = mark.with_note(found.note);
-            match part_nodes::clause(alloc, mark, patterns, guard, body) {
-                Ok(clause) => Ok(ReadClause {
-                    clause,
+            match with_clause(items, mark, patterns, guard, body) {
+                Ok(items) => Ok(ReadClauses {
+                    items,
                     rest: found.rest,
                     label,
                 }),
@@ -184,6 +177,7 @@ pub fn clause<'a>(
             }
         }
         Err(fault) => {
+            discard_clauses(items);
             discard_patterns(patterns);
             discard(guard);
             discard(body);

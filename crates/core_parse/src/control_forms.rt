@@ -5,8 +5,8 @@ ghost use Rattle.core_parse.specs.steps.Faults.{Starts, Refuses};
 ghost use Rattle.core_parse.specs.steps.Readings.{ReadsOtherExpression};
 ghost use Rattle.core_parse.specs.Weights.{weight};
 
-use crate::boxes::{discard, kept};
-use crate::clauses::{ReadClause, ReadClauses, clause, clauses};
+use crate::boxes::discard;
+use crate::clauses::{ReadClauses, clause, clauses};
 use crate::expressions::{ReadExpression, expression};
 use crate::fault::Fault;
 use crate::leaves::{First, mark, take};
@@ -54,22 +54,17 @@ pub fn case<'a>(
             return Err(fault);
         }
     };
-    let ReadClause {
-        clause: head,
+    let ReadClauses { items, rest, label } = match clause(
+        alloc,
         rest,
+        List::new(alloc),
+        depth + 1,
         label,
-    } = match clause(alloc, rest, depth + 1, label) {
+    ) {
         Ok(found) => found,
         Err(fault) => {
             discard(argument);
             return Err(fault);
-        }
-    };
-    let items = match kept(List::new(alloc), head) {
-        Ok(items) => items,
-        Err(Memory) => {
-            discard(argument);
-            return Err(Fault::Memory);
         }
     };
     let ReadClauses { items, rest, label } = match clauses(

@@ -1,18 +1,19 @@
 ghost use Rattle.std.specs.Prelude.{◌≡◌, ◌+◌, ◌^◌, ◌<◌, ◌≤◌, false, length, IfOk, IfErr};
-ghost use Rattle.core_ast.specs.Tree.{tree, all_pairs, pair_parts};
+ghost use Rattle.core_ast.specs.Tree.{tree, all_pairs};
 ghost use Rattle.core_parse.specs.Grammar.{other_expression, pairs as pairs_of, pair as pair_of, bare_pair as bare_pair_of};
 ghost use Rattle.core_parse.specs.steps.Faults.{Starts, Refuses};
-ghost use Rattle.core_parse.specs.steps.Pairs.{ReadsMapPairs, ReadsUpdated, RefusesUpdated, ReadsBarePair, ReadsValue as ReadsSuchValue, ReadsValueOf, RefusesValue, exact_sign, updated_tree};
+ghost use Rattle.core_parse.specs.steps.Pairs.{ReadsMapPairs, ReadsUpdated, RefusesUpdated, read_pair, ReadsBarePair, ReadsValue as ReadsSuchValue, ReadsValueOf, RefusesValue, exact_sign, updated_tree};
 ghost use Rattle.core_parse.specs.steps.Readings.{ReadsOtherExpression, ReadsPair};
 ghost use Rattle.core_parse.specs.steps.Starters.{opens_with};
 ghost use Rattle.core_parse.specs.Weights.{weight};
 
 use crate::annotations::{ReadAnnotated, annotated, annotation};
-use crate::boxes::{discard, discard_pair, kept};
+use crate::boxes::discard;
 use crate::expressions::{ReadExpression, bare_expression, expression};
 use crate::fault::Fault;
 use crate::leaves::{First, mark, next, take};
-use crate::{nodes, part_nodes};
+use crate::nodes;
+use crate::part_nodes::with_pair;
 use core_ast::{Expr, MapPair, discard_pairs};
 use core_scan::{Sort, Token, same};
 use std::alloc::Global;
@@ -26,9 +27,11 @@ pub struct ReadPairs<'a> {
     pub label: u32,
 }
 
-/// A pair, and what follows it.
+/// The key and the value of a pair, whether it is an exact one, and what follows it.
 pub struct ReadPair<'a> {
-    pub pair: Boxed<MapPair>,
+    pub exact: bool,
+    pub key: Boxed<Expr>,
+    pub value: Boxed<Expr>,
     pub rest: &'a [Token],
     pub label: u32,
 }
@@ -122,7 +125,9 @@ fn pairs<'a>(
         };
     }
     let ReadPair {
-        pair: head,
+        exact,
+        key,
+        value,
         rest: mut left,
         label: mut next_label,
     } = match pair(alloc, tokens, depth, label) {
@@ -130,7 +135,7 @@ fn pairs<'a>(
         Err(fault) => return Err(fault),
     };
     let empty = List::new(alloc);
-    let mut items = match kept(empty, head) {
+    let mut items = match with_pair(empty, exact, key, value) {
         Ok(items) => items,
         Err(Memory) => return Err(Fault::Memory),
     };
@@ -161,8 +166,16 @@ fn pairs<'a>(
             return Err(Fault::Syntax(token.place));
         }
         match pair(alloc, token.rest, depth, next_label) {
-            Ok(ReadPair { pair, rest, label }) => {
-                items = match kept(items, pair) {
+            Ok(
+                ReadPair {
+                    exact,
+                    key,
+                    value,
+                    rest,
+                    label,
+                },
+            ) => {
+                items = match with_pair(items, exact, key, value) {
                     Ok(items) => items,
                     Err(Memory) => return Err(Fault::Memory),
                 };
@@ -228,7 +241,7 @@ fn pair<'a>(
 ) -> Result<ReadPair<'a>, Fault>
     requires shallow { depth ≤ 401 }
     requires labels { label + weight tokens.now < 2 ^ 32 }
-    ensures ok { IfOk result (λ r. ReadsPair depth label tokens.now (pair_parts r.pair) r.rest.now r.label) }
+    ensures ok { IfOk result (λ r. ReadsPair depth label tokens.now (read_pair r.exact r.key r.value) r.rest.now r.label) }
     ensures labels { IfOk result (λ r. r.label + weight r.rest.now ≤ label + weight tokens.now) }
     ensures shorter { IfOk result (λ r. length r.rest.now < length tokens.now) }
     ensures err { IfErr result (λ e. Refuses (pair_of depth) tokens.now e) }
@@ -248,18 +261,27 @@ fn pair<'a>(
         Err(fault) => return Err(fault),
     };
     if same(second.sort, Sort::OpenRound) {
-        let ReadPair { pair, rest, label } = match bare_pair(alloc, first.rest, depth, label) {
+        let ReadPair {
+            exact,
+            key,
+            value,
+            rest,
+            label,
+        } = match bare_pair(alloc, first.rest, depth, label) {
             Ok(found) => found,
             Err(fault) => return Err(fault),
         };
         return match annotation(alloc, rest) {
             Ok(found) => Ok(ReadPair {
-                pair,
+                exact,
+                key,
+                value,
                 rest: found.rest,
                 label,
             }),
             Err(fault) => {
-                discard_pair(pair);
+                discard(key);
+                discard(value);
                 Err(fault)
             }
         };
@@ -288,7 +310,7 @@ fn pair_in_brackets<'a>(
     requires lighter { weight first.rest.now + 2 ≤ weight tokens.now }
     requires sort { first.sort ≡ Sort.OpenRound }
     requires once { opens_with (Sort.OpenRound) first.rest.now ≡ false }
-    ensures ok { IfOk result (λ r. ReadsPair depth label tokens.now (pair_parts r.pair) r.rest.now r.label) }
+    ensures ok { IfOk result (λ r. ReadsPair depth label tokens.now (read_pair r.exact r.key r.value) r.rest.now r.label) }
     ensures labels { IfOk result (λ r. r.label + weight r.rest.now ≤ label + weight tokens.now) }
     ensures shorter { IfOk result (λ r. length r.rest.now < length tokens.now) }
     ensures err { IfErr result (λ e. Refuses (pair_of depth) tokens.now e) }
@@ -329,21 +351,19 @@ fn pair_in_brackets<'a>(
             return Err(fault);
         }
     };
-    let found = match annotation(alloc, rest) {
-        Ok(found) => found,
-        Err(fault) => {
-            discard(key);
-            discard(value);
-            return Err(fault);
-        }
-    };
-    match part_nodes::pair(alloc, exact, key, value) {
-        Ok(pair) => Ok(ReadPair {
-            pair,
+    match annotation(alloc, rest) {
+        Ok(found) => Ok(ReadPair {
+            exact,
+            key,
+            value,
             rest: found.rest,
             label,
         }),
-        Err(Memory) => Err(Fault::Memory),
+        Err(fault) => {
+            discard(key);
+            discard(value);
+            Err(fault)
+        }
     }
 }
 
@@ -358,7 +378,7 @@ fn bare_pair<'a>(
 ) -> Result<ReadPair<'a>, Fault>
     requires shallow { depth ≤ 401 }
     requires labels { label + weight tokens.now < 2 ^ 32 }
-    ensures ok { IfOk result (λ r. ReadsBarePair depth label tokens.now (pair_parts r.pair) r.rest.now r.label) }
+    ensures ok { IfOk result (λ r. ReadsBarePair depth label tokens.now (read_pair r.exact r.key r.value) r.rest.now r.label) }
     ensures labels { IfOk result (λ r. r.label + weight r.rest.now ≤ label + weight tokens.now) }
     ensures shorter { IfOk result (λ r. length r.rest.now < length tokens.now) }
     ensures err { IfErr result (λ e. Refuses (bare_pair_of depth) tokens.now e) }
@@ -388,6 +408,29 @@ fn exactness(sort: Sort) -> Option<bool>
     }
 }
 
+// The pair of this key and of the value behind it. It takes no label of its own.
+fn pair_read<'a>(key: Boxed<Expr>, found: ReadValue<'a>) -> ReadPair<'a>
+    ensures exact { result.exact ≡ found.entry.exact }
+    ensures key { result.key ≡ key }
+    ensures value { result.value ≡ found.entry.value }
+    ensures rest { result.rest.now ≡ found.entry.rest.now }
+    ensures label { result.label ≡ found.entry.label }
+{
+    let ReadValue {
+        exact,
+        value,
+        rest,
+        label,
+    } = found;
+    ReadPair {
+        exact,
+        key,
+        value,
+        rest,
+        label,
+    }
+}
+
 // The pair of this key, behind the key: => expression, or := expression.
 #[cycle(expressions)]
 #[inline(never)]
@@ -400,26 +443,17 @@ fn pair_of_key<'a>(
 ) -> Result<ReadPair<'a>, Fault>
     requires shallow { depth ≤ 401 }
     requires labels { label + weight tokens.now < 2 ^ 32 }
-    ensures ok { IfOk result (λ r. ReadsValueOf depth label (tree key) tokens.now (pair_parts r.pair) r.rest.now r.label) }
+    ensures ok { IfOk result (λ r. ReadsValueOf depth label (tree key) tokens.now (read_pair r.exact r.key r.value) r.rest.now r.label) }
     ensures labels { IfOk result (λ r. r.label + weight r.rest.now ≤ label + weight tokens.now) }
     ensures shorter { IfOk result (λ r. length r.rest.now < length tokens.now) }
     ensures err { IfErr result (λ e. RefusesValue depth tokens.now e) }
 {
-    let ReadValue {
-        exact,
-        value,
-        rest,
-        label,
-    } = match value(alloc, tokens, depth, label) {
-        Ok(found) => found,
+    match value(alloc, tokens, depth, label) {
+        Ok(found) => Ok(pair_read(key, found)),
         Err(fault) => {
             discard(key);
-            return Err(fault);
+            Err(fault)
         }
-    };
-    match part_nodes::pair(alloc, exact, key, value) {
-        Ok(pair) => Ok(ReadPair { pair, rest, label }),
-        Err(Memory) => Err(Fault::Memory),
     }
 }
 

@@ -1,56 +1,73 @@
 // Parts of nodes in boxes. Each maker gives its parts up if allocation fails.
-ghost use Rattle.std.specs.Prelude.{◌≡◌, IfOk};
+ghost use Rattle.std.specs.Prelude.{◌≡◌, ◌++◌, [], ◌∷◌, IfOk};
 ghost use Rattle.core_ast.specs.Tree.{tree, pattern_tree, all_trees, all_patterns, clause_parts, pair_parts, pat_pair_parts, segment_parts, pat_segment_parts, step_tree};
+ghost use Rattle.core_ast.specs.declared.syntax.Clause.{Clause};
+ghost use Rattle.core_ast.specs.declared.syntax.MapPair.{MapPair};
+ghost use Rattle.core_ast.specs.declared.syntax.PatPair.{PatPair};
 ghost use Rattle.core_ast.specs.declared.syntax.StepOf.TheVariants.{Let as let_of, Do as do_of};
 
-use crate::boxes::boxed;
+use crate::boxes::{added, boxed};
 use core_ast::{Clause, Expr, MapPair, Mark, PatPair, PatSegment, Pattern, Segment, Step, VarName};
 use std::alloc::Global;
 use type_kinds::{Boxed, List, Memory};
 
-/// A clause: its patterns, its guard and its body.
+/// The clauses and one more, last: its patterns, its guard and its body. If allocation fails all are given
+/// up.
 #[inline(never)]
-pub fn clause(
-    alloc: Global,
+pub fn with_clause(
+    items: List<Clause>,
     mark: Mark,
     patterns: List<Pattern>,
     guard: Boxed<Expr>,
     body: Boxed<Expr>,
-) -> Result<Boxed<Clause>, Memory>
-    ensures { IfOk result (λ made. clause_parts made ≡ (record { mark = mark; patterns = all_patterns patterns; guard = tree guard; body = tree body })) }
+) -> Result<List<Clause>, Memory>
+    ensures { IfOk result (λ made. (clause : Clause) × (clause_parts clause ≡ (record { mark = mark; patterns = all_patterns patterns; guard = tree guard; body = tree body })) × (made ≡ items ++ clause ∷ [])) }
 {
-    boxed(
-        alloc,
-        Clause::new(mark, patterns, guard.into_inner(), body.into_inner()),
-    )
+    let clause = Clause::new(mark, patterns, guard.into_inner(), body.into_inner());
+    let mut items = items;
+    if added(&mut items, clause) {
+        Ok(items)
+    } else {
+        Err(Memory)
+    }
 }
 
-/// A pair of a map, written with `:=` where it is exact.
+/// The pairs of a map and one more, last, written with `:=` where it is exact. If allocation fails all are
+/// given up.
 #[inline(never)]
-pub fn pair(
-    alloc: Global,
+pub fn with_pair(
+    items: List<MapPair>,
     exact: bool,
     key: Boxed<Expr>,
     value: Boxed<Expr>,
-) -> Result<Boxed<MapPair>, Memory>
-    ensures { IfOk result (λ made. pair_parts made ≡ (record { exact = exact; key = tree key; value = tree value })) }
+) -> Result<List<MapPair>, Memory>
+    ensures { IfOk result (λ made. (pair : MapPair) × (pair_parts pair ≡ (record { exact = exact; key = tree key; value = tree value })) × (made ≡ items ++ pair ∷ [])) }
 {
-    boxed(
-        alloc,
-        MapPair::new(exact, key.into_inner(), value.into_inner()),
-    )
+    let pair = MapPair::new(exact, key.into_inner(), value.into_inner());
+    let mut items = items;
+    if added(&mut items, pair) {
+        Ok(items)
+    } else {
+        Err(Memory)
+    }
 }
 
-/// A pair of a map pattern.
+/// The pairs of a map pattern and one more, last. If allocation fails all are given up.
 #[inline(never)]
-pub fn pattern_pair(
-    alloc: Global,
+pub fn with_pattern_pair(
+    items: List<PatPair>,
     key: Boxed<Expr>,
     value: Boxed<Pattern>,
-) -> Result<Boxed<PatPair>, Memory>
-    ensures { IfOk result (λ made. pat_pair_parts made ≡ (record { key = tree key; value = pattern_tree value })) }
+) -> Result<List<PatPair>, Memory>
+    ensures { IfOk result (λ made. (pair : PatPair) × (pat_pair_parts pair ≡ (record { key = tree key; value = pattern_tree value })) × (made ≡ items ++ pair ∷ [])) }
 {
-    boxed(alloc, PatPair::new(key.into_inner(), value.into_inner()))
+    let pair = PatPair::new(key.into_inner(), value.into_inner());
+    let mut items = items;
+    if added(&mut items, pair) {
+        Ok(items)
+    } else {
+        Err(Memory)
+    }
 }
 
 /// A segment of a binary.

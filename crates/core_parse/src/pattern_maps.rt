@@ -1,21 +1,22 @@
 ghost use Rattle.std.specs.Prelude.{◌≡◌, ◌+◌, ◌^◌, ◌<◌, ◌≤◌, false, length, IfOk, IfErr};
-ghost use Rattle.core_ast.specs.Tree.{tree, pattern_tree, all_pat_pairs, pat_pair_parts};
+ghost use Rattle.core_ast.specs.Tree.{tree, pattern_tree, all_pat_pairs};
 ghost use Rattle.core_parse.specs.Grammar.{the, many, other_pattern, pattern_pair as pattern_pair_of, bare_pattern_pair as bare_pattern_pair_of};
-ghost use Rattle.core_parse.specs.steps.Faults.{Starts, Refuses};
-ghost use Rattle.core_parse.specs.steps.Pairs.{ReadsBarePatternPair, ReadsPatternValue, ReadsPatternValueOf, RefusesPatternValue};
+ghost use Rattle.core_parse.specs.steps.Faults.{Starts, Takes, Misses, Refuses};
+ghost use Rattle.core_parse.specs.steps.Pairs.{read_pattern_pair, ReadsBarePatternPair, ReadsPatternValue, ReadsPatternValueOf, RefusesPatternValue};
 ghost use Rattle.core_parse.specs.steps.Patterns.{ReadsOtherPattern};
 ghost use Rattle.core_parse.specs.steps.Starters.{opens_with};
 ghost use Rattle.core_parse.specs.steps.Readings.{ReadsPatternPairs, ReadsPatternPair};
 ghost use Rattle.core_parse.specs.Weights.{weight};
 
 use crate::annotations::{ReadAnnotated, annotated, annotation};
-use crate::boxes::{discard, discard_pattern, discard_pattern_pair, kept};
+use crate::boxes::{discard, discard_pattern};
 use crate::expressions::{ReadExpression, bare_expression, expression};
 use crate::fault::Fault;
 use crate::leaves::{First, mark, next, take};
+use crate::part_nodes::with_pattern_pair;
+use crate::pattern_nodes;
 use crate::patterns::{ReadPattern, pattern};
-use crate::{part_nodes, pattern_nodes};
-use core_ast::{Expr, PatPair, discard_pattern_pairs};
+use core_ast::{Expr, PatPair, Pattern, discard_pattern_pairs};
 use core_scan::{Sort, Token, same};
 use std::alloc::Global;
 use type_kinds::{Boxed, List, Memory};
@@ -27,9 +28,10 @@ pub struct ReadPatternPairs<'a> {
     pub label: u32,
 }
 
-/// A pair of a map pattern, and what follows it.
+/// The key and the value of a pair of a map pattern, and what follows it.
 pub struct ReadPatternPair<'a> {
-    pub pair: Boxed<PatPair>,
+    pub key: Boxed<Expr>,
+    pub value: Boxed<Pattern>,
     pub rest: &'a [Token],
     pub label: u32,
 }
@@ -104,8 +106,15 @@ fn pattern_pairs<'a>(
         });
     }
     let (mut left, mut next_label) = match pattern_pair(alloc, tokens, depth, label) {
-        Ok(ReadPatternPair { pair, rest, label }) => {
-            items = match kept(items, pair) {
+        Ok(
+            ReadPatternPair {
+                key,
+                value,
+                rest,
+                label,
+            },
+        ) => {
+            items = match with_pattern_pair(items, key, value) {
                 Ok(items) => items,
                 Err(Memory) => return Err(Fault::Memory),
             };
@@ -136,8 +145,15 @@ fn pattern_pairs<'a>(
             return Err(Fault::Syntax(first.place));
         }
         match pattern_pair(alloc, first.rest, depth, next_label) {
-            Ok(ReadPatternPair { pair, rest, label }) => {
-                items = match kept(items, pair) {
+            Ok(
+                ReadPatternPair {
+                    key,
+                    value,
+                    rest,
+                    label,
+                },
+            ) => {
+                items = match with_pattern_pair(items, key, value) {
                     Ok(items) => items,
                     Err(Memory) => return Err(Fault::Memory),
                 };
@@ -163,7 +179,7 @@ fn pattern_pair<'a>(
 ) -> Result<ReadPatternPair<'a>, Fault>
     requires shallow { depth ≤ 401 }
     requires labels { label + weight tokens.now < 2 ^ 32 }
-    ensures ok { IfOk result (λ r. ReadsPatternPair depth label tokens.now (pat_pair_parts r.pair) r.rest.now r.label) }
+    ensures ok { IfOk result (λ r. ReadsPatternPair depth label tokens.now (read_pattern_pair r.key r.value) r.rest.now r.label) }
     ensures labels { IfOk result (λ r. r.label + weight r.rest.now ≤ label + weight tokens.now) }
     ensures shorter { IfOk result (λ r. length r.rest.now < length tokens.now) }
     ensures err { IfErr result (λ e. Refuses (pattern_pair_of depth) tokens.now e) }
@@ -183,20 +199,25 @@ fn pattern_pair<'a>(
         Err(fault) => return Err(fault),
     };
     if same(second.sort, Sort::OpenRound) {
-        let ReadPatternPair { pair, rest, label } = match bare_pattern_pair(
-            alloc, first.rest, depth, label,
-        ) {
+        let ReadPatternPair {
+            key,
+            value,
+            rest,
+            label,
+        } = match bare_pattern_pair(alloc, first.rest, depth, label) {
             Ok(found) => found,
             Err(fault) => return Err(fault),
         };
         return match annotation(alloc, rest) {
             Ok(found) => Ok(ReadPatternPair {
-                pair,
+                key,
+                value,
                 rest: found.rest,
                 label,
             }),
             Err(fault) => {
-                discard_pattern_pair(pair);
+                discard(key);
+                discard_pattern(value);
                 Err(fault)
             }
         };
@@ -225,7 +246,7 @@ fn pattern_pair_in_brackets<'a>(
     requires lighter { weight first.rest.now + 2 ≤ weight tokens.now }
     requires sort { first.sort ≡ Sort.OpenRound }
     requires once { opens_with (Sort.OpenRound) first.rest.now ≡ false }
-    ensures ok { IfOk result (λ r. ReadsPatternPair depth label tokens.now (pat_pair_parts r.pair) r.rest.now r.label) }
+    ensures ok { IfOk result (λ r. ReadsPatternPair depth label tokens.now (read_pattern_pair r.key r.value) r.rest.now r.label) }
     ensures labels { IfOk result (λ r. r.label + weight r.rest.now ≤ label + weight tokens.now) }
     ensures shorter { IfOk result (λ r. length r.rest.now < length tokens.now) }
     ensures err { IfErr result (λ e. Refuses (pattern_pair_of depth) tokens.now e) }
@@ -267,21 +288,18 @@ fn pattern_pair_in_brackets<'a>(
             return Err(fault);
         }
     };
-    let found = match annotation(alloc, rest) {
-        Ok(found) => found,
-        Err(fault) => {
-            discard(key);
-            discard_pattern(value);
-            return Err(fault);
-        }
-    };
-    match part_nodes::pattern_pair(alloc, key, value) {
-        Ok(pair) => Ok(ReadPatternPair {
-            pair,
+    match annotation(alloc, rest) {
+        Ok(found) => Ok(ReadPatternPair {
+            key,
+            value,
             rest: found.rest,
             label,
         }),
-        Err(Memory) => Err(Fault::Memory),
+        Err(fault) => {
+            discard(key);
+            discard_pattern(value);
+            Err(fault)
+        }
     }
 }
 
@@ -296,7 +314,7 @@ fn bare_pattern_pair<'a>(
 ) -> Result<ReadPatternPair<'a>, Fault>
     requires shallow { depth ≤ 401 }
     requires labels { label + weight tokens.now < 2 ^ 32 }
-    ensures ok { IfOk result (λ r. ReadsBarePatternPair depth label tokens.now (pat_pair_parts r.pair) r.rest.now r.label) }
+    ensures ok { IfOk result (λ r. ReadsBarePatternPair depth label tokens.now (read_pattern_pair r.key r.value) r.rest.now r.label) }
     ensures labels { IfOk result (λ r. r.label + weight r.rest.now ≤ label + weight tokens.now) }
     ensures shorter { IfOk result (λ r. length r.rest.now < length tokens.now) }
     ensures err { IfErr result (λ e. Refuses (bare_pattern_pair_of depth) tokens.now e) }
@@ -327,26 +345,39 @@ fn pattern_pair_of_key<'a>(
 ) -> Result<ReadPatternPair<'a>, Fault>
     requires shallow { depth ≤ 401 }
     requires labels { label + weight tokens.now < 2 ^ 32 }
-    ensures ok { IfOk result (λ r. ReadsPatternValueOf depth label (tree key) tokens.now (pat_pair_parts r.pair) r.rest.now r.label) }
+    ensures ok { IfOk result (λ r. ReadsPatternValueOf depth label (tree key) tokens.now (read_pattern_pair r.key r.value) r.rest.now r.label) }
     ensures labels { IfOk result (λ r. r.label + weight r.rest.now ≤ label + weight tokens.now) }
     ensures shorter { IfOk result (λ r. length r.rest.now < length tokens.now) }
     ensures err { IfErr result (λ e. RefusesPatternValue depth tokens.now e) }
 {
-    let ReadPattern {
-        pattern: value,
-        rest,
-        label,
-    } = match value_pattern(alloc, tokens, depth, label) {
-        Ok(found) => found,
+    match value_pattern(alloc, tokens, depth, label) {
+        Ok(
+            ReadPattern {
+                pattern,
+                rest,
+                label,
+            },
+        ) => Ok(ReadPatternPair {
+            key,
+            value: pattern,
+            rest,
+            label,
+        }),
         Err(fault) => {
             discard(key);
-            return Err(fault);
+            Err(fault)
         }
-    };
-    match part_nodes::pattern_pair(alloc, key, value) {
-        Ok(pair) => Ok(ReadPatternPair { pair, rest, label }),
-        Err(Memory) => Err(Fault::Memory),
     }
+}
+
+// What follows the sign of a pair, which is := in every pattern.
+fn behind_sign<'a>(tokens: &'a [Token]) -> Result<&'a [Token], Fault>
+    ensures ok { IfOk result (λ r. Takes (Sort.Exact) tokens.now r.now) }
+    ensures shorter { IfOk result (λ r. length r.now + 1 ≡ length tokens.now) }
+    ensures lighter { IfOk result (λ r. weight r.now + 2 ≤ weight tokens.now) }
+    ensures err { IfErr result (λ e. Misses (Sort.Exact) tokens.now e) }
+{
+    take(tokens, Sort::Exact)
 }
 
 // The pattern of a pair's value, behind the key: := pattern.
@@ -365,7 +396,7 @@ fn value_pattern<'a>(
     ensures shorter { IfOk result (λ r. length r.rest.now < length tokens.now) }
     ensures err { IfErr result (λ e. RefusesPatternValue depth tokens.now e) }
 {
-    let rest = match take(tokens, Sort::Exact) {
+    let rest = match behind_sign(tokens) {
         Ok(found) => found,
         Err(fault) => return Err(fault),
     };

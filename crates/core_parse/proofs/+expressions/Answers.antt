@@ -3,7 +3,7 @@ use Rattle.core_ast.specs.Tree.{all_segments, segment_parts, all_patterns, patte
 use Rattle.core_parse.proofs.MoreFormExits.{binary_bad, binary_ok, case_0_bad, case_1_bad, case_2_bad, case_3_bad, case_ok, one_clause, fun_end, fun_1_bad, fun_2_bad, fun_3_bad, fun_ok}
 use Rattle.std.proofs.lemmas.Bool.{iff_false, OnTrue_at}
 use Rattle.core_parse.specs.steps.Items.{number_segment, number_pat_segment, number_pat_pair}
-use Rattle.core_parse.proofs.ItemExits.{closes_segments, segment_item, segments_of, items_nothing, items_empty, items_bad, items_first, items_end, items_close, items_worse, items_more, items_other, closes_expressions, expression_item, expressions_of, closes_pattern_segments, pattern_segment_item, pattern_segments_of, closes_pattern_pairs, pattern_pair_item, pattern_pairs_of, closes_patterns, patterns_of, pattern_item}
+use Rattle.core_parse.proofs.ItemExits.{closes_segments, segment_item, segments_of, items_nothing, items_empty, items_bad, items_first, items_end, items_close, items_worse, items_more, items_other, closes_expressions, expression_item, expressions_of, closes_pattern_segments, pattern_segment_item, pattern_segments_of, closes_pattern_pairs, pattern_pair_item, pattern_pairs_of, closes_patterns, patterns_of, pattern_item, pattern_pair_kept}
 use Rattle.core_parse.proofs.RowExits.{segment_0_bad, segment_1_bad, segment_2_bad, segment_3_bad, segment_4_bad, segment_ok, definitions_start, definitions_next, definition_0_bad, definition_1_bad, definition_2_bad, definition_ok, noted_function_none, function_bare_bad, function_bare, function_in_bad, function_note_bad, function_noted, function_none, function_dull, function_1_bad, function_2_bad, function_3_bad, function_4_bad, function_ok}
 use Rattle.core_parse.proofs.ChainExits.{chain_last_bad, begins_sort, chain_first_bad, chain_first, chain_step_bad, chain_step, is_let, step_do_bad, step_do, step_vars_bad, step_equals_bad, step_value_bad, step_in_bad, step_let}
 use Rattle.core_parse.proofs.Places.{differs}
@@ -20,8 +20,8 @@ use Rattle.core_parse.proofs.ExpressionListExits.{list_open_end, list_nil, list_
 use Rattle.core_parse.proofs.StringExits.{string_weight}
 use Rattle.core_parse.proofs.ExpressionExits.{expression_none, expression_bare, expression_bare_bad, expression_in_bad, expression_note_bad, expression_noted, bare_none, bare_expression_deep, bare_expression_dull, bare_other, bare_other_bad, variable_made, literal_made, other_none, other_else, other_variable, other_literal, other_nil_bad, other_nil}
 use Rattle.core_parse.specs.Labels.{number, number_pattern}
-use Rattle.core_parse.proofs.PairExits.{map_expression_bad, map_expression_new, map_expression_updated, map_pair_end, map_pair_bare_ok, map_pair_bare_bad, map_pair_open_end, map_pair_second_bad, map_pair_second_ok, map_pair_second_note_bad, map_pair_key_bad, map_pair_key_end, map_pair_noted_ok, map_pair_noted_value_bad, map_pair_key_note_bad, map_pair_value_bad, map_pair_ok, map_pair_note_bad, bare_map_pair_key_bad, bare_map_pair_value_bad, bare_map_pair_ok, key_value_end, key_value_other, key_value_bad, key_value, pair_valued}
-use Rattle.core_parse.proofs.MapPairExits.{map_pairs_begin, map_pairs_end, map_pairs_close, map_bar_refused, map_bar_done, map_pairs_no_comma, map_pairs_first, map_pairs_comma, one_is_some, updated_bad, updated_lacks, map_pairs_bad, map_pairs_more}
+use Rattle.core_parse.proofs.PairExits.{map_expression_bad, map_expression_new, map_expression_updated, map_pair_end, map_pair_bare_ok, map_pair_bare_bad, map_pair_open_end, map_pair_second_bad, map_pair_second_ok, map_pair_second_note_bad, map_pair_key_bad, map_pair_key_end, map_pair_noted_ok, map_pair_noted_value_bad, map_pair_key_note_bad, map_pair_value_bad, map_pair_ok, map_pair_note_bad, bare_map_pair_key_bad, bare_map_pair_value_bad, bare_map_pair_ok, key_value_end, key_value_other, key_value_bad, key_value, pair_valued, pair_carried, pair_parts_are}
+use Rattle.core_parse.proofs.MapPairExits.{map_pairs_begin, map_pairs_end, map_pairs_close, map_bar_refused, map_bar_done, map_pairs_no_comma, map_pairs_first, map_pairs_comma, one_is_some, updated_bad, updated_lacks, map_pairs_bad, map_pairs_more, pair_kept}
 use Rattle.core_parse.proofs.PatternFormExits.{binary_pattern_bad, binary_pattern_ok, pattern_segment_0_bad, pattern_segment_1_bad, pattern_segment_2_bad, pattern_segment_3_bad, pattern_segment_4_bad, pattern_segment_ok, map_pattern_bad, map_pattern_ok, pattern_pair_end, pattern_pair_bare_ok, pattern_pair_bare_bad, pattern_pair_open_end, pattern_pair_second_bad, pattern_pair_second_ok, pattern_pair_second_note_bad, pattern_pair_key_bad, pattern_pair_key_end, pattern_pair_noted_ok, pattern_pair_noted_value_bad, pattern_pair_key_note_bad, pattern_pair_value_bad, pattern_pair_ok, pattern_pair_note_bad, bare_pattern_pair_key_bad, bare_pattern_pair_value_bad, bare_pattern_pair_ok, pattern_value_lacks, pattern_value_bad, pattern_value, pattern_value_pair, tuple_pattern_bad, tuple_pattern_ok}
 use Rattle.core_parse.specs.Grammar.{pattern_segment, pattern_pair}
 use Rattle.core_parse.proofs.PatternExits.{sort_differs, brackets_end, brackets_bad, brackets_note_bad, brackets_noted, name_made, brackets_deep, brackets_variable_end, brackets_variable_bad, brackets_variable, brackets_alias_bad, brackets_alias_note_bad, brackets_alias_noted, noted_variable_bad, noted_variable_last, noted_alias_bad, noted_alias, binds_made, equals_made, tuple_made}
@@ -158,7 +158,7 @@ clauses::clauses-returns-then-same-clause-shorter t c = omega (arith, c.loop-fou
 
 pub clauses::clauses-loop-found-preserved : goal.clauses::clauses-loop-found-preserved
 clauses::clauses-loop-found-preserved t c = record {
-  so_far = clauses_next _ _ _ c.requires.closes _ _ _ _ _ c.loop-found.invariant.so_far _ _ _ _ c.in-Ok.ensures.ok (λ e. differs c.if-same.false (c.same.ensures.1 e)) _ _ _ _ c.in-Ok-kept.ensures c.in-Ok-clause.ensures.ok;
+  so_far = clauses_next _ _ _ c.requires.closes _ _ _ _ _ c.loop-found.invariant.so_far _ _ _ _ c.in-Ok.ensures.ok (λ e. differs c.if-same.false (c.same.ensures.1 e)) _ _ _ _ c.in-Ok-clause.ensures.ok.2 c.in-Ok-clause.ensures.ok.1;
   labels = omega (arith, c.loop-found.invariant.labels, c.in-Ok-clause.ensures.labels);
   shorter = omega (arith, c.loop-found.invariant.shorter, c.in-Ok-clause.ensures.shorter);
 }
@@ -175,23 +175,23 @@ clauses::clause-returns-in-Err-take-clause-err t c = arrow_bad c.args.depth c.ar
 pub clauses::clause-returns-in-Err-expression-2-clause-err : goal.clauses::clause-returns-in-Err-expression-2-clause-err
 clauses::clause-returns-in-Err-expression-2-clause-err t c = body_bad c.args.depth c.args.label _ _ _ _ _ _ c.in-Ok.ensures.ok _ _ _ c.in-Ok-expression.ensures.ok _ c.in-Ok-take.ensures.ok _ c.in-Err-expression-2.ensures.err
 
-pub clauses::clause-returns-in-Ok-clause-clause-ok : goal.clauses::clause-returns-in-Ok-clause-clause-ok
-clauses::clause-returns-in-Ok-clause-clause-ok t c = clause_read c.args.depth c.args.label _ _ _ _ _ (subst (λ (x : Bool). ReadsHead c.args.depth (c.args.label + 1) c.args.tokens.now (all_patterns c.in-Ok.found.patterns) c.in-Ok.found.place x c.in-Ok.found.rest.now c.in-Ok.found.label) c.if-not-noted.true c.in-Ok.ensures.ok) _ _ _ c.in-Ok-expression.ensures.ok _ c.in-Ok-take.ensures.ok _ _ _ c.in-Ok-expression-2.ensures.ok _ (clause_marked _ _ _ _ _ _ c.in-Ok-clause.ensures c.mark-mark.ensures)
+pub clauses::clause-returns-in-Ok-with_clause-clause-ok : goal.clauses::clause-returns-in-Ok-with_clause-clause-ok
+clauses::clause-returns-in-Ok-with_clause-clause-ok t c = (c.in-Ok-with_clause.ensures.0, clause_read c.args.depth c.args.label _ _ _ _ _ (subst (λ (x : Bool). ReadsHead c.args.depth (c.args.label + 1) c.args.tokens.now (all_patterns c.in-Ok.found.patterns) c.in-Ok.found.place x c.in-Ok.found.rest.now c.in-Ok.found.label) c.if-not-noted.true c.in-Ok.ensures.ok) _ _ _ c.in-Ok-expression.ensures.ok _ c.in-Ok-take.ensures.ok _ _ _ c.in-Ok-expression-2.ensures.ok _ (clause_marked _ _ _ _ _ _ c.in-Ok-with_clause.ensures.1 c.mark-mark.ensures), c.in-Ok-with_clause.ensures.2)
 
-pub clauses::clause-returns-in-Ok-clause-clause-labels : goal.clauses::clause-returns-in-Ok-clause-clause-labels
-clauses::clause-returns-in-Ok-clause-clause-labels t c = omega (arith, c.in-Ok.ensures.labels, c.in-Ok-expression.ensures.labels, c.in-Ok-take.ensures.lighter, c.in-Ok-expression-2.ensures.labels)
+pub clauses::clause-returns-in-Ok-with_clause-clause-labels : goal.clauses::clause-returns-in-Ok-with_clause-clause-labels
+clauses::clause-returns-in-Ok-with_clause-clause-labels t c = omega (arith, c.in-Ok.ensures.labels, c.in-Ok-expression.ensures.labels, c.in-Ok-take.ensures.lighter, c.in-Ok-expression-2.ensures.labels)
 
-pub clauses::clause-returns-in-Ok-clause-clause-shorter : goal.clauses::clause-returns-in-Ok-clause-clause-shorter
-clauses::clause-returns-in-Ok-clause-clause-shorter t c = omega (arith, c.in-Ok.ensures.shorter, c.in-Ok-expression.ensures.shorter, c.in-Ok-take.ensures.shorter, c.in-Ok-expression-2.ensures.shorter)
+pub clauses::clause-returns-in-Ok-with_clause-clause-shorter : goal.clauses::clause-returns-in-Ok-with_clause-clause-shorter
+clauses::clause-returns-in-Ok-with_clause-clause-shorter t c = omega (arith, c.in-Ok.ensures.shorter, c.in-Ok-expression.ensures.shorter, c.in-Ok-take.ensures.shorter, c.in-Ok-expression-2.ensures.shorter)
 
-pub clauses::clause-returns-in-Ok-clause-2-clause-ok : goal.clauses::clause-returns-in-Ok-clause-2-clause-ok
-clauses::clause-returns-in-Ok-clause-2-clause-ok t c = clause_noted_read c.args.depth c.args.label _ _ _ _ _ (subst (λ (x : Bool). ReadsHead c.args.depth (c.args.label + 1) c.args.tokens.now (all_patterns c.in-Ok.found.patterns) c.in-Ok.found.place x c.in-Ok.found.rest.now c.in-Ok.found.label) c.if-not-noted.false c.in-Ok.ensures.ok) _ _ _ c.in-Ok-expression.ensures.ok _ c.in-Ok-take.ensures.ok _ _ _ c.in-Ok-expression-2.ensures.ok _ _ _ _ refl (clause_marked _ _ _ _ _ _ c.in-Ok-clause-2.ensures (c.with_note-mark.ensures ∙ ap (marked _) c.mark-mark.ensures)) c.in-Ok-annotation.ensures.ok
+pub clauses::clause-returns-in-Ok-with_clause-2-clause-ok : goal.clauses::clause-returns-in-Ok-with_clause-2-clause-ok
+clauses::clause-returns-in-Ok-with_clause-2-clause-ok t c = (c.in-Ok-with_clause-2.ensures.0, clause_noted_read c.args.depth c.args.label _ _ _ _ _ (subst (λ (x : Bool). ReadsHead c.args.depth (c.args.label + 1) c.args.tokens.now (all_patterns c.in-Ok.found.patterns) c.in-Ok.found.place x c.in-Ok.found.rest.now c.in-Ok.found.label) c.if-not-noted.false c.in-Ok.ensures.ok) _ _ _ c.in-Ok-expression.ensures.ok _ c.in-Ok-take.ensures.ok _ _ _ c.in-Ok-expression-2.ensures.ok _ _ _ _ refl (clause_marked _ _ _ _ _ _ c.in-Ok-with_clause-2.ensures.1 (c.with_note-mark.ensures ∙ ap (marked _) c.mark-mark.ensures)) c.in-Ok-annotation.ensures.ok, c.in-Ok-with_clause-2.ensures.2)
 
-pub clauses::clause-returns-in-Ok-clause-2-clause-labels : goal.clauses::clause-returns-in-Ok-clause-2-clause-labels
-clauses::clause-returns-in-Ok-clause-2-clause-labels t c = omega (arith, c.in-Ok.ensures.labels, c.in-Ok-expression.ensures.labels, c.in-Ok-take.ensures.lighter, c.in-Ok-expression-2.ensures.labels, c.in-Ok-annotation.ensures.lighter)
+pub clauses::clause-returns-in-Ok-with_clause-2-clause-labels : goal.clauses::clause-returns-in-Ok-with_clause-2-clause-labels
+clauses::clause-returns-in-Ok-with_clause-2-clause-labels t c = omega (arith, c.in-Ok.ensures.labels, c.in-Ok-expression.ensures.labels, c.in-Ok-take.ensures.lighter, c.in-Ok-expression-2.ensures.labels, c.in-Ok-annotation.ensures.lighter)
 
-pub clauses::clause-returns-in-Ok-clause-2-clause-shorter : goal.clauses::clause-returns-in-Ok-clause-2-clause-shorter
-clauses::clause-returns-in-Ok-clause-2-clause-shorter t c = omega (arith, c.in-Ok.ensures.shorter, c.in-Ok-expression.ensures.shorter, c.in-Ok-take.ensures.shorter, c.in-Ok-expression-2.ensures.shorter, c.in-Ok-annotation.ensures.shorter)
+pub clauses::clause-returns-in-Ok-with_clause-2-clause-shorter : goal.clauses::clause-returns-in-Ok-with_clause-2-clause-shorter
+clauses::clause-returns-in-Ok-with_clause-2-clause-shorter t c = omega (arith, c.in-Ok.ensures.shorter, c.in-Ok-expression.ensures.shorter, c.in-Ok-take.ensures.shorter, c.in-Ok-expression-2.ensures.shorter, c.in-Ok-annotation.ensures.shorter)
 
 pub clauses::clause-returns-in-Err-annotation-clause-err : goal.clauses::clause-returns-in-Err-annotation-clause-err
 clauses::clause-returns-in-Err-annotation-clause-err t c = clause_note_bad c.args.depth c.args.label _ _ _ _ _ (subst (λ (x : Bool). ReadsHead c.args.depth (c.args.label + 1) c.args.tokens.now (all_patterns c.in-Ok.found.patterns) c.in-Ok.found.place x c.in-Ok.found.rest.now c.in-Ok.found.label) c.if-not-noted.false c.in-Ok.ensures.ok) _ _ _ c.in-Ok-expression.ensures.ok _ c.in-Ok-take.ensures.ok _ _ _ c.in-Ok-expression-2.ensures.ok _ c.in-Err-annotation.ensures.err
@@ -356,10 +356,10 @@ pub control_forms::case-returns-in-Err-clause-clause-err : goal.control_forms::c
 control_forms::case-returns-in-Err-clause-clause-err t c = case_2_bad _ c.args.label _ _ _ _ _ c.requires.starts c.requires.shallow c.requires.sort _ _ _ c.in-Ok.ensures.ok _ c.in-Ok-take.ensures.ok _ c.in-Err-clause.ensures.err
 
 pub control_forms::case-returns-in-Err-clauses-clause-err : goal.control_forms::case-returns-in-Err-clauses-clause-err
-control_forms::case-returns-in-Err-clauses-clause-err t c = case_3_bad _ c.args.label _ _ _ _ _ c.requires.starts c.requires.shallow c.requires.sort _ _ _ c.in-Ok.ensures.ok _ c.in-Ok-take.ensures.ok _ _ _ c.in-Ok-clause.ensures.ok _ c.in-Err-clauses.ensures.err
+control_forms::case-returns-in-Err-clauses-clause-err t c = case_3_bad _ c.args.label _ _ _ _ _ c.requires.starts c.requires.shallow c.requires.sort _ _ _ c.in-Ok.ensures.ok _ c.in-Ok-take.ensures.ok _ _ _ c.in-Ok-clause.ensures.ok.1 _ c.in-Err-clauses.ensures.err
 
 pub control_forms::case-returns-in-Ok-case-clause-ok : goal.control_forms::case-returns-in-Ok-case-clause-ok
-control_forms::case-returns-in-Ok-case-clause-ok t c = case_ok _ c.args.label _ _ _ _ _ c.requires.starts c.requires.shallow c.requires.sort _ _ _ c.in-Ok.ensures.ok _ c.in-Ok-take.ensures.ok _ _ _ c.in-Ok-clause.ensures.ok _ _ _ _ (one_clause _ _ _ c.new.ensures c.in-Ok-kept.ensures) c.in-Ok-clauses.ensures.ok _ c.mark-mark.ensures _ c.in-Ok-case.ensures
+control_forms::case-returns-in-Ok-case-clause-ok t c = case_ok _ c.args.label _ _ _ _ _ c.requires.starts c.requires.shallow c.requires.sort _ _ _ c.in-Ok.ensures.ok _ c.in-Ok-take.ensures.ok _ _ _ c.in-Ok-clause.ensures.ok.1 _ _ _ _ (one_clause _ _ _ c.new.ensures c.in-Ok-clause.ensures.ok.2) c.in-Ok-clauses.ensures.ok _ c.mark-mark.ensures _ c.in-Ok-case.ensures
 
 pub control_forms::try_expression-returns-in-Err-clause-err : goal.control_forms::try_expression-returns-in-Err-clause-err
 control_forms::try_expression-returns-in-Err-clause-err t c = try_0_bad _ c.args.label _ _ _ _ _ c.requires.starts c.requires.shallow c.requires.sort _ c.in-Err.ensures.err
@@ -772,8 +772,8 @@ maps::pairs-returns-in-Err-pair-clause-err t c = map_pairs_bad _ c.args.label _ 
 
 pub maps::pairs-loop-found-init : goal.maps::pairs-loop-found-init
 maps::pairs-loop-found-init t c = record {
-  so_far = map_pairs_more _ _ _ _ _ _ (map_pairs_first _ _ _ _ _ c.new-empty.ensures _ _ _ c.in-Ok.ensures.ok (λ z. differs c.if-same.false (c.same.ensures.1 z)) (λ z. differs c.if-same-2.false (c.same-2.ensures.1 z))) _ _ _ _ c.in-Ok-kept.ensures c.in-Ok-pair.ensures.ok;
-  some = one_is_some _ _ _ c.in-Ok-kept.ensures;
+  so_far = map_pairs_more _ _ _ _ _ _ (map_pairs_first _ _ _ _ _ c.new-empty.ensures _ _ _ c.in-Ok.ensures.ok (λ z. differs c.if-same.false (c.same.ensures.1 z)) (λ z. differs c.if-same-2.false (c.same-2.ensures.1 z))) _ _ _ _ c.in-Ok-with_pair.ensures.2 (pair_kept c.in-Ok-with_pair.ensures.1 c.in-Ok-pair.ensures.ok);
+  some = one_is_some _ _ _ c.in-Ok-with_pair.ensures.2;
   labels = c.in-Ok-pair.ensures.labels;
   shorter = omega (arith, c.in-Ok-pair.ensures.shorter);
 }
@@ -795,8 +795,8 @@ maps::pairs-returns-then-not-same-clause-err t c = map_pairs_no_comma _ _ _ _ _ 
 
 pub maps::pairs-loop-found-preserved : goal.maps::pairs-loop-found-preserved
 maps::pairs-loop-found-preserved t c = record {
-  so_far = map_pairs_more _ _ _ _ _ _ (map_pairs_comma _ _ _ _ _ _ c.loop-found.invariant.so_far c.loop-found.invariant.some _ _ _ _ c.in-Ok-next.ensures.ok (c.same-in-loop-found-3.ensures.0 c.if-not-same.false)) _ _ _ _ c.in-Ok-kept-2.ensures c.in-Ok-pair-2.ensures.ok;
-  some = one_is_some _ _ _ c.in-Ok-kept-2.ensures;
+  so_far = map_pairs_more _ _ _ _ _ _ (map_pairs_comma _ _ _ _ _ _ c.loop-found.invariant.so_far c.loop-found.invariant.some _ _ _ _ c.in-Ok-next.ensures.ok (c.same-in-loop-found-3.ensures.0 c.if-not-same.false)) _ _ _ _ c.in-Ok-with_pair-2.ensures.2 (pair_kept c.in-Ok-with_pair-2.ensures.1 c.in-Ok-pair-2.ensures.ok);
+  some = one_is_some _ _ _ c.in-Ok-with_pair-2.ensures.2;
   labels = omega (arith, c.loop-found.invariant.labels, c.in-Ok-next.ensures.lighter, c.in-Ok-pair-2.ensures.labels);
   shorter = omega (arith, c.loop-found.invariant.shorter, c.in-Ok-next.ensures.shorter, c.in-Ok-pair-2.ensures.shorter);
 }
@@ -852,8 +852,8 @@ maps::pair_in_brackets-returns-in-Err-annotated-clause-err t c = map_pair_key_no
 pub maps::pair_in_brackets-returns-in-Err-value-clause-err : goal.maps::pair_in_brackets-returns-in-Err-value-clause-err
 maps::pair_in_brackets-returns-in-Err-value-clause-err t c = map_pair_value_bad _ _ _ _ _ _ _ c.requires.starts c.requires.sort c.requires.once _ _ _ c.in-Ok.ensures.ok _ _ _ _ c.in-Ok-next.ensures.ok (λ z. differs c.if-same.false (c.same.ensures.1 z)) _ c.in-Err-value.ensures.err
 
-pub maps::pair_in_brackets-returns-in-Ok-pair-clause-ok : goal.maps::pair_in_brackets-returns-in-Ok-pair-clause-ok
-maps::pair_in_brackets-returns-in-Ok-pair-clause-ok t c = map_pair_ok _ _ _ _ _ _ _ c.requires.starts c.requires.sort c.requires.once _ _ _ c.in-Ok.ensures.ok _ _ _ _ c.in-Ok-next.ensures.ok (λ z. differs c.if-same.false (c.same.ensures.1 z)) _ _ _ (pair_valued _ _ _ _ _ _ _ c.in-Ok-value.ensures.ok _ _ c.in-Ok-pair.ensures) _ _ c.in-Ok-annotation.ensures.ok
+pub maps::pair_in_brackets-returns-in-Ok-annotation-clause-ok : goal.maps::pair_in_brackets-returns-in-Ok-annotation-clause-ok
+maps::pair_in_brackets-returns-in-Ok-annotation-clause-ok t c = map_pair_ok _ _ _ _ _ _ _ c.requires.starts c.requires.sort c.requires.once _ _ _ c.in-Ok.ensures.ok _ _ _ _ c.in-Ok-next.ensures.ok (λ z. differs c.if-same.false (c.same.ensures.1 z)) _ _ _ (pair_valued _ _ _ _ _ _ _ c.in-Ok-value.ensures.ok _ _ refl) _ _ c.in-Ok-annotation.ensures.ok
 
 pub maps::pair_in_brackets-returns-in-Err-annotation-clause-err : goal.maps::pair_in_brackets-returns-in-Err-annotation-clause-err
 maps::pair_in_brackets-returns-in-Err-annotation-clause-err t c = map_pair_note_bad _ _ _ _ _ _ _ c.requires.starts c.requires.sort c.requires.once _ _ _ c.in-Ok.ensures.ok _ _ _ _ c.in-Ok-next.ensures.ok (λ z. differs c.if-same.false (c.same.ensures.1 z)) _ _ _ (pair_valued _ _ _ _ _ _ _ c.in-Ok-value.ensures.ok _ _ refl) _ c.in-Err-annotation.ensures.err
@@ -867,8 +867,8 @@ maps::bare_pair-returns-in-Err-pair_of_key-clause-err t c = bare_map_pair_value_
 pub maps::bare_pair-returns-in-Ok-pair_of_key-clause-ok : goal.maps::bare_pair-returns-in-Ok-pair_of_key-clause-ok
 maps::bare_pair-returns-in-Ok-pair_of_key-clause-ok t c = bare_map_pair_ok _ _ _ _ _ _ c.in-Ok.ensures.ok _ _ _ c.in-Ok-pair_of_key.ensures.ok
 
-pub maps::pair_of_key-returns-in-Ok-pair-clause-ok : goal.maps::pair_of_key-returns-in-Ok-pair-clause-ok
-maps::pair_of_key-returns-in-Ok-pair-clause-ok t c = pair_valued _ _ _ _ _ _ _ c.in-Ok.ensures.ok _ _ c.in-Ok-pair.ensures
+pub maps::pair_of_key-returns-in-Ok-clause-ok : goal.maps::pair_of_key-returns-in-Ok-clause-ok
+maps::pair_of_key-returns-in-Ok-clause-ok t c = pair_carried _ _ _ _ _ _ _ c.in-Ok.ensures.ok _ _ (pair_parts_are _ _ _ _ _ _ c.pair_read.ensures.exact c.pair_read.ensures.key c.pair_read.ensures.value) _ c.pair_read.ensures.rest _ c.pair_read.ensures.label
 
 pub maps::value-returns-in-Err-clause-err : goal.maps::value-returns-in-Err-clause-err
 maps::value-returns-in-Err-clause-err t c = key_value_end _ c.args.label _ _ c.in-Err.ensures.err
@@ -1129,7 +1129,7 @@ pattern_maps::pattern_pairs-returns-in-Err-pattern_pair-clause-err t c = items_b
 
 pub pattern_maps::pattern_pairs-loop-found-init : goal.pattern_maps::pattern_pairs-loop-found-init
 pattern_maps::pattern_pairs-loop-found-init t c = record {
-  so_far = items_first s.CloseMap (pattern_pair _) (closes_pattern_pairs _) number_pat_pair pat_pair_parts _ _ _ _ _ _ c.in-Ok.ensures.ok (λ z. differs c.if-same.false (c.same.ensures.1 z)) _ _ _ _ _ c.new-items.ensures c.in-Ok-kept.ensures (pattern_pair_item c.in-Ok-pattern_pair.ensures.ok);
+  so_far = items_first s.CloseMap (pattern_pair _) (closes_pattern_pairs _) number_pat_pair pat_pair_parts _ _ _ _ _ _ c.in-Ok.ensures.ok (λ z. differs c.if-same.false (c.same.ensures.1 z)) _ _ _ _ _ c.new-items.ensures c.in-Ok-with_pattern_pair.ensures.2 (pattern_pair_item (pattern_pair_kept c.in-Ok-with_pattern_pair.ensures.1 c.in-Ok-pattern_pair.ensures.ok));
   labels = c.in-Ok-pattern_pair.ensures.labels;
   shorter = omega (arith, c.in-Ok-pattern_pair.ensures.shorter);
 }
@@ -1145,7 +1145,7 @@ pattern_maps::pattern_pairs-returns-then-not-same-clause-err t c = items_other _
 
 pub pattern_maps::pattern_pairs-loop-found-preserved : goal.pattern_maps::pattern_pairs-loop-found-preserved
 pattern_maps::pattern_pairs-loop-found-preserved t c = record {
-  so_far = items_more _ _ (closes_pattern_pairs _) _ _ _ _ _ _ _ c.loop-found.invariant.so_far _ _ _ _ c.in-Ok-next.ensures.ok (c.same-in-loop-found-2.ensures.0 c.if-not-same.false) _ _ _ _ c.in-Ok-kept-2.ensures (pattern_pair_item c.in-Ok-pattern_pair-2.ensures.ok);
+  so_far = items_more _ _ (closes_pattern_pairs _) _ _ _ _ _ _ _ c.loop-found.invariant.so_far _ _ _ _ c.in-Ok-next.ensures.ok (c.same-in-loop-found-2.ensures.0 c.if-not-same.false) _ _ _ _ c.in-Ok-with_pattern_pair-2.ensures.2 (pattern_pair_item (pattern_pair_kept c.in-Ok-with_pattern_pair-2.ensures.1 c.in-Ok-pattern_pair-2.ensures.ok));
   labels = omega (arith, c.loop-found.invariant.labels, c.in-Ok-next.ensures.lighter, c.in-Ok-pattern_pair-2.ensures.labels);
   shorter = omega (arith, c.loop-found.invariant.shorter, c.in-Ok-next.ensures.shorter, c.in-Ok-pattern_pair-2.ensures.shorter);
 }
@@ -1192,8 +1192,8 @@ pattern_maps::pattern_pair_in_brackets-returns-in-Err-annotated-clause-err t c =
 pub pattern_maps::pattern_pair_in_brackets-returns-in-Err-value_pattern-clause-err : goal.pattern_maps::pattern_pair_in_brackets-returns-in-Err-value_pattern-clause-err
 pattern_maps::pattern_pair_in_brackets-returns-in-Err-value_pattern-clause-err t c = pattern_pair_value_bad _ _ _ _ _ _ _ c.requires.starts c.requires.sort c.requires.once _ _ _ c.in-Ok.ensures.ok _ _ _ _ c.in-Ok-next.ensures.ok (λ z. differs c.if-same.false (c.same.ensures.1 z)) _ c.in-Err-value_pattern.ensures.err
 
-pub pattern_maps::pattern_pair_in_brackets-returns-in-Ok-pattern_pair-clause-ok : goal.pattern_maps::pattern_pair_in_brackets-returns-in-Ok-pattern_pair-clause-ok
-pattern_maps::pattern_pair_in_brackets-returns-in-Ok-pattern_pair-clause-ok t c = pattern_pair_ok _ _ _ _ _ _ _ c.requires.starts c.requires.sort c.requires.once _ _ _ c.in-Ok.ensures.ok _ _ _ _ c.in-Ok-next.ensures.ok (λ z. differs c.if-same.false (c.same.ensures.1 z)) _ _ _ (pattern_value_pair _ _ _ _ _ _ c.in-Ok-value_pattern.ensures.ok _ _ c.in-Ok-pattern_pair.ensures) _ _ c.in-Ok-annotation.ensures.ok
+pub pattern_maps::pattern_pair_in_brackets-returns-in-Ok-annotation-clause-ok : goal.pattern_maps::pattern_pair_in_brackets-returns-in-Ok-annotation-clause-ok
+pattern_maps::pattern_pair_in_brackets-returns-in-Ok-annotation-clause-ok t c = pattern_pair_ok _ _ _ _ _ _ _ c.requires.starts c.requires.sort c.requires.once _ _ _ c.in-Ok.ensures.ok _ _ _ _ c.in-Ok-next.ensures.ok (λ z. differs c.if-same.false (c.same.ensures.1 z)) _ _ _ (pattern_value_pair _ _ _ _ _ _ c.in-Ok-value_pattern.ensures.ok _ _ refl) _ _ c.in-Ok-annotation.ensures.ok
 
 pub pattern_maps::pattern_pair_in_brackets-returns-in-Err-annotation-clause-err : goal.pattern_maps::pattern_pair_in_brackets-returns-in-Err-annotation-clause-err
 pattern_maps::pattern_pair_in_brackets-returns-in-Err-annotation-clause-err t c = pattern_pair_note_bad _ _ _ _ _ _ _ c.requires.starts c.requires.sort c.requires.once _ _ _ c.in-Ok.ensures.ok _ _ _ _ c.in-Ok-next.ensures.ok (λ z. differs c.if-same.false (c.same.ensures.1 z)) _ _ _ (pattern_value_pair _ _ _ _ _ _ c.in-Ok-value_pattern.ensures.ok _ _ refl) _ c.in-Err-annotation.ensures.err
@@ -1207,8 +1207,8 @@ pattern_maps::bare_pattern_pair-returns-in-Err-pattern_pair_of_key-clause-err t 
 pub pattern_maps::bare_pattern_pair-returns-in-Ok-pattern_pair_of_key-clause-ok : goal.pattern_maps::bare_pattern_pair-returns-in-Ok-pattern_pair_of_key-clause-ok
 pattern_maps::bare_pattern_pair-returns-in-Ok-pattern_pair_of_key-clause-ok t c = bare_pattern_pair_ok _ _ _ _ _ _ c.in-Ok.ensures.ok _ _ _ c.in-Ok-pattern_pair_of_key.ensures.ok
 
-pub pattern_maps::pattern_pair_of_key-returns-in-Ok-pattern_pair-clause-ok : goal.pattern_maps::pattern_pair_of_key-returns-in-Ok-pattern_pair-clause-ok
-pattern_maps::pattern_pair_of_key-returns-in-Ok-pattern_pair-clause-ok t c = pattern_value_pair _ _ _ _ _ _ c.in-Ok.ensures.ok _ _ c.in-Ok-pattern_pair.ensures
+pub pattern_maps::pattern_pair_of_key-returns-in-Ok-clause-ok : goal.pattern_maps::pattern_pair_of_key-returns-in-Ok-clause-ok
+pattern_maps::pattern_pair_of_key-returns-in-Ok-clause-ok t c = pattern_value_pair _ _ _ _ _ _ c.in-Ok.ensures.ok _ _ refl
 
 pub pattern_maps::value_pattern-returns-in-Err-clause-err : goal.pattern_maps::value_pattern-returns-in-Err-clause-err
 pattern_maps::value_pattern-returns-in-Err-clause-err t c = pattern_value_lacks _ c.args.label _ _ c.in-Err.ensures.err

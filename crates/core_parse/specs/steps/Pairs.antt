@@ -5,6 +5,7 @@ use Rattle.core_scan.specs.declared.token.Token.{Token}
 use Rattle.core_scan.specs.declared.sort.Sort.{Sort}
 use Rattle.core_scan.specs.declared.sort.Sort.TheVariants as s
 use Rattle.core_ast.specs.declared.syntax.Expr.{Expr}
+use Rattle.core_ast.specs.declared.syntax.Pattern.{Pattern}
 use Rattle.core_ast.specs.Model as m
 use Rattle.core_ast.specs.Tree as t
 use Rattle.core_parse.specs.declared.fault.Fault.{Fault}
@@ -29,6 +30,13 @@ abbrev pub exact_sign : Sort → Option Bool
 exact_sign s.Exact = Some true
 exact_sign s.Assoc = Some false
 exact_sign _ = None
+
+-- A pair that is read, as its parts.
+abbrev pub read_pair : Bool → Expr → Expr → t.PairParts
+read_pair exact key value = record { exact = exact; key = t.tree key; value = t.tree value }
+
+abbrev pub read_pattern_pair : Expr → Pattern → t.PatPairParts
+read_pattern_pair key value = record { key = t.tree key; value = t.pattern_tree value }
 
 -- A pair starts at once where it is the first, and else behind a comma.
 abbrev pub PairStart : Bool → Sort → List Token → List Token → List Token → Type 0
