@@ -95,3 +95,7 @@ module _ (c : Sort) (d n : ℕ) (k : ends_clauses c ≡ true) (before : List Cla
           agrees = each_more number_clause n p r u.raw u.more z.says (clause_parts x) u.agrees (clause_one p r z.says (clause_parts x) z.agrees);
           items_are = ap (map clause_parts) g ∙ map-append clause_parts items (x ∷ []) ∙ ap (λ ys. ys ++ clause_parts x ∷ []) u.items_are ∙ append_assoc (map clause_parts before) u.more (clause_parts x ∷ []);
         }
+
+-- A clause that is read, as the clause that is kept.
+pub clause_kept : {d n : ℕ} {ts left : List Token} {made kept : lists.ClauseParts} {p : ℕ} → kept ≡ made → ReadsClause d n ts made left p → ReadsClause d n ts kept left p
+clause_kept {d = d} {n = n} {ts = ts} {left = left} {p = p} e z = subst (λ k. ReadsClause d n ts k left p) (sym e) z

@@ -1,8 +1,7 @@
-ghost use Rattle.std.specs.Prelude.{◌≡◌, ◌+◌, ◌^◌, ◌<◌, ◌≤◌, ◌++◌, [], ◌∷◌, true, false, length, IfOk, IfErr};
-ghost use Rattle.core_ast.specs.declared.syntax.Clause.{Clause};
-ghost use Rattle.core_ast.specs.Tree.{tree, pattern_tree, patterns as patterns_of, all_clauses, all_patterns, clause_parts};
+ghost use Rattle.std.specs.Prelude.{◌≡◌, ◌+◌, ◌^◌, ◌<◌, ◌≤◌, [], ◌∷◌, true, false, length, IfOk, IfErr};
+ghost use Rattle.core_ast.specs.Tree.{tree, pattern_tree, patterns as patterns_of, all_clauses, all_patterns};
 ghost use Rattle.core_parse.specs.Grammar.{clauses_to, clause as clause_of};
-ghost use Rattle.core_parse.specs.steps.Clauses.{ends_clauses, ReadsMoreClauses, ReadsHead, ReadsSeveral, RefusesSeveral, ReadsEither, RefusesEither};
+ghost use Rattle.core_parse.specs.steps.Clauses.{ends_clauses, read_clause, ReadsMoreClauses, ReadsHead, ReadsSeveral, RefusesSeveral, ReadsEither, RefusesEither};
 ghost use Rattle.core_parse.specs.steps.Faults.{Starts, Takes, MissesOrMemory, Refuses};
 ghost use Rattle.core_parse.specs.steps.Readings.{ReadsClause};
 ghost use Rattle.core_parse.specs.Weights.{weight};
@@ -16,7 +15,7 @@ use crate::part_nodes::with_clause;
 use crate::pattern_brackets::{ReadInBrackets, in_brackets, named, noted_variable};
 use crate::pattern_nodes;
 use crate::patterns::{ReadPattern, ReadPatterns, bare_pattern, patterns};
-use core_ast::{Clause, Pattern, VarName, discard_clauses, discard_patterns};
+use core_ast::{Clause, Expr, Mark, Pattern, VarName, discard_clauses, discard_patterns};
 use core_scan::{Sort, Token, same};
 use std::alloc::Global;
 use type_kinds::{Boxed, List, Memory, Place};
@@ -24,6 +23,16 @@ use type_kinds::{Boxed, List, Memory, Place};
 /// Clauses, and what follows the token that closes them.
 pub struct ReadClauses<'a> {
     pub items: List<Clause>,
+    pub rest: &'a [Token],
+    pub label: u32,
+}
+
+/// The parts of a clause, and what follows it.
+pub struct ReadClause<'a> {
+    pub mark: Mark,
+    pub patterns: List<Pattern>,
+    pub guard: Boxed<Expr>,
+    pub body: Boxed<Expr>,
     pub rest: &'a [Token],
     pub label: u32,
 }
@@ -75,37 +84,44 @@ pub fn clauses<'a>(
                 label: next_label,
             });
         }
-        match clause(alloc, left, items, depth, next_label) {
+        match clause(alloc, left, depth, next_label) {
             Ok(
-                ReadClauses {
-                    items: grown,
+                ReadClause {
+                    mark,
+                    patterns,
+                    guard,
+                    body,
                     rest,
                     label,
                 },
             ) => {
-                items = grown;
+                items = match with_clause(items, mark, patterns, guard, body) {
+                    Ok(items) => items,
+                    Err(Memory) => return Err(Fault::Memory),
+                };
                 left = rest;
                 next_label = label;
             }
-            Err(fault) => return Err(fault),
+            Err(fault) => {
+                discard_clauses(items);
+                return Err(fault);
+            }
         }
     }
 }
 
-/// These clauses and the one that comes first, with or without annotation brackets. On an error they are
-/// given up.
+/// The parts of the clause that comes first, with or without annotation brackets.
 #[cycle(expressions)]
 #[inline(never)]
 pub fn clause<'a>(
     alloc: Global,
     tokens: &'a [Token],
-    items: List<Clause>,
     depth: u32,
     label: u32,
-) -> Result<ReadClauses<'a>, Fault>
+) -> Result<ReadClause<'a>, Fault>
     requires shallow { depth ≤ 401 }
     requires labels { label + 1 + weight tokens.now < 2 ^ 32 }
-    ensures ok { IfOk result (λ r. (clause : Clause) × ReadsClause depth label tokens.now (clause_parts clause) r.rest.now r.label × (r.items ≡ items ++ clause ∷ [])) }
+    ensures ok { IfOk result (λ r. ReadsClause depth label tokens.now (read_clause r.mark r.patterns r.guard r.body) r.rest.now r.label) }
     ensures labels { IfOk result (λ r. r.label + weight r.rest.now ≤ label + weight tokens.now) }
     ensures shorter { IfOk result (λ r. length r.rest.now < length tokens.now) }
     ensures err { IfErr result (λ e. Refuses (clause_of depth) tokens.now e) }
@@ -118,10 +134,7 @@ pub fn clause<'a>(
         label: next_label,
     } = match head(alloc, tokens, depth, label + 1) {
         Ok(found) => found,
-        Err(fault) => {
-            discard_clauses(items);
-            return Err(fault);
-        }
+        Err(fault) => return Err(fault),
     };
     let mark = mark(label, place);
     let ReadExpression {
@@ -131,7 +144,6 @@ pub fn clause<'a>(
     } = match expression(alloc, rest, depth, next_label) {
         Ok(found) => found,
         Err(fault) => {
-            discard_clauses(items);
             discard_patterns(patterns);
             return Err(fault);
         }
@@ -139,7 +151,6 @@ pub fn clause<'a>(
     let rest = match take(rest, Sort::Arrow) {
         Ok(found) => found,
         Err(fault) => {
-            discard_clauses(items);
             discard_patterns(patterns);
             discard(guard);
             return Err(fault);
@@ -152,32 +163,31 @@ pub fn clause<'a>(
     } = match expression(alloc, rest, depth, label) {
         Ok(found) => found,
         Err(fault) => {
-            discard_clauses(items);
             discard_patterns(patterns);
             discard(guard);
             return Err(fault);
         }
     };
     if !noted {
-        return match with_clause(items, mark, patterns, guard, body) {
-            Ok(items) => Ok(ReadClauses { items, rest, label }),
-            Err(Memory) => Err(Fault::Memory),
-        };
+        return Ok(ReadClause {
+            mark,
+            patterns,
+            guard,
+            body,
+            rest,
+            label,
+        });
     }
     match annotation(alloc, rest) {
-        Ok(found) => {
-            let mark = mark.with_note(found.note);
-            match with_clause(items, mark, patterns, guard, body) {
-                Ok(items) => Ok(ReadClauses {
-                    items,
-                    rest: found.rest,
-                    label,
-                }),
-                Err(Memory) => Err(Fault::Memory),
-            }
-        }
+        Ok(found) => Ok(ReadClause {
+            mark: mark.with_note(found.note),
+            patterns,
+            guard,
+            body,
+            rest: found.rest,
+            label,
+        }),
         Err(fault) => {
-            discard_clauses(items);
             discard_patterns(patterns);
             discard(guard);
             discard(body);

@@ -6,11 +6,12 @@ ghost use Rattle.core_parse.specs.steps.Readings.{ReadsOtherExpression};
 ghost use Rattle.core_parse.specs.Weights.{weight};
 
 use crate::boxes::discard;
-use crate::clauses::{ReadClauses, clause, clauses};
+use crate::clauses::{ReadClause, ReadClauses, clause, clauses};
 use crate::expressions::{ReadExpression, expression};
 use crate::fault::Fault;
 use crate::leaves::{First, mark, take};
 use crate::nodes;
+use crate::part_nodes::with_clause;
 use crate::variables::variables;
 use core_ast::{TryOf, discard_clauses};
 use core_scan::{Sort, Token};
@@ -54,17 +55,25 @@ pub fn case<'a>(
             return Err(fault);
         }
     };
-    let ReadClauses { items, rest, label } = match clause(
-        alloc,
+    let ReadClause {
+        mark: own_mark,
+        patterns,
+        guard,
+        body,
         rest,
-        List::new(alloc),
-        depth + 1,
         label,
-    ) {
+    } = match clause(alloc, rest, depth + 1, label) {
         Ok(found) => found,
         Err(fault) => {
             discard(argument);
             return Err(fault);
+        }
+    };
+    let items = match with_clause(List::new(alloc), own_mark, patterns, guard, body) {
+        Ok(items) => items,
+        Err(Memory) => {
+            discard(argument);
+            return Err(Fault::Memory);
         }
     };
     let ReadClauses { items, rest, label } = match clauses(

@@ -7,7 +7,7 @@ use Rattle.core_parse.proofs.ItemExits.{closes_segments, segment_item, segments_
 use Rattle.core_parse.proofs.RowExits.{segment_0_bad, segment_1_bad, segment_2_bad, segment_3_bad, segment_4_bad, segment_ok, definitions_start, definitions_next, definition_0_bad, definition_1_bad, definition_2_bad, definition_ok, noted_function_none, function_bare_bad, function_bare, function_in_bad, function_note_bad, function_noted, function_none, function_dull, function_1_bad, function_2_bad, function_3_bad, function_4_bad, function_ok}
 use Rattle.core_parse.proofs.ChainExits.{chain_last_bad, begins_sort, chain_first_bad, chain_first, chain_step_bad, chain_step, is_let, step_do_bad, step_do, step_vars_bad, step_equals_bad, step_value_bad, step_in_bad, step_let}
 use Rattle.core_parse.proofs.Places.{differs}
-use Rattle.core_parse.proofs.ClauseListExits.{clauses_start, clauses_end, clauses_close, clauses_bad, clauses_next}
+use Rattle.core_parse.proofs.ClauseListExits.{clauses_start, clauses_end, clauses_close, clauses_bad, clauses_next, clause_kept}
 use Rattle.core_parse.specs.steps.Clauses.{ReadsHead, in_patterns, no_when}
 use Rattle.core_parse.proofs.ClauseExits.{guard_bad, arrow_bad, body_bad, clause_read, clause_note_bad, clause_noted_read, clause_none, head_several, head_several_bad, head_bare_bad, head_one_bad, head_one_read, head_open_end, inner_several, inner_several_bad, inner_bare_bad, inner_either, inner_either_bad, second_bad, second_either, second_either_bad, second_when, second_when_bad, head_variable_deep, head_variable_end, head_noted_bad, head_noted_when, head_noted_when_bad, head_named_bad, head_named_either, head_named_either_bad, head_variable_bad, head_variable_when}
 use Rattle.core_parse.proofs.ClauseResults.{clause_marked, single_head, head_labels, single_shorter, either_head, either_shorter, variable_is, binds_is, or_memory}
@@ -158,7 +158,7 @@ clauses::clauses-returns-then-same-clause-shorter t c = omega (arith, c.loop-fou
 
 pub clauses::clauses-loop-found-preserved : goal.clauses::clauses-loop-found-preserved
 clauses::clauses-loop-found-preserved t c = record {
-  so_far = clauses_next _ _ _ c.requires.closes _ _ _ _ _ c.loop-found.invariant.so_far _ _ _ _ c.in-Ok.ensures.ok (λ e. differs c.if-same.false (c.same.ensures.1 e)) _ _ _ _ c.in-Ok-clause.ensures.ok.2 c.in-Ok-clause.ensures.ok.1;
+  so_far = clauses_next _ _ _ c.requires.closes _ _ _ _ _ c.loop-found.invariant.so_far _ _ _ _ c.in-Ok.ensures.ok (λ e. differs c.if-same.false (c.same.ensures.1 e)) _ _ _ _ c.in-Ok-with_clause.ensures.2 (clause_kept c.in-Ok-with_clause.ensures.1 c.in-Ok-clause.ensures.ok);
   labels = omega (arith, c.loop-found.invariant.labels, c.in-Ok-clause.ensures.labels);
   shorter = omega (arith, c.loop-found.invariant.shorter, c.in-Ok-clause.ensures.shorter);
 }
@@ -175,23 +175,23 @@ clauses::clause-returns-in-Err-take-clause-err t c = arrow_bad c.args.depth c.ar
 pub clauses::clause-returns-in-Err-expression-2-clause-err : goal.clauses::clause-returns-in-Err-expression-2-clause-err
 clauses::clause-returns-in-Err-expression-2-clause-err t c = body_bad c.args.depth c.args.label _ _ _ _ _ _ c.in-Ok.ensures.ok _ _ _ c.in-Ok-expression.ensures.ok _ c.in-Ok-take.ensures.ok _ c.in-Err-expression-2.ensures.err
 
-pub clauses::clause-returns-in-Ok-with_clause-clause-ok : goal.clauses::clause-returns-in-Ok-with_clause-clause-ok
-clauses::clause-returns-in-Ok-with_clause-clause-ok t c = (c.in-Ok-with_clause.ensures.0, clause_read c.args.depth c.args.label _ _ _ _ _ (subst (λ (x : Bool). ReadsHead c.args.depth (c.args.label + 1) c.args.tokens.now (all_patterns c.in-Ok.found.patterns) c.in-Ok.found.place x c.in-Ok.found.rest.now c.in-Ok.found.label) c.if-not-noted.true c.in-Ok.ensures.ok) _ _ _ c.in-Ok-expression.ensures.ok _ c.in-Ok-take.ensures.ok _ _ _ c.in-Ok-expression-2.ensures.ok _ (clause_marked _ _ _ _ _ _ c.in-Ok-with_clause.ensures.1 c.mark-mark.ensures), c.in-Ok-with_clause.ensures.2)
+pub clauses::clause-returns-then-not-noted-clause-ok : goal.clauses::clause-returns-then-not-noted-clause-ok
+clauses::clause-returns-then-not-noted-clause-ok t c = clause_read c.args.depth c.args.label _ _ _ _ _ (subst (λ (x : Bool). ReadsHead c.args.depth (c.args.label + 1) c.args.tokens.now (all_patterns c.in-Ok.found.patterns) c.in-Ok.found.place x c.in-Ok.found.rest.now c.in-Ok.found.label) c.if-not-noted.true c.in-Ok.ensures.ok) _ _ _ c.in-Ok-expression.ensures.ok _ c.in-Ok-take.ensures.ok _ _ _ c.in-Ok-expression-2.ensures.ok _ (clause_marked _ _ _ _ _ _ refl c.mark-mark.ensures)
 
-pub clauses::clause-returns-in-Ok-with_clause-clause-labels : goal.clauses::clause-returns-in-Ok-with_clause-clause-labels
-clauses::clause-returns-in-Ok-with_clause-clause-labels t c = omega (arith, c.in-Ok.ensures.labels, c.in-Ok-expression.ensures.labels, c.in-Ok-take.ensures.lighter, c.in-Ok-expression-2.ensures.labels)
+pub clauses::clause-returns-then-not-noted-clause-labels : goal.clauses::clause-returns-then-not-noted-clause-labels
+clauses::clause-returns-then-not-noted-clause-labels t c = omega (arith, c.in-Ok.ensures.labels, c.in-Ok-expression.ensures.labels, c.in-Ok-take.ensures.lighter, c.in-Ok-expression-2.ensures.labels)
 
-pub clauses::clause-returns-in-Ok-with_clause-clause-shorter : goal.clauses::clause-returns-in-Ok-with_clause-clause-shorter
-clauses::clause-returns-in-Ok-with_clause-clause-shorter t c = omega (arith, c.in-Ok.ensures.shorter, c.in-Ok-expression.ensures.shorter, c.in-Ok-take.ensures.shorter, c.in-Ok-expression-2.ensures.shorter)
+pub clauses::clause-returns-then-not-noted-clause-shorter : goal.clauses::clause-returns-then-not-noted-clause-shorter
+clauses::clause-returns-then-not-noted-clause-shorter t c = omega (arith, c.in-Ok.ensures.shorter, c.in-Ok-expression.ensures.shorter, c.in-Ok-take.ensures.shorter, c.in-Ok-expression-2.ensures.shorter)
 
-pub clauses::clause-returns-in-Ok-with_clause-2-clause-ok : goal.clauses::clause-returns-in-Ok-with_clause-2-clause-ok
-clauses::clause-returns-in-Ok-with_clause-2-clause-ok t c = (c.in-Ok-with_clause-2.ensures.0, clause_noted_read c.args.depth c.args.label _ _ _ _ _ (subst (λ (x : Bool). ReadsHead c.args.depth (c.args.label + 1) c.args.tokens.now (all_patterns c.in-Ok.found.patterns) c.in-Ok.found.place x c.in-Ok.found.rest.now c.in-Ok.found.label) c.if-not-noted.false c.in-Ok.ensures.ok) _ _ _ c.in-Ok-expression.ensures.ok _ c.in-Ok-take.ensures.ok _ _ _ c.in-Ok-expression-2.ensures.ok _ _ _ _ refl (clause_marked _ _ _ _ _ _ c.in-Ok-with_clause-2.ensures.1 (c.with_note-mark.ensures ∙ ap (marked _) c.mark-mark.ensures)) c.in-Ok-annotation.ensures.ok, c.in-Ok-with_clause-2.ensures.2)
+pub clauses::clause-returns-in-Ok-annotation-clause-ok : goal.clauses::clause-returns-in-Ok-annotation-clause-ok
+clauses::clause-returns-in-Ok-annotation-clause-ok t c = clause_noted_read c.args.depth c.args.label _ _ _ _ _ (subst (λ (x : Bool). ReadsHead c.args.depth (c.args.label + 1) c.args.tokens.now (all_patterns c.in-Ok.found.patterns) c.in-Ok.found.place x c.in-Ok.found.rest.now c.in-Ok.found.label) c.if-not-noted.false c.in-Ok.ensures.ok) _ _ _ c.in-Ok-expression.ensures.ok _ c.in-Ok-take.ensures.ok _ _ _ c.in-Ok-expression-2.ensures.ok _ _ _ _ refl (clause_marked _ _ _ _ _ _ refl (c.with_note.ensures ∙ ap (marked _) c.mark-mark.ensures)) c.in-Ok-annotation.ensures.ok
 
-pub clauses::clause-returns-in-Ok-with_clause-2-clause-labels : goal.clauses::clause-returns-in-Ok-with_clause-2-clause-labels
-clauses::clause-returns-in-Ok-with_clause-2-clause-labels t c = omega (arith, c.in-Ok.ensures.labels, c.in-Ok-expression.ensures.labels, c.in-Ok-take.ensures.lighter, c.in-Ok-expression-2.ensures.labels, c.in-Ok-annotation.ensures.lighter)
+pub clauses::clause-returns-in-Ok-annotation-clause-labels : goal.clauses::clause-returns-in-Ok-annotation-clause-labels
+clauses::clause-returns-in-Ok-annotation-clause-labels t c = omega (arith, c.in-Ok.ensures.labels, c.in-Ok-expression.ensures.labels, c.in-Ok-take.ensures.lighter, c.in-Ok-expression-2.ensures.labels, c.in-Ok-annotation.ensures.lighter)
 
-pub clauses::clause-returns-in-Ok-with_clause-2-clause-shorter : goal.clauses::clause-returns-in-Ok-with_clause-2-clause-shorter
-clauses::clause-returns-in-Ok-with_clause-2-clause-shorter t c = omega (arith, c.in-Ok.ensures.shorter, c.in-Ok-expression.ensures.shorter, c.in-Ok-take.ensures.shorter, c.in-Ok-expression-2.ensures.shorter, c.in-Ok-annotation.ensures.shorter)
+pub clauses::clause-returns-in-Ok-annotation-clause-shorter : goal.clauses::clause-returns-in-Ok-annotation-clause-shorter
+clauses::clause-returns-in-Ok-annotation-clause-shorter t c = omega (arith, c.in-Ok.ensures.shorter, c.in-Ok-expression.ensures.shorter, c.in-Ok-take.ensures.shorter, c.in-Ok-expression-2.ensures.shorter, c.in-Ok-annotation.ensures.shorter)
 
 pub clauses::clause-returns-in-Err-annotation-clause-err : goal.clauses::clause-returns-in-Err-annotation-clause-err
 clauses::clause-returns-in-Err-annotation-clause-err t c = clause_note_bad c.args.depth c.args.label _ _ _ _ _ (subst (λ (x : Bool). ReadsHead c.args.depth (c.args.label + 1) c.args.tokens.now (all_patterns c.in-Ok.found.patterns) c.in-Ok.found.place x c.in-Ok.found.rest.now c.in-Ok.found.label) c.if-not-noted.false c.in-Ok.ensures.ok) _ _ _ c.in-Ok-expression.ensures.ok _ c.in-Ok-take.ensures.ok _ _ _ c.in-Ok-expression-2.ensures.ok _ c.in-Err-annotation.ensures.err
@@ -356,10 +356,10 @@ pub control_forms::case-returns-in-Err-clause-clause-err : goal.control_forms::c
 control_forms::case-returns-in-Err-clause-clause-err t c = case_2_bad _ c.args.label _ _ _ _ _ c.requires.starts c.requires.shallow c.requires.sort _ _ _ c.in-Ok.ensures.ok _ c.in-Ok-take.ensures.ok _ c.in-Err-clause.ensures.err
 
 pub control_forms::case-returns-in-Err-clauses-clause-err : goal.control_forms::case-returns-in-Err-clauses-clause-err
-control_forms::case-returns-in-Err-clauses-clause-err t c = case_3_bad _ c.args.label _ _ _ _ _ c.requires.starts c.requires.shallow c.requires.sort _ _ _ c.in-Ok.ensures.ok _ c.in-Ok-take.ensures.ok _ _ _ c.in-Ok-clause.ensures.ok.1 _ c.in-Err-clauses.ensures.err
+control_forms::case-returns-in-Err-clauses-clause-err t c = case_3_bad _ c.args.label _ _ _ _ _ c.requires.starts c.requires.shallow c.requires.sort _ _ _ c.in-Ok.ensures.ok _ c.in-Ok-take.ensures.ok _ _ _ c.in-Ok-clause.ensures.ok _ c.in-Err-clauses.ensures.err
 
 pub control_forms::case-returns-in-Ok-case-clause-ok : goal.control_forms::case-returns-in-Ok-case-clause-ok
-control_forms::case-returns-in-Ok-case-clause-ok t c = case_ok _ c.args.label _ _ _ _ _ c.requires.starts c.requires.shallow c.requires.sort _ _ _ c.in-Ok.ensures.ok _ c.in-Ok-take.ensures.ok _ _ _ c.in-Ok-clause.ensures.ok.1 _ _ _ _ (one_clause _ _ _ c.new.ensures c.in-Ok-clause.ensures.ok.2) c.in-Ok-clauses.ensures.ok _ c.mark-mark.ensures _ c.in-Ok-case.ensures
+control_forms::case-returns-in-Ok-case-clause-ok t c = case_ok _ c.args.label _ _ _ _ _ c.requires.starts c.requires.shallow c.requires.sort _ _ _ c.in-Ok.ensures.ok _ c.in-Ok-take.ensures.ok _ _ _ (clause_kept c.in-Ok-with_clause.ensures.1 c.in-Ok-clause.ensures.ok) _ _ _ _ (one_clause _ _ _ c.new.ensures c.in-Ok-with_clause.ensures.2) c.in-Ok-clauses.ensures.ok _ c.mark-mark.ensures _ c.in-Ok-case.ensures
 
 pub control_forms::try_expression-returns-in-Err-clause-err : goal.control_forms::try_expression-returns-in-Err-clause-err
 control_forms::try_expression-returns-in-Err-clause-err t c = try_0_bad _ c.args.label _ _ _ _ _ c.requires.starts c.requires.shallow c.requires.sort _ c.in-Err.ensures.err

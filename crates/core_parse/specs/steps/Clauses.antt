@@ -6,7 +6,10 @@ use Rattle.core_scan.specs.declared.sort.Sort.{Sort}
 use Rattle.core_scan.specs.declared.sort.Sort.TheVariants as s
 use Rattle.core_ast.specs.Model as m
 use Rattle.core_ast.specs.Tree as t
+use Rattle.core_ast.specs.declared.syntax.Expr.{Expr}
+use Rattle.core_ast.specs.declared.syntax.Mark.{Mark}
 use Rattle.core_ast.specs.declared.syntax.Note.{Note}
+use Rattle.core_ast.specs.declared.syntax.Pattern.{Pattern}
 use Rattle.core_ast.specs.Notes.{noted_clause, noted_pattern}
 use Rattle.core_parse.specs.declared.fault.Fault.{Fault}
 use Rattle.core_parse.specs.declared.fault.Fault.TheVariants as fault
@@ -28,6 +31,10 @@ abbrev pub ends_definitions : Sort → Bool
 ends_definitions s.In = true
 ends_definitions s.End = true
 ends_definitions _ = false
+
+-- A clause that is read, as its parts.
+abbrev pub read_clause : Mark → List Pattern → Expr → Expr → t.ClauseParts
+read_clause mark patterns guard body = record { mark = mark; patterns = t.all_patterns patterns; guard = t.tree guard; body = t.tree body }
 
 abbrev pub joined : m.Clauses → m.Clauses → m.Clauses
 joined m.no_clause cs = cs
