@@ -1,3 +1,5 @@
+ghost use Rattle.std.specs.Prelude.{◌≤◌, length, IfOk};
+
 use call_graph::{all_calls, graph};
 use components::{Comps, components};
 use core_parse::{lexed_weight, parse};
@@ -25,7 +27,9 @@ fn module_of(rt: &impl Abort, alloc: Global, text: &[u8]) -> Result<Checked, Fai
 }
 
 // The modules that texts spell.
-fn modules_of(rt: &impl Abort, alloc: Global, texts: &[&[u8]]) -> Result<List<Checked>, Fail> {
+fn modules_of(rt: &impl Abort, alloc: Global, texts: &[&[u8]]) -> Result<List<Checked>, Fail>
+    ensures { IfOk result (λ mods. length mods ≤ 1000) }
+{
     let mut mods = List::new(alloc);
     for text in texts {
         mods.add(module_of(rt, alloc, text)?)?;
@@ -156,8 +160,8 @@ end",
 fn outside_text(rt: &impl Abort, alloc: Global, texts: &[&[u8]]) -> Result<Bytes, Fail> {
     let mods = modules_of(rt, alloc, texts)?;
     let sources = mods.as_slice();
-    if check_set(sources).is_err() {
-        panic!(rt; "one name twice: {texts:?}");
+    if let Err(fault) = check_set(sources) {
+        panic!(rt; "{fault:?} of {texts:?}");
     }
     let calls = all_calls(alloc, sources)?;
     let mut out = Bytes::new(alloc);
