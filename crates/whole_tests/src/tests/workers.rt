@@ -13,13 +13,14 @@ use std::thread::Threads;
 use type_kinds::{Atom, Bytes, List, Memory};
 use whole_summaries::solve_modules;
 
+fn is_same(known: &Summaries, other: &Summaries, home: &Atom, name: &FunName) -> bool {
+    known.find(home, name) == other.find(home, name)
+}
+
 // Expects that both say the same of each function of a module.
 fn expect_same(rt: &impl Abort, known: &Summaries, other: &Summaries, source: &Module) {
     for def in source.defs.as_slice() {
-        let name = &def.get().name;
-        if known.find(&source.name, name) != other.find(&source.name, name) {
-            panic!(rt; "{name:?} differs");
-        }
+        assert!(rt; is_same(known, other, &source.name, &def.get().name));
     }
 }
 
