@@ -31,12 +31,8 @@ fn tuple(alloc: Global, slot: Slot, elements: &[Slot]) -> Result<Constraint, Mem
     Ok(Constraint::Part(Part::Tuple(slot, elements)))
 }
 
-// Takes so many constraints from the end.
-fn taken(
-    alloc: Global,
-    made: &mut List<Constraint>,
-    count: usize,
-) -> Result<List<Constraint>, Memory> {
+// Takes so many items from the end.
+fn taken<T: Drop>(alloc: Global, made: &mut List<T>, count: usize) -> Result<List<T>, Memory> {
     let mut members = List::new(alloc);
     for _at in 0..count {
         if let Some(member) = made.pop() {
@@ -71,7 +67,9 @@ fn all(alloc: Global, steps: &[Step]) -> Result<Constraint, TextFault> {
 }
 
 // Gives a constraint up.
-fn discard(_c: Constraint) {}
+fn discard(c: Constraint) {
+    drop(c)
+}
 
 // Whether the greatest solution of all that the steps make, below the types, is the other text.
 fn solves(
