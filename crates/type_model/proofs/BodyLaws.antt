@@ -1,6 +1,6 @@
 -- The laws of the tuples of one size, a product of element types or tags.
-use Rattle.std.specs.Prelude.{◌≡◌, ◌⊎◌, ℕ, zero, suc, ◌≤◌, Bool, true, false, cond, List, [], ◌∷◌, length, nat_lt, Option, Some, None, is_some, option_map, refl}
-use Rattle.std.proofs.Common.{sym, ap, ◌∙◌, inl, inr, true≢false, subst, arith}
+use Rattle.std.specs.Prelude.{◌≡◌, ℕ, zero, suc, ◌≤◌, Bool, true, false, cond, List, [], ◌∷◌, length, nat_lt, Option, Some, None, is_some, option_map, refl}
+use Rattle.std.proofs.Common.{sym, ap, ◌∙◌, true≢false, subst, arith}
 use borrow.Author.Tests.{ltb-true, lt-ltb, ltb-false}
 use Rattle.std.specs.Ordering.{eq_by_cmp}
 use Rattle.type_sets.specs.Ascending.{is_ascending, has_item}
@@ -9,14 +9,15 @@ use Rattle.type_sets.proofs.Truths.{both}
 use Rattle.type_sets.proofs.AscendingLaws as ascending
 use Rattle.type_sets.proofs.NameLaws.{name_total, name_same, listed-ascending, listed-few}
 use Rattle.type_model.specs.Values.{Value, atom, Values, no_value, and_value, count}
-use Rattle.type_model.specs.Tables.{keys, held, all_hold, is_table, find}
+use Rattle.type_model.specs.Tables.{keys, held, all_hold, joined, both_at, is_table, find}
 use Rattle.type_model.specs.Shapes.{Body, product, tags}
 use Rattle.type_model.specs.HasType.{HasEach, HasRow, HasTag, HasBody}
 use Rattle.type_model.specs.Operations.{Ops, or_none, met_with, is_empty, row_meet, row_join, rows_join, all_rows_join, spread, body_of, row_at, some_tags, tags_meet, body_meet, elements, tags_join, body_join}
 use Rattle.type_model.specs.Normal.{IsElement, AreElements, NormalRow, FirstIsOpen, NormalRows, AreTags, NormalTags, NormalBody}
 use Rattle.type_model.specs.Laws.{BelowBy, Lattice, Laws}
 use Rattle.type_model.proofs.TableLaws as tables
-use Rattle.type_model.proofs.TableLaws.{both_at, joined, found_at, met_with-both_at, EachEntry}
+use Rattle.type_model.proofs.TableLaws.{found_at, met_with-both_at, EachEntry}
+use Rattle.type_model.proofs.LatticeLaws.{with_none}
 use Rattle.type_model.proofs.CellLaws.{value_of, filled-not_none}
 use Rattle.type_model.proofs.RowLaws.{BelowEach, values_of, each-more, each-below, each_same, join_each_least, count_each, row_lattice}
 
@@ -139,14 +140,13 @@ module _ {E : Type 0} {Has : Value → E → Type 0} {Normal : E → Type 0} {o 
 
   -- ---- one form for each set
 
-  body_filled : (n : ℕ) (s : Option (Body E)) → BodyOf n s → (s ≡ None) ⊎ ((vs : Values) × HasB vs s)
-  body_filled n None k = inl refl
-  body_filled n (Some (product es)) k = inr (values_of l es k.0.1)
-  body_filled zero (Some (tags m)) k = absurd k
-  body_filled (suc n) (Some (tags m)) k =
+  body_value : (n : ℕ) (b : Body E) → BodyOf n (Some b) → (vs : Values) × HasB vs (Some b)
+  body_value n (product es) k = values_of l es k.0.1
+  body_value zero (tags m) k = absurd k
+  body_value (suc n) (tags m) k =
       let t = a_tag n m k.0 in
       let w = values_of l t.1.0 t.1.1.1 in
-      inr (and_value (atom t.0) w.0, subst (HasR w.0) (sym t.1.1.0) w.1)
+      (and_value (atom t.0) w.0, subst (HasR w.0) (sym t.1.1.0) w.1)
 
   tags-listed : (n : ℕ) (m : Rows) → NormalTags Normal o (suc n) m → are_listed (keys m) ≡ true
   tags-listed n m k = both (is_ascending name_cmp (keys m)) (nat_lt (length (keys m)) 14) k.0.0 (ap (λ i. nat_lt i 14) (tables.length-keys name_total name_same m) ∙ k.1)
@@ -166,17 +166,14 @@ module _ {E : Type 0} {Has : Value → E → Type 0} {Normal : E → Type 0} {o 
       first_of v no_value = v
       first_of v (and_value u us) = u
 
-  body_same : (n : ℕ) (s t : Option (Body E)) → BodyOf n s → BodyOf n t → BelowBy HasB s t → BelowBy HasB t s → s ≡ t
-  body_same n None None j k p q = refl
-  body_same n None (Some t) j k p q = elim (body_filled n (Some t) k) [ inl z ↦ sym z | inr w ↦ absurd (q w.0 w.1) ]
-  body_same n (Some s) None j k p q = elim (body_filled n (Some s) j) [ inl z ↦ z | inr w ↦ absurd (p w.0 w.1) ]
-  body_same n (Some (product es)) (Some (product fs)) j k p q =
-      ap (λ x. Some (product x)) (each_same l es fs j.0.1 k.0.1 (each-below l es fs j.0.1 p) (each-below l fs es k.0.1 q))
-  body_same n (Some (product es)) (Some (tags m)) j k p q = absurd (not_tags n es m j k p)
-  body_same n (Some (tags m)) (Some (product es)) j k p q = absurd (not_tags n es m k j q)
-  body_same zero (Some (tags m)) (Some (tags w)) j k p q = absurd j
-  body_same (suc n) (Some (tags m)) (Some (tags w)) j k p q =
-      ap (λ x. Some (tags x)) (tables.same_table name_total name_same m w j.0.0 k.0.0 (λ a. (row_lattice l n).same (at m a) (at w a) (rows_at n m j.0.2 a) (rows_at n w k.0.2 a) (tag_of m (tags w) p a) (tag_of w (tags m) q a)))
+  body_same : (n : ℕ) (b c : Body E) → BodyOf n (Some b) → BodyOf n (Some c) → BelowBy HasB (Some b) (Some c) → BelowBy HasB (Some c) (Some b) → b ≡ c
+  body_same n (product es) (product fs) j k p q =
+      ap product (each_same l es fs j.0.1 k.0.1 (each-below l es fs j.0.1 p) (each-below l fs es k.0.1 q))
+  body_same n (product es) (tags m) j k p q = absurd (not_tags n es m j k p)
+  body_same n (tags m) (product es) j k p q = absurd (not_tags n es m k j q)
+  body_same zero (tags m) (tags w) j k p q = absurd j
+  body_same (suc n) (tags m) (tags w) j k p q =
+      ap tags (tables.same_table name_total name_same m w j.0.0 k.0.0 (λ a. (row_lattice l n).same (at m a) (at w a) (rows_at n m j.0.2 a) (rows_at n w k.0.2 a) (tag_of m (tags w) p a) (tag_of w (tags m) q a)))
 
   -- ---- a product in its normal form
 
@@ -285,17 +282,13 @@ module _ {E : Type 0} {Has : Value → E → Type 0} {Normal : E → Type 0} {o 
       let t = tagged vs (tags_meet o m b) (some_tags_out (tags_meet o m b) vs h) in
       (t.0, (t.1.0, (t.1.1.0, subst (HasR t.1.0) (at-tags_meet m b a t.0) t.1.1.1)))
 
-  tags_meet_left : (n : ℕ) (m : Rows) (b : Body E) → NormalTags Normal o n m → BodyOf n (Some b) → (vs : Values) → HasB vs (some_tags o (tags_meet o m b)) → HasTag Has vs m
-  tags_meet_left zero m b j k vs h = absurd j
-  tags_meet_left (suc n) m b j k vs h =
+  tags_meet_out : (n : ℕ) (m : Rows) (b : Body E) → NormalTags Normal o n m → BodyOf n (Some b) → (vs : Values) → HasB vs (some_tags o (tags_meet o m b)) → HasTag Has vs m × HasB vs (Some b)
+  tags_meet_out zero m b j k vs h = absurd j
+  tags_meet_out (suc n) m b j k vs h =
       let t = met m b j.0.0 vs h in
-      subst (λ x. HasTag Has x m) (sym t.1.1.0) ((row_lattice l n).meet_left (at m t.0) (row_at o b t.0) (rows_at n m j.0.2 t.0) (row_at_normal n b t.0 k) t.1.0 t.1.1.1)
-
-  tags_meet_right : (n : ℕ) (m : Rows) (b : Body E) → NormalTags Normal o n m → BodyOf n (Some b) → (vs : Values) → HasB vs (some_tags o (tags_meet o m b)) → HasB vs (Some b)
-  tags_meet_right zero m b j k vs h = absurd j
-  tags_meet_right (suc n) m b j k vs h =
-      let t = met m b j.0.0 vs h in
-      subst (λ x. HasB x (Some b)) (sym t.1.1.0) (row_at_out b t.0 t.1.0 ((row_lattice l n).meet_right (at m t.0) (row_at o b t.0) (rows_at n m j.0.2 t.0) (row_at_normal n b t.0 k) t.1.0 t.1.1.1))
+      let left = (row_lattice l n).meet_left (at m t.0) (row_at o b t.0) (rows_at n m j.0.2 t.0) (row_at_normal n b t.0 k) t.1.0 t.1.1.1 in
+      let right = (row_lattice l n).meet_right (at m t.0) (row_at o b t.0) (rows_at n m j.0.2 t.0) (row_at_normal n b t.0 k) t.1.0 t.1.1.1 in
+      subst (λ x. HasTag Has x m × HasB x (Some b)) (sym t.1.1.0) (left, row_at_out b t.0 t.1.0 right)
 
   tags_meet_normal : (n : ℕ) (m : Rows) (b : Body E) → NormalTags Normal o n m → BodyOf n (Some b) → BodyOf n (some_tags o (tags_meet o m b))
   tags_meet_normal zero m b j k = absurd j
@@ -312,40 +305,22 @@ module _ {E : Type 0} {Has : Value → E → Type 0} {Normal : E → Type 0} {o 
         )
       ] refl
 
-  abbrev body_both : Option (Body E) → Option (Body E) → Option (Body E)
-  body_both = both_at (body_meet o)
+  body_meet_normal : (n : ℕ) (b c : Body E) → BodyOf n (Some b) → BodyOf n (Some c) → BodyOf n (body_meet o b c)
+  body_meet_normal n (product es) (product fs) j k = some_body_normal n (row_meet o es fs) ((row_lattice l n).meet_normal (Some es) (Some fs) j.0 k.0)
+  body_meet_normal n (product es) (tags m) j k = tags_meet_normal n m (product es) k j
+  body_meet_normal n (tags m) c j k = tags_meet_normal n m c j k
 
-  body_meet_normal : (n : ℕ) (s t : Option (Body E)) → BodyOf n s → BodyOf n t → BodyOf n (body_both s t)
-  body_meet_normal n None t j k = tt
-  body_meet_normal n (Some (product es)) None j k = tt
-  body_meet_normal n (Some (tags m)) None j k = tt
-  body_meet_normal n (Some (product es)) (Some (product fs)) j k = some_body_normal n (row_meet o es fs) ((row_lattice l n).meet_normal (Some es) (Some fs) j.0 k.0)
-  body_meet_normal n (Some (product es)) (Some (tags m)) j k = tags_meet_normal n m (product es) k j
-  body_meet_normal n (Some (tags m)) (Some b) j k = tags_meet_normal n m b j k
+  body_meet_in : (n : ℕ) (b c : Body E) → BodyOf n (Some b) → BodyOf n (Some c) → (vs : Values) → HasB vs (Some b) → HasB vs (Some c) → HasB vs (body_meet o b c)
+  body_meet_in n (product es) (product fs) j k vs h q = some_body_in (row_meet o es fs) vs ((row_lattice l n).meet_in (Some es) (Some fs) j.0 k.0 vs h q)
+  body_meet_in n (product es) (tags m) j k vs h q = tags_meet_in n m (product es) k j vs q h
+  body_meet_in n (tags m) c j k vs h q = tags_meet_in n m c j k vs h q
 
-  body_meet_in : (n : ℕ) (s t : Option (Body E)) → BodyOf n s → BodyOf n t → (vs : Values) → HasB vs s → HasB vs t → HasB vs (body_both s t)
-  body_meet_in n None t j k vs h q = h
-  body_meet_in n (Some (product es)) None j k vs h q = q
-  body_meet_in n (Some (tags m)) None j k vs h q = q
-  body_meet_in n (Some (product es)) (Some (product fs)) j k vs h q = some_body_in (row_meet o es fs) vs ((row_lattice l n).meet_in (Some es) (Some fs) j.0 k.0 vs h q)
-  body_meet_in n (Some (product es)) (Some (tags m)) j k vs h q = tags_meet_in n m (product es) k j vs q h
-  body_meet_in n (Some (tags m)) (Some b) j k vs h q = tags_meet_in n m b j k vs h q
-
-  body_meet_left : (n : ℕ) (s t : Option (Body E)) → BodyOf n s → BodyOf n t → BelowBy HasB (body_both s t) s
-  body_meet_left n None t j k vs h = h
-  body_meet_left n (Some (product es)) None j k vs h = absurd h
-  body_meet_left n (Some (tags m)) None j k vs h = absurd h
-  body_meet_left n (Some (product es)) (Some (product fs)) j k vs h = (row_lattice l n).meet_left (Some es) (Some fs) j.0 k.0 vs (some_body_out (row_meet o es fs) vs h)
-  body_meet_left n (Some (product es)) (Some (tags m)) j k vs h = tags_meet_right n m (product es) k j vs h
-  body_meet_left n (Some (tags m)) (Some b) j k vs h = tags_meet_left n m b j k vs h
-
-  body_meet_right : (n : ℕ) (s t : Option (Body E)) → BodyOf n s → BodyOf n t → BelowBy HasB (body_both s t) t
-  body_meet_right n None t j k vs h = absurd h
-  body_meet_right n (Some (product es)) None j k vs h = h
-  body_meet_right n (Some (tags m)) None j k vs h = h
-  body_meet_right n (Some (product es)) (Some (product fs)) j k vs h = (row_lattice l n).meet_right (Some es) (Some fs) j.0 k.0 vs (some_body_out (row_meet o es fs) vs h)
-  body_meet_right n (Some (product es)) (Some (tags m)) j k vs h = tags_meet_left n m (product es) k j vs h
-  body_meet_right n (Some (tags m)) (Some b) j k vs h = tags_meet_right n m b j k vs h
+  body_meet_out : (n : ℕ) (b c : Body E) → BodyOf n (Some b) → BodyOf n (Some c) → (vs : Values) → HasB vs (body_meet o b c) → HasB vs (Some b) × HasB vs (Some c)
+  body_meet_out n (product es) (product fs) j k vs h =
+      let r = some_body_out (row_meet o es fs) vs h in
+      ((row_lattice l n).meet_left (Some es) (Some fs) j.0 k.0 vs r, (row_lattice l n).meet_right (Some es) (Some fs) j.0 k.0 vs r)
+  body_meet_out n (product es) (tags m) j k vs h = let p = tags_meet_out n m (product es) k j vs h in (p.1, p.0)
+  body_meet_out n (tags m) c j k vs h = tags_meet_out n m c j k vs h
 
   -- ---- the least product that contains some tags
 
@@ -547,65 +522,48 @@ module _ {E : Type 0} {Has : Value → E → Type 0} {Normal : E → Type 0} {o 
 
   -- ---- the join
 
-  abbrev body_either : Option (Body E) → Option (Body E) → Option (Body E)
-  body_either = joined (body_join o)
-
-  body_join_normal : (n : ℕ) (s t : Option (Body E)) → BodyOf n s → BodyOf n t → BodyOf n (body_either s t)
-  body_join_normal n None t j k = k
-  body_join_normal n (Some (product es)) None j k = j
-  body_join_normal n (Some (tags m)) None j k = j
-  body_join_normal n (Some (product es)) (Some t) j k = (wide_normal n (product es) t j k, open_left es (elements o t) j.0.1 (elements_normal n t k).1 j.1)
-  body_join_normal n (Some (tags m)) (Some (product fs)) j k =
+  body_join_normal : (n : ℕ) (b c : Body E) → BodyOf n (Some b) → BodyOf n (Some c) → BodyOf n (Some (body_join o b c))
+  body_join_normal n (product es) c j k = (wide_normal n (product es) c j k, open_left es (elements o c) j.0.1 (elements_normal n c k).1 j.1)
+  body_join_normal n (tags m) (product fs) j k =
       (wide_normal n (tags m) (product fs) j k, open_right (elements o (tags m)) fs (elements_normal n (tags m) j).1 k.0.1 k.1)
-  body_join_normal zero (Some (tags m)) (Some (tags w)) j k = absurd j
-  body_join_normal (suc n) (Some (tags m)) (Some (tags w)) j k =
+  body_join_normal zero (tags m) (tags w) j k = absurd j
+  body_join_normal (suc n) (tags m) (tags w) j k =
       capped_normal n (nat_lt (length (tags_join o m w)) 14) (tags_join o m w) refl (tags_join_tags n m w j.0 k.0) j.2
 
-  body_join_left : (n : ℕ) (s t : Option (Body E)) → BodyOf n s → BodyOf n t → BelowBy HasB s (body_either s t)
-  body_join_left n None t j k vs h = absurd h
-  body_join_left n (Some (product es)) None j k vs h = h
-  body_join_left n (Some (tags m)) None j k vs h = h
-  body_join_left n (Some (product es)) (Some t) j k vs h = wide_left n (product es) t j k vs h
-  body_join_left n (Some (tags m)) (Some (product fs)) j k vs h = wide_left n (tags m) (product fs) j k vs h
-  body_join_left zero (Some (tags m)) (Some (tags w)) j k vs h = absurd j
-  body_join_left (suc n) (Some (tags m)) (Some (tags w)) j k vs h =
+  body_join_left : (n : ℕ) (b c : Body E) → BodyOf n (Some b) → BodyOf n (Some c) → BelowBy HasB (Some b) (Some (body_join o b c))
+  body_join_left n (product es) c j k vs h = wide_left n (product es) c j k vs h
+  body_join_left n (tags m) (product fs) j k vs h = wide_left n (tags m) (product fs) j k vs h
+  body_join_left zero (tags m) (tags w) j k vs h = absurd j
+  body_join_left (suc n) (tags m) (tags w) j k vs h =
       capped_above n (nat_lt (length (tags_join o m w)) 14) (tags_join o m w) (tags_join_tags n m w j.0 k.0) vs (each_tag m (tags (tags_join o m w)) (tags_join_left n m w j.0 k.0) vs h)
 
-  body_join_right : (n : ℕ) (s t : Option (Body E)) → BodyOf n s → BodyOf n t → BelowBy HasB t (body_either s t)
-  body_join_right n None t j k vs h = h
-  body_join_right n (Some (product es)) None j k vs h = absurd h
-  body_join_right n (Some (tags m)) None j k vs h = absurd h
-  body_join_right n (Some (product es)) (Some t) j k vs h = wide_right n (product es) t j k vs h
-  body_join_right n (Some (tags m)) (Some (product fs)) j k vs h = wide_right n (tags m) (product fs) j k vs h
-  body_join_right zero (Some (tags m)) (Some (tags w)) j k vs h = absurd j
-  body_join_right (suc n) (Some (tags m)) (Some (tags w)) j k vs h =
+  body_join_right : (n : ℕ) (b c : Body E) → BodyOf n (Some b) → BodyOf n (Some c) → BelowBy HasB (Some c) (Some (body_join o b c))
+  body_join_right n (product es) c j k vs h = wide_right n (product es) c j k vs h
+  body_join_right n (tags m) (product fs) j k vs h = wide_right n (tags m) (product fs) j k vs h
+  body_join_right zero (tags m) (tags w) j k vs h = absurd j
+  body_join_right (suc n) (tags m) (tags w) j k vs h =
       capped_above n (nat_lt (length (tags_join o m w)) 14) (tags_join o m w) (tags_join_tags n m w j.0 k.0) vs (each_tag w (tags (tags_join o m w)) (tags_join_right n m w j.0 k.0) vs h)
 
-  body_join_least : (n : ℕ) (s t u : Option (Body E)) → BodyOf n s → BodyOf n t → BodyOf n u → BelowBy HasB s u → BelowBy HasB t u → BelowBy HasB (body_either s t) u
-  body_join_least n None t u i j k f h vs v = h vs v
-  body_join_least n (Some (product es)) None u i j k f h vs v = f vs v
-  body_join_least n (Some (tags m)) None u i j k f h vs v = f vs v
-  body_join_least n (Some s) (Some t) None i j k f h vs v = elim (body_filled n (Some s) i) [ inl z ↦ absurd (true≢false (ap is_some z)) | inr w ↦ absurd (f w.0 w.1) ]
-  body_join_least n (Some (product es)) (Some t) (Some (product gs)) i j k f h vs v = wide_least n (product es) t gs i j k.0 f h vs v
-  body_join_least n (Some (product es)) (Some t) (Some (tags w)) i j k f h vs v = absurd (not_tags n es w i k f)
-  body_join_least n (Some (tags m)) (Some (product fs)) (Some (product gs)) i j k f h vs v = wide_least n (tags m) (product fs) gs i j k.0 f h vs v
-  body_join_least n (Some (tags m)) (Some (product fs)) (Some (tags w)) i j k f h vs v = absurd (not_tags n fs w j k h)
-  body_join_least zero (Some (tags m)) (Some (tags w)) (Some u) i j k f h vs v = absurd i
-  body_join_least (suc n) (Some (tags m)) (Some (tags w)) (Some u) i j k f h vs v =
+  body_join_least : (n : ℕ) (b c u : Body E) → BodyOf n (Some b) → BodyOf n (Some c) → BodyOf n (Some u) → BelowBy HasB (Some b) (Some u) → BelowBy HasB (Some c) (Some u) → BelowBy HasB (Some (body_join o b c)) (Some u)
+  body_join_least n (product es) c (product gs) i j k f h vs v = wide_least n (product es) c gs i j k.0 f h vs v
+  body_join_least n (product es) c (tags w) i j k f h vs v = absurd (not_tags n es w i k f)
+  body_join_least n (tags m) (product fs) (product gs) i j k f h vs v = wide_least n (tags m) (product fs) gs i j k.0 f h vs v
+  body_join_least n (tags m) (product fs) (tags w) i j k f h vs v = absurd (not_tags n fs w j k h)
+  body_join_least zero (tags m) (tags w) u i j k f h vs v = absurd i
+  body_join_least (suc n) (tags m) (tags w) u i j k f h vs v =
       capped_least n (nat_lt (length (tags_join o m w)) 14) (tags_join o m w) u refl (tags_join_tags n m w i.0 j.0) k (tags_join_least n m w u i.0 j.0 k f h) vs v
 
   pub body_lattice : (n : ℕ) → Lattice (HasBody Has) (NormalBody Normal o n) None (both_at (body_meet o)) (joined (body_join o))
-  body_lattice n = record {
+  body_lattice n = with_none (record {
     none_normal = tt;
     none_empty = λ vs h. h;
-    filled = body_filled n;
+    value = body_value n;
     same = body_same n;
     meet_normal = body_meet_normal n;
     meet_in = body_meet_in n;
-    meet_left = body_meet_left n;
-    meet_right = body_meet_right n;
+    meet_out = body_meet_out n;
     join_normal = body_join_normal n;
     join_left = body_join_left n;
     join_right = body_join_right n;
     join_least = body_join_least n;
-  }
+  })

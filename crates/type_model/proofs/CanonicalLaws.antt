@@ -1,13 +1,13 @@
 -- The laws of canonical values: a map is told by its pairs, and a type by the canonical values that it has.
 use Rattle.std.proofs.Common.{◌≡◌, ◌⊎◌, inl, inr, ℕ, zero, suc, true, List, [], ◌∷◌, Option, Some, None, refl, sym, ap, ◌∙◌, subst, true≢false, cond, Less, Equal, Greater}
-use Rattle.std.specs.Prelude.{◌↔◌, pos}
+use Rattle.std.specs.Prelude.{◌↔◌}
 use Rattle.std.specs.Ordering.{is_lt, is_eq, nat_cmp}
 use Rattle.type_sets.specs.Ascending.{is_below_all, is_ascending, placed}
 use Rattle.type_sets.specs.Names.{Name, name_cmp}
 use Rattle.type_sets.proofs.Truths.{first, second}
 use Rattle.type_sets.proofs.AscendingLaws as ascending
 use Rattle.type_sets.proofs.NameLaws.{name_total, name_same}
-use Rattle.type_model.specs.Values.{Value, int, atom, nil, cons, tuple, map, closure, Values, no_value, and_value, ValuePairs, no_pair, and_pair, no_variable, and_variable, count, heads, end_of}
+use Rattle.type_model.specs.Values.{Value, atom, nil, cons, tuple, map, closure, Values, no_value, and_value, ValuePairs, no_pair, and_pair, no_variable, count, heads, end_of}
 use Rattle.type_model.specs.Tables.{find}
 use Rattle.type_model.specs.Shapes.{Cell, Body, product, tags, Tuples, sizes, all_tuples, TypeAt}
 use Rattle.type_model.specs.HasType.{HasAll, HasEach, HasRow, HasCell, HasTag, HasBody, HasTuple, HasParts, HasAt}
@@ -216,20 +216,3 @@ level_alike (suc d) v t = parts_alike (level_alike d) v t
 -- so what holds of the canonical values of a type holds of all
 pub canonical_below : (d : ℕ) (s t : TypeAt d) → ((v : Value) → IsCanonical v → HasAt d v s → HasAt d v t) → BelowBy (HasAt d) s t
 canonical_below d s t f v h = (level_alike d v t).0 (f (bare v) (bare-canonical v) ((level_alike d v s).1 h))
-
--- ---- examples
-
--- a map of two keys is written in one order alone
-ascending_keys : IsCanonical (map (and_pair (int (pos 1)) nil (and_pair (atom (97 ∷ [])) (int (pos 2)) no_pair)))
-ascending_keys = (refl, (tt, tt, (tt, tt, tt)))
-
-descending_keys : IsCanonical (map (and_pair (atom (97 ∷ [])) (int (pos 2)) (and_pair (int (pos 1)) nil no_pair))) → ⊥
-descending_keys h = true≢false (sym h.0)
-
--- no key stands twice
-twice : (v w : Value) → IsCanonical (map (and_pair nil v (and_pair nil w no_pair))) → ⊥
-twice v w h = true≢false (sym h.0)
-
--- nor in a map that a closure's environment holds
-inside : (v w : Value) → IsCanonical (closure [] 0 0 (and_variable [] (map (and_pair nil v (and_pair nil w no_pair))) no_variable)) → ⊥
-inside v w h = twice v w h.0

@@ -1,5 +1,5 @@
 -- The laws of the lists of a type, told by an element type and by how they end.
-use Rattle.std.specs.Prelude.{◌≡◌, ◌⊎◌, Bool, true, false, ◌||◌, [], Option, Some, None, refl}
+use Rattle.std.specs.Prelude.{◌≡◌, Bool, true, false, ◌||◌, [], Option, Some, None, refl}
 use Rattle.std.proofs.Common.{sym, ap, ◌∙◌, inl, inr, true≢false, subst}
 use Rattle.type_sets.proofs.Truths.{both, first, second, in_first, in_second, is_false}
 use Rattle.type_model.specs.Values.{Value, atom, nil, Values, no_value, and_value, heads, end_of}
@@ -8,6 +8,7 @@ use Rattle.type_model.specs.HasType.{HasAll, HasCell}
 use Rattle.type_model.specs.Operations.{Ops, or_none, cell_meet, cell_join}
 use Rattle.type_model.specs.Normal.{IsElement, NormalCell}
 use Rattle.type_model.specs.Laws.{BelowBy, Lattice, Laws}
+use Rattle.type_model.proofs.LatticeLaws.{with_none}
 
 module _ {E : Type 0} {Has : Value → E → Type 0} {Normal : E → Type 0} {o : Ops E} (l : Laws Has Normal o) where
   -- ---- element types
@@ -66,44 +67,33 @@ module _ {E : Type 0} {Has : Value → E → Type 0} {Normal : E → Type 0} {o 
     ] refl,
   )
 
-  cell_filled : (s : Option (Cell E)) → NormalC s → (s ≡ None) ⊎ ((p : Value × Value) × HasC p s)
-  cell_filled None k = inl refl
-  cell_filled (Some s) k = let w = value_of s.element k in inr ((w.0, nil), one s w.0 w.1)
-
   same_ends : (a b : Bool) → (a ≡ true → b ≡ true) → (b ≡ true → a ≡ true) → a ≡ b
   same_ends true b f g = sym (f refl)
   same_ends false true f g = g refl
   same_ends false false f g = refl
 
-  cell_same : (s t : Option (Cell E)) → NormalC s → NormalC t → BelowBy HasC s t → BelowBy HasC t s → s ≡ t
-  cell_same None None j k f g = refl
-  cell_same None (Some t) j k f g = let w = value_of t.element k in absurd (g (w.0, nil) (one t w.0 w.1))
-  cell_same (Some s) None j k f g = let w = value_of s.element j in absurd (f (w.0, nil) (one s w.0 w.1))
-  cell_same (Some s) (Some t) j k f g =
+  cell_same : (s t : Cell E) → NormalC (Some s) → NormalC (Some t) → BelowBy HasC (Some s) (Some t) → BelowBy HasC (Some t) (Some s) → s ≡ t
+  cell_same s t j k f g =
       let x = cell-below s t j f in
       let y = cell-below t s k g in
       let e = l.lattice.same s.element t.element j.0 k.0 x.0 y.0 in
       let b = same_ends s.is_proper t.is_proper y.1 x.1 in
-      λ i. Some (record { element = e i; is_proper = b i })
+      λ i. record { element = e i; is_proper = b i }
 
   -- ---- the meet
 
   abbrev met : Cell E → Cell E → Cell E
   met s t = record { element = o.meet s.element t.element; is_proper = s.is_proper || t.is_proper }
 
-  cell_meet_normal : (s t : Option (Cell E)) → NormalC s → NormalC t → NormalC (cell_meet o s t)
-  cell_meet_normal None t j k = tt
-  cell_meet_normal (Some s) None j k = tt
-  cell_meet_normal (Some s) (Some t) j k =
+  cell_meet_normal : (s t : Cell E) → NormalC (Some s) → NormalC (Some t) → NormalC (cell_meet o (Some s) (Some t))
+  cell_meet_normal s t j k =
       elim (o.is_none (o.meet s.element t.element)) as (λ b. o.is_none (o.meet s.element t.element) ≡ b → NormalC (or_none b (met s t))) [
         | true ↦ λ e. tt
         | false ↦ λ e. (l.lattice.meet_normal s.element t.element j.0 k.0, e)
       ] refl
 
-  cell_meet_in : (s t : Option (Cell E)) → NormalC s → NormalC t → (p : Value × Value) → HasC p s → HasC p t → HasC p (cell_meet o s t)
-  cell_meet_in None t j k p h g = h
-  cell_meet_in (Some s) None j k p h g = g
-  cell_meet_in (Some s) (Some t) j k p h g =
+  cell_meet_in : (s t : Cell E) → NormalC (Some s) → NormalC (Some t) → (p : Value × Value) → HasC p (Some s) → HasC p (Some t) → HasC p (cell_meet o (Some s) (Some t))
+  cell_meet_in s t j k p h g =
       let m = all-meet s.element t.element j.0 k.0 (and_value p.0 (heads p.1)) h.0 g.0 in
       subst (λ b. HasC p (or_none b (met s t))) (sym (filled-not_none (o.meet s.element t.element) p.0 m.0)) (m, ends s.is_proper t.is_proper (end_of p.1) h.1 g.1)
     where
@@ -115,44 +105,19 @@ module _ {E : Type 0} {Has : Value → E → Type 0} {Normal : E → Type 0} {o 
   meet_some true c p h = absurd h
   meet_some false c p h = h
 
-  cell_meet_left : (s t : Option (Cell E)) → NormalC s → NormalC t → BelowBy HasC (cell_meet o s t) s
-  cell_meet_left None t j k p h = h
-  cell_meet_left (Some s) None j k p h = absurd h
-  cell_meet_left (Some s) (Some t) j k p h =
-      let m = meet_some (o.is_none (o.meet s.element t.element)) (met s t) p h in
-      (all-more (o.meet s.element t.element) s.element (l.lattice.meet_left s.element t.element j.0 k.0) (and_value p.0 (heads p.1)) m.0, λ e. m.1 (in_first s.is_proper t.is_proper e))
-
-  cell_meet_right : (s t : Option (Cell E)) → NormalC s → NormalC t → BelowBy HasC (cell_meet o s t) t
-  cell_meet_right None t j k p h = absurd h
-  cell_meet_right (Some s) None j k p h = h
-  cell_meet_right (Some s) (Some t) j k p h =
-      let m = meet_some (o.is_none (o.meet s.element t.element)) (met s t) p h in
-      (all-more (o.meet s.element t.element) t.element (l.lattice.meet_right s.element t.element j.0 k.0) (and_value p.0 (heads p.1)) m.0, λ e. m.1 (in_second s.is_proper t.is_proper e))
+  cell_meet_out : (s t : Cell E) → NormalC (Some s) → NormalC (Some t) → (p : Value × Value) → HasC p (cell_meet o (Some s) (Some t)) → HasC p (Some s) × HasC p (Some t)
+  cell_meet_out s t j k p h =
+      let e = o.meet s.element t.element in
+      let all = and_value p.0 (heads p.1) in
+      let m = meet_some (o.is_none e) (met s t) p h in (
+        (all-more e s.element (l.lattice.meet_left s.element t.element j.0 k.0) all m.0, λ q. m.1 (in_first s.is_proper t.is_proper q)),
+        (all-more e t.element (l.lattice.meet_right s.element t.element j.0 k.0) all m.0, λ q. m.1 (in_second s.is_proper t.is_proper q)),
+      )
 
   -- ---- the join
 
-  cell_join_normal : (s t : Option (Cell E)) → NormalC s → NormalC t → NormalC (cell_join o s t)
-  cell_join_normal None t j k = k
-  cell_join_normal (Some s) None j k = j
-  cell_join_normal (Some s) (Some t) j k = element-join s.element t.element j k
-
-  cell_join_left : (s t : Option (Cell E)) → NormalC s → NormalC t → BelowBy HasC s (cell_join o s t)
-  cell_join_left None t j k p h = absurd h
-  cell_join_left (Some s) None j k p h = h
-  cell_join_left (Some s) (Some t) j k p h =
-      (all-more s.element (o.join s.element t.element) (l.lattice.join_left s.element t.element j.0 k.0) (and_value p.0 (heads p.1)) h.0, λ e. h.1 (first s.is_proper t.is_proper e))
-
-  cell_join_right : (s t : Option (Cell E)) → NormalC s → NormalC t → BelowBy HasC t (cell_join o s t)
-  cell_join_right None t j k p h = h
-  cell_join_right (Some s) None j k p h = absurd h
-  cell_join_right (Some s) (Some t) j k p h =
-      (all-more t.element (o.join s.element t.element) (l.lattice.join_right s.element t.element j.0 k.0) (and_value p.0 (heads p.1)) h.0, λ e. h.1 (second s.is_proper t.is_proper e))
-
-  cell_join_least : (s t u : Option (Cell E)) → NormalC s → NormalC t → NormalC u → BelowBy HasC s u → BelowBy HasC t u → BelowBy HasC (cell_join o s t) u
-  cell_join_least None t u i j k f g p h = g p h
-  cell_join_least (Some s) None u i j k f g p h = f p h
-  cell_join_least (Some s) (Some t) None i j k f g p h = let w = value_of s.element i in absurd (f (w.0, nil) (one s w.0 w.1))
-  cell_join_least (Some s) (Some t) (Some u) i j k f g p h =
+  cell_join_least : (s t u : Cell E) → NormalC (Some s) → NormalC (Some t) → NormalC (Some u) → BelowBy HasC (Some s) (Some u) → BelowBy HasC (Some t) (Some u) → BelowBy HasC (cell_join o (Some s) (Some t)) (Some u)
+  cell_join_least s t u i j k f g p h =
       let x = cell-below s u i f in
       let y = cell-below t u j g in (
         all-more (o.join s.element t.element) u.element (l.lattice.join_least s.element t.element u.element i.0 j.0 k.0 x.0 y.0) (and_value p.0 (heads p.1)) h.0,
@@ -160,17 +125,16 @@ module _ {E : Type 0} {Has : Value → E → Type 0} {Normal : E → Type 0} {o 
       )
 
   pub cell_lattice : Lattice (HasCell Has) (NormalCell Normal o) None (cell_meet o) (cell_join o)
-  cell_lattice = record {
+  cell_lattice = with_none (record {
     none_normal = tt;
     none_empty = λ p h. h;
-    filled = cell_filled;
+    value = λ s k. let w = value_of s.element k in ((w.0, nil), one s w.0 w.1);
     same = cell_same;
     meet_normal = cell_meet_normal;
     meet_in = cell_meet_in;
-    meet_left = cell_meet_left;
-    meet_right = cell_meet_right;
-    join_normal = cell_join_normal;
-    join_left = cell_join_left;
-    join_right = cell_join_right;
+    meet_out = cell_meet_out;
+    join_normal = λ s t j k. element-join s.element t.element j k;
+    join_left = λ s t j k p h. (all-more s.element (o.join s.element t.element) (l.lattice.join_left s.element t.element j.0 k.0) (and_value p.0 (heads p.1)) h.0, λ e. h.1 (first s.is_proper t.is_proper e));
+    join_right = λ s t j k p h. (all-more t.element (o.join s.element t.element) (l.lattice.join_right s.element t.element j.0 k.0) (and_value p.0 (heads p.1)) h.0, λ e. h.1 (second s.is_proper t.is_proper e));
     join_least = cell_join_least;
-  }
+  })

@@ -1,7 +1,7 @@
 -- The laws of cuts: the least type of another level, which adds no value where that level is no lower.
 use Rattle.std.proofs.Common.{◌≡◌, ℕ, zero, suc, ◌≤◌, Bool, true, false, cond, inl, inr, List, [], ◌∷◌, map, length, Option, Some, None, refl, sym, ap, ◌∙◌, arith, subst, true≢false}
 use Rattle.std.specs.Prelude.{not, nat_lt, is_some, option_map}
-use Rattle.std.specs.Ordering.{nat_cmp, eq_by_cmp}
+use Rattle.std.specs.Ordering.{nat_cmp}
 use Rattle.std.specs.Cmp.{nat_cmp_total}
 use Rattle.std.specs.FinSet.{nat_cmp-IsAntisymmetric}
 use Rattle.type_sets.specs.Ascending.{is_ascending}
@@ -9,9 +9,8 @@ use Rattle.type_sets.specs.Names.{Name, name_cmp}
 use Rattle.type_sets.specs.declared.limits.TheConstants.{MAX_MEMBERS}
 use Rattle.type_sets.proofs.FewLaws.{few-is}
 use Rattle.type_sets.proofs.NameLaws.{name_total, name_same, listed-from}
-use Rattle.type_sets.proofs.AscendingLaws.{is_it}
 use Rattle.type_sets.proofs.Truths.{is_false}
-use Rattle.type_model.specs.Values.{Value, int, atom, bits, float, pid, port, reference, nil, cons, tuple, map as map_value, closure, external, foreign, Values, no_value, and_value, count, heads}
+use Rattle.type_model.specs.Values.{Value, atom, nil, cons, tuple, Values, no_value, and_value, count, heads}
 use Rattle.type_model.specs.Tables.{keys, mapped, find}
 use Rattle.type_model.specs.Shapes.{Cell, Body, product, tags, Tuples, sizes, all_tuples, Parts, TypeAt}
 use Rattle.type_model.specs.HasType.{HasAll, HasEach, HasRow, HasCell, HasTag, HasBody, HasTuple, HasParts, HasAt}
@@ -22,7 +21,8 @@ use Rattle.type_model.specs.Laws.{BelowBy, Laws, Lowering}
 use Rattle.type_model.proofs.TableLaws.{find-key, find-mapped, keys-mapped, length-mapped, empty-mapped, length-keys}
 use Rattle.type_model.proofs.CellLaws.{value_of, all-more}
 use Rattle.type_model.proofs.RowLaws.{values_of, count_each}
-use Rattle.type_model.proofs.BodyLaws.{body_lattice, row_at_in, row_at_normal, tagged, each_tag, elements_normal, elements_above, count_body}
+use Rattle.type_model.proofs.BodyLaws.{body_lattice, rows_at, row_at_in, row_at_normal, tagged, each_tag, elements_normal, elements_above, count_body}
+use Rattle.type_model.proofs.TupleLaws.{normal_at}
 use Rattle.type_model.proofs.LevelLaws.{level_laws}
 
 -- a test that can't be false is true
@@ -33,21 +33,6 @@ is_true false p = absurd (p refl)
 -- an end that is no nil
 pub atom_end : atom [] ≡ nil → ⊥
 atom_end q = cc
-
--- ---- what stands at a key of a normal table
-
-module _ {E : Type 0} (Normal : E → Type 0) (o : Ops E) where
-  row_found : (n : ℕ) (m : List (Name × List E)) → NormalRows Normal o n m → (a : Name) → NormalRow Normal o n (find name_cmp m a)
-  row_found n [] k a = tt
-  row_found n (x ∷ m) k a = elim (eq_by_cmp name_cmp a x.0) as (λ b. NormalRow Normal o n (cond b (Some x.1) (find name_cmp m a))) [ true ↦ k.0 | false ↦ row_found n m k.1 a ]
-
-  -- a body of its size
-  pub size_found : (m : List (ℕ × Body E)) → NormalSizes Normal o m → (n : ℕ) → NormalBody Normal o n (find nat_cmp m n)
-  size_found [] k n = tt
-  size_found (x ∷ m) k n = elim (eq_by_cmp nat_cmp n x.0) as (λ b. eq_by_cmp nat_cmp n x.0 ≡ b → NormalBody Normal o n (cond b (Some x.1) (find nat_cmp m n))) [
-    | true ↦ λ q. subst (λ i. NormalBody Normal o i (Some x.1)) (sym (is_it nat_cmp_total nat_cmp-IsAntisymmetric n x.0 q)) k.1
-    | false ↦ λ q. size_found m k.2 n
-  ] refl
 
 -- ---- from the types of one level to those of another, and so one level up
 
@@ -148,7 +133,7 @@ module _ {F E : Type 0} {HasF : Value → F → Type 0} {NormalF : F → Type 0}
   tags_above : (n : ℕ) (m : List (Name × List F)) (b : Bool) → NormalBody NormalF f (suc n) (Some (tags m)) → (vs : Values) → HasTag HasF vs m → HasBody HasE vs (Some (lowered_tags b m))
   tags_above n m true k vs h =
       let t = tagged high vs m h in
-      subst (λ x. HasTag HasE x (mapped (map lower) m)) (sym t.1.1.0) (subst (HasRow HasE t.1.0) (sym (find-mapped name_total name_same (map lower) m t.0)) (found_above n (find name_cmp m t.0) (row_found NormalF f n m k.0.2 t.0) t.1.0 t.1.1.1))
+      subst (λ x. HasTag HasE x (mapped (map lower) m)) (sym t.1.1.0) (subst (HasRow HasE t.1.0) (sym (find-mapped name_total name_same (map lower) m t.0)) (found_above n (find name_cmp m t.0) (rows_at high n m k.0.2 t.0) t.1.0 t.1.1.1))
   tags_above n m false k vs h = row_above (elements f (tags m)) (elements_normal high (suc n) (tags m) k).1 vs (elements_above high (suc n) (tags m) k vs h)
 
   body_above : (n : ℕ) (b : Body F) → NormalBody NormalF f n (Some b) → (vs : Values) → HasBody HasF vs (Some b) → HasBody HasE vs (Some (body_lower lower f e b))
@@ -187,7 +172,7 @@ module _ {F E : Type 0} {HasF : Value → F → Type 0} {NormalF : F → Type 0}
   tags_least : (n : ℕ) (m : List (Name × List F)) (b : Bool) (u : Body E) → e.has_tags ≡ b → NormalBody NormalF f (suc n) (Some (tags m)) → NormalBody NormalE e (suc n) (Some u) → ((vs : Values) → HasTag HasF vs m → HasBody HasE vs (Some u)) → (vs : Values) → HasBody HasE vs (Some (lowered_tags b m)) → HasBody HasE vs (Some u)
   tags_least n m true u a j k p vs h =
       each_tag low (mapped (map lower) m) u (λ q ws x.
-      found_least n (find name_cmp m q) (row_at e u q) (row_found NormalF f n m j.0.2 q) (row_at_normal low n u q k) (λ us y. row_at_in low u q us (p (and_value (atom q) us) y)) ws (subst (HasRow HasE ws) (find-mapped name_total name_same (map lower) m q) x)) vs h
+      found_least n (find name_cmp m q) (row_at e u q) (rows_at high n m j.0.2 q) (row_at_normal low n u q k) (λ us y. row_at_in low u q us (p (and_value (atom q) us) y)) ws (subst (HasRow HasE ws) (find-mapped name_total name_same (map lower) m q) x)) vs h
   tags_least n m false (tags w) a j k p vs h = absurd (true≢false (sym k.2 ∙ a))
   tags_least n m false (product gs) a j k p vs h =
       let r = found_normal (suc n) (Some (elements f (tags m))) (elements_normal high (suc n) (tags m) j) in
@@ -224,15 +209,15 @@ module _ {F E : Type 0} {HasF : Value → F → Type 0} {NormalF : F → Type 0}
   tuples_above : (t : Tuples F) → NormalTuples NormalF f t → (vs : Values) → HasTuple HasF vs t → HasTuple HasE vs (tuples_lower lower f e t)
   tuples_above all_tuples k vs h = tt
   tuples_above (sizes m) k vs h =
-      subst (HasBody HasE vs) (sym (find-mapped nat_cmp_total nat_cmp-IsAntisymmetric (body_lower lower f e) m (count vs))) (size_above (count vs) (find nat_cmp m (count vs)) (size_found NormalF f m k.2 (count vs)) vs h)
+      subst (HasBody HasE vs) (sym (find-mapped nat_cmp_total nat_cmp-IsAntisymmetric (body_lower lower f e) m (count vs))) (size_above (count vs) (find nat_cmp m (count vs)) (normal_at high m k.2 (count vs)) vs h)
 
   tuples_least : (t : Tuples F) (u : Tuples E) → NormalTuples NormalF f t → NormalTuples NormalE e u → ((vs : Values) → HasTuple HasF vs t → HasTuple HasE vs u) → (vs : Values) → HasTuple HasE vs (tuples_lower lower f e t) → HasTuple HasE vs u
   tuples_least t all_tuples j k p vs h = tt
   tuples_least all_tuples (sizes w) j k p vs h = p vs tt
   tuples_least (sizes m) (sizes w) j k p vs h =
       let n = count vs in
-      size_least n (find nat_cmp m n) (find nat_cmp w n) (size_found NormalF f m j.2 n) (size_found NormalE e w k.2 n) (λ us x.
-      let q = count_body high n us (find nat_cmp m n) (size_found NormalF f m j.2 n) x in
+      size_least n (find nat_cmp m n) (find nat_cmp w n) (normal_at high m j.2 n) (normal_at low w k.2 n) (λ us x.
+      let q = count_body high n us (find nat_cmp m n) (normal_at high m j.2 n) x in
       subst (λ i. HasBody HasE us (find nat_cmp w i)) q (p us (subst (λ i. HasBody HasF us (find nat_cmp m i)) (sym q) x))) vs (subst (HasBody HasE vs) (find-mapped nat_cmp_total nat_cmp-IsAntisymmetric (body_lower lower f e) m n) h)
 
   -- ---- lists that aren't empty
@@ -264,20 +249,9 @@ module _ {F E : Type 0} {HasF : Value → F → Type 0} {NormalF : F → Type 0}
   parts_above p k v h = h
 
   parts_least : (p : Parts F) (u : Parts E) → NormalParts NormalF f p → NormalParts NormalE e u → ((v : Value) → HasParts HasF v p → HasParts HasE v u) → (v : Value) → HasParts HasE v (parts_lower lower f e p) → HasParts HasE v u
-  parts_least p u j k q (int n) h = q (int n) h
-  parts_least p u j k q (atom a) h = q (atom a) h
-  parts_least p u j k q (bits bs) h = q (bits bs) h
-  parts_least p u j k q (float x) h = q (float x) h
-  parts_least p u j k q (pid n) h = q (pid n) h
-  parts_least p u j k q (port n) h = q (port n) h
-  parts_least p u j k q (reference n) h = q (reference n) h
-  parts_least p u j k q (map_value ps) h = q (map_value ps) h
-  parts_least p u j k q nil h = q nil h
   parts_least p u j k q (cons x y) h = cell_least p.cell u.cell j.1 k.1 (λ c. q (cons c.0 c.1)) (x, y) h
   parts_least p u j k q (tuple vs) h = tuples_least p.tuples u.tuples j.2 k.2 (λ us. q (tuple us)) vs h
-  parts_least p u j k q (closure m l n env) h = q (closure m l n env) h
-  parts_least p u j k q (external m g n) h = q (external m g n) h
-  parts_least p u j k q (foreign x n) h = q (foreign x n) h
+  parts_least p u j k q v h = q v h
 
   pub next_lowering : Lowering (HasParts HasF) (NormalParts NormalF f) (HasParts HasE) (NormalParts NormalE e) (parts_lower lower f e)
   next_lowering = record {
@@ -341,7 +315,7 @@ module _ {F E : Type 0} {HasF : Value → F → Type 0} {NormalF : F → Type 0}
   body_exact (suc n) (tags m) k vs h =
       let x : HasTag HasE vs (mapped (map lower) m) = subst (λ b. HasBody HasE vs (Some (cond b (tags (mapped (map lower) m)) (product (map lower (elements f (tags m))))))) (tags_stay k.2) h in
       let t = tagged low vs (mapped (map lower) m) x in
-      subst (λ us. HasTag HasF us m) (sym t.1.1.0) (found_exact n (find name_cmp m t.0) (row_found NormalF f n m k.0.2 t.0) t.1.0 (subst (HasRow HasE t.1.0) (find-mapped name_total name_same (map lower) m t.0) t.1.1.1))
+      subst (λ us. HasTag HasF us m) (sym t.1.1.0) (found_exact n (find name_cmp m t.0) (rows_at high n m k.0.2 t.0) t.1.0 (subst (HasRow HasE t.1.0) (find-mapped name_total name_same (map lower) m t.0) t.1.1.1))
 
   size_exact : (n : ℕ) (b : Option (Body F)) → NormalBody NormalF f n b → (vs : Values) → HasBody HasE vs (option_map (body_lower lower f e) b) → HasBody HasF vs b
   size_exact n None k vs h = h
@@ -350,7 +324,7 @@ module _ {F E : Type 0} {HasF : Value → F → Type 0} {NormalF : F → Type 0}
   tuples_exact : (t : Tuples F) → NormalTuples NormalF f t → (vs : Values) → HasTuple HasE vs (tuples_lower lower f e t) → HasTuple HasF vs t
   tuples_exact all_tuples k vs h = tt
   tuples_exact (sizes m) k vs h =
-      size_exact (count vs) (find nat_cmp m (count vs)) (size_found NormalF f m k.2 (count vs)) vs (subst (HasBody HasE vs) (find-mapped nat_cmp_total nat_cmp-IsAntisymmetric (body_lower lower f e) m (count vs)) h)
+      size_exact (count vs) (find nat_cmp m (count vs)) (normal_at high m k.2 (count vs)) vs (subst (HasBody HasE vs) (find-mapped nat_cmp_total nat_cmp-IsAntisymmetric (body_lower lower f e) m (count vs)) h)
 
   all_exact : (t : F) → NormalF t → (vs : Values) → HasAll HasE vs (lower t) → HasAll HasF vs t
   all_exact t k no_value h = tt

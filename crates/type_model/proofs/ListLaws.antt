@@ -17,7 +17,7 @@ use Rattle.type_model.proofs.PlainLaws.{plain-none_empty}
 use Rattle.type_model.proofs.CellLaws.{value_of}
 use Rattle.type_model.proofs.LevelLaws.{level_laws}
 use Rattle.type_model.proofs.CutLaws.{cut_lowering, cut_exact}
-use Rattle.type_model.proofs.MadeLaws.{cons-normal, cons-above, lists-is_list}
+use Rattle.type_model.proofs.MadeLaws.{cons-normal, lists-is_list}
 
 -- ---- what may follow a head
 
@@ -108,10 +108,6 @@ pub cons-lists : (d : ℕ) (h t : TypeAt (suc d)) → NormalAt (suc d) t → ((v
 cons-lists d h t k f v m =
     let w = conses d (cell_type d h t true).cell v (made_out d h t true v m).1.1 in
     ap end_of w.1.1.0 ∙ w.1.1.1.1 (lists-is_list d t k f)
-
--- and elsewhere it has not
-pub cons-no_lists : (d : ℕ) (h t : TypeAt (suc d)) → NormalAt (suc d) h → NormalAt (suc d) t → (x : Value) → HasAt (suc d) x h → ((v : Value) → HasAt (suc d) v (cons_at d h t true) → end_of v ≡ nil) → (v : Value) → HasAt (suc d) v t → end_of v ≡ nil
-cons-no_lists d h t j k x p f v m = f (cons x v) (cons-above d h t true j k x v p m)
 
 -- ---- free ends
 

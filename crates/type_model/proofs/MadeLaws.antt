@@ -10,24 +10,24 @@ use Rattle.type_sets.specs.declared.bits.Bits.TheVariants.{No}
 use Rattle.type_sets.proofs.NameLaws as name_laws
 use Rattle.type_sets.proofs.AscendingLaws.{is_it, itself}
 use Rattle.type_sets.proofs.Truths.{both, first, second, is_false}
-use Rattle.type_model.specs.Values.{Value, int, atom, bits, float, pid, port, reference, nil, cons, tuple, map, closure, external, foreign, Values, no_value, and_value, count, heads, end_of}
+use Rattle.type_model.specs.Values.{Value, atom, nil, cons, tuple, Values, no_value, and_value, count, heads, end_of}
 use Rattle.type_model.specs.Tables.{find}
-use Rattle.type_model.specs.Shapes.{floats, pids, ports, references, nils, maps, no_function, PlainParts, Cell, Body, Tuples, sizes, all_tuples, Parts, TypeAt}
+use Rattle.type_model.specs.Shapes.{nils, no_function, PlainParts, Cell, Body, Tuples, sizes, all_tuples, Parts, TypeAt}
 use Rattle.type_model.specs.HasType.{HasAll, HasEach, HasCell, HasBody, HasTuple, HasParts, HasAt}
 use Rattle.type_model.specs.Operations.{Ops, plain_none, plain_all, is_no_plain, is_atoms, is_empty, has_none, body_of, elements, no_tuples, of_plain, ops}
 use Rattle.type_model.specs.Normal.{IsElement, NormalCell, AreElements, NormalBody, NormalSizes, NormalTuples, NormalParts, NormalAt}
 use Rattle.type_model.specs.Cut.{cut}
 use Rattle.type_model.specs.Parts.{value_at, AreNormal, product_of, proper_cell, without_nil, is_list, element_with, element_at, flags_of_nil, tail_parts, tuple_at, cons_at, lifted, project_at, element_of, elem_at, tail_at}
 use Rattle.type_model.specs.Laws.{BelowBy, Laws}
-use Rattle.type_model.specs.ValueShapes.{Leaf, an_int, an_atom, some_bits, of_flag, a_function, has_leaf, leaf, shape, value_of_shape, shape-value_of_shape, HasShape, has-shape}
+use Rattle.type_model.specs.ValueShapes.{Leaf, an_atom, of_flag, has_leaf, Shape, leaf, shape, value_of_shape, shape-value_of_shape, HasShape, has-shape}
 use Rattle.type_model.proofs.PlainLaws.{plain-none_is, plain-none_empty, is_atoms-other}
 use Rattle.type_model.proofs.CellLaws.{value_of, all-more, element-join}
 use Rattle.type_model.proofs.RowLaws.{values_of, count_each, row_filled-not_none}
 use Rattle.type_model.proofs.BodyLaws.{body_of_in, body_of_out, body_of_normal, elements_normal, elements_above}
-use Rattle.type_model.proofs.TupleLaws.{tuples_lattice}
+use Rattle.type_model.proofs.TupleLaws.{normal_at, tuples_lattice}
 use Rattle.type_model.proofs.PartsLaws.{next_laws}
 use Rattle.type_model.proofs.LevelLaws.{level_laws}
-use Rattle.type_model.proofs.CutLaws.{is_true, atom_end, size_found, cut_lowering}
+use Rattle.type_model.proofs.CutLaws.{is_true, atom_end, cut_lowering}
 
 neither : (a b : Bool) → (a || b) ≡ false → (a ≡ false) × (b ≡ false)
 neither true b h = absurd (true≢false h)
@@ -143,6 +143,11 @@ some_leaf p e = elim (names.is_none p.atoms) as (λ b. names.is_none p.atoms ≡
   | false ↦ λ q r. let a = name_laws.has_some p.atoms q in (an_atom a.0, a.1)
 ] refl e
 
+-- the leaf that a shape is
+abbrev leaf_of : Shape → Leaf
+leaf_of (leaf x) = x
+leaf_of f = an_atom []
+
 -- a value that holds no others and ends in nil is nil
 leaf_end : (v : Value) (x : Leaf) → shape v ≡ leaf x → end_of v ≡ nil → x ≡ of_flag nils
 leaf_end nil x f q = cc
@@ -174,20 +179,10 @@ module _ {E : Type 0} {Has : Value → E → Type 0} {Normal : E → Type 0} {o 
       each p (first a b (first (a && b) c e)) (second a b (first (a && b) c e)) (second (a && b) c e) v h
     where
       each : (p : Parts E) → is_no_plain (without_nil p.plain) ≡ true → proper_cell p.cell ≡ true → no_tuples o p.tuples ≡ true → (v : Value) → HasParts Has v p → end_of v ≡ nil
-      each p x y z (int n) h = absurd (no_leaf (without_nil p.plain) x (an_int n) h)
-      each p x y z (atom a) h = absurd (no_leaf (without_nil p.plain) x (an_atom a) h)
-      each p x y z (bits bs) h = absurd (no_leaf (without_nil p.plain) x (some_bits (length bs)) h)
-      each p x y z (float s) h = absurd (no_leaf (without_nil p.plain) x (of_flag floats) h)
-      each p x y z (pid n) h = absurd (no_leaf (without_nil p.plain) x (of_flag pids) h)
-      each p x y z (port n) h = absurd (no_leaf (without_nil p.plain) x (of_flag ports) h)
-      each p x y z (reference n) h = absurd (no_leaf (without_nil p.plain) x (of_flag references) h)
-      each p x y z (map ps) h = absurd (no_leaf (without_nil p.plain) x (of_flag maps) h)
       each p x y z nil h = refl
       each p x y z (cons a b) h = proper_end p.cell y a b h
       each p x y z (tuple vs) h = absurd (without_tuples p.tuples z vs h)
-      each p x y z (closure m k n env) h = absurd (no_leaf (without_nil p.plain) x (a_function n) h)
-      each p x y z (external m g n) h = absurd (no_leaf (without_nil p.plain) x (a_function n) h)
-      each p x y z (foreign s n) h = absurd (no_leaf (without_nil p.plain) x (a_function n) h)
+      each p x y z v h = absurd (no_leaf (without_nil p.plain) x (leaf_of (shape v)) h)
 
   ends_proper : (c : Option (Cell E)) → NormalCell Normal o c → ((h t : Value) → HasCell Has (h, t) c → end_of t ≡ nil) → proper_cell c ≡ true
   ends_proper None k f = refl
@@ -341,7 +336,7 @@ module _ {E : Type 0} {Has : Value → E → Type 0} {Normal : E → Type 0} {o 
   tuple_place (sizes m) k vs h i v q =
       let n = count vs in
       let few : nat_lt n 65 ≡ true = size_few l m k.2 n vs h in
-      let w = body_place n (find nat_cmp m n) (size_found Normal o m k.2 n) vs h i v q in
+      let w = body_place n (find nat_cmp m n) (normal_at l m k.2 n) vs h i v q in
       (w.0, (ap (λ b. cond b (at_place (find nat_cmp m n) i) (cond (is_empty m) None (Some o.any))) few ∙ w.1.0, w.1.1))
 
   abbrev IfSome : Option E → Type 0
@@ -360,7 +355,7 @@ module _ {E : Type 0} {Has : Value → E → Type 0} {Normal : E → Type 0} {o 
   tuple_place_normal : (t : Tuples E) → NormalTuples Normal o t → (n i : ℕ) → IfSome (element_at o t n i)
   tuple_place_normal all_tuples k n i = l.any_normal
   tuple_place_normal (sizes m) k n i = elim (nat_lt n 65) as (λ b. IfSome (cond b (at_place (find nat_cmp m n) i) (cond (is_empty m) None (Some o.any)))) [
-    | true ↦ body_place_normal n (find nat_cmp m n) (size_found Normal o m k.2 n) i
+    | true ↦ body_place_normal n (find nat_cmp m n) (normal_at l m k.2 n) i
     | false ↦ elim (is_empty m) as (λ b. IfSome (cond b None (Some o.any))) [ true ↦ tt | false ↦ l.any_normal ]
   ]
 

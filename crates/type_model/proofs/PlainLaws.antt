@@ -275,16 +275,3 @@ pub plain-none_is : (p : PlainParts) → is_no_plain p ≡ true → p ≡ plain_
 plain-none_is p h =
     is_atoms-only p (second (names.is_none p.atoms) (is_atoms p) h)
     ∙ ap atoms_alone (name_laws.is_none-is p.atoms (first (names.is_none p.atoms) (is_atoms p) h))
-
-pub is_no_plain-none : is_no_plain plain_none ≡ true
-is_no_plain-none = refl
-
--- what isn't nothing has a value
-pub plain-filled : (p : PlainParts) → is_no_plain p ≡ false → (x : Leaf) × (has_leaf p x ≡ true)
-plain-filled p h = elim (decided (names.is_none p.atoms)) [
-  | inr k ↦ let a = name_laws.has_some p.atoms k in (an_atom a.0, a.1)
-  | inl k ↦ elim (decided (is_atoms p)) [
-    | inr l ↦ let x = is_atoms-other p l in (x.0, x.1.0)
-    | inl l ↦ absurd (true≢false (sym (both (names.is_none p.atoms) (is_atoms p) k l) ∙ h))
-  ]
-]

@@ -25,7 +25,7 @@ use Rattle.type_model.specs.Operations.{Ops, row_at, ops}
 use Rattle.type_model.specs.Normal.{AreElements, NormalCell, NormalRow, NormalRows, NormalTags, NormalBody, NormalSizes, NormalTuples, NormalParts, NormalAt}
 use Rattle.type_model.specs.Laws.{BelowBy, Laws}
 use Rattle.type_model.specs.ValueShapes.{PlainBelow, an_int, an_atom, some_bits, of_flag, a_function, leaf, value_of_shape, shape-value_of_shape, HasShape, has-shape}
-use Rattle.type_model.specs.Ranks.{flags_rank, functions_rank, plain_rank, cell_rank, row_rank, tags_rank, body_rank, sizes_rank, most_body, tuples_rank, parts_rank, most_parts, most_at, rank, FallsAt}
+use Rattle.type_model.specs.Ranks.{flags_rank, functions_rank, plain_rank, cell_rank, table_rank, row_rank, body_rank, most_body, tuples_rank, parts_rank, most_parts, most_at, rank, FallsAt}
 use Rattle.type_model.proofs.TableLaws as tables
 use Rattle.type_model.proofs.TableLaws.{EachEntry, some-none}
 use Rattle.type_model.proofs.CellLaws.{value_of, cell-below}
@@ -147,11 +147,6 @@ plain-most p =
     omega arith
 
 -- ---- tables
-
--- one for each entry, and the rank of what it holds
-abbrev table_rank : {K X : Type 0} → (X → ℕ) → List (K × X) → ℕ
-table_rank g [] = 0
-table_rank g (e ∷ m) = 1 + g e.1 + table_rank g m
 
 -- what is held is of lower rank, and where nothing is held there is nothing to show
 abbrev LowerAt : {X : Type 0} → (X → ℕ) → Option X → Option X → Type 0
@@ -284,16 +279,12 @@ module _ {E : Type 0} {Has : Value → E → Type 0} {Normal : E → Type 0} {o 
 
   -- ---- tuples of one size
 
-  tags-table : (m : List (Name × List E)) → tags_rank rank_of most m ≡ table_rank of_row m
-  tags-table [] = refl
-  tags-table (e ∷ m) = ap (λ n. 1 + of_row e.1 + n) (tags-table m)
-
   -- no more than thirteen tags, each with types of a rank up to b
   tags-most : (n b : ℕ) (m : List (Name × List E)) → NormalTags Normal o n m → EachEntry (λ a es. of_row es ≤ b) m → of_body (tags m) ≤ 13 * (1 + b)
   tags-most zero b m k f = absurd k
   tags-most (suc n) b m k f =
       let few = ltb-true (length m) 14 k.1 in
-      omega (arith, tags-table m, table-most of_row b 13 m (omega (arith, few)) f)
+      omega (arith, table-most of_row b 13 m (omega (arith, few)) f)
 
   -- the types behind a tag are below those behind the first element of a product that has the tag
   lower-tag : (b : Bool) (es fs : List E) → LowerAt of_row (Some es) (cond b (Some fs) None) → of_row es ≤ of_row fs
@@ -320,8 +311,7 @@ module _ {E : Type 0} {Has : Value → E → Type 0} {Normal : E → Type 0} {o 
   some-lower (suc n) (tags m) (product []) j k f = absurd (omega (arith, k.0.0))
   some-lower (suc n) (tags m) (product (e ∷ es)) j k f = lower-less (tags-product n m e es j k f)
   some-lower (suc n) (tags m) (tags w) j k f =
-      let p = table-lower name_total name_same of_row m w j.0.0 k.0.0 (λ a. row-lower n (find name_cmp m a) (find name_cmp w a) (rows_at l n m j.0.2 a) (rows_at l n w k.0.2 a) (tag_of l m (tags w) f a)) in
-      lower-of tags (record { no_higher = omega (arith, tags-table m, tags-table w, p.no_higher); less = λ e. omega (arith, tags-table m, tags-table w, p.less e) })
+      lower-of tags (table-lower name_total name_same of_row m w j.0.0 k.0.0 (λ a. row-lower n (find name_cmp m a) (find name_cmp w a) (rows_at l n m j.0.2 a) (rows_at l n w k.0.2 a) (tag_of l m (tags w) f a)))
 
   body-lower : (n : ℕ) (s t : Option (Body E)) → NormalBody Normal o n s → NormalBody Normal o n t → BelowBy (HasBody Has) s t → LowerAt of_body s t
   body-lower n None t j k f = tt
@@ -340,27 +330,22 @@ module _ {E : Type 0} {Has : Value → E → Type 0} {Normal : E → Type 0} {o 
 
   -- ---- tuples
 
-  sizes-table : (m : List (ℕ × Body E)) → sizes_rank rank_of most m ≡ table_rank of_body m
-  sizes-table [] = refl
-  sizes-table (e ∷ m) = ap (λ n. 1 + of_body e.1 + n) (sizes-table m)
-
   bodies-most : (m : List (ℕ × Body E)) → NormalSizes Normal o m → EachEntry (λ n b. of_body b ≤ highest) m
   bodies-most [] k = tt
   bodies-most (e ∷ m) k = (body-most e.0 e.1 (let h = ltb-true e.0 65 k.0 in omega (arith, h)) k.1, bodies-most m k.2)
 
   -- no more than eight sizes
-  sizes-most : (m : List (ℕ × Body E)) → NormalTuples Normal o (sizes m) → sizes_rank rank_of most m ≤ 8 * (1 + highest)
+  sizes-most : (m : List (ℕ × Body E)) → NormalTuples Normal o (sizes m) → tuples_rank rank_of most (sizes m) ≤ 8 * (1 + highest)
   sizes-most m k =
       let few = ltb-true (length m) 9 k.1 in
-      omega (arith, sizes-table m, table-most of_body highest 8 m (omega (arith, few)) (bodies-most m k.2))
+      omega (arith, table-most of_body highest 8 m (omega (arith, few)) (bodies-most m k.2))
 
   tuples-lower : (s t : Tuples E) → NormalTuples Normal o s → NormalTuples Normal o t → BelowBy (HasTuple Has) s t → Lower (tuples_rank rank_of most s) (tuples_rank rank_of most t) s t
   tuples-lower all_tuples all_tuples j k f = lower-same refl
   tuples-lower all_tuples (sizes m) j k f = absurd (not_all l m k (λ vs. f vs tt))
   tuples-lower (sizes m) all_tuples j k f = lower-less (omega (arith, sizes-most m j))
   tuples-lower (sizes m) (sizes w) j k f =
-      let p = table-lower nat_cmp_total nat_cmp-IsAntisymmetric of_body m w j.0 k.0 (λ q. body-lower q (find nat_cmp m q) (find nat_cmp w q) (normal_at l m j.2 q) (normal_at l w k.2 q) (to_size l m w j.2 f q)) in
-      lower-of sizes (record { no_higher = omega (arith, sizes-table m, sizes-table w, p.no_higher); less = λ e. omega (arith, sizes-table m, sizes-table w, p.less e) })
+      lower-of sizes (table-lower nat_cmp_total nat_cmp-IsAntisymmetric of_body m w j.0 k.0 (λ q. body-lower q (find nat_cmp m q) (find nat_cmp w q) (normal_at l m j.2 q) (normal_at l w k.2 q) (to_size l m w j.2 f q)))
 
   tuples-most : (t : Tuples E) → NormalTuples Normal o t → tuples_rank rank_of most t ≤ 1 + 8 * (1 + highest)
   tuples-most (sizes m) k = omega (arith, sizes-most m k)
@@ -401,9 +386,6 @@ rank-most d t k = (level_ranked d).bound t k
 -- a smaller type has a lower rank
 pub rank-lower : (d : ℕ) (s t : TypeAt d) → NormalAt d s → NormalAt d t → BelowBy (HasAt d) s t → (s ≡ t → ⊥) → rank d s < rank d t
 rank-lower d s t j k f n = ((level_ranked d).lower s t j k f).less n
-
-pub rank-below : (d : ℕ) (s t : TypeAt d) → NormalAt d s → NormalAt d t → BelowBy (HasAt d) s t → rank d s ≤ rank d t
-rank-below d s t j k f = ((level_ranked d).lower s t j k f).no_higher
 
 -- so no chain down from a type is longer than its rank
 pub falls-rank : (d n : ℕ) (t : TypeAt d) → NormalAt d t → FallsAt d n t → n ≤ rank d t

@@ -1,12 +1,13 @@
 -- The laws of products of element types, one for each place.
-use Rattle.std.specs.Prelude.{◌≡◌, ◌⊎◌, ℕ, zero, suc, Bool, true, false, ◌||◌, List, [], ◌∷◌, length, Option, Some, None, refl}
-use Rattle.std.proofs.Common.{sym, ap, ◌∙◌, inl, inr, true≢false, subst, arith}
+use Rattle.std.specs.Prelude.{◌≡◌, ℕ, zero, suc, Bool, true, false, ◌||◌, List, [], ◌∷◌, length, Option, Some, None, refl}
+use Rattle.std.proofs.Common.{sym, ap, ◌∙◌, true≢false, subst, arith}
 use Rattle.type_model.specs.Values.{Value, Values, no_value, and_value, count}
+use Rattle.type_model.specs.Tables.{both_at, joined}
 use Rattle.type_model.specs.HasType.{HasEach, HasRow}
 use Rattle.type_model.specs.Operations.{Ops, zip, or_none, has_none, row_meet, row_join}
 use Rattle.type_model.specs.Normal.{AreElements, NormalRow}
 use Rattle.type_model.specs.Laws.{BelowBy, Lattice, Laws}
-use Rattle.type_model.proofs.TableLaws.{both_at, joined}
+use Rattle.type_model.proofs.LatticeLaws.{with_none}
 use Rattle.type_model.proofs.CellLaws.{value_of, filled-not_none, element-join}
 
 -- place by place, each value of the one type is one of the other
@@ -78,16 +79,6 @@ module _ {E : Type 0} {Has : Value → E → Type 0} {Normal : E → Type 0} {o 
   row_filled-not_none (and_value v vs) (e ∷ es) h =
       subst (λ b. (b || has_none o es) ≡ false) (sym (filled-not_none l e v h.0)) (row_filled-not_none vs es h.1)
 
-  row_filled : (n : ℕ) (s : Option (List E)) → Row n s → (s ≡ None) ⊎ ((vs : Values) × HasR vs s)
-  row_filled n None k = inl refl
-  row_filled n (Some es) k = inr (values_of es k.1)
-
-  row_same : (n : ℕ) (s t : Option (List E)) → Row n s → Row n t → BelowBy HasR s t → BelowBy HasR t s → s ≡ t
-  row_same n None None j k f g = refl
-  row_same n None (Some t) j k f g = let w = values_of t k.1 in absurd (g w.0 w.1)
-  row_same n (Some s) None j k f g = let w = values_of s j.1 in absurd (f w.0 w.1)
-  row_same n (Some s) (Some t) j k f g = ap Some (each_same s t j.1 k.1 (each-below s t j.1 f) (each-below t s k.1 g))
-
   -- ---- the meet
 
   meet_each_elements : (xs ys : List E) → Elements xs → Elements ys → has_none o (zip o.meet xs ys) ≡ false → Elements (zip o.meet xs ys)
@@ -101,10 +92,8 @@ module _ {E : Type 0} {Has : Value → E → Type 0} {Normal : E → Type 0} {o 
       neither true b h = absurd (true≢false h)
       neither false b h = (refl, h)
 
-  row_meet_normal : (n : ℕ) (s t : Option (List E)) → Row n s → Row n t → Row n (both_at (row_meet o) s t)
-  row_meet_normal n None t j k = tt
-  row_meet_normal n (Some es) None j k = tt
-  row_meet_normal n (Some es) (Some fs) j k =
+  row_meet_normal : (n : ℕ) (es fs : List E) → Row n (Some es) → Row n (Some fs) → Row n (row_meet o es fs)
+  row_meet_normal n es fs j k =
       elim (has_none o (zip o.meet es fs)) as (λ b. has_none o (zip o.meet es fs) ≡ b → Row n (or_none b (zip o.meet es fs))) [
         | true ↦ λ e. tt
         | false ↦ λ e. (length-zip o.meet n es fs j.0 k.0, meet_each_elements es fs j.1 k.1 e)
@@ -118,43 +107,23 @@ module _ {E : Type 0} {Has : Value → E → Type 0} {Normal : E → Type 0} {o 
   meet_each_in (and_value v vs) (e ∷ es) (f ∷ fs) j k h g =
       (l.lattice.meet_in e f j.0.0 k.0.0 v h.0 g.0, meet_each_in vs es fs j.1 k.1 h.1 g.1)
 
-  row_meet_in : (n : ℕ) (s t : Option (List E)) → Row n s → Row n t → (vs : Values) → HasR vs s → HasR vs t → HasR vs (both_at (row_meet o) s t)
-  row_meet_in n None t j k vs h g = h
-  row_meet_in n (Some es) None j k vs h g = g
-  row_meet_in n (Some es) (Some fs) j k vs h g =
+  row_meet_in : (n : ℕ) (es fs : List E) → Row n (Some es) → Row n (Some fs) → (vs : Values) → HasEach Has vs es → HasEach Has vs fs → HasR vs (row_meet o es fs)
+  row_meet_in n es fs j k vs h g =
       let m = meet_each_in vs es fs j.1 k.1 h g in
       subst (λ b. HasR vs (or_none b (zip o.meet es fs))) (sym (row_filled-not_none vs (zip o.meet es fs) m)) m
 
-  meet_each_left : (vs : Values) (es fs : List E) → length es ≡ length fs → Elements es → Elements fs → HasEach Has vs (zip o.meet es fs) → HasEach Has vs es
-  meet_each_left vs [] fs e j k h = h
-  meet_each_left vs (x ∷ xs) [] e j k h = absurd (omega arith)
-  meet_each_left no_value (x ∷ xs) (y ∷ ys) e j k h = absurd h
-  meet_each_left (and_value v vs) (x ∷ xs) (y ∷ ys) e j k h =
-      (l.lattice.meet_left x y j.0.0 k.0.0 v h.0, meet_each_left vs xs ys (omega arith) j.1 k.1 h.1)
-
-  meet_each_right : (vs : Values) (es fs : List E) → length es ≡ length fs → Elements es → Elements fs → HasEach Has vs (zip o.meet es fs) → HasEach Has vs fs
-  meet_each_right vs [] [] e j k h = h
-  meet_each_right vs [] (y ∷ ys) e j k h = absurd (omega arith)
-  meet_each_right vs (x ∷ xs) [] e j k h = absurd (omega arith)
-  meet_each_right no_value (x ∷ xs) (y ∷ ys) e j k h = absurd h
-  meet_each_right (and_value v vs) (x ∷ xs) (y ∷ ys) e j k h =
-      (l.lattice.meet_right x y j.0.0 k.0.0 v h.0, meet_each_right vs xs ys (omega arith) j.1 k.1 h.1)
+  meet_each_out : (vs : Values) (es fs : List E) → length es ≡ length fs → Elements es → Elements fs → HasEach Has vs (zip o.meet es fs) → HasEach Has vs es × HasEach Has vs fs
+  meet_each_out vs [] [] e j k h = (h, h)
+  meet_each_out vs [] (y ∷ ys) e j k h = absurd (omega arith)
+  meet_each_out vs (x ∷ xs) [] e j k h = absurd (omega arith)
+  meet_each_out no_value (x ∷ xs) (y ∷ ys) e j k h = absurd h
+  meet_each_out (and_value v vs) (x ∷ xs) (y ∷ ys) e j k h =
+      let rest = meet_each_out vs xs ys (omega arith) j.1 k.1 h.1 in
+      ((l.lattice.meet_left x y j.0.0 k.0.0 v h.0, rest.0), (l.lattice.meet_right x y j.0.0 k.0.0 v h.0, rest.1))
 
   meet_some : (b : Bool) (es : List E) (vs : Values) → HasR vs (or_none b es) → HasEach Has vs es
   meet_some true es vs h = absurd h
   meet_some false es vs h = h
-
-  row_meet_left : (n : ℕ) (s t : Option (List E)) → Row n s → Row n t → BelowBy HasR (both_at (row_meet o) s t) s
-  row_meet_left n None t j k vs h = h
-  row_meet_left n (Some es) None j k vs h = absurd h
-  row_meet_left n (Some es) (Some fs) j k vs h =
-      meet_each_left vs es fs (j.0 ∙ sym k.0) j.1 k.1 (meet_some (has_none o (zip o.meet es fs)) (zip o.meet es fs) vs h)
-
-  row_meet_right : (n : ℕ) (s t : Option (List E)) → Row n s → Row n t → BelowBy HasR (both_at (row_meet o) s t) t
-  row_meet_right n None t j k vs h = absurd h
-  row_meet_right n (Some es) None j k vs h = h
-  row_meet_right n (Some es) (Some fs) j k vs h =
-      meet_each_right vs es fs (j.0 ∙ sym k.0) j.1 k.1 (meet_some (has_none o (zip o.meet es fs)) (zip o.meet es fs) vs h)
 
   -- ---- the join
 
@@ -182,40 +151,17 @@ module _ {E : Type 0} {Has : Value → E → Type 0} {Normal : E → Type 0} {o 
   join_each_elements (x ∷ xs) [] j k = tt
   join_each_elements (x ∷ xs) (y ∷ ys) j k = (element-join l x y j.0 k.0, join_each_elements xs ys j.1 k.1)
 
-  row_join_normal : (n : ℕ) (s t : Option (List E)) → Row n s → Row n t → Row n (joined (row_join o) s t)
-  row_join_normal n None t j k = k
-  row_join_normal n (Some es) None j k = j
-  row_join_normal n (Some es) (Some fs) j k = (length-zip o.join n es fs j.0 k.0, join_each_elements es fs j.1 k.1)
-
-  row_join_left : (n : ℕ) (s t : Option (List E)) → Row n s → Row n t → BelowBy HasR s (joined (row_join o) s t)
-  row_join_left n None t j k vs h = absurd h
-  row_join_left n (Some es) None j k vs h = h
-  row_join_left n (Some es) (Some fs) j k vs h = each-more es (row_join o es fs) (join_each_left es fs (j.0 ∙ sym k.0) j.1 k.1) vs h
-
-  row_join_right : (n : ℕ) (s t : Option (List E)) → Row n s → Row n t → BelowBy HasR t (joined (row_join o) s t)
-  row_join_right n None t j k vs h = h
-  row_join_right n (Some es) None j k vs h = absurd h
-  row_join_right n (Some es) (Some fs) j k vs h = each-more fs (row_join o es fs) (join_each_right es fs (j.0 ∙ sym k.0) j.1 k.1) vs h
-
-  row_join_least : (n : ℕ) (s t u : Option (List E)) → Row n s → Row n t → Row n u → BelowBy HasR s u → BelowBy HasR t u → BelowBy HasR (joined (row_join o) s t) u
-  row_join_least n None t u i j k f g vs h = g vs h
-  row_join_least n (Some es) None u i j k f g vs h = f vs h
-  row_join_least n (Some es) (Some fs) None i j k f g vs h = let w = values_of es i.1 in absurd (f w.0 w.1)
-  row_join_least n (Some es) (Some fs) (Some gs) i j k f g vs h =
-      each-more (row_join o es fs) gs (join_each_least es fs gs i.1 j.1 k.1 (each-below es gs i.1 f) (each-below fs gs j.1 g)) vs h
-
   pub row_lattice : (n : ℕ) → Lattice (HasRow Has) (NormalRow Normal o n) None (both_at (row_meet o)) (joined (row_join o))
-  row_lattice n = record {
+  row_lattice n = with_none (record {
     none_normal = tt;
     none_empty = λ vs h. h;
-    filled = row_filled n;
-    same = row_same n;
+    value = λ es k. values_of es k.1;
+    same = λ es fs j k f g. each_same es fs j.1 k.1 (each-below es fs j.1 f) (each-below fs es k.1 g);
     meet_normal = row_meet_normal n;
     meet_in = row_meet_in n;
-    meet_left = row_meet_left n;
-    meet_right = row_meet_right n;
-    join_normal = row_join_normal n;
-    join_left = row_join_left n;
-    join_right = row_join_right n;
-    join_least = row_join_least n;
-  }
+    meet_out = λ es fs j k vs h. meet_each_out vs es fs (j.0 ∙ sym k.0) j.1 k.1 (meet_some (has_none o (zip o.meet es fs)) (zip o.meet es fs) vs h);
+    join_normal = λ es fs j k. (length-zip o.join n es fs j.0 k.0, join_each_elements es fs j.1 k.1);
+    join_left = λ es fs j k. each-more es (row_join o es fs) (join_each_left es fs (j.0 ∙ sym k.0) j.1 k.1);
+    join_right = λ es fs j k. each-more fs (row_join o es fs) (join_each_right es fs (j.0 ∙ sym k.0) j.1 k.1);
+    join_least = λ es fs gs i j k f g. each-more (row_join o es fs) gs (join_each_least es fs gs i.1 j.1 k.1 (each-below es gs i.1 f) (each-below fs gs j.1 g));
+  })

@@ -8,30 +8,14 @@ use Rattle.std.specs.FinSet.{IsAntisymmetric}
 use Rattle.type_sets.specs.Ascending.{is_below_all, is_ascending, has_item, placed, merged}
 use Rattle.type_sets.proofs.Truths.{both, first, second, decided, is_false}
 use Rattle.type_sets.proofs.AscendingLaws as ascending
-use Rattle.type_model.specs.Tables.{keys, held, mapped, all_hold, and_entry, chosen, is_table, find, put, united}
+use Rattle.type_model.specs.Tables.{keys, held, mapped, all_hold, and_entry, chosen, joined, both_at, is_table, find, put, united}
 use Rattle.type_model.specs.Operations.{met_with, is_empty}
 
 -- ---- what two tables hold at one key
 
--- what one of them holds, and else both, joined
-abbrev pub joined : {X : Type 0} → (X → X → X) → Option X → Option X → Option X
-joined j None y = y
-joined j (Some x) None = Some x
-joined j (Some x) (Some y) = Some (j x y)
-
--- what is made of both, where both hold something
-abbrev pub both_at : {X Y Z : Type 0} → (X → Y → Option Z) → Option X → Option Y → Option Z
-both_at m None y = None
-both_at m (Some x) None = None
-both_at m (Some x) (Some y) = m x y
-
 pub joined-none : {X : Type 0} (j : X → X → X) (x : Option X) → joined j x None ≡ x
 joined-none j None = refl
 joined-none j (Some x) = refl
-
-pub both_at-none : {X Y Z : Type 0} (m : X → Y → Option Z) (x : Option X) → both_at m x None ≡ None
-both_at-none m None = refl
-both_at-none m (Some x) = refl
 
 -- the same, said by `met_with`
 pub met_with-both_at : {X Y Z : Type 0} (m : X → Y → Option Z) (x : Option X) (y : Option Y) → met_with (λ a. met_with (m a) y) x ≡ both_at m x y
@@ -133,10 +117,6 @@ module _ {K : Type 0} {R : K → K → Ordering} (t : IsTotalOrder R) (same : Is
   pub find-empty : {X : Type 0} (m : List (K × X)) → is_empty m ≡ true → (q : K) → find R m q ≡ None
   find-empty [] h q = refl
   find-empty (e ∷ m) h q = absurd (true≢false (sym h))
-
-  pub empty-is : {X : Type 0} (m : List (K × X)) → is_empty m ≡ true → m ≡ []
-  empty-is [] h = refl
-  empty-is (e ∷ m) h = absurd (true≢false (sym h))
 
   -- ---- tables that hold the same are one
 

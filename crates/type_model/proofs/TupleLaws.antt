@@ -7,13 +7,13 @@ use Rattle.std.specs.Cmp.{IsTotalOrder, nat_cmp_total}
 use Rattle.std.specs.FinSet.{IsAntisymmetric, nat_cmp-IsAntisymmetric}
 use Rattle.type_sets.proofs.AscendingLaws as ascending
 use Rattle.type_model.specs.Values.{Value, nil, Values, no_value, and_value, count}
-use Rattle.type_model.specs.Tables.{is_table, find, and_entry, put, united}
+use Rattle.type_model.specs.Tables.{is_table, find, and_entry, joined, both_at, put, united}
 use Rattle.type_model.specs.Shapes.{Body, Tuples, sizes, all_tuples}
 use Rattle.type_model.specs.HasType.{HasBody, HasTuple}
 use Rattle.type_model.specs.Operations.{Ops, met_with, body_meet, body_join, sizes_meet, tuples_meet, capped_sizes, tuples_join}
 use Rattle.type_model.specs.Normal.{NormalBody, NormalSizes, NormalTuples}
 use Rattle.type_model.specs.Laws.{BelowBy, Lattice, Laws}
-use Rattle.type_model.proofs.TableLaws.{joined, both_at, met_with-both_at, find-chosen, table-chosen, length-chosen, find-united, table-united, same_table, length-within}
+use Rattle.type_model.proofs.TableLaws.{met_with-both_at, find-chosen, table-chosen, length-chosen, find-united, table-united, same_table, length-within}
 use Rattle.type_model.proofs.BodyLaws.{body_lattice, count_body}
 
 -- ---- tables by size

@@ -10,7 +10,7 @@ use Rattle.type_sets.specs.BitLengths as bit_lengths
 use Rattle.type_sets.specs.declared.bits.Bits.{Bits}
 use Rattle.type_sets.specs.declared.bits.Bits.TheVariants.{No, Whole, Any}
 use Rattle.type_model.specs.declared.limits.TheConstants.{MAX_SIZES}
-use Rattle.type_model.specs.Tables.{keys, held, all_hold, chosen, find, united}
+use Rattle.type_model.specs.Tables.{keys, held, all_hold, chosen, joined, both_at, find, united}
 use Rattle.type_model.specs.Shapes.{Flags, Functions, no_function, of_arity, all_functions, PlainParts, Cell, Body, product, tags, Tuples, sizes, all_tuples, Parts, TypeAt}
 
 -- ---- the parts that hold no other values
@@ -110,14 +110,10 @@ is_empty (x ∷ xs) = false
 module _ {E : Type 0} (o : Ops E) where
   -- ---- lists that aren't empty
   abbrev pub cell_meet : Option (Cell E) → Option (Cell E) → Option (Cell E)
-  cell_meet None t = None
-  cell_meet (Some s) None = None
-  cell_meet (Some s) (Some t) = or_none (o.is_none (o.meet s.element t.element)) (record { element = o.meet s.element t.element; is_proper = s.is_proper || t.is_proper })
+  cell_meet = both_at (λ s t. or_none (o.is_none (o.meet s.element t.element)) (record { element = o.meet s.element t.element; is_proper = s.is_proper || t.is_proper }))
 
   abbrev pub cell_join : Option (Cell E) → Option (Cell E) → Option (Cell E)
-  cell_join None t = t
-  cell_join (Some s) None = Some s
-  cell_join (Some s) (Some t) = Some (record { element = o.join s.element t.element; is_proper = s.is_proper && t.is_proper })
+  cell_join = joined (λ s t. record { element = o.join s.element t.element; is_proper = s.is_proper && t.is_proper })
 
   -- ---- products of element types
   abbrev pub has_none : List E → Bool

@@ -25,6 +25,11 @@ functions_rank all_functions = 2
 abbrev pub plain_rank : PlainParts → ℕ
 plain_rank p = names.height p.atoms + numbers.height p.ints + bit_lengths.height p.bits + flags_rank p.flags + functions_rank p.functions
 
+-- of a table: one for each entry, and the rank of what it holds
+abbrev pub table_rank : {K X : Type 0} → (X → ℕ) → List (K × X) → ℕ
+table_rank of_held [] = 0
+table_rank of_held (e ∷ m) = 1 + of_held e.1 + table_rank of_held m
+
 -- of a level whose elements have these ranks, of which none is above `most`
 module _ {E : Type 0} (rank_of : E → ℕ) (most : ℕ) where
   abbrev pub cell_rank : Option (Cell E) → ℕ
@@ -35,26 +40,18 @@ module _ {E : Type 0} (rank_of : E → ℕ) (most : ℕ) where
   row_rank [] = 0
   row_rank (e ∷ es) = rank_of e + row_rank es
 
-  abbrev pub tags_rank : List (Name × List E) → ℕ
-  tags_rank [] = 0
-  tags_rank (e ∷ m) = 1 + row_rank e.1 + tags_rank m
-
   -- a product is above MAX_MEMBERS tags whose types are those of its rest
   abbrev pub body_rank : Body E → ℕ
   body_rank (product []) = 0
   body_rank (product (e ∷ es)) = rank_of e + (MAX_MEMBERS + 1) * (1 + row_rank es)
-  body_rank (tags m) = tags_rank m
-
-  abbrev pub sizes_rank : List (ℕ × Body E) → ℕ
-  sizes_rank [] = 0
-  sizes_rank (e ∷ m) = 1 + body_rank e.1 + sizes_rank m
+  body_rank (tags m) = table_rank row_rank m
 
   -- no body of MAX_ELEMENTS elements has a higher rank
   abbrev pub most_body : ℕ
   most_body = most + (MAX_MEMBERS + 1) * (1 + MAX_ELEMENTS * most)
 
   abbrev pub tuples_rank : Tuples E → ℕ
-  tuples_rank (sizes m) = sizes_rank m
+  tuples_rank (sizes m) = table_rank body_rank m
   tuples_rank all_tuples = 1 + MAX_SIZES * (1 + most_body)
 
   abbrev pub parts_rank : Parts E → ℕ

@@ -33,6 +33,18 @@ abbrev pub chosen : {K X Y : Type 0} → (K → X → Option Y) → List (K × X
 chosen f [] = []
 chosen f (e ∷ m) = and_entry e.0 (f e.0 e.1) (chosen f m)
 
+-- what two tables hold at one key: what one of them holds, and else both, joined
+abbrev pub joined : {X : Type 0} → (X → X → X) → Option X → Option X → Option X
+joined j None y = y
+joined j (Some x) None = Some x
+joined j (Some x) (Some y) = Some (j x y)
+
+-- what is made of both, where both hold something
+abbrev pub both_at : {X Y Z : Type 0} → (X → Y → Option Z) → Option X → Option Y → Option Z
+both_at m None y = None
+both_at m (Some x) None = None
+both_at m (Some x) (Some y) = m x y
+
 module _ {K : Type 0} (R : K → K → Ordering) where
   -- whether the keys ascend strictly
   abbrev pub is_table : {X : Type 0} → List (K × X) → Bool
