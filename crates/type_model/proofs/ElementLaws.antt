@@ -1,5 +1,5 @@
 -- The laws of the elements of tuples: at a place of one size, and at the places in a set over all sizes.
-use Rattle.std.proofs.Common.{◌≡◌, ◌⊎◌, inl, inr, ◌+◌, ◌-◌, ◌<◌, ◌≤◌, ℕ, zero, suc, pos, true, false, cond, List, [], ◌∷◌, ◌++◌, length, Option, Some, None, refl, sym, ap, ◌∙◌, subst, arith}
+use Rattle.std.proofs.Common.{◌≡◌, inl, inr, ◌+◌, ◌-◌, ◌<◌, ◌≤◌, ℕ, zero, suc, pos, true, false, cond, List, [], ◌∷◌, ◌++◌, length, Option, Some, None, refl, sym, ap, ◌∙◌, subst, arith}
 use Rattle.std.specs.Prelude.{nat_lt, slice_get}
 use borrow.Author.Tests.{lt-ltb}
 use Rattle.std.specs.Ordering.{nat_cmp, eq_by_cmp}
@@ -19,10 +19,11 @@ use Rattle.type_model.specs.Operations.{Ops, is_empty, zip, row_join, rows_join,
 use Rattle.type_model.specs.Normal.{IsElement, AreElements, NormalRow, NormalRows, NormalBody, NormalSizes, NormalTuples, NormalAt}
 use Rattle.type_model.specs.Cut.{cut}
 use Rattle.type_model.specs.Parts.{value_at, element_at, lifted, project_at}
-use Rattle.type_model.specs.Elements.{at_places, sizes_at, with_elements, tuples_at, elements_at}
+use Rattle.type_model.specs.Elements.{at_places, sizes_at, tuples_at, elements_at}
 use Rattle.type_model.specs.Laws.{BelowBy, Laws}
 use Rattle.type_model.proofs.TableLaws as tables
 use Rattle.type_model.proofs.TableLaws.{EachEntry, found_at, same_some, some-none}
+use Rattle.type_model.proofs.LatticeLaws.{EachOf, SomeOf, each_append, some_first, some_later, all-normal, all-has, all-least}
 use Rattle.type_model.proofs.CellLaws.{value_of}
 use Rattle.type_model.proofs.RowLaws.{values_of, row_lattice}
 use Rattle.type_model.proofs.BodyLaws.{rows_at, count_body, elements_normal}
@@ -155,28 +156,6 @@ project-least d t k n i small one within u j f =
 
 -- ---- the elements at the places in a set
 
-abbrev EachOf : {A : Type 0} → (A → Type 0) → List A → Type 0
-EachOf Q [] = Unit {0}
-EachOf Q (x ∷ xs) = Q x × EachOf Q xs
-
--- one of the types has the value
-abbrev SomeHas : {A : Type 0} → (Value → A → Type 0) → Value → List A → Type 0
-SomeHas Has v [] = ⊥
-SomeHas Has v (x ∷ xs) = Has v x ⊎ SomeHas Has v xs
-
-each_append : {A : Type 0} (Q : A → Type 0) (xs ys : List A) → EachOf Q xs → EachOf Q ys → EachOf Q (xs ++ ys)
-each_append Q [] ys j k = k
-each_append Q (x ∷ xs) ys j k = (j.0, each_append Q xs ys j.1 k)
-
-some_first : {A : Type 0} (Has : Value → A → Type 0) (v : Value) (xs ys : List A) → SomeHas Has v xs → SomeHas Has v (xs ++ ys)
-some_first Has v [] ys h = absurd h
-some_first Has v (x ∷ xs) ys (inl h) = inl h
-some_first Has v (x ∷ xs) ys (inr h) = inr (some_first Has v xs ys h)
-
-some_later : {A : Type 0} (Has : Value → A → Type 0) (v : Value) (xs ys : List A) → SomeHas Has v ys → SomeHas Has v (xs ++ ys)
-some_later Has v [] ys h = h
-some_later Has v (x ∷ xs) ys h = inr (some_later Has v xs ys h)
-
 module _ {A : Type 0} (s : Numbers) where
   places_each : (Q : A → Type 0) (k : ℕ) (es : List A) → ((i : ℕ) (e : A) → slice_get es i ≡ Some e → numbers.has s (pos (k + i)) ≡ true → Q e) → EachOf Q (at_places s k es)
   places_each Q k [] f = tt
@@ -187,26 +166,26 @@ module _ {A : Type 0} (s : Numbers) where
         | false ↦ λ h. rest
       ] refl
 
-  places_some : (Has : Value → A → Type 0) (v : Value) (k : ℕ) (es : List A) (i : ℕ) (e : A) → slice_get es i ≡ Some e → numbers.has s (pos (k + i)) ≡ true → Has v e → SomeHas Has v (at_places s k es)
-  places_some Has v k [] i e q p h = absurd cc
-  places_some Has v k (x ∷ xs) zero e q p h =
+  places_some : (Q : A → Type 0) (k : ℕ) (es : List A) (i : ℕ) (e : A) → slice_get es i ≡ Some e → numbers.has s (pos (k + i)) ≡ true → Q e → SomeOf Q (at_places s k es)
+  places_some Q k [] i e q p h = absurd cc
+  places_some Q k (x ∷ xs) zero e q p h =
       let here : numbers.has s (pos k) ≡ true = subst (λ j. numbers.has s (pos j) ≡ true) (omega arith) p in
-      subst (λ b. SomeHas Has v (cond b (x ∷ at_places s (suc k) xs) (at_places s (suc k) xs))) (sym here) (inl (subst (Has v) (sym (same_some x e q)) h))
-  places_some Has v k (x ∷ xs) (suc i) e q p h =
-      let rest : SomeHas Has v (at_places s (suc k) xs) = places_some Has v (suc k) xs i e q (subst (λ j. numbers.has s (pos j) ≡ true) (omega arith) p) h in
-      elim (numbers.has s (pos k)) as (λ b. SomeHas Has v (cond b (x ∷ at_places s (suc k) xs) (at_places s (suc k) xs))) [ true ↦ inr rest | false ↦ rest ]
+      subst (λ b. SomeOf Q (cond b (x ∷ at_places s (suc k) xs) (at_places s (suc k) xs))) (sym here) (inl (subst Q (sym (same_some x e q)) h))
+  places_some Q k (x ∷ xs) (suc i) e q p h =
+      let rest : SomeOf Q (at_places s (suc k) xs) = places_some Q (suc k) xs i e q (subst (λ j. numbers.has s (pos j) ≡ true) (omega arith) p) h in
+      elim (numbers.has s (pos k)) as (λ b. SomeOf Q (cond b (x ∷ at_places s (suc k) xs) (at_places s (suc k) xs))) [ true ↦ inr rest | false ↦ rest ]
 
 module _ {A : Type 0} (o : Ops A) (s : Numbers) where
   sizes_each : (Q : A → Type 0) (m : List (ℕ × Body A)) → EachEntry (λ n b. EachOf Q (at_places s 1 (elements o b))) m → EachOf Q (sizes_at o s m)
   sizes_each Q [] k = tt
   sizes_each Q (b ∷ m) k = each_append Q (at_places s 1 (elements o b.1)) (sizes_at o s m) k.0 (sizes_each Q m k.1)
 
-  sizes_some : (Has : Value → A → Type 0) (v : Value) (m : List (ℕ × Body A)) (n : ℕ) (b : Body A) → find nat_cmp m n ≡ Some b → SomeHas Has v (at_places s 1 (elements o b)) → SomeHas Has v (sizes_at o s m)
-  sizes_some Has v [] n b q h = absurd cc
-  sizes_some Has v (x ∷ m) n b q h =
-      elim (eq_by_cmp nat_cmp n x.0) as (λ c. cond c (Some x.1) (find nat_cmp m n) ≡ Some b → SomeHas Has v (at_places s 1 (elements o x.1) ++ sizes_at o s m)) [
-        | true ↦ λ r. some_first Has v (at_places s 1 (elements o x.1)) (sizes_at o s m) (subst (λ c. SomeHas Has v (at_places s 1 (elements o c))) (sym (same_some x.1 b r)) h)
-        | false ↦ λ r. some_later Has v (at_places s 1 (elements o x.1)) (sizes_at o s m) (sizes_some Has v m n b r h)
+  sizes_some : (Q : A → Type 0) (m : List (ℕ × Body A)) (n : ℕ) (b : Body A) → find nat_cmp m n ≡ Some b → SomeOf Q (at_places s 1 (elements o b)) → SomeOf Q (sizes_at o s m)
+  sizes_some Q [] n b q h = absurd cc
+  sizes_some Q (x ∷ m) n b q h =
+      elim (eq_by_cmp nat_cmp n x.0) as (λ c. cond c (Some x.1) (find nat_cmp m n) ≡ Some b → SomeOf Q (at_places s 1 (elements o x.1) ++ sizes_at o s m)) [
+        | true ↦ λ r. some_first Q (at_places s 1 (elements o x.1)) (sizes_at o s m) (subst (λ c. SomeOf Q (at_places s 1 (elements o c))) (sym (same_some x.1 b r)) h)
+        | false ↦ λ r. some_later Q (at_places s 1 (elements o x.1)) (sizes_at o s m) (sizes_some Q m n b r h)
       ] q
 
 -- the join of a type and of some element types
@@ -214,69 +193,53 @@ module _ (d : ℕ) where
   abbrev up : TypeAt d → TypeAt (suc d)
   up e = cut d (suc d) e
 
-  with_normal : (t : TypeAt (suc d)) (es : List (TypeAt d)) → NormalAt (suc d) t → EachOf (NormalAt d) es → NormalAt (suc d) (with_elements d t es)
-  with_normal t [] k j = k
-  with_normal t (e ∷ es) k j = with_normal ((ops (suc d)).join t (up e)) es ((level_laws (suc d)).lattice.join_normal t (up e) k ((cut_lowering d (suc d)).normal e j.0)) j.1
-
-  with_has : (t : TypeAt (suc d)) (es : List (TypeAt d)) → NormalAt (suc d) t → EachOf (NormalAt d) es → (v : Value) → HasAt (suc d) v t ⊎ SomeHas (HasAt d) v es → HasAt (suc d) v (with_elements d t es)
-  with_has t [] k j v (inl h) = h
-  with_has t [] k j v (inr h) = absurd h
-  with_has t (e ∷ es) k j v h =
-      let l = (level_laws (suc d)).lattice in
-      let c = cut_lowering d (suc d) in
-      let n = c.normal e j.0 in
-      with_has ((ops (suc d)).join t (up e)) es (l.join_normal t (up e) k n) j.1 v (elim h [
-        | inl x ↦ inl (l.join_left t (up e) k n v x)
-        | inr x ↦ elim x [ inl y ↦ inl (l.join_right t (up e) k n v (c.above e j.0 v y)) | inr y ↦ inr y ]
-      ])
-
-  with_least : (t : TypeAt (suc d)) (es : List (TypeAt d)) (u : TypeAt (suc d)) → NormalAt (suc d) t → NormalAt (suc d) u → EachOf (λ e. NormalAt d e × BelowBy (HasAt (suc d)) (up e) u) es → BelowBy (HasAt (suc d)) t u → BelowBy (HasAt (suc d)) (with_elements d t es) u
-  with_least t [] u k n j f = f
-  with_least t (e ∷ es) u k n j f =
-      let l = (level_laws (suc d)).lattice in
-      let m = (cut_lowering d (suc d)).normal e j.0.0 in
-      with_least ((ops (suc d)).join t (up e)) es u (l.join_normal t (up e) k m) n j.1 (l.join_least t (up e) u k m n f j.0.1)
-
   -- ---- the places in a set
 
-  entry_normal : (s : Numbers) (m : List (ℕ × Body (TypeAt d))) → NormalSizes (NormalAt d) (ops d) m → EachEntry (λ n b. EachOf (NormalAt d) (at_places s 1 (elements (ops d) b))) m
+  abbrev UpNormal : TypeAt d → Type 0
+  UpNormal e = NormalAt (suc d) (up e)
+
+  entry_normal : (s : Numbers) (m : List (ℕ × Body (TypeAt d))) → NormalSizes (NormalAt d) (ops d) m → EachEntry (λ n b. EachOf UpNormal (at_places s 1 (elements (ops d) b))) m
   entry_normal s [] k = tt
   entry_normal s (b ∷ m) k = (
-    places_each s (NormalAt d) 1 (elements (ops d) b.1) (λ i e q h. (element_there (level_laws d) (elements (ops d) b.1) (elements_normal (level_laws d) b.0 b.1 k.1).1 i e q).0),
+    places_each s UpNormal 1 (elements (ops d) b.1) (λ i e q h. (cut_lowering d (suc d)).normal e (element_there (level_laws d) (elements (ops d) b.1) (elements_normal (level_laws d) b.0 b.1 k.1).1 i e q).0),
     entry_normal s m k.2,
   )
 
-  sizes_normal : (s : Numbers) (m : List (ℕ × Body (TypeAt d))) → NormalSizes (NormalAt d) (ops d) m → EachOf (NormalAt d) (sizes_at (ops d) s m)
-  sizes_normal s m k = sizes_each (ops d) s (NormalAt d) m (entry_normal s m k)
+  sizes_normal : (s : Numbers) (m : List (ℕ × Body (TypeAt d))) → NormalSizes (NormalAt d) (ops d) m → EachOf UpNormal (sizes_at (ops d) s m)
+  sizes_normal s m k = sizes_each (ops d) s UpNormal m (entry_normal s m k)
 
   tuples_normal : (t : Tuples (TypeAt d)) (s : Numbers) → NormalTuples (NormalAt d) (ops d) t → NormalAt (suc d) (tuples_at d t s)
-  tuples_normal (sizes m) s k = with_normal (ops (suc d)).none (sizes_at (ops d) s m) (level_laws (suc d)).lattice.none_normal (sizes_normal s m k.2)
+  tuples_normal (sizes m) s k = all-normal (level_laws (suc d)).lattice up (ops (suc d)).none (sizes_at (ops d) s m) (level_laws (suc d)).lattice.none_normal (sizes_normal s m k.2)
   tuples_normal all_tuples s k = (level_laws (suc d)).any_normal
 
   tuples_have : (t : Tuples (TypeAt d)) (s : Numbers) → NormalTuples (NormalAt d) (ops d) t → (vs : Values) → HasTuple (HasAt d) vs t → (i : ℕ) (v : Value) → value_at vs i ≡ Some v → numbers.has s (pos (suc i)) ≡ true → HasAt (suc d) v (tuples_at d t s)
   tuples_have all_tuples s k vs h i v q p = (level_laws (suc d)).any_in v
   tuples_have (sizes m) s k vs h i v q p =
       let n = count vs in
+      let Q : TypeAt d → Type 0 = λ e. HasAt (suc d) v (up e) in
       elim (find nat_cmp m n) as (λ x. find nat_cmp m n ≡ x → HasBody (HasAt d) vs x → HasAt (suc d) v (tuples_at d (sizes m) s)) [
         | None ↦ λ r z. absurd z
         | Some b ↦ λ r z.
             let normal : NormalBody (NormalAt d) (ops d) n (Some b) = subst (NormalBody (NormalAt d) (ops d) n) r (normal_at (level_laws d) m k.2 n) in
             let w = body_place (level_laws d) n (Some b) normal vs z i v q in
             let there : numbers.has s (pos (1 + i)) ≡ true = subst (λ j. numbers.has s (pos j) ≡ true) (omega arith) p in
-            with_has (ops (suc d)).none (sizes_at (ops d) s m) (level_laws (suc d)).lattice.none_normal (sizes_normal s m k.2) v (inr (sizes_some (ops d) s (HasAt d) v m n b r (places_some s (HasAt d) v 1 (elements (ops d) b) i w.0 w.1.0 there w.1.1.1)))
+            all-has (level_laws (suc d)).lattice up (ops (suc d)).none (sizes_at (ops d) s m) (level_laws (suc d)).lattice.none_normal (sizes_normal s m k.2) v (inr (sizes_some (ops d) s Q m n b r (places_some s Q 1 (elements (ops d) b) i w.0 w.1.0 there ((cut_lowering d (suc d)).above w.0 w.1.1.0 v w.1.1.1))))
       ] refl h
 
   -- of sizes alone, the least type that has what stands at these places
   sizes_least : (m : List (ℕ × Body (TypeAt d))) (s : Numbers) → NormalTuples (NormalAt d) (ops d) (sizes m) → (u : TypeAt (suc d)) → NormalAt (suc d) u → ((vs : Values) → HasTuple (HasAt d) vs (sizes m) → (i : ℕ) (v : Value) → value_at vs i ≡ Some v → numbers.has s (pos (suc i)) ≡ true → HasAt (suc d) v u) → BelowBy (HasAt (suc d)) (tuples_at d (sizes m) s) u
   sizes_least m s k u n f =
-      let Q : TypeAt d → Type 0 = λ e. NormalAt d e × BelowBy (HasAt (suc d)) (up e) u in
+      let Q : TypeAt d → Type 0 = λ e. BelowBy (HasAt (suc d)) (up e) u in
       let l = (level_laws (suc d)).lattice in
-      with_least (ops (suc d)).none (sizes_at (ops d) s m) u l.none_normal n (sizes_each (ops d) s Q m (tables.each_from nat_cmp_total nat_cmp-IsAntisymmetric (λ a b. EachOf Q (at_places s 1 (elements (ops d) b))) m k.0 (λ a b r.
+      all-least l up (ops (suc d)).none (sizes_at (ops d) s m) u l.none_normal (sizes_normal s m k.2) n (λ v h. absurd (l.none_empty v h)) (some_each (sizes_at (ops d) s m) (sizes_each (ops d) s Q m (tables.each_from nat_cmp_total nat_cmp-IsAntisymmetric (λ a b. EachOf Q (at_places s 1 (elements (ops d) b))) m k.0 (λ a b r.
       let normal : NormalBody (NormalAt d) (ops d) a (Some b) = subst (NormalBody (NormalAt d) (ops d) a) r (normal_at (level_laws d) m k.2 a) in
-      places_each s Q 1 (elements (ops d) b) (λ i e x p. (
-        (element_there (level_laws d) (elements (ops d) b) (elements_normal (level_laws d) a b normal).1 i e x).0,
-        body_inside d u n a b normal i (λ vs v z y. f vs (from_size (level_laws d) m k.2 a vs (subst (HasBody (HasAt d) vs) (sym r) z)) i v y (subst (λ j. numbers.has s (pos j) ≡ true) (omega arith) p)) e x,
-      ))))) (λ v h. absurd (l.none_empty v h))
+      places_each s Q 1 (elements (ops d) b) (λ i e x p.
+          body_inside d u n a b normal i (λ vs v z y. f vs (from_size (level_laws d) m k.2 a vs (subst (HasBody (HasAt d) vs) (sym r) z)) i v y (subst (λ j. numbers.has s (pos j) ≡ true) (omega arith) p)) e x)))))
+    where
+      some_each : (es : List (TypeAt d)) → EachOf (λ e. BelowBy (HasAt (suc d)) (up e) u) es → (v : Value) → SomeOf (λ e. HasAt (suc d) v (up e)) es → HasAt (suc d) v u
+      some_each [] j v h = absurd h
+      some_each (e ∷ es) j v (inl h) = j.0 v h
+      some_each (e ∷ es) j v (inr h) = some_each es j.1 v h
 
   tuples_least : (t : Tuples (TypeAt d)) (s : Numbers) → NormalTuples (NormalAt d) (ops d) t → (p : ℕ) → numbers.has s (pos (suc p)) ≡ true → (u : TypeAt (suc d)) → NormalAt (suc d) u → ((vs : Values) → HasTuple (HasAt d) vs t → (i : ℕ) (v : Value) → value_at vs i ≡ Some v → numbers.has s (pos (suc i)) ≡ true → HasAt (suc d) v u) → BelowBy (HasAt (suc d)) (tuples_at d t s) u
   tuples_least (sizes m) s k p a u n f = sizes_least m s k u n f

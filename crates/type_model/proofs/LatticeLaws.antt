@@ -1,8 +1,9 @@
 -- Families of sets: where one of two sets is part of the other, their meet is the one and their join the other; and sets
--- that all have a value, with none beside them.
-use Rattle.std.specs.Prelude.{◌≡◌, ◌⊎◌, Option, Some, None, refl}
+-- that all have a value, with none beside them; and a set joined with others.
+use Rattle.std.specs.Prelude.{◌≡◌, ◌⊎◌, List, [], ◌∷◌, ◌++◌, Option, Some, None, refl}
 use Rattle.std.proofs.Common.{ap, inl, inr}
 use Rattle.type_model.specs.Tables.{joined, both_at}
+use Rattle.type_model.specs.Elements.{joined_all}
 use Rattle.type_model.specs.Laws.{BelowBy, Lattice}
 
 module _ {V P : Type 0} {Has : V → P → Type 0} {Normal : P → Type 0} {none : P} {meet join : P → P → P} (l : Lattice Has Normal none meet join) (s t : P) (j : Normal s) (k : Normal t) where
@@ -98,3 +99,56 @@ module _ {V X : Type 0} {Has : V → Option X → Type 0} {Normal : Option X →
     join_right = join_right;
     join_least = join_least;
   }
+
+-- ---- a set joined with others, one after the other
+
+-- what holds of each of a list, or of one of it
+abbrev pub EachOf : {A : Type 0} → (A → Type 0) → List A → Type 0
+EachOf Q [] = Unit {0}
+EachOf Q (x ∷ xs) = Q x × EachOf Q xs
+
+abbrev pub SomeOf : {A : Type 0} → (A → Type 0) → List A → Type 0
+SomeOf Q [] = ⊥
+SomeOf Q (x ∷ xs) = Q x ⊎ SomeOf Q xs
+
+module _ {A : Type 0} (Q : A → Type 0) where
+  pub each_append : (xs ys : List A) → EachOf Q xs → EachOf Q ys → EachOf Q (xs ++ ys)
+  each_append [] ys j k = k
+  each_append (x ∷ xs) ys j k = (j.0, each_append xs ys j.1 k)
+
+  pub some_first : (xs ys : List A) → SomeOf Q xs → SomeOf Q (xs ++ ys)
+  some_first [] ys h = absurd h
+  some_first (x ∷ xs) ys (inl h) = inl h
+  some_first (x ∷ xs) ys (inr h) = inr (some_first xs ys h)
+
+  pub some_later : (xs ys : List A) → SomeOf Q ys → SomeOf Q (xs ++ ys)
+  some_later [] ys h = h
+  some_later (x ∷ xs) ys h = inr (some_later xs ys h)
+
+  pub some_either : (xs ys : List A) → SomeOf Q (xs ++ ys) → SomeOf Q xs ⊎ SomeOf Q ys
+  some_either [] ys h = inr h
+  some_either (x ∷ xs) ys (inl h) = inl (inl h)
+  some_either (x ∷ xs) ys (inr h) = elim (some_either xs ys h) [ inl y ↦ inl (inr y) | inr y ↦ inr y ]
+
+module _ {V P X : Type 0} {Has : V → P → Type 0} {Normal : P → Type 0} {none : P} {meet join : P → P → P} (l : Lattice Has Normal none meet join) (of : X → P) where
+  pub all-normal : (t : P) (xs : List X) → Normal t → EachOf (λ x. Normal (of x)) xs → Normal (joined_all join of t xs)
+  all-normal t [] k j = k
+  all-normal t (x ∷ xs) k j = all-normal (join t (of x)) xs (l.join_normal t (of x) k j.0) j.1
+
+  pub all-has : (t : P) (xs : List X) → Normal t → EachOf (λ x. Normal (of x)) xs → (v : V) → Has v t ⊎ SomeOf (λ x. Has v (of x)) xs → Has v (joined_all join of t xs)
+  all-has t [] k j v (inl h) = h
+  all-has t [] k j v (inr h) = absurd h
+  all-has t (x ∷ xs) k j v h = all-has (join t (of x)) xs (l.join_normal t (of x) k j.0) j.1 v (elim h [
+    | inl y ↦ inl (l.join_left t (of x) k j.0 v y)
+    | inr y ↦ elim y [ inl z ↦ inl (l.join_right t (of x) k j.0 v z) | inr z ↦ inr z ]
+  ])
+
+  pub all-least : (t : P) (xs : List X) (u : P) → Normal t → EachOf (λ x. Normal (of x)) xs → Normal u → BelowBy Has t u → ((v : V) → SomeOf (λ x. Has v (of x)) xs → Has v u) → BelowBy Has (joined_all join of t xs) u
+  all-least t [] u k j n f g = f
+  all-least t (x ∷ xs) u k j n f g =
+      all-least (join t (of x)) xs u (l.join_normal t (of x) k j.0) j.1 n (l.join_least t (of x) u k j.0 n f (λ v h. g v (inl h))) (λ v h. g v (inr h))
+
+  -- sets that together have just the values of a set join to it
+  pub all-is : (t : P) (xs : List X) (u : P) → Normal t → EachOf (λ x. Normal (of x)) xs → Normal u → ((v : V) → Has v t ⊎ SomeOf (λ x. Has v (of x)) xs → Has v u) → ((v : V) → Has v u → Has v t ⊎ SomeOf (λ x. Has v (of x)) xs) → joined_all join of t xs ≡ u
+  all-is t xs u k j n f g =
+      l.same (joined_all join of t xs) u (all-normal t xs k j) n (all-least t xs u k j n (λ v h. f v (inl h)) (λ v h. f v (inr h))) (λ v h. all-has t xs k j v (g v h))

@@ -1,5 +1,5 @@
 -- The laws of conses: a type has those of its heads and its tails, which are the least types that say so.
-use Rattle.std.proofs.Common.{◌≡◌, ◌∙◌, ℕ, suc, Bool, true, false, ◌&&◌, cond, [], Option, Some, None, refl, sym, ap, subst, arith, true≢false}
+use Rattle.std.proofs.Common.{◌≡◌, ◌∙◌, ℕ, suc, Bool, true, false, cond, [], Option, Some, None, refl, sym, ap, subst, arith, true≢false}
 use Rattle.std.specs.Prelude.{◌↔◌}
 use Rattle.type_sets.specs.Names as names
 use Rattle.type_sets.specs.Numbers as numbers
@@ -10,14 +10,14 @@ use Rattle.type_model.specs.HasType.{HasAll, HasCell, HasParts, HasAt}
 use Rattle.type_model.specs.Operations.{plain_none, plain_all, ops}
 use Rattle.type_model.specs.Normal.{NormalCell, NormalAt}
 use Rattle.type_model.specs.Cut.{cut}
-use Rattle.type_model.specs.Parts.{is_list, element_with, flags_of_nil, tail_parts, cons_at, lifted, element_of, elem_at, tail_at}
+use Rattle.type_model.specs.Parts.{element_with, flags_of_nil, tail_parts, cons_at, lifted, element_of, elem_at, tail_at}
 use Rattle.type_model.specs.Laws.{BelowBy}
 use Rattle.type_model.specs.ValueShapes.{an_int, an_atom}
 use Rattle.type_model.proofs.PlainLaws.{plain-none_empty}
 use Rattle.type_model.proofs.CellLaws.{value_of}
 use Rattle.type_model.proofs.LevelLaws.{level_laws}
 use Rattle.type_model.proofs.CutLaws.{cut_lowering, cut_exact}
-use Rattle.type_model.proofs.MadeLaws.{cons-normal, lists-is_list}
+use Rattle.type_model.proofs.MadeLaws.{cell_type, cons-cases, cons-made, cons-normal, lists-is_list}
 
 -- ---- what may follow a head
 
@@ -67,14 +67,6 @@ tail-least d s k u f = rest-least d s.cell k.1 u f
 
 -- ---- the lists of a head and a tail
 
--- the type of the lists of a head and a tail that aren't none
-abbrev cell_type : (d : ℕ) → TypeAt (suc d) → TypeAt (suc d) → Bool → TypeAt (suc d)
-cell_type d h t proper = record {
-  plain = plain_none;
-  cell = Some (record { element = element_with (ops d) (cut (suc d) d h) t.cell; is_proper = proper && is_list (ops d) t });
-  tuples = sizes [];
-}
-
 -- a type with a cell alone has conses alone
 conses : (d : ℕ) (c : Option (Cell (TypeAt d))) (v : Value) → HasParts (HasAt d) v (record { plain = plain_none; cell = c; tuples = sizes [] }) → (x : Value) × ((y : Value) × ((v ≡ cons x y) × HasCell (HasAt d) (x, y) c))
 conses d c (int n) h = absurd (plain-none_empty (an_int n) h)
@@ -86,17 +78,7 @@ conses d c v h = absurd (true≢false (sym h))
 -- a value of the lists of a head and a tail is a cons, and neither type is none
 made_out : (d : ℕ) (h t : TypeAt (suc d)) (proper : Bool) (v : Value) → HasAt (suc d) v (cons_at d h t proper) → ((ops (suc d)).is_none h ≡ false) × (((ops (suc d)).is_none t ≡ false) × HasAt (suc d) v (cell_type d h t proper))
 made_out d h t proper v m =
-    let none = (ops (suc d)).none in
-    let empty = (level_laws (suc d)).lattice.none_empty v in
-    elim ((ops (suc d)).is_none h) as (λ b. HasAt (suc d) v (cond b none (cond ((ops (suc d)).is_none t) none (cell_type d h t proper))) → (b ≡ false) × (((ops (suc d)).is_none t ≡ false) × HasAt (suc d) v (cell_type d h t proper))) [
-      | true ↦ λ x. absurd (empty x)
-      | false ↦ λ x. (refl, elim ((ops (suc d)).is_none t) as (λ b. HasAt (suc d) v (cond b none (cell_type d h t proper)) → (b ≡ false) × HasAt (suc d) v (cell_type d h t proper)) [ true ↦ λ y. absurd (empty y) | false ↦ λ y. (refl, y) ] x)
-    ] m
-
-made_in : (d : ℕ) (h t : TypeAt (suc d)) (proper : Bool) (v : Value) → (ops (suc d)).is_none h ≡ false → (ops (suc d)).is_none t ≡ false → HasAt (suc d) v (cell_type d h t proper) → HasAt (suc d) v (cons_at d h t proper)
-made_in d h t proper v e f m =
-    let none = (ops (suc d)).none in
-    subst (λ b. HasAt (suc d) v (cond b none (cond ((ops (suc d)).is_none t) none (cell_type d h t proper)))) (sym e) (subst (λ b. HasAt (suc d) v (cond b none (cell_type d h t proper))) (sym f) m)
+    cons-cases d h t proper (λ c. HasAt (suc d) v c → ((ops (suc d)).is_none h ≡ false) × (((ops (suc d)).is_none t ≡ false) × HasAt (suc d) v (cell_type d h t proper))) (λ x. absurd ((level_laws (suc d)).lattice.none_empty v x)) (λ e f x. (e, (f, x))) m
 
 pub cons-only : (d : ℕ) (h t : TypeAt (suc d)) (proper : Bool) (v : Value) → HasAt (suc d) v (cons_at d h t proper) → (x : Value) × ((y : Value) × (v ≡ cons x y))
 cons-only d h t proper v m =
@@ -119,21 +101,11 @@ all_down : (d : ℕ) (e : TypeAt d) → NormalAt d e → (vs : Values) → HasAl
 all_down d e k no_value h = tt
 all_down d e k (and_value v vs) h = (cut_exact d (suc d) (omega arith) e k v h.0, all_down d e k vs h.1)
 
-cons_at-filled : (d : ℕ) (h t : TypeAt (suc d)) (proper : Bool) → (ops (suc d)).is_none h ≡ false → (ops (suc d)).is_none t ≡ false → cons_at d h t proper ≡ cell_type d h t proper
-cons_at-filled d h t proper e f =
-    let none = (ops (suc d)).none in
-    ap (λ b. cond b none (cond ((ops (suc d)).is_none t) none (cell_type d h t proper))) e ∙ ap (λ b. cond b none (cell_type d h t proper)) f
-
 -- what has heads is of a head and a tail that aren't none
 heads_out : (d : ℕ) (h t : TypeAt (suc d)) (proper : Bool) (x : Value) → HasAt (suc d) x (elem_at d (cons_at d h t proper)) → ((ops (suc d)).is_none h ≡ false) × ((ops (suc d)).is_none t ≡ false)
 unfolding ops
 heads_out d h t proper x m =
-    let none = (ops (suc d)).none in
-    let empty = (level_laws (suc d)).lattice.none_empty x in
-    elim ((ops (suc d)).is_none h) as (λ b. HasAt (suc d) x (elem_at d (cond b none (cond ((ops (suc d)).is_none t) none (cell_type d h t proper)))) → (b ≡ false) × ((ops (suc d)).is_none t ≡ false)) [
-      | true ↦ λ y. absurd (empty y)
-      | false ↦ λ y. (refl, elim ((ops (suc d)).is_none t) as (λ b. HasAt (suc d) x (elem_at d (cond b none (cell_type d h t proper))) → b ≡ false) [ true ↦ λ z. absurd (empty z) | false ↦ λ z. refl ] y)
-    ] m
+    cons-cases d h t proper (λ c. HasAt (suc d) x (elem_at d c) → ((ops (suc d)).is_none h ≡ false) × ((ops (suc d)).is_none t ≡ false)) (λ y. absurd ((level_laws (suc d)).lattice.none_empty x y)) (λ e f y. (e, f)) m
 
 -- with free ends there is every list whose heads are those of the lists with proper ends
 pub cons-free : (d : ℕ) (h t : TypeAt (suc d)) → NormalAt (suc d) h → NormalAt (suc d) t → (x y : Value) → HasAt (suc d) (cons x y) (cons_at d h t false) ↔ HasAll (HasAt (suc d)) (and_value x (heads y)) (elem_at d (cons_at d h t true))
@@ -143,12 +115,12 @@ cons-free d h t j k x y =
     let e = element_with (ops d) (cut (suc d) d h) t.cell in (
       λ m.
           let w = made_out d h t false (cons x y) m in
-          let made = cons_at-filled d h t true w.0 w.1.0 in
+          let made = cons-made d h t true w.0 w.1.0 in
           let n = subst (NormalAt (suc d)) made (cons-normal d h t true j k) in
           subst (λ c. HasAll (HasAt (suc d)) vs (elem_at d c)) (sym made) (all_up d e n.1.0 vs w.1.1.0),
       λ m.
           let w = heads_out d h t true x m.0 in
-          let made = cons_at-filled d h t true w.0 w.1 in
+          let made = cons-made d h t true w.0 w.1 in
           let n = subst (NormalAt (suc d)) made (cons-normal d h t true j k) in
-          made_in d h t false (cons x y) w.0 w.1 (all_down d e n.1.0 vs (subst (λ c. HasAll (HasAt (suc d)) vs (elem_at d c)) made m), λ b. absurd (true≢false (sym b))),
+          subst (HasAt (suc d) (cons x y)) (sym (cons-made d h t false w.0 w.1)) (all_down d e n.1.0 vs (subst (λ c. HasAll (HasAt (suc d)) vs (elem_at d c)) made m), λ b. absurd (true≢false (sym b))),
     )

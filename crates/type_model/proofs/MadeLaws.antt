@@ -236,11 +236,27 @@ module _ {E : Type 0} {Has : Value → E → Type 0} {Normal : E → Type 0} {o 
   element_with-least e (Some c) g i j k f p v h = l.lattice.join_least e c.element g i j.0 k f (λ u q. p u ((q, tt), λ r. refl)) v h
 
 -- the type of the lists of a head and a tail of which neither is none
-abbrev cell_at : (d : ℕ) → TypeAt (suc d) → TypeAt (suc d) → Bool → Cell (TypeAt d)
-cell_at d h t proper = record { element = element_with (ops d) (cut (suc d) d h) t.cell; is_proper = proper && is_list (ops d) t }
+abbrev pub cell_type : (d : ℕ) → TypeAt (suc d) → TypeAt (suc d) → Bool → TypeAt (suc d)
+cell_type d h t proper = record {
+  plain = plain_none;
+  cell = Some (record { element = element_with (ops d) (cut (suc d) d h) t.cell; is_proper = proper && is_list (ops d) t });
+  tuples = sizes [];
+}
 
-abbrev cell_parts : (d : ℕ) → TypeAt (suc d) → TypeAt (suc d) → Bool → TypeAt (suc d)
-cell_parts d h t proper = record { plain = plain_none; cell = Some (cell_at d h t proper); tuples = sizes [] }
+-- what holds of none, and of this type where neither is none, holds of the lists
+pub cons-cases : (d : ℕ) (h t : TypeAt (suc d)) (proper : Bool) (Q : TypeAt (suc d) → Type 0) → Q (ops (suc d)).none → ((ops (suc d)).is_none h ≡ false → (ops (suc d)).is_none t ≡ false → Q (cell_type d h t proper)) → Q (cons_at d h t proper)
+cons-cases d h t proper Q none made = elim ((ops (suc d)).is_none h) as (λ b. (ops (suc d)).is_none h ≡ b → Q (cond b (ops (suc d)).none (cond ((ops (suc d)).is_none t) (ops (suc d)).none (cell_type d h t proper)))) [
+  | true ↦ λ e. none
+  | false ↦ λ e. elim ((ops (suc d)).is_none t) as (λ b. (ops (suc d)).is_none t ≡ b → Q (cond b (ops (suc d)).none (cell_type d h t proper))) [
+    | true ↦ λ f. none
+    | false ↦ λ f. made e f
+  ] refl
+] refl
+
+pub cons-made : (d : ℕ) (h t : TypeAt (suc d)) (proper : Bool) → (ops (suc d)).is_none h ≡ false → (ops (suc d)).is_none t ≡ false → cons_at d h t proper ≡ cell_type d h t proper
+cons-made d h t proper e f =
+    let none = (ops (suc d)).none in
+    ap (λ b. cond b none (cond ((ops (suc d)).is_none t) none (cell_type d h t proper))) e ∙ ap (λ b. cond b none (cell_type d h t proper)) f
 
 -- what a type has a value of, is an element type one level down
 cut_element : (d : ℕ) (h : TypeAt (suc d)) → NormalAt (suc d) h → (ops (suc d)).is_none h ≡ false → IsElement (NormalAt d) (ops d) (cut (suc d) d h)
@@ -252,32 +268,22 @@ cut_element d h k q =
 pub cons-normal : (d : ℕ) (h t : TypeAt (suc d)) (proper : Bool) → NormalAt (suc d) h → NormalAt (suc d) t → NormalAt (suc d) (cons_at d h t proper)
 unfolding NormalAt
 cons-normal d h t proper j k =
-    let none = (level_laws (suc d)).lattice.none_normal in
-    elim ((ops (suc d)).is_none h) as (λ b. (ops (suc d)).is_none h ≡ b → NormalAt (suc d) (cond b (ops (suc d)).none (cond ((ops (suc d)).is_none t) (ops (suc d)).none (cell_parts d h t proper)))) [
-      | true ↦ λ q. none
-      | false ↦ λ q. elim ((ops (suc d)).is_none t) as (λ b. NormalAt (suc d) (cond b (ops (suc d)).none (cell_parts d h t proper))) [
-        | true ↦ none
-        | false ↦ (tt, element_with-element (level_laws d) (cut (suc d) d h) t.cell (cut_element d h j q) k.1, (tuples_lattice (level_laws d)).none_normal)
-      ]
-    ] refl
+    cons-cases d h t proper (NormalAt (suc d)) (level_laws (suc d)).lattice.none_normal (λ e f. (tt, element_with-element (level_laws d) (cut (suc d) d h) t.cell (cut_element d h j e) k.1, (tuples_lattice (level_laws d)).none_normal))
 
 pub cons-above : (d : ℕ) (h t : TypeAt (suc d)) (proper : Bool) → NormalAt (suc d) h → NormalAt (suc d) t → (x y : Value) → HasAt (suc d) x h → HasAt (suc d) y t → HasAt (suc d) (cons x y) (cons_at d h t proper)
 unfolding NormalAt
 cons-above d h t proper j k x y p q =
-    let e = not_none (level_laws (suc d)) h x p in
-    let f = not_none (level_laws (suc d)) t y q in
     let c = cut_lowering (suc d) d in
-    let inside : HasAt (suc d) (cons x y) (cell_parts d h t proper) = (
+    subst (HasAt (suc d) (cons x y)) (sym (cons-made d h t proper (not_none (level_laws (suc d)) h x p) (not_none (level_laws (suc d)) t y q))) (
       (
         element_with-head (level_laws d) (cut (suc d) d h) t.cell (c.normal h j) k.1 x (c.above h j x p),
         element_with-rest (level_laws d) (cut (suc d) d h) t (c.normal h j) k.1 y q,
       ),
       λ z. is_list-lists d t (second proper (is_list (ops d) t) z) y q,
-    ) in
-    subst (λ b. HasAt (suc d) (cons x y) (cond b (ops (suc d)).none (cond ((ops (suc d)).is_none t) (ops (suc d)).none (cell_parts d h t proper)))) (sym e) (subst (λ b. HasAt (suc d) (cons x y) (cond b (ops (suc d)).none (cell_parts d h t proper))) (sym f) inside)
+    )
 
 -- the lists are below each list type that has each list of such a head and tail
-cell_least : (d : ℕ) (h t : TypeAt (suc d)) → NormalAt (suc d) h → NormalAt (suc d) t → (ops (suc d)).is_none h ≡ false → (ops (suc d)).is_none t ≡ false → (c : Option (Cell (TypeAt d))) → NormalCell (NormalAt d) (ops d) c → ((x y : Value) → HasAt (suc d) x h → HasAt (suc d) y t → HasCell (HasAt d) (x, y) c) → BelowBy (HasCell (HasAt d)) (Some (cell_at d h t true)) c
+cell_least : (d : ℕ) (h t : TypeAt (suc d)) → NormalAt (suc d) h → NormalAt (suc d) t → (ops (suc d)).is_none h ≡ false → (ops (suc d)).is_none t ≡ false → (c : Option (Cell (TypeAt d))) → NormalCell (NormalAt d) (ops d) c → ((x y : Value) → HasAt (suc d) x h → HasAt (suc d) y t → HasCell (HasAt d) (x, y) c) → BelowBy (HasCell (HasAt d)) (cell_type d h t true).cell c
 unfolding NormalAt
 cell_least d h t j k e f None i p z m =
     let x = value_of (level_laws (suc d)) h (j, e) in
@@ -294,7 +300,7 @@ cell_least d h t j k e f (Some c) i p z m =
     )
 
 -- a type of lists has nothing but lists
-of_cell : (d : ℕ) (c : Cell (TypeAt d)) (u : TypeAt (suc d)) → ((x y : Value) → HasCell (HasAt d) (x, y) (Some c) → HasAt (suc d) (cons x y) u) → BelowBy (HasAt (suc d)) (record { plain = plain_none; cell = Some c; tuples = sizes [] }) u
+of_cell : (d : ℕ) (c : Option (Cell (TypeAt d))) (u : TypeAt (suc d)) → ((x y : Value) → HasCell (HasAt d) (x, y) c → HasAt (suc d) (cons x y) u) → BelowBy (HasAt (suc d)) (record { plain = plain_none; cell = c; tuples = sizes [] }) u
 of_cell d c u p (cons x y) h = p x y h
 of_cell d c u p (tuple vs) h = absurd h
 of_cell d c u p v h = absurd (true≢false (sym h))
@@ -302,14 +308,7 @@ of_cell d c u p v h = absurd (true≢false (sym h))
 pub cons-least : (d : ℕ) (h t : TypeAt (suc d)) → NormalAt (suc d) h → NormalAt (suc d) t → (u : TypeAt (suc d)) → NormalAt (suc d) u → ((x y : Value) → HasAt (suc d) x h → HasAt (suc d) y t → HasAt (suc d) (cons x y) u) → BelowBy (HasAt (suc d)) (cons_at d h t true) u
 unfolding NormalAt
 cons-least d h t j k u i p =
-    let empty = (level_laws (suc d)).lattice.none_empty in
-    elim ((ops (suc d)).is_none h) as (λ b. (ops (suc d)).is_none h ≡ b → BelowBy (HasAt (suc d)) (cond b (ops (suc d)).none (cond ((ops (suc d)).is_none t) (ops (suc d)).none (cell_parts d h t true))) u) [
-      | true ↦ λ e v m. absurd (empty v m)
-      | false ↦ λ e. elim ((ops (suc d)).is_none t) as (λ b. (ops (suc d)).is_none t ≡ b → BelowBy (HasAt (suc d)) (cond b (ops (suc d)).none (cell_parts d h t true)) u) [
-        | true ↦ λ f v m. absurd (empty v m)
-        | false ↦ λ f. of_cell d (cell_at d h t true) u (λ x y m. cell_least d h t j k e f u.cell i.1 p (x, y) m)
-      ] refl
-    ] refl
+    cons-cases d h t true (λ c. BelowBy (HasAt (suc d)) c u) (λ v m. absurd ((level_laws (suc d)).lattice.none_empty v m)) (λ e f. of_cell d (cell_type d h t true).cell u (λ x y m. cell_least d h t j k e f u.cell i.1 p (x, y) m))
 
 -- ---- what a tuple or a list holds
 

@@ -16,10 +16,14 @@ abbrev pub sizes_at : {E : Type 0} → Ops E → Numbers → List (ℕ × Body E
 sizes_at o s [] = []
 sizes_at o s (b ∷ m) = at_places s 1 (elements o b.1) ++ sizes_at o s m
 
+-- a type joined with those of some things, one after the other
+abbrev pub joined_all : {P X : Type 0} → (P → P → P) → (X → P) → P → List X → P
+joined_all join of t [] = t
+joined_all join of t (x ∷ xs) = joined_all join of (join t (of x)) xs
+
 -- the join of a type and of some element types
 abbrev pub with_elements : (d : ℕ) → TypeAt (suc d) → List (TypeAt d) → TypeAt (suc d)
-with_elements d t [] = t
-with_elements d t (e ∷ es) = with_elements d ((ops (suc d)).join t (cut d (suc d) e)) es
+with_elements d t es = joined_all (ops (suc d)).join (cut d (suc d)) t es
 
 -- the join of the elements at these places, over all sizes; any for all tuples
 abbrev pub tuples_at : (d : ℕ) → Tuples (TypeAt d) → Numbers → TypeAt (suc d)
