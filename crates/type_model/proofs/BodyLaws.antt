@@ -24,6 +24,36 @@ use Rattle.type_model.proofs.RowLaws.{BelowEach, values_of, each-more, each-belo
 atom_same : (a b : Name) → atom a ≡ atom b → a ≡ b
 atom_same a b e = cc
 
+some_row : {E : Type 0} (Has : Value → E → Type 0) (vs : Values) (r : Option (List E)) → HasRow Has vs r → is_some r ≡ true
+some_row Has vs None h = absurd h
+some_row Has vs (Some es) h = refl
+
+-- a first element is one of the tags
+first_tag : {E : Type 0} (Has : Value → E → Type 0) (v : Value) (vs : Values) (m : List (Name × List E)) → HasTag Has (and_value v vs) m → (a : Name) × ((v ≡ atom a) × (has_item name_cmp (keys m) a ≡ true))
+first_tag Has (atom a) vs m h = (a, (refl, sym (tables.find-key name_total name_same m a) ∙ some_row Has vs (find name_cmp m a) h))
+first_tag Has v vs m h = absurd h
+
+tags-listed : {E : Type 0} (Normal : E → Type 0) (o : Ops E) (n : ℕ) (m : List (Name × List E)) → NormalTags Normal o (suc n) m → are_listed (keys m) ≡ true
+tags-listed Normal o n m k = both (is_ascending name_cmp (keys m)) (nat_lt (length (keys m)) 14) k.0.0 (ap (λ i. nat_lt i 14) (tables.length-keys name_total name_same m) ∙ k.1)
+
+-- ---- between the types of two levels, or of one
+
+module _ {F E : Type 0} {HasF : Value → F → Type 0} {NormalF : F → Type 0} {f : Ops F} (high : Laws HasF NormalF f) {HasE : Value → E → Type 0} {NormalE : E → Type 0} {e : Ops E} (low : Laws HasE NormalE e) where
+  -- a type above one that is no set of few atoms is none either
+  pub only_above : (t : F) (u : E) → IsElement NormalF f t → f.only t ≡ None → ((v : Value) → HasF v t → HasE v u) → e.only u ≡ None
+  only_above t u k z b = elim (e.only u) as (λ x. e.only u ≡ x → x ≡ None) [
+    | None ↦ λ q. refl
+    | Some xs ↦ λ q. absurd (high.naming.only_found t k.0 k.1 xs (low.naming.only_listed u xs q) (λ v h. low.naming.only_out u xs q v (b v h)) z)
+  ] refl
+
+  -- a normal product has a tuple that is in no tags
+  pub not_in_tags : (n : ℕ) (es : List F) (m : List (Name × List E)) → NormalBody NormalF f n (Some (product es)) → NormalTags NormalE e n m → ((vs : Values) → HasEach HasF vs es → HasTag HasE vs m) → ⊥
+  not_in_tags zero es m j k p = k
+  not_in_tags (suc n) [] m j k p = p no_value tt
+  not_in_tags (suc n) (t ∷ ts) m j k p =
+      let w = values_of high ts j.0.1.1 in
+      high.naming.only_found t j.0.1.0.0 j.0.1.0.1 (keys m) (tags-listed NormalE e n m k) (λ v h. first_tag HasE v w.0 m (p (and_value v w.0) (h, w.1))) j.1
+
 module _ {E : Type 0} {Has : Value → E → Type 0} {Normal : E → Type 0} {o : Ops E} (l : Laws Has Normal o) where
   abbrev Rows : Type 0
   Rows = List (Name × List E)
@@ -62,10 +92,6 @@ module _ {E : Type 0} {Has : Value → E → Type 0} {Normal : E → Type 0} {o 
   cond_normal n true es k = k
   cond_normal n false es k = tt
 
-  some_row : (vs : Values) (r : Option (List E)) → HasR vs r → is_some r ≡ true
-  some_row vs None h = absurd h
-  some_row vs (Some es) h = refl
-
   -- ---- tags
 
   -- what stands at a tag is a normal row
@@ -92,7 +118,7 @@ module _ {E : Type 0} {Has : Value → E → Type 0} {Normal : E → Type 0} {o 
   key_in m a es e = sym (tables.find-key name_total name_same m a) ∙ ap is_some e
 
   key_row : (m : Rows) (a : Name) (vs : Values) → HasR vs (at m a) → has_item name_cmp (keys m) a ≡ true
-  key_row m a vs h = sym (tables.find-key name_total name_same m a) ∙ some_row vs (at m a) h
+  key_row m a vs h = sym (tables.find-key name_total name_same m a) ∙ some_row Has vs (at m a) h
 
   -- some tags have one, with element types behind it
   pub a_tag : (n : ℕ) (m : List (Name × List E)) → AreTags Normal o n m → (a : Name) × ((es : List E) × ((find name_cmp m a ≡ Some es) × AreElements Normal o es))
@@ -148,23 +174,9 @@ module _ {E : Type 0} {Has : Value → E → Type 0} {Normal : E → Type 0} {o 
       let w = values_of l t.1.0 t.1.1.1 in
       (and_value (atom t.0) w.0, subst (HasR w.0) (sym t.1.1.0) w.1)
 
-  tags-listed : (n : ℕ) (m : Rows) → NormalTags Normal o (suc n) m → are_listed (keys m) ≡ true
-  tags-listed n m k = both (is_ascending name_cmp (keys m)) (nat_lt (length (keys m)) 14) k.0.0 (ap (λ i. nat_lt i 14) (tables.length-keys name_total name_same m) ∙ k.1)
-
   -- a normal product has a tuple that is in no tags
   pub not_tags : (n : ℕ) (es : List E) (m : List (Name × List E)) → NormalBody Normal o n (Some (product es)) → NormalTags Normal o n m → BelowBy (HasBody Has) (Some (product es)) (Some (tags m)) → ⊥
-  not_tags zero es m j k f = k
-  not_tags (suc n) [] m j k f = f no_value tt
-  not_tags (suc n) (e ∷ es) m j k f =
-      let w = values_of l es j.0.1.1 in
-      l.naming.only_found e j.0.1.0.0 j.0.1.0.1 (keys m) (tags-listed n m k) (λ v h. let t = tagged (and_value v w.0) m (f (and_value v w.0) (h, w.1)) in (
-        t.0,
-        (ap (first_of v) t.1.1.0, key_row m t.0 t.1.0 t.1.1.1),
-      )) j.1
-    where
-      first_of : Value → Values → Value
-      first_of v no_value = v
-      first_of v (and_value u us) = u
+  not_tags = not_in_tags l l
 
   body_same : (n : ℕ) (b c : Body E) → BodyOf n (Some b) → BodyOf n (Some c) → BelowBy HasB (Some b) (Some c) → BelowBy HasB (Some c) (Some b) → b ≡ c
   body_same n (product es) (product fs) j k p q =
@@ -430,22 +442,15 @@ module _ {E : Type 0} {Has : Value → E → Type 0} {Normal : E → Type 0} {o 
   wide_least n s t gs i j k f h vs v =
       each-more l (wide s t) gs (join_each_least l (elements o s) (elements o t) gs (elements_normal n s i).1 (elements_normal n t j).1 k.1 (elements_least n s gs i k f) (elements_least n t gs j k h)) vs v
 
-  -- a type above one that is no set of few atoms is none either
-  only_above : (e f : E) → IsElement Normal o e → o.only e ≡ None → BelowBy Has e f → o.only f ≡ None
-  only_above e f k z b = elim (o.only f) as (λ x. o.only f ≡ x → x ≡ None) [
-    | None ↦ λ q. refl
-    | Some xs ↦ λ q. absurd (l.naming.only_found e k.0 k.1 xs (l.naming.only_listed f xs q) (λ v h. l.naming.only_out f xs q v (b v h)) z)
-  ] refl
-
   open_left : (es fs : List E) → AreElements Normal o es → AreElements Normal o fs → FirstIsOpen Normal o es → FirstIsOpen Normal o (row_join o es fs)
   open_left [] fs j k f = tt
   open_left (x ∷ xs) [] j k f = tt
-  open_left (x ∷ xs) (y ∷ ys) j k f = only_above x (o.join x y) j.0 f (l.lattice.join_left x y j.0.0 k.0.0)
+  open_left (x ∷ xs) (y ∷ ys) j k f = only_above l l x (o.join x y) j.0 f (l.lattice.join_left x y j.0.0 k.0.0)
 
   open_right : (es fs : List E) → AreElements Normal o es → AreElements Normal o fs → FirstIsOpen Normal o fs → FirstIsOpen Normal o (row_join o es fs)
   open_right [] fs j k f = tt
   open_right (x ∷ xs) [] j k f = tt
-  open_right (x ∷ xs) (y ∷ ys) j k f = only_above y (o.join x y) k.0 f (l.lattice.join_right x y j.0.0 k.0.0)
+  open_right (x ∷ xs) (y ∷ ys) j k f = only_above l l y (o.join x y) k.0 f (l.lattice.join_right x y j.0.0 k.0.0)
 
   -- ---- the join of two bodies of tags
 
@@ -508,7 +513,7 @@ module _ {E : Type 0} {Has : Value → E → Type 0} {Normal : E → Type 0} {o 
   tags_within n m w k f q h =
       let x = found_at (at m q) h in
       let v = values_of l x.0 (subst (RowOf n) x.1 (rows_at n m k.2 q)).1 in
-      some_row v.0 (at w q) (f q v.0 (subst (HasR v.0) (sym x.1) v.1))
+      some_row Has v.0 (at w q) (f q v.0 (subst (HasR v.0) (sym x.1) v.1))
 
   capped_least : (n : ℕ) (b : Bool) (m : Rows) (u : Body E) → nat_lt (length m) 14 ≡ b → Tags n m → BodyOf (suc n) (Some u) → ((a : Name) → BelowBy HasR (at m a) (row_at o u a)) → BelowBy HasB (Some (capped b m)) (Some u)
   capped_least n true m u e i k f vs h = each_tag m u f vs h

@@ -9,6 +9,11 @@ use Rattle.type_model.specs.Operations.{Ops, or_none, cell_meet, cell_join}
 use Rattle.type_model.specs.Normal.{IsElement, NormalCell}
 use Rattle.type_model.specs.Laws.{BelowBy, Lattice, Laws}
 use Rattle.type_model.proofs.LatticeLaws.{with_none}
+use Rattle.type_model.proofs.PlainLaws.{same_test}
+
+-- an end that isn't nil
+pub no_nil : atom [] ≡ nil → ⊥
+no_nil e = cc
 
 module _ {E : Type 0} {Has : Value → E → Type 0} {Normal : E → Type 0} {o : Ops E} (l : Laws Has Normal o) where
   -- ---- element types
@@ -54,9 +59,6 @@ module _ {E : Type 0} {Has : Value → E → Type 0} {Normal : E → Type 0} {o 
   free_end : (c : Cell E) → (v : Value) → Has v c.element → c.is_proper ≡ false → HasC (v, atom []) (Some c)
   free_end c v h k = ((h, tt), λ e. absurd (true≢false (sym e ∙ k)))
 
-  no_nil : atom [] ≡ nil → ⊥
-  no_nil e = cc
-
   -- what it means that the lists of one cell are all among those of another
   pub cell-below : (s t : Cell E) → IsElement Normal o s.element → BelowBy (HasCell Has) (Some s) (Some t) → BelowBy Has s.element t.element × (t.is_proper ≡ true → s.is_proper ≡ true)
   cell-below s t k f = (
@@ -67,17 +69,12 @@ module _ {E : Type 0} {Has : Value → E → Type 0} {Normal : E → Type 0} {o 
     ] refl,
   )
 
-  same_ends : (a b : Bool) → (a ≡ true → b ≡ true) → (b ≡ true → a ≡ true) → a ≡ b
-  same_ends true b f g = sym (f refl)
-  same_ends false true f g = g refl
-  same_ends false false f g = refl
-
   cell_same : (s t : Cell E) → NormalC (Some s) → NormalC (Some t) → BelowBy HasC (Some s) (Some t) → BelowBy HasC (Some t) (Some s) → s ≡ t
   cell_same s t j k f g =
       let x = cell-below s t j f in
       let y = cell-below t s k g in
       let e = l.lattice.same s.element t.element j.0 k.0 x.0 y.0 in
-      let b = same_ends s.is_proper t.is_proper y.1 x.1 in
+      let b = same_test s.is_proper t.is_proper y.1 x.1 in
       λ i. record { element = e i; is_proper = b i }
 
   -- ---- the meet

@@ -6,22 +6,19 @@ use Rattle.std.specs.Cmp.{nat_cmp_total}
 use Rattle.std.specs.FinSet.{nat_cmp-IsAntisymmetric}
 use Rattle.type_sets.specs.Ascending.{is_ascending}
 use Rattle.type_sets.specs.Names.{Name, name_cmp}
-use Rattle.type_sets.specs.declared.limits.TheConstants.{MAX_MEMBERS}
-use Rattle.type_sets.proofs.FewLaws.{few-is}
-use Rattle.type_sets.proofs.NameLaws.{name_total, name_same, listed-from}
-use Rattle.type_sets.proofs.Truths.{is_false}
+use Rattle.type_sets.proofs.NameLaws.{name_total, name_same}
 use Rattle.type_model.specs.Values.{Value, atom, nil, cons, tuple, Values, no_value, and_value, count, heads}
-use Rattle.type_model.specs.Tables.{keys, mapped, find}
+use Rattle.type_model.specs.Tables.{mapped, find}
 use Rattle.type_model.specs.Shapes.{Cell, Body, product, tags, Tuples, sizes, all_tuples, Parts, TypeAt}
 use Rattle.type_model.specs.HasType.{HasAll, HasEach, HasRow, HasCell, HasTag, HasBody, HasTuple, HasParts, HasAt}
 use Rattle.type_model.specs.Operations.{Ops, elements, row_at, ops}
 use Rattle.type_model.specs.Normal.{IsElement, NormalCell, AreElements, NormalRow, FirstIsOpen, NormalRows, NormalBody, NormalSizes, NormalTuples, NormalParts, NormalAt}
 use Rattle.type_model.specs.Cut.{cell_lower, body_lower, tuples_lower, parts_lower, cut}
 use Rattle.type_model.specs.Laws.{BelowBy, Laws, Lowering}
-use Rattle.type_model.proofs.TableLaws.{find-key, find-mapped, keys-mapped, length-mapped, empty-mapped, length-keys}
-use Rattle.type_model.proofs.CellLaws.{value_of, all-more}
+use Rattle.type_model.proofs.TableLaws.{find-mapped, keys-mapped, length-mapped, empty-mapped}
+use Rattle.type_model.proofs.CellLaws.{no_nil, value_of, filled-not_none, all-more}
 use Rattle.type_model.proofs.RowLaws.{values_of, count_each}
-use Rattle.type_model.proofs.BodyLaws.{body_lattice, rows_at, row_at_in, row_at_normal, tagged, each_tag, elements_normal, elements_above, count_body}
+use Rattle.type_model.proofs.BodyLaws.{only_above, not_in_tags, body_lattice, rows_at, row_at_in, row_at_normal, tagged, each_tag, elements_normal, elements_above, count_body}
 use Rattle.type_model.proofs.TupleLaws.{normal_at}
 use Rattle.type_model.proofs.LevelLaws.{level_laws}
 
@@ -30,17 +27,13 @@ pub is_true : (b : Bool) → (b ≡ false → ⊥) → b ≡ true
 is_true true p = refl
 is_true false p = absurd (p refl)
 
--- an end that is no nil
-pub atom_end : atom [] ≡ nil → ⊥
-atom_end q = cc
-
 -- ---- from the types of one level to those of another, and so one level up
 
 module _ {F E : Type 0} {HasF : Value → F → Type 0} {NormalF : F → Type 0} {f : Ops F} (high : Laws HasF NormalF f) {HasE : Value → E → Type 0} {NormalE : E → Type 0} {e : Ops E} (low : Laws HasE NormalE e) {lower : F → E} (s : Lowering HasF NormalF HasE NormalE lower) where
   element_normal : (t : F) → IsElement NormalF f t → IsElement NormalE e (lower t)
   element_normal t k =
       let w = value_of high t k in
-      (s.normal t k.0, is_false (e.is_none (lower t)) (λ q. low.lattice.none_empty w.0 (subst (λ x. HasE w.0 x) (low.none-is_none (lower t) q) (s.above t k.0 w.0 w.1))))
+      (s.normal t k.0, filled-not_none low (lower t) w.0 (s.above t k.0 w.0 w.1))
 
   -- ---- rows
   pub row_normal : (es : List F) → AreElements NormalF f es → AreElements NormalE e (map lower es)
@@ -72,7 +65,7 @@ module _ {F E : Type 0} {HasF : Value → F → Type 0} {NormalF : F → Type 0}
         row_least ts gs j.1 k.1 (λ us q. (p (and_value x.0 us) (x.1, q)).1) vs h.1,
       )
 
-  length-lower : (es : List F) → length (map lower es) ≡ length es
+  pub length-lower : (es : List F) → length (map lower es) ≡ length es
   length-lower [] = refl
   length-lower (t ∷ ts) = ap suc (length-lower ts)
 
@@ -96,10 +89,7 @@ module _ {F E : Type 0} {HasF : Value → F → Type 0} {NormalF : F → Type 0}
   -- ---- the tuples of one size
   first_open : (es : List F) → AreElements NormalF f es → FirstIsOpen NormalF f es → FirstIsOpen NormalE e (map lower es)
   first_open [] j k = tt
-  first_open (t ∷ ts) j k = elim (e.only (lower t)) as (λ x. e.only (lower t) ≡ x → x ≡ None) [
-    | None ↦ λ q. refl
-    | Some xs ↦ λ q. absurd (high.naming.only_found t j.0.0 j.0.1 xs (low.naming.only_listed (lower t) xs q) (λ v h. low.naming.only_out (lower t) xs q v (s.above t j.0.0 v h)) k)
-  ] refl
+  first_open (t ∷ ts) j k = only_above high low t (lower t) j.0 k (s.above t j.0.0)
 
   -- where there are no tags, no element type is a set of few atoms
   all_open : e.has_tags ≡ false → (gs : List E) → FirstIsOpen NormalE e gs
@@ -141,28 +131,6 @@ module _ {F E : Type 0} {HasF : Value → F → Type 0} {NormalF : F → Type 0}
   body_above zero (tags m) k vs h = absurd k
   body_above (suc n) (tags m) k vs h = tags_above n m e.has_tags k vs h
 
-  first_of : Value → Values → Value
-  first_of v no_value = v
-  first_of v (and_value u us) = u
-
-  row_is_some : (vs : Values) (r : Option (List E)) → HasRow HasE vs r → is_some r ≡ true
-  row_is_some vs None h = absurd h
-  row_is_some vs (Some es) h = refl
-
-  -- a product in normal form isn't below tags
-  not_tags : (n : ℕ) (es : List F) (m : List (Name × List E)) → NormalBody NormalF f n (Some (product es)) → NormalBody NormalE e n (Some (tags m)) → ((vs : Values) → HasEach HasF vs es → HasTag HasE vs m) → ⊥
-  unfolding first_of
-  not_tags zero es m j k p = k
-  not_tags (suc n) [] m j k p = p no_value tt
-  not_tags (suc n) (t ∷ ts) m j k p =
-      let w = values_of high ts j.0.1.1 in
-      let few : length (keys m) ≤ MAX_MEMBERS = subst (λ i. i ≤ MAX_MEMBERS) (sym (length-keys name_total name_same m)) (few-is m k.1) in
-      high.naming.only_found t j.0.1.0.0 j.0.1.0.1 (keys m) (listed-from (keys m) k.0.0 few) (λ v h.
-      let a = tagged low (and_value v w.0) m (p (and_value v w.0) (h, w.1)) in (
-        a.0,
-        (ap (first_of v) a.1.1.0, sym (find-key name_total name_same m a.0) ∙ row_is_some a.1.0 (find name_cmp m a.0) a.1.1.1),
-      )) j.1
-
   pub all_each : e.has_tags ≡ false → (gs : List E) → AreElements NormalE e gs → (vs : Values) → count vs ≡ length gs → HasEach HasE vs gs
   all_each a [] k no_value q = tt
   all_each a [] k (and_value v vs) q = absurd (omega arith)
@@ -180,7 +148,7 @@ module _ {F E : Type 0} {HasF : Value → F → Type 0} {NormalF : F → Type 0}
 
   pub body_least : (n : ℕ) (b : Body F) (u : Body E) → NormalBody NormalF f n (Some b) → NormalBody NormalE e n (Some u) → ((vs : Values) → HasBody HasF vs (Some b) → HasBody HasE vs (Some u)) → (vs : Values) → HasBody HasE vs (Some (body_lower lower f e b)) → HasBody HasE vs (Some u)
   body_least n (product es) (product gs) j k p vs h = row_least es gs j.0.1 k.0.1 p vs h
-  body_least n (product es) (tags m) j k p vs h = absurd (not_tags n es m j k p)
+  body_least n (product es) (tags m) j k p vs h = absurd (not_in_tags high low n es m j k p)
   body_least zero (tags m) u j k p vs h = absurd j
   body_least (suc n) (tags m) u j k p vs h = tags_least n m e.has_tags u refl j k p vs h
 
@@ -239,7 +207,7 @@ module _ {F E : Type 0} {HasF : Value → F → Type 0} {NormalF : F → Type 0}
   cell_least (Some c) (Some u) j k p x h =
       let w = value_of high c.element j in
       let m : BelowBy HasE (lower c.element) u.element = s.least c.element u.element j.0 k.0 (λ v y. (p (v, nil) ((y, tt), λ q. refl)).0.0) in
-      let proper : u.is_proper ≡ true → c.is_proper ≡ true = λ z. is_true c.is_proper (λ q. atom_end ((p (w.0, atom []) ((w.1, tt), λ r. absurd (true≢false (sym r ∙ q)))).1 z)) in
+      let proper : u.is_proper ≡ true → c.is_proper ≡ true = λ z. is_true c.is_proper (λ q. no_nil ((p (w.0, atom []) ((w.1, tt), λ r. absurd (true≢false (sym r ∙ q)))).1 z)) in
       (all-more low (lower c.element) u.element m (and_value x.0 (heads x.1)) h.0, λ z. h.1 (proper z))
 
   -- ---- the parts of a type
@@ -340,7 +308,7 @@ module _ {F E : Type 0} {HasF : Value → F → Type 0} {NormalF : F → Type 0}
   next_exact p k v h = h
 
 -- tags are on each level but the first two
-tags_remain : (e d : ℕ) → e ≤ d → (ops e).has_tags ≡ true → (ops d).has_tags ≡ true
+pub tags_remain : (e d : ℕ) → e ≤ d → (ops e).has_tags ≡ true → (ops d).has_tags ≡ true
 unfolding ops
 tags_remain zero d le h = absurd (true≢false (sym h))
 tags_remain (suc e) zero le h = absurd (omega arith)

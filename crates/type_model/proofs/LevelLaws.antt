@@ -8,6 +8,7 @@ use Rattle.type_model.specs.HasType.{HasAt}
 use Rattle.type_model.specs.Operations.{base, ops}
 use Rattle.type_model.specs.Normal.{NormalAt}
 use Rattle.type_model.specs.Laws.{Lattice, Naming, Laws}
+use Rattle.type_model.proofs.PlainLaws.{same_test}
 use Rattle.type_model.proofs.PartsLaws.{next_laws}
 
 -- ---- level 0
@@ -22,17 +23,12 @@ base_filled : (t : Bool) → (t ≡ false) ⊎ ((v : Value) × HasBase v t)
 base_filled true = inr (nil, refl)
 base_filled false = inl refl
 
-base_same : (s t : Bool) → (s ≡ true → t ≡ true) → (t ≡ true → s ≡ true) → s ≡ t
-base_same true t f h = sym (f refl)
-base_same false true f h = h refl
-base_same false false f h = refl
-
 base_lattice : Lattice HasBase NormalBase false ◌&&◌ ◌||◌
 base_lattice = record {
   none_normal = tt;
   none_empty = λ v h. true≢false (sym h);
   filled = λ s k. base_filled s;
-  same = λ s t j k f h. base_same s t (f nil) (h nil);
+  same = λ s t j k f h. same_test s t (f nil) (h nil);
   meet_normal = λ s t j k. tt;
   meet_in = λ s t j k v f h. both s t f h;
   meet_left = λ s t j k v h. first s t h;

@@ -1,5 +1,5 @@
 -- A join is the same on the next level: the least type of a level above two types is the least of the next level too.
-use Rattle.std.proofs.Common.{◌≡◌, ℕ, zero, suc, Bool, true, false, ◌&&◌, ◌||◌, inl, inr, cond, List, [], ◌∷◌, map, length, Option, Some, None, Less, Equal, Greater, refl, sym, ap, ◌∙◌, subst, true≢false}
+use Rattle.std.proofs.Common.{arith, ◌≡◌, ℕ, zero, suc, Bool, true, false, ◌&&◌, ◌||◌, inl, inr, cond, List, [], ◌∷◌, map, length, Option, Some, None, Less, Equal, Greater, refl, sym, ap, ◌∙◌, subst, true≢false}
 use Rattle.std.specs.Prelude.{nat_lt}
 use Rattle.std.specs.declared.cmp.Ordering.{Ordering}
 use Rattle.std.specs.Ordering.{nat_cmp, is_lt, is_eq}
@@ -19,7 +19,7 @@ use Rattle.type_model.proofs.TableLaws.{EachEntry, keys-mapped, length-mapped}
 use Rattle.type_model.proofs.RowLaws.{row_lattice}
 use Rattle.type_model.proofs.BodyLaws.{elements_normal, body_lattice}
 use Rattle.type_model.proofs.LevelLaws.{level_laws}
-use Rattle.type_model.proofs.CutLaws.{cut_lowering}
+use Rattle.type_model.proofs.CutLaws.{cut_lowering, tags_remain}
 
 -- ---- tables whose entries are joined, and what becomes of them
 
@@ -171,10 +171,6 @@ unfolding cut ops
 names_lift zero a xs = absurd (true≢false (sym a))
 names_lift (suc d) a xs = refl
 
-tags_lift : (d : ℕ) → (ops d).has_tags ≡ true → (ops (suc d)).has_tags ≡ true
-unfolding ops
-tags_lift d a = refl
-
 -- of none and any
 base_joins : (s t : Bool) → cut 0 1 ((ops 0).join s t) ≡ (ops 1).join (cut 0 1 s) (cut 0 1 t)
 unfolding NormalAt ops
@@ -194,4 +190,4 @@ pub lift_join : (d : ℕ) (s t : TypeAt d) → NormalAt d s → NormalAt d t →
 unfolding cut NormalAt ops
 lift_join zero s t j k = base_joins s t
 lift_join (suc d) s t j k =
-    parts_joins (level_laws d) {e = ops (suc d)} (record { joins = lift_join d; tags_stay = tags_lift d; names_stay = names_lift d }) s t j k
+    parts_joins (level_laws d) {e = ops (suc d)} (record { joins = lift_join d; tags_stay = tags_remain d (suc d) (omega arith); names_stay = names_lift d }) s t j k

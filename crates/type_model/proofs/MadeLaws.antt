@@ -1,5 +1,5 @@
 -- The laws of types made of types: of tuples and of lists, and of the elements, heads and tails that these have.
-use Rattle.std.proofs.Common.{◌≡◌, ℕ, zero, suc, ◌-◌, Bool, true, false, cond, ◌&&◌, ◌||◌, inl, inr, List, [], ◌∷◌, length, Option, Some, None, refl, sym, ap, ◌∙◌, subst, true≢false}
+use Rattle.std.proofs.Common.{◌≡◌, ℕ, zero, suc, ◌-◌, Bool, true, false, cond, ◌&&◌, inl, inr, List, [], ◌∷◌, length, Option, Some, None, refl, sym, ap, ◌∙◌, subst, true≢false}
 use Rattle.std.specs.Prelude.{nat_lt, slice_get}
 use Rattle.std.specs.Ordering.{nat_cmp, eq_by_cmp}
 use Rattle.std.specs.Cmp.{nat_cmp_total}
@@ -9,7 +9,7 @@ use Rattle.type_sets.specs.Numbers as numbers
 use Rattle.type_sets.specs.declared.bits.Bits.TheVariants.{No}
 use Rattle.type_sets.proofs.NameLaws as name_laws
 use Rattle.type_sets.proofs.AscendingLaws.{is_it, itself}
-use Rattle.type_sets.proofs.Truths.{both, first, second, is_false}
+use Rattle.type_sets.proofs.Truths.{both, first, second}
 use Rattle.type_model.specs.Values.{Value, atom, nil, cons, tuple, Values, no_value, and_value, count, heads, end_of}
 use Rattle.type_model.specs.Tables.{find}
 use Rattle.type_model.specs.Shapes.{nils, no_function, PlainParts, Cell, Body, Tuples, sizes, all_tuples, Parts, TypeAt}
@@ -21,25 +21,17 @@ use Rattle.type_model.specs.Parts.{value_at, AreNormal, product_of, proper_cell,
 use Rattle.type_model.specs.Laws.{BelowBy, Laws}
 use Rattle.type_model.specs.ValueShapes.{Leaf, an_atom, of_flag, has_leaf, Shape, leaf, shape, value_of_shape, shape-value_of_shape, HasShape, has-shape}
 use Rattle.type_model.proofs.PlainLaws.{plain-none_is, plain-none_empty, is_atoms-other}
-use Rattle.type_model.proofs.CellLaws.{value_of, all-more, element-join}
-use Rattle.type_model.proofs.RowLaws.{values_of, count_each, row_filled-not_none}
+use Rattle.type_model.proofs.CellLaws.{no_nil, value_of, filled-not_none, all-more, element-join}
+use Rattle.type_model.proofs.RowLaws.{neither, values_of, count_each, row_filled-not_none}
 use Rattle.type_model.proofs.BodyLaws.{body_of_in, body_of_out, body_of_normal, elements_normal, elements_above}
 use Rattle.type_model.proofs.TupleLaws.{normal_at, tuples_lattice}
 use Rattle.type_model.proofs.PartsLaws.{next_laws}
 use Rattle.type_model.proofs.LevelLaws.{level_laws}
-use Rattle.type_model.proofs.CutLaws.{is_true, atom_end, cut_lowering}
-
-neither : (a b : Bool) → (a || b) ≡ false → (a ≡ false) × (b ≡ false)
-neither true b h = absurd (true≢false h)
-neither false b h = (refl, h)
+use Rattle.type_model.proofs.CutLaws.{is_true, cut_lowering}
 
 -- ---- tuples
 
 module _ {E : Type 0} {Has : Value → E → Type 0} {Normal : E → Type 0} {o : Ops E} (l : Laws Has Normal o) where
-  -- what has a value isn't none
-  not_none : (e : E) (v : Value) → Has v e → o.is_none e ≡ false
-  not_none e v h = is_false (o.is_none e) (λ q. l.lattice.none_empty v (subst (λ x. Has v x) (l.none-is_none e q) h))
-
   pub are_elements : (es : List E) → AreNormal Normal es → has_none o es ≡ false → AreElements Normal o es
   are_elements [] k q = tt
   are_elements (e ∷ es) k q = let p = neither (o.is_none e) (has_none o es) q in ((k.0, p.0), are_elements es k.1 p.1)
@@ -72,7 +64,7 @@ module _ {E : Type 0} {Has : Value → E → Type 0} {Normal : E → Type 0} {o 
       subst (λ b. HasParts Has (tuple vs) (cond b (of_plain o plain_none) (row_parts (nat_lt (length es) 65) es))) (sym (row_filled-not_none l vs es h)) (row_tuples_in (nat_lt (length es) 65) es vs h)
 
   -- a type of tuples has nothing but tuples
-  of_tuples : (t : Tuples E) (v : Value) → HasParts Has v (record { plain = plain_none; cell = None; tuples = t }) → (vs : Values) × ((v ≡ tuple vs) × HasTuple Has vs t)
+  pub of_tuples : (t : Tuples E) (v : Value) → HasParts Has v (record { plain = plain_none; cell = None; tuples = t }) → (vs : Values) × ((v ≡ tuple vs) × HasTuple Has vs t)
   of_tuples t (cons x y) h = absurd h
   of_tuples t (tuple vs) h = (vs, (refl, h))
   of_tuples t v h = absurd (true≢false (sym h))
@@ -186,7 +178,7 @@ module _ {E : Type 0} {Has : Value → E → Type 0} {Normal : E → Type 0} {o 
 
   ends_proper : (c : Option (Cell E)) → NormalCell Normal o c → ((h t : Value) → HasCell Has (h, t) c → end_of t ≡ nil) → proper_cell c ≡ true
   ends_proper None k f = refl
-  ends_proper (Some c) k f = is_true c.is_proper (λ q. let w = value_of l c.element k in atom_end (f w.0 (atom []) ((w.1, tt), λ r. absurd (true≢false (sym r ∙ q)))))
+  ends_proper (Some c) k f = is_true c.is_proper (λ q. let w = value_of l c.element k in no_nil (f w.0 (atom []) ((w.1, tt), λ r. absurd (true≢false (sym r ∙ q)))))
 
   pub values_list : (p : Parts E) → NormalParts Normal o p → ((v : Value) → HasParts Has v p → end_of v ≡ nil) → is_list o p ≡ true
   values_list p k f =
@@ -262,7 +254,7 @@ cons-made d h t proper e f =
 cut_element : (d : ℕ) (h : TypeAt (suc d)) → NormalAt (suc d) h → (ops (suc d)).is_none h ≡ false → IsElement (NormalAt d) (ops d) (cut (suc d) d h)
 cut_element d h k q =
     let w = value_of (level_laws (suc d)) h (k, q) in
-    ((cut_lowering (suc d) d).normal h k, not_none (level_laws d) (cut (suc d) d h) w.0 ((cut_lowering (suc d) d).above h k w.0 w.1))
+    ((cut_lowering (suc d) d).normal h k, filled-not_none (level_laws d) (cut (suc d) d h) w.0 ((cut_lowering (suc d) d).above h k w.0 w.1))
 
 -- the lists of a head and a tail: a normal type above them, and the least where the ends may be proper
 pub cons-normal : (d : ℕ) (h t : TypeAt (suc d)) (proper : Bool) → NormalAt (suc d) h → NormalAt (suc d) t → NormalAt (suc d) (cons_at d h t proper)
@@ -274,7 +266,7 @@ pub cons-above : (d : ℕ) (h t : TypeAt (suc d)) (proper : Bool) → NormalAt (
 unfolding NormalAt
 cons-above d h t proper j k x y p q =
     let c = cut_lowering (suc d) d in
-    subst (HasAt (suc d) (cons x y)) (sym (cons-made d h t proper (not_none (level_laws (suc d)) h x p) (not_none (level_laws (suc d)) t y q))) (
+    subst (HasAt (suc d) (cons x y)) (sym (cons-made d h t proper (filled-not_none (level_laws (suc d)) h x p) (filled-not_none (level_laws (suc d)) t y q))) (
       (
         element_with-head (level_laws d) (cut (suc d) d h) t.cell (c.normal h j) k.1 x (c.above h j x p),
         element_with-rest (level_laws d) (cut (suc d) d h) t (c.normal h j) k.1 y q,
@@ -323,7 +315,7 @@ module _ {E : Type 0} {Has : Value → E → Type 0} {Normal : E → Type 0} {o 
       same x y q = cc
   place_in (and_value u us) (e ∷ es) h k (suc i) v q = place_in us es h.1 k.1 i v q
 
-  abbrev at_place : Option (Body E) → ℕ → Option E
+  abbrev pub at_place : Option (Body E) → ℕ → Option E
   at_place b i = elim b [ None ↦ None | Some c ↦ slice_get (elements o c) i ]
 
   pub body_place : (n : ℕ) (b : Option (Body E)) → NormalBody Normal o n b → (vs : Values) → HasBody Has vs b → (i : ℕ) (v : Value) → value_at vs i ≡ Some v → (e : E) × ((at_place b i ≡ Some e) × (Normal e × Has v e))

@@ -17,6 +17,7 @@ use Rattle.type_model.proofs.BodyLaws.{elements_normal, elements_above, elements
 use Rattle.type_model.proofs.TupleLaws.{normal_at, to_size, not_all, tuples_lattice}
 use Rattle.type_model.proofs.LevelLaws.{level_laws}
 use Rattle.type_model.proofs.CutLaws.{cut_lowering}
+use Rattle.type_model.proofs.MadeLaws.{at_place}
 
 module _ {E : Type 0} {Has : Value → E → Type 0} {Normal : E → Type 0} {o : Ops E} (l : Laws Has Normal o) where
   -- the first type, if it is there, is below the second, which then is there too
@@ -33,11 +34,8 @@ module _ {E : Type 0} {Has : Value → E → Type 0} {Normal : E → Type 0} {o 
   place_rises (e ∷ es) (g ∷ gs) j k f zero = (j.0.0, (k.0.0, f.0))
   place_rises (e ∷ es) (g ∷ gs) j k f (suc i) = place_rises es gs j.1 k.1 f.1 i
 
-  abbrev at_place : Option (Body E) → ℕ → Option E
-  at_place b i = elim b [ None ↦ None | Some c ↦ slice_get (elements o c) i ]
-
   -- the least product that contains a body is below the one that contains a larger body
-  body_rises : (n : ℕ) (b c : Option (Body E)) → NormalBody Normal o n b → NormalBody Normal o n c → BelowBy (HasBody Has) b c → (i : ℕ) → Rises (at_place b i) (at_place c i)
+  body_rises : (n : ℕ) (b c : Option (Body E)) → NormalBody Normal o n b → NormalBody Normal o n c → BelowBy (HasBody Has) b c → (i : ℕ) → Rises (at_place l b i) (at_place l c i)
   body_rises n None c j k f i = tt
   body_rises n (Some b) None j k f i = elim ((body_lattice l n).filled (Some b) j) [ inl z ↦ absurd (some-none b z) | inr v ↦ absurd (f v.0 v.1) ]
   body_rises n (Some b) (Some c) j k f i =
@@ -52,7 +50,7 @@ module _ {E : Type 0} {Has : Value → E → Type 0} {Normal : E → Type 0} {o 
   long_rises (x ∷ m) (y ∷ w) j f = (l.any_normal, (l.any_normal, λ v h. h))
 
   sizes_rise : (m w : List (ℕ × Body E)) → NormalTuples Normal o (sizes m) → NormalTuples Normal o (sizes w) → BelowBy (HasTuple Has) (sizes m) (sizes w) → (n i : ℕ) → Rises (element_at o (sizes m) n i) (element_at o (sizes w) n i)
-  sizes_rise m w j k f n i = elim (nat_lt n 65) as (λ b. Rises (cond b (at_place (find nat_cmp m n) i) (cond (is_empty m) None (Some o.any))) (cond b (at_place (find nat_cmp w n) i) (cond (is_empty w) None (Some o.any)))) [
+  sizes_rise m w j k f n i = elim (nat_lt n 65) as (λ b. Rises (cond b (at_place l (find nat_cmp m n) i) (cond (is_empty m) None (Some o.any))) (cond b (at_place l (find nat_cmp w n) i) (cond (is_empty w) None (Some o.any)))) [
     | true ↦ body_rises n (find nat_cmp m n) (find nat_cmp w n) (normal_at l m j.2 n) (normal_at l w k.2 n) (to_size l m w j.2 f n) i
     | false ↦ long_rises m w j f
   ]

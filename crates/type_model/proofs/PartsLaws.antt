@@ -15,7 +15,7 @@ use Rattle.type_model.specs.Normal.{NormalCell, NormalTuples, NormalParts}
 use Rattle.type_model.specs.Laws.{BelowBy, Lattice, Naming, Laws}
 use Rattle.type_model.specs.ValueShapes.{Leaf, an_atom, has_leaf, Shape, leaf, pair, row, shape, value_of_shape, shape-value_of_shape, HasShape, has-shape}
 use Rattle.type_model.proofs.PlainLaws.{plain-meet, plain-join-left, plain-join-right, plain-join-least, plain-same, plain-none_empty, plain-all, is_atoms-only, is_atoms-other, functions-normal_meet, functions-normal_join}
-use Rattle.type_model.proofs.CellLaws.{cell_lattice}
+use Rattle.type_model.proofs.CellLaws.{filled-not_none, cell_lattice}
 use Rattle.type_model.proofs.TupleLaws.{tuples_lattice}
 
 -- ---- a lattice carried from the forms of points to the points
@@ -182,15 +182,11 @@ module _ {E : Type 0} {Has : Value → E → Type 0} {Normal : E → Type 0} {o 
   shapes_meet_in p q j k (pair x y) f h = cells.meet_in p.cell q.cell j.1 k.1 (x, y) f h
   shapes_meet_in p q j k (row vs) f h = rows.meet_in p.tuples q.tuples j.2 k.2 vs f h
 
-  shapes_meet_left : (p q : P) → NormalP p → NormalP q → BelowBy HasF (parts_meet o p q) p
-  shapes_meet_left p q j k (leaf x) h = first (has_leaf p.plain x) (has_leaf q.plain x) (sym (plain-meet p.plain q.plain x) ∙ h)
-  shapes_meet_left p q j k (pair x y) h = cells.meet_left p.cell q.cell j.1 k.1 (x, y) h
-  shapes_meet_left p q j k (row vs) h = rows.meet_left p.tuples q.tuples j.2 k.2 vs h
-
-  shapes_meet_right : (p q : P) → NormalP p → NormalP q → BelowBy HasF (parts_meet o p q) q
-  shapes_meet_right p q j k (leaf x) h = second (has_leaf p.plain x) (has_leaf q.plain x) (sym (plain-meet p.plain q.plain x) ∙ h)
-  shapes_meet_right p q j k (pair x y) h = cells.meet_right p.cell q.cell j.1 k.1 (x, y) h
-  shapes_meet_right p q j k (row vs) h = rows.meet_right p.tuples q.tuples j.2 k.2 vs h
+  shapes_meet_out : (p q : P) → NormalP p → NormalP q → (x : Shape) → HasF x (parts_meet o p q) → HasF x p × HasF x q
+  shapes_meet_out p q j k (leaf x) h =
+      let h = sym (plain-meet p.plain q.plain x) ∙ h in (first (has_leaf p.plain x) (has_leaf q.plain x) h, second (has_leaf p.plain x) (has_leaf q.plain x) h)
+  shapes_meet_out p q j k (pair x y) h = (cells.meet_left p.cell q.cell j.1 k.1 (x, y) h, cells.meet_right p.cell q.cell j.1 k.1 (x, y) h)
+  shapes_meet_out p q j k (row vs) h = (rows.meet_left p.tuples q.tuples j.2 k.2 vs h, rows.meet_right p.tuples q.tuples j.2 k.2 vs h)
 
   shapes_join_normal : (p q : P) → NormalP p → NormalP q → NormalP (parts_join o p q)
   shapes_join_normal p q j k = (functions-normal_join p.plain.functions q.plain.functions j.0 k.0, cells.join_normal p.cell q.cell j.1 k.1, rows.join_normal p.tuples q.tuples j.2 k.2)
@@ -218,8 +214,8 @@ module _ {E : Type 0} {Has : Value → E → Type 0} {Normal : E → Type 0} {o 
     same = shapes_same;
     meet_normal = shapes_meet_normal;
     meet_in = shapes_meet_in;
-    meet_left = shapes_meet_left;
-    meet_right = shapes_meet_right;
+    meet_left = λ p q j k x h. (shapes_meet_out p q j k x h).0;
+    meet_right = λ p q j k x h. (shapes_meet_out p q j k x h).1;
     join_normal = shapes_join_normal;
     join_left = shapes_join_left;
     join_right = shapes_join_right;
@@ -242,10 +238,7 @@ module _ {E : Type 0} {Has : Value → E → Type 0} {Normal : E → Type 0} {o 
   shapes_any (row vs) = tt
 
   pub any-not_none : o.is_none o.any ≡ false
-  any-not_none = elim (decided (o.is_none o.any)) [
-    | inr n ↦ n
-    | inl y ↦ absurd (l.lattice.none_empty nil (subst (Has nil) (l.none-is_none o.any y) (l.any_in nil)))
-  ]
+  any-not_none = filled-not_none l o.any nil (l.any_in nil)
 
   -- ---- the atoms of a type
 

@@ -8,24 +8,22 @@ use Rattle.type_sets.specs.Ascending.{has_item}
 use Rattle.type_sets.specs.Names.{Name, name_cmp, are_listed, or_else, every}
 use Rattle.type_sets.proofs.NameLaws.{name_total, name_same, has-listed}
 use Rattle.type_sets.proofs.AscendingLaws.{itself}
-use Rattle.type_model.specs.Values.{Value, int, atom, cons, tuple, Values, no_value, and_value, count}
+use Rattle.type_model.specs.Values.{Value, atom, tuple, Values, no_value, and_value, count}
 use Rattle.type_model.specs.Tables.{all_hold, mapped, find}
 use Rattle.type_model.specs.Shapes.{Body, product, tags, Tuples, sizes, all_tuples, TypeAt}
-use Rattle.type_model.specs.HasType.{HasEach, HasRow, HasBody, HasTuple, HasParts, HasAt}
+use Rattle.type_model.specs.HasType.{HasEach, HasRow, HasBody, HasTuple, HasAt}
 use Rattle.type_model.specs.Operations.{Ops, plain_none, has_none, spread, body_of, elements, of_plain, ops}
 use Rattle.type_model.specs.Normal.{NormalRow, NormalBody, NormalAt}
 use Rattle.type_model.specs.Cut.{body_lower, tuples_lower, parts_lower, cut}
 use Rattle.type_model.specs.Parts.{AreNormal, product_of, tuple_at}
 use Rattle.type_model.specs.Laws.{BelowBy, Laws, Lowering}
-use Rattle.type_model.specs.ValueShapes.{an_int, an_atom}
 use Rattle.type_model.proofs.TableLaws.{find-mapped, find-all_hold}
-use Rattle.type_model.proofs.PlainLaws.{plain-none_empty}
 use Rattle.type_model.proofs.RowLaws.{count_each}
 use Rattle.type_model.proofs.BodyLaws.{body_of_in, body_of_out, body_of_normal, elements_normal}
 use Rattle.type_model.proofs.PartsLaws.{atoms-out}
 use Rattle.type_model.proofs.LevelLaws.{level_laws}
-use Rattle.type_model.proofs.CutLaws.{row_above, found_normal, body_least, all_each, cut_lowering}
-use Rattle.type_model.proofs.MadeLaws.{are_elements}
+use Rattle.type_model.proofs.CutLaws.{length-lower, row_above, found_normal, body_least, all_each, cut_lowering}
+use Rattle.type_model.proofs.MadeLaws.{are_elements, of_tuples}
 
 -- ---- a product and its image on a lower level
 
@@ -96,14 +94,10 @@ module _ {F E : Type 0} {HasF : Value → F → Type 0} {NormalF : F → Type 0}
         | false ↦ λ x. absurd x
       ] h
 
-  length-lower : (es : List F) → length (map lower es) ≡ length es
-  length-lower [] = refl
-  length-lower (t ∷ ts) = ap suc (length-lower ts)
-
   row_in : (es : List F) → AreNormal NormalF es → (b : Bool) → has_none f es ≡ b → (vs : Values) → HasEach HasE vs (map lower es) → HasTuple HasE vs (tuples_lower lower f e (row_tuples b true es))
   row_in es k true q vs h = absurd (true≢false (sym q ∙ no_none es k vs h))
   row_in es k false q vs h =
-      let n : count vs ≡ length es = count_each low vs (map lower es) h ∙ length-lower es in
+      let n : count vs ≡ length es = count_each low vs (map lower es) h ∙ length-lower high low s es in
       let same : eq_by_cmp nat_cmp (count vs) (length es) ≡ true = ap (λ i. eq_by_cmp nat_cmp i (length es)) n ∙ itself nat_cmp_total nat_cmp-IsAntisymmetric (length es) in
       subst (λ b. HasBody HasE vs (cond b (Some (lowered es)) None)) (sym same) (body_in (length es) es (refl, are_elements high es k q) vs h)
 
@@ -133,18 +127,12 @@ unfolding cut
 tuple-exact d es k few vs =
     product-exact (level_laws (suc d)) (level_laws d) (cut_lowering (suc d) d) (names_alone d) es k few vs
 
--- a type with tuples alone has tuples alone
-tuples_only : (d : ℕ) (t : Tuples (TypeAt d)) (v : Value) → HasParts (HasAt d) v (record { plain = plain_none; cell = None; tuples = t }) → (vs : Values) × (v ≡ tuple vs)
-tuples_only d t (tuple vs) h = (vs, refl)
-tuples_only d t (int n) h = absurd (plain-none_empty (an_int n) h)
-tuples_only d t (atom a) h = absurd (plain-none_empty (an_atom a) h)
-tuples_only d t (cons x y) h = absurd h
-tuples_only d t v h = absurd (true≢false (sym h))
-
 product_alone : (d : ℕ) (es : List (TypeAt (suc d))) → cut (suc (suc d)) (suc d) (product_of (ops (suc d)) es) ≡ record { plain = plain_none; cell = None; tuples = tuples_lower (cut (suc d) d) (ops (suc d)) (ops d) (product_of (ops (suc d)) es).tuples }
 unfolding cut
 product_alone d es = elim (has_none (ops (suc d)) es) as (λ b. let p = cond b (of_plain (ops (suc d)) plain_none) (record { plain = plain_none; cell = None; tuples = cond (nat_lt (length es) 65) (sizes ((length es, body_of (ops (suc d)) es) ∷ [])) all_tuples }) in parts_lower (cut (suc d) d) (ops (suc d)) (ops d) p ≡ record { plain = plain_none; cell = None; tuples = tuples_lower (cut (suc d) d) (ops (suc d)) (ops d) p.tuples }) [ true ↦ refl | false ↦ refl ]
 
 -- each value of a type of tuples is a tuple
 pub tuple-only : (d : ℕ) (es : List (TypeAt (suc d))) (v : Value) → HasAt (suc d) v (tuple_at (suc d) es) → (vs : Values) × (v ≡ tuple vs)
-tuple-only d es v h = tuples_only d (tuples_lower (cut (suc d) d) (ops (suc d)) (ops d) (product_of (ops (suc d)) es).tuples) v (subst (HasAt (suc d) v) (product_alone d es) h)
+tuple-only d es v h =
+    let t = of_tuples (level_laws d) (tuples_lower (cut (suc d) d) (ops (suc d)) (ops d) (product_of (ops (suc d)) es).tuples) v (subst (HasAt (suc d) v) (product_alone d es) h) in
+    (t.0, t.1.0)

@@ -23,6 +23,10 @@ length-zip f n (x ∷ xs) [] e g = g
 length-zip f zero (x ∷ xs) (y ∷ ys) e g = absurd (omega arith)
 length-zip f (suc n) (x ∷ xs) (y ∷ ys) e g = ap suc (length-zip f n xs ys (omega arith) (omega arith))
 
+pub neither : (a b : Bool) → (a || b) ≡ false → (a ≡ false) × (b ≡ false)
+neither true b h = absurd (true≢false h)
+neither false b h = (refl, h)
+
 module _ {E : Type 0} {Has : Value → E → Type 0} {Normal : E → Type 0} {o : Ops E} (l : Laws Has Normal o) where
   abbrev HasR : Values → Option (List E) → Type 0
   HasR = HasRow Has
@@ -87,10 +91,6 @@ module _ {E : Type 0} {Has : Value → E → Type 0} {Normal : E → Type 0} {o 
   meet_each_elements (x ∷ xs) (y ∷ ys) j k e =
       let p = neither (o.is_none (o.meet x y)) (has_none o (zip o.meet xs ys)) e in
       ((l.lattice.meet_normal x y j.0.0 k.0.0, p.0), meet_each_elements xs ys j.1 k.1 p.1)
-    where
-      neither : (a b : Bool) → (a || b) ≡ false → (a ≡ false) × (b ≡ false)
-      neither true b h = absurd (true≢false h)
-      neither false b h = (refl, h)
 
   row_meet_normal : (n : ℕ) (es fs : List E) → Row n (Some es) → Row n (Some fs) → Row n (row_meet o es fs)
   row_meet_normal n es fs j k =

@@ -10,12 +10,11 @@ IsCode {A} f = (x y : A) (r s : List ℕ) → f x ++ r ≡ f y ++ s → (x ≡ y
 
 -- ---- lists of numbers
 
-first_or : List ℕ → ℕ
+abbrev first_or : List ℕ → ℕ
 first_or [] = 0
 first_or (x ∷ xs) = x
 
 same_first : (m n : ℕ) (r s : List ℕ) → m ∷ r ≡ n ∷ s → m ≡ n
-unfolding first_or
 same_first m n r s e = ap first_or e
 
 same_rest : (m n : ℕ) (r s : List ℕ) → m ∷ r ≡ n ∷ s → r ≡ s
@@ -54,12 +53,9 @@ bits_code : IsCode spelled_bits
 bits_code [] [] r s e = (refl, same_rest 0 0 r s e)
 bits_code [] (true ∷ cs) r s e = absurd (true≢false (ap (begins 0) e))
 bits_code [] (false ∷ cs) r s e = absurd (true≢false (ap (begins 0) e))
-bits_code (true ∷ bs) [] r s e = absurd (true≢false (ap (begins 2) e))
 bits_code (true ∷ bs) (true ∷ cs) r s e = let p = bits_code bs cs r s (same_rest 2 2 (spelled_bits bs ++ r) (spelled_bits cs ++ s) e) in (ap (λ ds. true ∷ ds) p.0, p.1)
-bits_code (true ∷ bs) (false ∷ cs) r s e = absurd (true≢false (ap (begins 2) e))
-bits_code (false ∷ bs) [] r s e = absurd (true≢false (ap (begins 1) e))
-bits_code (false ∷ bs) (true ∷ cs) r s e = absurd (true≢false (ap (begins 1) e))
 bits_code (false ∷ bs) (false ∷ cs) r s e = let p = bits_code bs cs r s (same_rest 1 1 (spelled_bits bs ++ r) (spelled_bits cs ++ s) e) in (ap (λ ds. false ∷ ds) p.0, p.1)
+bits_code bs cs r s e = absurd (true≢false (ap (begins (first_or (spelled_bits bs))) e))
 
 locals_code : IsCode spelled_locals
 locals_code [] [] r s e = (refl, same_rest 0 0 r s e)
@@ -79,30 +75,19 @@ locals_code (l ∷ ls) (k ∷ ks) r s e =
 mutual
   pub spelled_code : (v w : Value) (r s : List ℕ) → spelled v ++ r ≡ spelled w ++ s → (v ≡ w) × (r ≡ s)
   spelled_code (int m) (int n) r s e = let p = int_code m n r s (same_rest 0 0 _ _ e) in (ap int p.0, p.1)
-  spelled_code (int m) w r s e = absurd (true≢false (ap (begins 0) e))
   spelled_code (atom a) (atom b) r s e = let p = name_code a b r s (same_rest 1 1 _ _ e) in (ap atom p.0, p.1)
-  spelled_code (atom a) w r s e = absurd (true≢false (ap (begins 1) e))
   spelled_code (bits bs) (bits cs) r s e = let p = bits_code bs cs r s (same_rest 2 2 _ _ e) in (ap bits p.0, p.1)
-  spelled_code (bits bs) w r s e = absurd (true≢false (ap (begins 2) e))
   spelled_code (float a) (float b) r s e = let p = name_code a b r s (same_rest 3 3 _ _ e) in (ap float p.0, p.1)
-  spelled_code (float a) w r s e = absurd (true≢false (ap (begins 3) e))
   spelled_code (pid m) (pid n) r s e = let p = one_code m n r s (same_rest 4 4 _ _ e) in (ap pid p.0, p.1)
-  spelled_code (pid m) w r s e = absurd (true≢false (ap (begins 4) e))
   spelled_code (port m) (port n) r s e = let p = one_code m n r s (same_rest 5 5 _ _ e) in (ap port p.0, p.1)
-  spelled_code (port m) w r s e = absurd (true≢false (ap (begins 5) e))
   spelled_code (reference m) (reference n) r s e = let p = one_code m n r s (same_rest 6 6 _ _ e) in (ap reference p.0, p.1)
-  spelled_code (reference m) w r s e = absurd (true≢false (ap (begins 6) e))
   spelled_code nil nil r s e = (refl, same_rest 7 7 r s e)
-  spelled_code nil w r s e = absurd (true≢false (ap (begins 7) e))
   spelled_code (cons h t) (cons k u) r s e =
       let p = spelled_code h k (spelled t ++ r) (spelled u ++ s) (apart (spelled h) (spelled t) r (spelled k) (spelled u) s (same_rest 8 8 _ _ e)) in
       let q = spelled_code t u r s p.1 in
       (ap₂ cons p.0 q.0, q.1)
-  spelled_code (cons h t) w r s e = absurd (true≢false (ap (begins 8) e))
   spelled_code (tuple vs) (tuple ws) r s e = let p = values_code vs ws r s (same_rest 9 9 _ _ e) in (ap tuple p.0, p.1)
-  spelled_code (tuple vs) w r s e = absurd (true≢false (ap (begins 9) e))
   spelled_code (map ps) (map qs) r s e = let p = pairs_code ps qs r s (same_rest 10 10 _ _ e) in (ap map p.0, p.1)
-  spelled_code (map ps) w r s e = absurd (true≢false (ap (begins 10) e))
   spelled_code (closure m k n env) (closure m' k' n' env') r s e =
       let a = k ∷ n ∷ spelled_env env in
       let b = k' ∷ n' ∷ spelled_env env' in
@@ -111,7 +96,6 @@ mutual
       let t = one_code n n' (spelled_env env ++ r) (spelled_env env' ++ s) q.1 in
       let u = env_code env env' r s t.1 in
       (λ i. closure (p.0 i) (q.0 i) (t.0 i) (u.0 i), u.1)
-  spelled_code (closure m k n env) w r s e = absurd (true≢false (ap (begins 11) e))
   spelled_code (external m f n) (external m' f' n') r s e =
       let a = spelled_name f ++ (n ∷ []) in
       let b = spelled_name f' ++ (n' ∷ []) in
@@ -119,12 +103,11 @@ mutual
       let q = name_code f f' (n ∷ r) (n' ∷ s) (apart (spelled_name f) (n ∷ []) r (spelled_name f') (n' ∷ []) s p.1) in
       let t = one_code n n' r s q.1 in
       (λ i. external (p.0 i) (q.0 i) (t.0 i), t.1)
-  spelled_code (external m f n) w r s e = absurd (true≢false (ap (begins 12) e))
   spelled_code (foreign x n) (foreign x' n') r s e =
       let p = one_code x x' (n ∷ r) (n' ∷ s) (same_rest 13 13 _ _ e) in
       let q = one_code n n' r s p.1 in
       (λ i. foreign (p.0 i) (q.0 i), q.1)
-  spelled_code (foreign x n) w r s e = absurd (true≢false (ap (begins 13) e))
+  spelled_code v w r s e = absurd (true≢false (ap (begins (first_or (spelled v))) e))
 
   values_code : (vs ws : Values) (r s : List ℕ) → spelled_values vs ++ r ≡ spelled_values ws ++ s → (vs ≡ ws) × (r ≡ s)
   values_code no_value no_value r s e = (refl, same_rest 0 0 r s e)
@@ -149,7 +132,6 @@ mutual
 
   env_code : (env env' : Env) (r s : List ℕ) → spelled_env env ++ r ≡ spelled_env env' ++ s → (env ≡ env') × (r ≡ s)
   env_code no_variable no_variable r s e = (refl, same_rest 0 0 r s e)
-  env_code no_variable w r s e = absurd (true≢false (ap (begins 0) e))
   env_code (and_variable x v env) (and_variable x' v' env') r s e =
       let a = spelled v ++ spelled_env env in
       let b = spelled v' ++ spelled_env env' in
@@ -157,12 +139,11 @@ mutual
       let q = spelled_code v v' (spelled_env env ++ r) (spelled_env env' ++ s) (apart (spelled v) (spelled_env env) r (spelled v') (spelled_env env') s p.1) in
       let t = env_code env env' r s q.1 in
       (λ i. and_variable (p.0 i) (q.0 i) (t.0 i), t.1)
-  env_code (and_variable x v env) w r s e = absurd (true≢false (ap (begins 1) e))
   env_code (and_frame ls env) (and_frame ls' env') r s e =
       let p = locals_code ls ls' (spelled_env env ++ r) (spelled_env env' ++ s) (apart (spelled_locals ls) (spelled_env env) r (spelled_locals ls') (spelled_env env') s (same_rest 2 2 _ _ e)) in
       let q = env_code env env' r s p.1 in
       (ap₂ and_frame p.0 q.0, q.1)
-  env_code (and_frame ls env) w r s e = absurd (true≢false (ap (begins 2) e))
+  env_code env env' r s e = absurd (true≢false (ap (begins (first_or (spelled_env env))) e))
 
 -- a value is told by its spelling
 pub spelled_once : (v w : Value) → spelled v ≡ spelled w → v ≡ w

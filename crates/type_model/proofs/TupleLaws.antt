@@ -155,19 +155,13 @@ module _ {E : Type 0} {Has : Value → E → Type 0} {Normal : E → Type 0} {o 
       let n = count vs in
       subst (HasB vs) (sym (find-meet m w j.0 n)) ((bodies n).meet_in (At m n) (At w n) (normal_at m j.2 n) (normal_at w k.2 n) vs f h)
 
-  tuples-meet_left : (s t : Tuples E) → NormalT s → NormalT t → BelowBy HasT (tuples_meet o s t) s
-  tuples-meet_left all_tuples t j k vs h = tt
-  tuples-meet_left (sizes m) all_tuples j k vs h = h
-  tuples-meet_left (sizes m) (sizes w) j k vs h =
+  tuples-meet_out : (s t : Tuples E) → NormalT s → NormalT t → (vs : Values) → HasT vs (tuples_meet o s t) → HasT vs s × HasT vs t
+  tuples-meet_out all_tuples t j k vs h = (tt, h)
+  tuples-meet_out (sizes m) all_tuples j k vs h = (h, tt)
+  tuples-meet_out (sizes m) (sizes w) j k vs h =
       let n = count vs in
-      (bodies n).meet_left (At m n) (At w n) (normal_at m j.2 n) (normal_at w k.2 n) vs (subst (HasB vs) (find-meet m w j.0 n) h)
-
-  tuples-meet_right : (s t : Tuples E) → NormalT s → NormalT t → BelowBy HasT (tuples_meet o s t) t
-  tuples-meet_right all_tuples t j k vs h = h
-  tuples-meet_right (sizes m) all_tuples j k vs h = tt
-  tuples-meet_right (sizes m) (sizes w) j k vs h =
-      let n = count vs in
-      (bodies n).meet_right (At m n) (At w n) (normal_at m j.2 n) (normal_at w k.2 n) vs (subst (HasB vs) (find-meet m w j.0 n) h)
+      let x = subst (HasB vs) (find-meet m w j.0 n) h in
+      ((bodies n).meet_left (At m n) (At w n) (normal_at m j.2 n) (normal_at w k.2 n) vs x, (bodies n).meet_right (At m n) (At w n) (normal_at m j.2 n) (normal_at w k.2 n) vs x)
 
   -- ---- the join, before too many sizes become all tuples
 
@@ -259,8 +253,8 @@ module _ {E : Type 0} {Has : Value → E → Type 0} {Normal : E → Type 0} {o 
     same = tuples-same;
     meet_normal = tuples-meet_normal;
     meet_in = tuples-meet_in;
-    meet_left = tuples-meet_left;
-    meet_right = tuples-meet_right;
+    meet_left = λ s t j k vs h. (tuples-meet_out s t j k vs h).0;
+    meet_right = λ s t j k vs h. (tuples-meet_out s t j k vs h).1;
     join_normal = tuples-join_normal;
     join_left = tuples-join_left;
     join_right = tuples-join_right;
