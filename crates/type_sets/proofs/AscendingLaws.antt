@@ -1,5 +1,5 @@
 -- What an ascending list has, and how many items a part of it has.
-use Rattle.std.proofs.Common.{◌≡◌, ℕ, zero, suc, ◌+◌, ◌≤◌, ◌<◌, Bool, true, false, cond, ◌&&◌, ◌||◌, inl, inr, List, [], ◌∷◌, ◌++◌, length, filter, take, drop, get_or, refl, sym, ap, ◌∙◌, arith, true≢false, Less, Equal, Greater}
+use Rattle.std.proofs.Common.{◌≡◌, ℕ, zero, suc, ◌+◌, ◌≤◌, ◌<◌, Bool, true, false, cond, ◌&&◌, ◌||◌, ◌⊎◌, inl, inr, List, [], ◌∷◌, ◌++◌, length, filter, take, drop, get_or, refl, sym, ap, ◌∙◌, arith, true≢false, Less, Equal, Greater}
 use Rattle.std.specs.declared.cmp.Ordering.{Ordering}
 use Rattle.std.specs.Ordering.{is_lt, is_eq, eq_by_cmp, ordering_reverse}
 use Rattle.std.specs.Cmp.{IsTotalOrder, Equal-is, tied_itself}
@@ -8,10 +8,8 @@ use Rattle.std.specs.List.{list_all}
 use Rattle.std.proofs.lemmas.List.{take_more, take-append-drop}
 use Rattle.std.proofs.lemmas.Map.Views.{any-filter_same}
 use Rattle.type_sets.specs.Ascending.{is_below_all, is_ascending, has_item, placed, merged}
-use Rattle.type_sets.proofs.Truths.{both, first, second, in_first, in_second, either, and_swap, or_move, or_turn, or_false, decided, is_false}
+use Rattle.type_sets.proofs.Truths.{both, first, second, in_first, in_second, either, and_swap, or_move, or_turn, or_false, is_false}
 use Rattle.std.proofs.lemmas.List.Folds.{list_any-append}
-use Rattle.std.specs.Prelude.{nat_lt}
-use borrow.Author.Tests.{ltb-true, ltb-false}
 
 module _ {K : Type 0} {R : K → K → Ordering} (o : IsTotalOrder R) (same : IsAntisymmetric R) where
   pub is_it : (q x : K) → eq_by_cmp R q x ≡ true → q ≡ x
@@ -90,64 +88,35 @@ module _ {K : Type 0} {R : K → K → Ordering} (o : IsTotalOrder R) (same : Is
     | inr n ↦ n
   ]
 
-  -- a part of an ascending list is no longer than the list
-  pub length-part : (ys xs : List K) → is_ascending R xs ≡ true → is_ascending R ys ≡ true → ((q : K) → has_item R xs q ≡ true → has_item R ys q ≡ true) → length xs ≤ length ys
-  length-part ys [] a b f = omega arith
-  length-part [] (x ∷ xs) a b f = absurd (true≢false (sym (f x (in_first (eq_by_cmp R x x) (has_item R xs x) (itself x)))))
-  length-part (y ∷ ys) (x ∷ xs) a b f =
+  -- a part of an ascending list is shorter, or it is all of it
+  shorter-or_whole : (ys xs : List K) → is_ascending R xs ≡ true → is_ascending R ys ≡ true → ((q : K) → has_item R xs q ≡ true → has_item R ys q ≡ true) → (length xs < length ys) ⊎ (xs ≡ ys)
+  shorter-or_whole [] [] a b f = inr refl
+  shorter-or_whole (y ∷ ys) [] a b f = inl (omega arith)
+  shorter-or_whole [] (x ∷ xs) a b f = absurd (true≢false (sym (f x (in_first (eq_by_cmp R x x) (has_item R xs x) (itself x)))))
+  shorter-or_whole (y ∷ ys) (x ∷ xs) a b f =
       let low = first (is_below_all R x xs) (is_ascending R xs) a in
       let rest = second (is_below_all R y ys) (is_ascending R ys) b in
       elim (either (eq_by_cmp R x y) (has_item R ys x) (f x (in_first (eq_by_cmp R x x) (has_item R xs x) (itself x)))) [
-        | inl e ↦
-            let le : length xs ≤ length ys = length-part ys xs (second (is_below_all R x xs) (is_ascending R xs) a) rest (later-part x y xs ys low (is_it x y e) f) in
-            omega arith
-        | inr t ↦
-            let le : length (x ∷ xs) ≤ length ys = length-part ys (x ∷ xs) a rest (whole-part x y xs ys low (first (is_below_all R y ys) (is_ascending R ys) b) t f) in
-            omega arith
+        | inl e ↦ elim (shorter-or_whole ys xs (second (is_below_all R x xs) (is_ascending R xs) a) rest (later-part x y xs ys low (is_it x y e) f)) [
+          | inl less ↦ inl (omega (arith, less))
+          | inr same ↦ inr (λ i. is_it x y e i ∷ same i)
+        ]
+        | inr t ↦ elim (shorter-or_whole ys (x ∷ xs) a rest (whole-part x y xs ys low (first (is_below_all R y ys) (is_ascending R ys) b) t f)) [
+          | inl less ↦ inl (omega (arith, less))
+          | inr same ↦ inl (omega (arith, ap length same))
+        ]
       ]
 
-  -- a part of an ascending list that is as long is all of it
-  pub whole-by_length : (ys xs : List K) → is_ascending R xs ≡ true → is_ascending R ys ≡ true → ((q : K) → has_item R xs q ≡ true → has_item R ys q ≡ true) → length ys ≤ length xs → xs ≡ ys
-  whole-by_length [] [] a b f le = refl
-  whole-by_length [] (x ∷ xs) a b f le = absurd (true≢false (sym (f x (in_first (eq_by_cmp R x x) (has_item R xs x) (itself x)))))
-  whole-by_length (y ∷ ys) [] a b f le = absurd (omega arith)
-  whole-by_length (y ∷ ys) (x ∷ xs) a b f le =
-      let low = first (is_below_all R x xs) (is_ascending R xs) a in
-      let rest = second (is_below_all R y ys) (is_ascending R ys) b in
-      elim (either (eq_by_cmp R x y) (has_item R ys x) (f x (in_first (eq_by_cmp R x x) (has_item R xs x) (itself x)))) [
-        | inl e ↦
-            let less : length ys ≤ length xs = omega arith in
-            let tail : xs ≡ ys = whole-by_length ys xs (second (is_below_all R x xs) (is_ascending R xs) a) rest (later-part x y xs ys low (is_it x y e) f) less in
-            λ i. is_it x y e i ∷ tail i
-        | inr t ↦
-            let more : length (x ∷ xs) ≤ length ys = length-part ys (x ∷ xs) a rest (whole-part x y xs ys low (first (is_below_all R y ys) (is_ascending R ys) b) t f) in
-            absurd (omega arith)
-      ]
+  pub length-part : (ys xs : List K) → is_ascending R xs ≡ true → is_ascending R ys ≡ true → ((q : K) → has_item R xs q ≡ true → has_item R ys q ≡ true) → length xs ≤ length ys
+  length-part ys xs a b f = elim (shorter-or_whole ys xs a b f) [ inl less ↦ omega (arith, less) | inr same ↦ omega (arith, ap length same) ]
 
   -- a part of an ascending list that isn't all of it is shorter
   pub shorter-part : (ys xs : List K) → is_ascending R xs ≡ true → is_ascending R ys ≡ true → ((q : K) → has_item R xs q ≡ true → has_item R ys q ≡ true) → (xs ≡ ys → ⊥) → length xs < length ys
-  shorter-part ys xs a b f other = elim (decided (nat_lt (length xs) (length ys))) [
-    | inl h ↦ ltb-true (length xs) (length ys) h
-    | inr h ↦ absurd (other (whole-by_length ys xs a b f (ltb-false (length xs) (length ys) h)))
-  ]
+  shorter-part ys xs a b f other = elim (shorter-or_whole ys xs a b f) [ inl less ↦ less | inr same ↦ absurd (other same) ]
 
   -- ascending lists of the same items are equal
   pub same-items : (xs ys : List K) → is_ascending R xs ≡ true → is_ascending R ys ≡ true → ((q : K) → has_item R xs q ≡ true → has_item R ys q ≡ true) → ((q : K) → has_item R ys q ≡ true → has_item R xs q ≡ true) → xs ≡ ys
-  same-items [] [] a b f g = refl
-  same-items [] (y ∷ ys) a b f g = absurd (true≢false (sym (g y (in_first (eq_by_cmp R y y) (has_item R ys y) (itself y)))))
-  same-items (x ∷ xs) [] a b f g = absurd (true≢false (sym (f x (in_first (eq_by_cmp R x x) (has_item R xs x) (itself x)))))
-  same-items (x ∷ xs) (y ∷ ys) a b f g =
-      let low_x = first (is_below_all R x xs) (is_ascending R xs) a in
-      let low_y = first (is_below_all R y ys) (is_ascending R ys) b in
-      let one : x ≡ y = elim (either (eq_by_cmp R x y) (has_item R ys x) (f x (in_first (eq_by_cmp R x x) (has_item R xs x) (itself x)))) [
-        | inl e ↦ is_it x y e
-        | inr t ↦ elim (either (eq_by_cmp R y x) (has_item R xs y) (g y (in_first (eq_by_cmp R y y) (has_item R ys y) (itself y)))) [
-          | inl e ↦ sym (is_it y x e)
-          | inr u ↦ absurd (below-both_ways x y (below_all-item x y xs low_x u) (below_all-item y x ys low_y t))
-        ]
-      ] in
-      let rest : xs ≡ ys = same-items xs ys (second (is_below_all R x xs) (is_ascending R xs) a) (second (is_below_all R y ys) (is_ascending R ys) b) (later-part x y xs ys low_x one f) (later-part y x ys xs low_y (sym one) g) in
-      λ i. one i ∷ rest i
+  same-items xs ys a b f g = elim (shorter-or_whole ys xs a b f) [ inl less ↦ absurd (omega (arith, less, length-part xs ys b a g)) | inr same ↦ same ]
 
   or_again : (a b c : Bool) → a ≡ b → (b || c) ≡ (a || (b || c))
   or_again true b c e = ap (λ d. d || c) (sym e)
@@ -197,6 +166,11 @@ module _ {K : Type 0} {R : K → K → Ordering} (o : IsTotalOrder R) (same : Is
       has-merged (placed R y xs) ys q
       ∙ ap (λ b. b || has_item R ys q) (has-placed y xs q)
       ∙ or_turn (has_item R xs q) (eq_by_cmp R q y) (has_item R ys q)
+
+  -- what has the items of two lists has those of both together
+  pub merged-part : (xs ys : List K) (u : K → Bool) → ((q : K) → has_item R xs q ≡ true → u q ≡ true) → ((q : K) → has_item R ys q ≡ true → u q ≡ true) → (q : K) → has_item R (merged R xs ys) q ≡ true → u q ≡ true
+  merged-part xs ys u f g q h =
+      elim (either (has_item R xs q) (has_item R ys q) (sym (has-merged xs ys q) ∙ h)) [ inl x ↦ f q x | inr y ↦ g q y ]
 
   pub ascending-merged : (xs ys : List K) → is_ascending R xs ≡ true → is_ascending R (merged R xs ys) ≡ true
   ascending-merged xs [] a = a
@@ -272,11 +246,6 @@ module _ {K : Type 0} {R : K → K → Ordering} (o : IsTotalOrder R) (same : Is
   -- one pair of neighbours that don't ascend is enough
   pub not_ascending : (xs : List K) (i j : ℕ) (d f : K) → j ≡ i + 1 → j < length xs → is_lt (R (get_or xs i d) (get_or xs j f)) ≡ false → is_ascending R xs ≡ false
   not_ascending xs i j d f e h falls = is_false (is_ascending R xs) (λ a. true≢false (sym (ascending-at xs i j d f e h a) ∙ falls))
-
-  -- a list of one item or none ascends
-  pub ascending-first : (xs : List K) → is_ascending R (take 1 xs) ≡ true
-  ascending-first [] = refl
-  ascending-first (x ∷ xs) = refl
 
 pub merged-append : {K : Type 0} (R : K → K → Ordering) (xs ys zs : List K) → merged R xs (ys ++ zs) ≡ merged R (merged R xs ys) zs
 merged-append R xs [] zs = refl

@@ -50,9 +50,6 @@ not_yet xs i q d h before other =
     ∙ ap (λ b. b || eq_by_cmp name_cmp q (get_or xs i d)) before
     ∙ is_false (eq_by_cmp name_cmp q (get_or xs i d)) (λ e. other (ascending.is_it name_total name_same q (get_or xs i d) e))
 
-pub has_listed : (s : Names) (xs : List Name) (e : are_listed xs ≡ true) (r : Bool) (q : Name) → s ≡ some xs e → r ≡ has_item name_cmp xs q → r ≡ has s q
-has_listed s xs e r q is h = h ∙ sym (ap (λ t. has t q) is)
-
 -- ---- inclusion, by the kinds
 
 pub below_listed : (s t : Names) (xs : List Name) (e : are_listed xs ≡ true) (r : Bool) → s ≡ some xs e → r ≡ list_all (has t) xs → IsTrue r ↔ Below s t

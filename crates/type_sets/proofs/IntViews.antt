@@ -12,14 +12,16 @@ use Rattle.type_sets.specs.Ascending.{has_item, merged}
 use Rattle.std.proofs.lemmas.List.{take_more, take_all}
 use Rattle.std.proofs.lemmas.Bool.Decides.{nat_tests}
 use Rattle.type_sets.specs.declared.ends.Low.{Low}
+use Rattle.type_sets.specs.declared.ends.Low.TheVariants.{One}
 use Rattle.type_sets.specs.declared.ends.High.{High}
+use Rattle.type_sets.specs.declared.ends.High.TheVariants.{MinusOne}
 use Rattle.type_sets.specs.Ends.{at_least, at_most, in_range, is_range, lower, higher, raised, lowered, low_of, high_of, bottom, top}
 use Rattle.type_sets.proofs.EndLaws.{lower-turn, higher-turn, lower-one, higher-minus_one, not_in, bottom-least, top-least, bottom-in, top-in}
 use Rattle.type_sets.proofs.NumberLaws.{is_none-is, same_by, has-range, not_listed, listed-few, listed-filter, listed-merged, or_else-no, has-meet, join-left, join-right, join-least}
 use Rattle.type_sets.proofs.Truths.{both, first, second, is_false}
 use Rattle.type_sets.proofs.AscendingLaws as ascending
 use Rattle.std.specs.FinSet.{int_cmp-IsAntisymmetric}
-use Rattle.type_sets.specs.Numbers.{Numbers, some, between, are_listed, has, Below, none, listed, range, meet, join, hull, lowest, highest, is_none, or_else-yes, range-yes}
+use Rattle.type_sets.specs.Numbers.{Numbers, some, between, are_listed, has, Below, none, listed, range, meet, join, hull, outermost, lowest, highest, is_none, or_else-yes, range-yes}
 use Rattle.type_sets.specs.steps.IntKinds.{numbers_of, IsKept}
 
 pub listed_kind : (k : Kind) (v : _) (s : Numbers) → numbers_of k ≡ s → IsKept k → k ≡ Listed v → (e : are_listed v.items ≡ true) × (s ≡ some v.items e)
@@ -37,20 +39,20 @@ pub any-turned : (xs : List ℤ) (n : ℤ) → list_any (λ x. int_eq x n) xs �
 any-turned [] n = refl
 any-turned (x ∷ xs) n = λ i. (eq_by_cmp_equiv int_cmp_total).symm x n i || any-turned xs n i
 
--- the end under one number more, and the end over it
-lowest-append : (xs : List ℤ) (n : ℤ) → lowest (xs ++ n ∷ []) ≡ lower (lowest xs) (low_of n)
-lowest-append [] n = lower-one (low_of n)
-lowest-append (x ∷ xs) n = ap (lower (low_of x)) (lowest-append xs n) ∙ lower-turn (low_of x) (lowest xs) (low_of n)
+-- the end over one number more
+module _ {End : Type 0} (wider : End → End → End) (nearest : ℤ → End) (narrowest : End) (turn : (l m k : End) → wider l (wider m k) ≡ wider (wider l m) k) (one : (l : End) → wider l narrowest ≡ l) (back : (l : End) → wider narrowest l ≡ l) where
+  outermost-append : (xs : List ℤ) (n : ℤ) → outermost wider nearest narrowest (xs ++ n ∷ []) ≡ wider (outermost wider nearest narrowest xs) (nearest n)
+  outermost-append [] n = one (nearest n) ∙ sym (back (nearest n))
+  outermost-append (x ∷ xs) n = ap (wider (nearest x)) (outermost-append xs n) ∙ turn (nearest x) (outermost wider nearest narrowest xs) (nearest n)
+
+  outermost-more : (xs : List ℤ) (i : ℕ) → i < length xs → outermost wider nearest narrowest (take (i + 1) xs) ≡ wider (outermost wider nearest narrowest (take i xs)) (nearest (get_or xs i (pos 0)))
+  outermost-more xs i h = ap (outermost wider nearest narrowest) (take_more xs i (pos 0) h) ∙ outermost-append (take i xs) (get_or xs i (pos 0))
 
 pub lowest-more : (xs : List ℤ) (i : ℕ) → i < length xs → lowest (take (i + 1) xs) ≡ lower (lowest (take i xs)) (low_of (get_or xs i (pos 0)))
-lowest-more xs i h = ap lowest (take_more xs i (pos 0) h) ∙ lowest-append (take i xs) (get_or xs i (pos 0))
-
-highest-append : (xs : List ℤ) (n : ℤ) → highest (xs ++ n ∷ []) ≡ higher (highest xs) (high_of n)
-highest-append [] n = higher-minus_one (high_of n)
-highest-append (x ∷ xs) n = ap (higher (high_of x)) (highest-append xs n) ∙ higher-turn (high_of x) (highest xs) (high_of n)
+lowest-more = outermost-more lower low_of One lower-turn lower-one (λ l. refl)
 
 pub highest-more : (xs : List ℤ) (i : ℕ) → i < length xs → highest (take (i + 1) xs) ≡ higher (highest (take i xs)) (high_of (get_or xs i (pos 0)))
-highest-more xs i h = ap highest (take_more xs i (pos 0) h) ∙ highest-append (take i xs) (get_or xs i (pos 0))
+highest-more = outermost-more higher high_of MinusOne higher-turn higher-minus_one (λ h. refl)
 
 -- whether a set that lists its numbers has none
 pub empty_listed : (s : Numbers) (xs : List ℤ) (e : are_listed xs ≡ true) → s ≡ some xs e → (length xs == 0) ≡ is_none s

@@ -79,10 +79,6 @@ not_listed xs e f =
 
 -- ---- the join is the least set of the family above both
 
-merged-part : (xs ys : List Name) (u : Name → Bool) → ((q : Name) → has_item name_cmp xs q ≡ true → u q ≡ true) → ((q : Name) → has_item name_cmp ys q ≡ true → u q ≡ true) → (q : Name) → has_item name_cmp (merged name_cmp xs ys) q ≡ true → u q ≡ true
-merged-part xs ys u f g q h =
-    elim (either (has_item name_cmp xs q) (has_item name_cmp ys q) (sym (ascending.has-merged name_total name_same xs ys q) ∙ h)) [ inl x ↦ f q x | inr y ↦ g q y ]
-
 pub join-left : (s t : Names) → Below s (join s t)
 unfolding join
 join-left (some xs e) (some ys f) q h = elim (decided (are_listed (merged name_cmp xs ys))) [
@@ -110,14 +106,14 @@ join-right every t q h = refl
 -- what is too much to be listed is no part of what is listed
 too_many : (xs ys us : List Name) → are_listed xs ≡ true → are_listed us ≡ true → ((q : Name) → has_item name_cmp xs q ≡ true → has_item name_cmp us q ≡ true) → ((q : Name) → has_item name_cmp ys q ≡ true → has_item name_cmp us q ≡ true) → are_listed (merged name_cmp xs ys) ≡ false → ⊥
 too_many xs ys us e d f g small =
-    let le = ascending.length-part name_total name_same us (merged name_cmp xs ys) (ascending.ascending-merged name_total name_same xs ys (listed-ascending xs e)) (listed-ascending us d) (merged-part xs ys (has_item name_cmp us) f g) in
+    let le = ascending.length-part name_total name_same us (merged name_cmp xs ys) (ascending.ascending-merged name_total name_same xs ys (listed-ascending xs e)) (listed-ascending us d) (ascending.merged-part name_total name_same xs ys (has_item name_cmp us) f g) in
     let few = listed-few us d in
     true≢false (sym (listed-merged xs ys e (omega arith)) ∙ small)
 
 pub join-least : (s t u : Names) → Below s u → Below t u → Below (join s t) u
 unfolding join
 join-least (some xs e) (some ys f) (some us d) g k q h = elim (decided (are_listed (merged name_cmp xs ys))) [
-  | inl y ↦ merged-part xs ys (has_item name_cmp us) g k q (sym (has-listed (merged name_cmp xs ys) every q y) ∙ h)
+  | inl y ↦ ascending.merged-part name_total name_same xs ys (has_item name_cmp us) g k q (sym (has-listed (merged name_cmp xs ys) every q y) ∙ h)
   | inr y ↦ absurd (too_many xs ys us e d g k y)
 ]
 join-least (some xs e) (some ys f) every g k q h = refl

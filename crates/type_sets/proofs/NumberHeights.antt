@@ -111,46 +111,32 @@ other_low l m h k n p = n p.0
 other_high : (l m : Low) (h k : High) → (h ≡ k → ⊥) → (l ≡ m) × (h ≡ k) → ⊥
 other_high l m h k n p = n p.1
 
+-- down from an interval over -1: first its lower end comes nearer, then its upper end, and then there are thirteen numbers
 one_byte : (e : is_range One Byte ≡ true) → Falls Below 14 (between One Byte e)
 one_byte e = to_listed One Byte e thirteen refl refl
-
-zero_byte : (e : is_range Zero Byte ≡ true) → Falls Below 15 (between Zero Byte e)
-zero_byte e = to_interval 14 One Zero Byte Byte refl e refl refl (other_low One Zero Byte Byte (λ p. cc p)) (one_byte refl)
-
-min_byte : (e : is_range Min Byte ≡ true) → Falls Below 16 (between Min Byte e)
-min_byte e = to_interval 15 Zero Min Byte Byte refl e refl refl (other_low Zero Min Byte Byte (λ p. cc p)) (zero_byte refl)
 
 one_unicode : (e : is_range One Unicode ≡ true) → Falls Below 15 (between One Unicode e)
 one_unicode e = to_interval 14 One One Byte Unicode refl e refl refl (other_high One One Byte Unicode (λ p. cc p)) (one_byte refl)
 
-zero_unicode : (e : is_range Zero Unicode ≡ true) → Falls Below 16 (between Zero Unicode e)
-zero_unicode e = to_interval 15 One Zero Unicode Unicode refl e refl refl (other_low One Zero Unicode Unicode (λ p. cc p)) (one_unicode refl)
+from_one : (h : High) (e : is_range One h ≡ true) → Falls Below (MAX_MEMBERS + 1 + shrinks One h) (between One h e)
+from_one MinusOne e = cc
+from_one Byte e = one_byte e
+from_one Unicode e = one_unicode e
+from_one Max e = to_interval 15 One One Unicode Max refl e refl refl (other_high One One Unicode Max (λ p. cc p)) (one_unicode refl)
 
-min_unicode : (e : is_range Min Unicode ≡ true) → Falls Below 17 (between Min Unicode e)
-min_unicode e = to_interval 16 Zero Min Unicode Unicode refl e refl refl (other_low Zero Min Unicode Unicode (λ p. cc p)) (zero_unicode refl)
-
-one_max : (e : is_range One Max ≡ true) → Falls Below 16 (between One Max e)
-one_max e = to_interval 15 One One Unicode Max refl e refl refl (other_high One One Unicode Max (λ p. cc p)) (one_unicode refl)
-
-zero_max : (e : is_range Zero Max ≡ true) → Falls Below 17 (between Zero Max e)
-zero_max e = to_interval 16 One Zero Max Max refl e refl refl (other_low One Zero Max Max (λ p. cc p)) (one_max refl)
-
-min_max : (e : is_range Min Max ≡ true) → Falls Below 18 (between Min Max e)
-min_max e = to_interval 17 Zero Min Max Max refl e refl refl (other_low Zero Min Max Max (λ p. cc p)) (zero_max refl)
+from_zero : (h : High) (e : is_range Zero h ≡ true) → Falls Below (MAX_MEMBERS + 1 + shrinks Zero h) (between Zero h e)
+from_zero MinusOne e = cc
+from_zero Byte e = to_interval 14 One Zero Byte Byte refl e refl refl (other_low One Zero Byte Byte (λ p. cc p)) (from_one Byte refl)
+from_zero Unicode e = to_interval 15 One Zero Unicode Unicode refl e refl refl (other_low One Zero Unicode Unicode (λ p. cc p)) (from_one Unicode refl)
+from_zero Max e = to_interval 16 One Zero Max Max refl e refl refl (other_low One Zero Max Max (λ p. cc p)) (from_one Max refl)
 
 between-falls : (l : Low) (h : High) (e : is_range l h ≡ true) → Falls Below (MAX_MEMBERS + 1 + shrinks l h) (between l h e)
+between-falls One h e = from_one h e
+between-falls Zero h e = from_zero h e
 between-falls Min MinusOne e = to_listed Min MinusOne e thirteen_negative refl refl
-between-falls Zero MinusOne e = cc
-between-falls One MinusOne e = cc
-between-falls One Byte e = one_byte e
-between-falls Zero Byte e = zero_byte e
-between-falls Min Byte e = min_byte e
-between-falls One Unicode e = one_unicode e
-between-falls Zero Unicode e = zero_unicode e
-between-falls Min Unicode e = min_unicode e
-between-falls One Max e = one_max e
-between-falls Zero Max e = zero_max e
-between-falls Min Max e = min_max e
+between-falls Min Byte e = to_interval 15 Zero Min Byte Byte refl e refl refl (other_low Zero Min Byte Byte (λ p. cc p)) (from_zero Byte refl)
+between-falls Min Unicode e = to_interval 16 Zero Min Unicode Unicode refl e refl refl (other_low Zero Min Unicode Unicode (λ p. cc p)) (from_zero Unicode refl)
+between-falls Min Max e = to_interval 17 Zero Min Max Max refl e refl refl (other_low Zero Min Max Max (λ p. cc p)) (from_zero Max refl)
 
 pub height-reached : (s : Numbers) → Falls Below (height s) s
 height-reached (some xs e) = listed-falls xs e

@@ -14,7 +14,7 @@ use Rattle.type_sets.specs.declared.ends.Low.TheVariants.{Min, Zero, One}
 use Rattle.type_sets.specs.declared.ends.High.{High}
 use Rattle.type_sets.specs.declared.ends.High.TheVariants.{MinusOne}
 use Rattle.type_sets.specs.Ends.{at_least, at_most, in_range, is_range, lower, raised, higher, lowered, low_of, high_of, bottom, top}
-use Rattle.type_sets.specs.Numbers.{Numbers, some, between, are_listed, is_narrow, has, Below, none, or_else, listed, range, meet, lowest, highest, low_end, high_end, hull, join, is_none, or_else-yes}
+use Rattle.type_sets.specs.Numbers.{Numbers, some, between, are_listed, is_narrow, has, Below, none, or_else, listed, range, meet, outermost, low_end, high_end, hull, join, is_none, or_else-yes}
 use Rattle.type_sets.proofs.FewLaws.{few-is, is-few}
 use Rattle.type_sets.proofs.Truths.{both, first, second, in_first, in_second, either, decided, and_swap, and_cross, is_false}
 use Rattle.type_sets.proofs.EndLaws.{at_least-lower, at_least-raised, at_most-higher, at_most-lowered, at_least-low_of, at_most-high_of, low_of-least, high_of-least, bottom-least, top-least, same_low, same_high, bottom-in, top-in, not_in, one_least, minus_one_least}
@@ -81,28 +81,45 @@ has-meet (between l h e) (between m k f) n =
 
 -- ---- the hull is above both, and below each interval that is
 
-lowest-in : (xs : List ℤ) (n : ℤ) → has_item int_cmp xs n ≡ true → at_least (lowest xs) n ≡ true
-lowest-in [] n h = absurd (true≢false (sym h))
-lowest-in (x ∷ xs) n h =
-    at_least-lower (low_of x) (lowest xs) n ∙ elim (either (eq_by_cmp int_cmp n x) (has_item int_cmp xs n) h) [
-      | inl e ↦ in_first (at_least (low_of x) n) (at_least (lowest xs) n) (ap (at_least (low_of x)) (ascending.is_it int_cmp_total int_cmp-IsAntisymmetric n x e) ∙ at_least-low_of x)
-      | inr e ↦ in_second (at_least (low_of x) n) (at_least (lowest xs) n) (lowest-in xs n e)
-    ]
+-- the ends of one side of intervals: which numbers they let in, the wider of two, the one nearest to a number, and the one
+-- that lets in the fewest
+record Side {End : Type 0} (lets : End → ℤ → Bool) (wider : End → End → End) (nearest : ℤ → End) (narrowest : End) : Type 0 where
+  pub lets-wider : (l m : End) (n : ℤ) → lets (wider l m) n ≡ (lets l n || lets m n)
+  pub lets-nearest : (n : ℤ) → lets (nearest n) n ≡ true
+  pub nearest-least : (m : End) (x n : ℤ) → lets m x ≡ true → lets (nearest x) n ≡ true → lets m n ≡ true
+  pub narrowest-least : (m : End) (n : ℤ) → lets narrowest n ≡ true → lets m n ≡ true
 
-highest-in : (xs : List ℤ) (n : ℤ) → has_item int_cmp xs n ≡ true → at_most (highest xs) n ≡ true
-highest-in [] n h = absurd (true≢false (sym h))
-highest-in (x ∷ xs) n h =
-    at_most-higher (high_of x) (highest xs) n ∙ elim (either (eq_by_cmp int_cmp n x) (has_item int_cmp xs n) h) [
-      | inl e ↦ in_first (at_most (high_of x) n) (at_most (highest xs) n) (ap (at_most (high_of x)) (ascending.is_it int_cmp_total int_cmp-IsAntisymmetric n x e) ∙ at_most-high_of x)
-      | inr e ↦ in_second (at_most (high_of x) n) (at_most (highest xs) n) (highest-in xs n e)
-    ]
+module _ {End : Type 0} {lets : End → ℤ → Bool} {wider : End → End → End} {nearest : ℤ → End} {narrowest : End} (s : Side lets wider nearest narrowest) where
+  outermost-in : (xs : List ℤ) (n : ℤ) → has_item int_cmp xs n ≡ true → lets (outermost wider nearest narrowest xs) n ≡ true
+  outermost-in [] n h = absurd (true≢false (sym h))
+  outermost-in (x ∷ xs) n h =
+      let rest = outermost wider nearest narrowest xs in
+      s.lets-wider (nearest x) rest n ∙ elim (either (eq_by_cmp int_cmp n x) (has_item int_cmp xs n) h) [
+        | inl e ↦ in_first (lets (nearest x) n) (lets rest n) (ap (lets (nearest x)) (ascending.is_it int_cmp_total int_cmp-IsAntisymmetric n x e) ∙ s.lets-nearest x)
+        | inr e ↦ in_second (lets (nearest x) n) (lets rest n) (outermost-in xs n e)
+      ]
+
+  outermost-least : (m : End) (n : ℤ) (xs : List ℤ) → ((x : ℤ) → has_item int_cmp xs x ≡ true → lets m x ≡ true) → lets (outermost wider nearest narrowest xs) n ≡ true → lets m n ≡ true
+  outermost-least m n [] f h = s.narrowest-least m n h
+  outermost-least m n (x ∷ xs) f h =
+      let rest = outermost wider nearest narrowest xs in
+      elim (either (lets (nearest x) n) (lets rest n) (sym (s.lets-wider (nearest x) rest n) ∙ h)) [
+        | inl e ↦ s.nearest-least m x n (f x (in_first (eq_by_cmp int_cmp x x) (has_item int_cmp xs x) (ascending.itself int_cmp_total int_cmp-IsAntisymmetric x))) e
+        | inr e ↦ outermost-least m n xs (λ y k. f y (in_second (eq_by_cmp int_cmp y x) (has_item int_cmp xs y) k)) e
+      ]
+
+lows : Side at_least lower low_of One
+lows = record { lets-wider = at_least-lower; lets-nearest = at_least-low_of; nearest-least = low_of-least; narrowest-least = one_least }
+
+highs : Side at_most higher high_of MinusOne
+highs = record { lets-wider = at_most-higher; lets-nearest = at_most-high_of; nearest-least = high_of-least; narrowest-least = minus_one_least }
 
 low_end-in : (s : Numbers) (n : ℤ) → has s n ≡ true → at_least (low_end s) n ≡ true
-low_end-in (some xs e) n h = lowest-in xs n h
+low_end-in (some xs e) n h = outermost-in lows xs n h
 low_end-in (between l k e) n h = first (at_least l n) (at_most k n) h
 
 high_end-in : (s : Numbers) (n : ℤ) → has s n ≡ true → at_most (high_end s) n ≡ true
-high_end-in (some xs e) n h = highest-in xs n h
+high_end-in (some xs e) n h = outermost-in highs xs n h
 high_end-in (between l k e) n h = second (at_least l n) (at_most k n) h
 
 pub has-hull : (s t : Numbers) (n : ℤ) → has (hull s t) n ≡ ((at_least (low_end s) n || at_least (low_end t) n) && (at_most (high_end s) n || at_most (high_end t) n))
@@ -120,26 +137,12 @@ hull-right s t n h =
     has-hull s t n
     ∙ both (at_least (low_end s) n || at_least (low_end t) n) (at_most (high_end s) n || at_most (high_end t) n) (in_second (at_least (low_end s) n) (at_least (low_end t) n) (low_end-in t n h)) (in_second (at_most (high_end s) n) (at_most (high_end t) n) (high_end-in t n h))
 
-lowest-least : (m : Low) (n : ℤ) (xs : List ℤ) → ((x : ℤ) → has_item int_cmp xs x ≡ true → at_least m x ≡ true) → at_least (lowest xs) n ≡ true → at_least m n ≡ true
-lowest-least m n [] f h = one_least m n h
-lowest-least m n (x ∷ xs) f h = elim (either (at_least (low_of x) n) (at_least (lowest xs) n) (sym (at_least-lower (low_of x) (lowest xs) n) ∙ h)) [
-  | inl e ↦ low_of-least m x n (f x (in_first (eq_by_cmp int_cmp x x) (has_item int_cmp xs x) (ascending.itself int_cmp_total int_cmp-IsAntisymmetric x))) e
-  | inr e ↦ lowest-least m n xs (λ y k. f y (in_second (eq_by_cmp int_cmp y x) (has_item int_cmp xs y) k)) e
-]
-
-highest-least : (m : High) (n : ℤ) (xs : List ℤ) → ((x : ℤ) → has_item int_cmp xs x ≡ true → at_most m x ≡ true) → at_most (highest xs) n ≡ true → at_most m n ≡ true
-highest-least m n [] f h = minus_one_least m n h
-highest-least m n (x ∷ xs) f h = elim (either (at_most (high_of x) n) (at_most (highest xs) n) (sym (at_most-higher (high_of x) (highest xs) n) ∙ h)) [
-  | inl e ↦ high_of-least m x n (f x (in_first (eq_by_cmp int_cmp x x) (has_item int_cmp xs x) (ascending.itself int_cmp_total int_cmp-IsAntisymmetric x))) e
-  | inr e ↦ highest-least m n xs (λ y k. f y (in_second (eq_by_cmp int_cmp y x) (has_item int_cmp xs y) k)) e
-]
-
 low_end-least : (s : Numbers) (m : Low) → ((n : ℤ) → has s n ≡ true → at_least m n ≡ true) → (n : ℤ) → at_least (low_end s) n ≡ true → at_least m n ≡ true
-low_end-least (some xs e) m f n h = lowest-least m n xs f h
+low_end-least (some xs e) m f n h = outermost-least lows m n xs f h
 low_end-least (between l k e) m f n h = bottom-least l m n (f (bottom l) (bottom-in l k e)) h
 
 high_end-least : (s : Numbers) (m : High) → ((n : ℤ) → has s n ≡ true → at_most m n ≡ true) → (n : ℤ) → at_most (high_end s) n ≡ true → at_most m n ≡ true
-high_end-least (some xs e) m f n h = highest-least m n xs f h
+high_end-least (some xs e) m f n h = outermost-least highs m n xs f h
 high_end-least (between l k e) m f n h = top-least k m n (f (top k) (top-in l k e)) h
 
 hull-least : (s t : Numbers) (l : Low) (h : High) (e : is_range l h ≡ true) → Below s (between l h e) → Below t (between l h e) → Below (hull s t) (between l h e)
@@ -193,10 +196,6 @@ not_listed l h e xs d f =
 
 -- ---- the join is the least set of the family above both
 
-merged-part : (xs ys : List ℤ) (u : ℤ → Bool) → ((n : ℤ) → has_item int_cmp xs n ≡ true → u n ≡ true) → ((n : ℤ) → has_item int_cmp ys n ≡ true → u n ≡ true) → (n : ℤ) → has_item int_cmp (merged int_cmp xs ys) n ≡ true → u n ≡ true
-merged-part xs ys u f g n h =
-    elim (either (has_item int_cmp xs n) (has_item int_cmp ys n) (sym (ascending.has-merged int_cmp_total int_cmp-IsAntisymmetric xs ys n) ∙ h)) [ inl x ↦ f n x | inr y ↦ g n y ]
-
 pub join-left : (s t : Numbers) → Below s (join s t)
 unfolding join
 join-left (some xs e) (some ys f) n h = elim (decided (are_listed (merged int_cmp xs ys))) [
@@ -224,18 +223,18 @@ join-right (between l k e) t n h = hull-right (between l k e) t n h
 -- what is too much to be listed is no part of what is listed
 too_many : (xs ys us : List ℤ) → are_listed xs ≡ true → are_listed ys ≡ true → are_listed us ≡ true → ((n : ℤ) → has_item int_cmp xs n ≡ true → has_item int_cmp us n ≡ true) → ((n : ℤ) → has_item int_cmp ys n ≡ true → has_item int_cmp us n ≡ true) → are_listed (merged int_cmp xs ys) ≡ false → ⊥
 too_many xs ys us e f d p q small =
-    let le = ascending.length-part int_cmp_total int_cmp-IsAntisymmetric us (merged int_cmp xs ys) (ascending.ascending-merged int_cmp_total int_cmp-IsAntisymmetric xs ys (listed-ascending xs e)) (listed-ascending us d) (merged-part xs ys (has_item int_cmp us) p q) in
+    let le = ascending.length-part int_cmp_total int_cmp-IsAntisymmetric us (merged int_cmp xs ys) (ascending.ascending-merged int_cmp_total int_cmp-IsAntisymmetric xs ys (listed-ascending xs e)) (listed-ascending us d) (ascending.merged-part int_cmp_total int_cmp-IsAntisymmetric xs ys (has_item int_cmp us) p q) in
     let few = listed-few us d in
     true≢false (sym (listed-merged xs ys e f (omega arith)) ∙ small)
 
 pub join-least : (s t u : Numbers) → Below s u → Below t u → Below (join s t) u
 unfolding join
 join-least (some xs e) (some ys f) (some us d) p q n h = elim (decided (are_listed (merged int_cmp xs ys))) [
-  | inl y ↦ merged-part xs ys (has_item int_cmp us) p q n (sym (has-listed (merged int_cmp xs ys) (hull (some xs e) (some ys f)) n y) ∙ h)
+  | inl y ↦ ascending.merged-part int_cmp_total int_cmp-IsAntisymmetric xs ys (has_item int_cmp us) p q n (sym (has-listed (merged int_cmp xs ys) (hull (some xs e) (some ys f)) n y) ∙ h)
   | inr y ↦ absurd (too_many xs ys us e f d p q y)
 ]
 join-least (some xs e) (some ys f) (between l k d) p q n h = elim (decided (are_listed (merged int_cmp xs ys))) [
-  | inl y ↦ merged-part xs ys (in_range l k) p q n (sym (has-listed (merged int_cmp xs ys) (hull (some xs e) (some ys f)) n y) ∙ h)
+  | inl y ↦ ascending.merged-part int_cmp_total int_cmp-IsAntisymmetric xs ys (in_range l k) p q n (sym (has-listed (merged int_cmp xs ys) (hull (some xs e) (some ys f)) n y) ∙ h)
   | inr y ↦
       hull-least (some xs e) (some ys f) l k d p q n (sym (ap (λ s. has s n) (or_else-no (merged int_cmp xs ys) (hull (some xs e) (some ys f)) y)) ∙ h)
 ]

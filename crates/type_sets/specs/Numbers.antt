@@ -63,14 +63,16 @@ meet (some xs e) t = listed (filter (has t) xs)
 meet (between l h e) (some ys f) = listed (filter (in_range l h) ys)
 meet (between l h e) (between m k f) = range (raised l m) (lowered h k)
 
--- the ends of the smallest interval that has all numbers of a list
+-- of the ends on one side, the one of the smallest interval that has all numbers of a list
+abbrev pub outermost : {End : Type 0} → (End → End → End) → (ℤ → End) → End → List ℤ → End
+outermost wider nearest narrowest [] = narrowest
+outermost wider nearest narrowest (x ∷ xs) = wider (nearest x) (outermost wider nearest narrowest xs)
+
 abbrev pub lowest : List ℤ → Low
-lowest [] = One
-lowest (x ∷ xs) = lower (low_of x) (lowest xs)
+lowest xs = outermost lower low_of One xs
 
 abbrev pub highest : List ℤ → High
-highest [] = MinusOne
-highest (x ∷ xs) = higher (high_of x) (highest xs)
+highest xs = outermost higher high_of MinusOne xs
 
 -- the ends of the smallest interval that contains a set
 abbrev pub low_end : Numbers → Low

@@ -1,23 +1,13 @@
 use Rattle.type_sets.proofs.BitLaws as law
 use Rattle.type_sets.proofs.laws.bits_laws.Goals as goal
 
-pub returns-clause-reflexive : goal.returns-clause-reflexive
-returns-clause-reflexive c = law.below-itself
-
-pub returns-clause-transitive : goal.returns-clause-transitive
-returns-clause-transitive c = law.below-below
-
-pub returns-clause-antisymmetric : goal.returns-clause-antisymmetric
-returns-clause-antisymmetric c = law.same_bits
-
-pub returns-clause-meet : goal.returns-clause-meet
-returns-clause-meet c = law.has-meet
-
-pub returns-clause-left : goal.returns-clause-left
-returns-clause-left c = law.join-left
-
-pub returns-clause-right : goal.returns-clause-right
-returns-clause-right c = law.join-right
-
-pub returns-clause-least : goal.returns-clause-least
-returns-clause-least c = law.join-least
+pub returns : goal.returns
+returns c = record {
+  reflexive = law.below-itself;
+  transitive = law.below-below;
+  antisymmetric = law.same_bits;
+  meet = law.has-meet;
+  left = law.join-left;
+  right = law.join-right;
+  least = law.join-least;
+}
