@@ -9,14 +9,14 @@ use Rattle.type_sets.proofs.Truths.{both}
 use Rattle.type_sets.proofs.AscendingLaws as ascending
 use Rattle.type_sets.proofs.NameLaws.{name_total, name_same, listed-ascending, listed-few}
 use Rattle.type_model.specs.Values.{Value, atom, Values, no_value, and_value, count}
-use Rattle.type_model.specs.Tables.{keys, held, all_hold, joined, both_at, is_table, find}
+use Rattle.type_model.specs.Tables.{keys, held, all_hold, EachEntry, joined, both_at, is_table, find}
 use Rattle.type_model.specs.Shapes.{Body, product, tags}
 use Rattle.type_model.specs.HasType.{HasEach, HasRow, HasTag, HasBody}
 use Rattle.type_model.specs.Operations.{Ops, or_none, met_with, is_empty, row_meet, row_join, rows_join, all_rows_join, spread, body_of, row_at, some_tags, tags_meet, body_meet, elements, tags_join, body_join}
 use Rattle.type_model.specs.Normal.{IsElement, AreElements, NormalRow, FirstIsOpen, NormalRows, AreTags, NormalTags, NormalBody}
 use Rattle.type_model.specs.Laws.{BelowBy, Lattice, Laws}
 use Rattle.type_model.proofs.TableLaws as tables
-use Rattle.type_model.proofs.TableLaws.{found_at, met_with-both_at, EachEntry}
+use Rattle.type_model.proofs.TableLaws.{found_at, met_with-both_at}
 use Rattle.type_model.proofs.LatticeLaws.{with_none}
 use Rattle.type_model.proofs.CellLaws.{value_of, filled-not_none}
 use Rattle.type_model.proofs.RowLaws.{BelowEach, values_of, each-more, each-below, each_same, join_each_least, count_each, row_lattice}
@@ -101,13 +101,9 @@ module _ {E : Type 0} {Has : Value → E → Type 0} {Normal : E → Type 0} {o 
       let rest = rows_at n m k.1 a in
       elim (eq_by_cmp name_cmp a e.0) as (λ b. RowOf n (cond b (Some e.1) (at m a))) [ true ↦ k.0 | false ↦ rest ]
 
-  each-rows : (n : ℕ) (m : Rows) → EachEntry (λ a es. RowOf n (Some es)) m → NormalRows Normal o n m
-  each-rows n [] k = tt
-  each-rows n (e ∷ m) k = (k.0, each-rows n m k.1)
-
   -- and rows are normal where what stands at each tag is
   pub rows_from : (n : ℕ) (m : List (Name × List E)) → is_table name_cmp m ≡ true → ((a : Name) → NormalRow Normal o n (find name_cmp m a)) → NormalRows Normal o n m
-  rows_from n m t f = each-rows n m (tables.each_from name_total name_same (λ a es. RowOf n (Some es)) m t (λ a es e. subst (RowOf n) e (f a)))
+  rows_from n m t f = tables.each_from name_total name_same (λ a es. RowOf n (Some es)) m t (λ a es e. subst (RowOf n) e (f a))
 
   -- what a tuple of some tags begins with
   pub tagged : (vs : Values) (m : List (Name × List E)) → HasTag Has vs m → (a : Name) × ((ws : Values) × ((vs ≡ and_value (atom a) ws) × HasRow Has ws (find name_cmp m a)))

@@ -12,7 +12,7 @@ use Rattle.type_sets.specs.Numbers.{Numbers}
 use Rattle.type_sets.proofs.NameLaws.{name_total, name_same}
 use Rattle.type_sets.proofs.Truths.{both}
 use Rattle.type_model.specs.Values.{Value, atom, nil, tuple, Values, no_value, and_value, count}
-use Rattle.type_model.specs.Tables.{keys, held, find}
+use Rattle.type_model.specs.Tables.{EachOf, EachEntry, keys, held, find}
 use Rattle.type_model.specs.Shapes.{Body, product, tags, Tuples, sizes, all_tuples, TypeAt}
 use Rattle.type_model.specs.HasType.{HasEach, HasRow, HasBody, HasTuple, HasAt}
 use Rattle.type_model.specs.Operations.{Ops, is_empty, zip, row_join, rows_join, all_rows_join, elements, ops}
@@ -22,8 +22,8 @@ use Rattle.type_model.specs.Parts.{value_at, element_at, lifted, project_at}
 use Rattle.type_model.specs.Elements.{at_places, sizes_at, tuples_at, elements_at}
 use Rattle.type_model.specs.Laws.{BelowBy, Laws}
 use Rattle.type_model.proofs.TableLaws as tables
-use Rattle.type_model.proofs.TableLaws.{EachEntry, found_at, same_some, some-none}
-use Rattle.type_model.proofs.LatticeLaws.{EachOf, SomeOf, each_append, some_first, some_later, all-normal, all-has, all-least}
+use Rattle.type_model.proofs.TableLaws.{found_at, same_some, some-none}
+use Rattle.type_model.proofs.LatticeLaws.{SomeOf, each_append, some_first, some_later, all-normal, all-has, all-least}
 use Rattle.type_model.proofs.CellLaws.{value_of}
 use Rattle.type_model.proofs.RowLaws.{values_of, row_lattice}
 use Rattle.type_model.proofs.BodyLaws.{rows_at, count_body, elements_normal}

@@ -2,7 +2,7 @@
 -- that all have a value, with none beside them; and a set joined with others.
 use Rattle.std.specs.Prelude.{◌≡◌, ◌⊎◌, List, [], ◌∷◌, ◌++◌, Option, Some, None, refl}
 use Rattle.std.proofs.Common.{ap, inl, inr}
-use Rattle.type_model.specs.Tables.{joined, both_at}
+use Rattle.type_model.specs.Tables.{EachOf, joined, both_at}
 use Rattle.type_model.specs.Elements.{joined_all}
 use Rattle.type_model.specs.Laws.{BelowBy, Lattice}
 
@@ -102,11 +102,7 @@ module _ {V X : Type 0} {Has : V → Option X → Type 0} {Normal : Option X →
 
 -- ---- a set joined with others, one after the other
 
--- what holds of each of a list, or of one of it
-abbrev pub EachOf : {A : Type 0} → (A → Type 0) → List A → Type 0
-EachOf Q [] = Unit {0}
-EachOf Q (x ∷ xs) = Q x × EachOf Q xs
-
+-- what holds of one of a list
 abbrev pub SomeOf : {A : Type 0} → (A → Type 0) → List A → Type 0
 SomeOf Q [] = ⊥
 SomeOf Q (x ∷ xs) = Q x ⊎ SomeOf Q xs

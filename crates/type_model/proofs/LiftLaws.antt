@@ -9,13 +9,13 @@ use Rattle.type_sets.specs.Names.{Name}
 use Rattle.type_sets.proofs.NameLaws.{name_total, name_same}
 use Rattle.type_sets.proofs.Truths.{either, in_first, in_second}
 use Rattle.type_model.specs.Values.{Value}
-use Rattle.type_model.specs.Tables.{keys, held, mapped, put, united}
+use Rattle.type_model.specs.Tables.{EachEntry, keys, held, mapped, put, united}
 use Rattle.type_model.specs.Shapes.{Cell, Body, product, tags, Tuples, sizes, all_tuples, Parts, TypeAt}
 use Rattle.type_model.specs.Operations.{Ops, row_join, rows_join, all_rows_join, elements, tags_join, capped_tags, body_join, capped_sizes, tuples_join, cell_join, parts_join, plain_join, ops}
 use Rattle.type_model.specs.Normal.{AreElements, NormalRow, NormalRows, NormalBody, NormalSizes, NormalTuples, NormalCell, NormalParts, NormalAt}
 use Rattle.type_model.specs.Cut.{cell_lower, body_lower, tuples_lower, parts_lower, cut}
 use Rattle.type_model.specs.Laws.{Laws}
-use Rattle.type_model.proofs.TableLaws.{EachEntry, keys-mapped, length-mapped}
+use Rattle.type_model.proofs.TableLaws.{keys-mapped, length-mapped}
 use Rattle.type_model.proofs.RowLaws.{row_lattice}
 use Rattle.type_model.proofs.BodyLaws.{elements_normal, body_lattice}
 use Rattle.type_model.proofs.LevelLaws.{level_laws}
@@ -87,22 +87,14 @@ module _ {F E : Type 0} {HasF : Value → F → Type 0} {NormalF : F → Type 0}
   tags_kept : (m : List (Name × List F)) → f.has_tags ≡ true → body_lower lower f e (tags m) ≡ tags (kept m)
   tags_kept m a = ap (λ b. cond b (tags (kept m)) (product (map lower (elements f (tags m))))) (s.tags_stay a)
 
-  rows_each : (n : ℕ) (m : List (Name × List F)) → NormalRows NormalF f n m → EachEntry (λ a es. NormalRow NormalF f n (Some es)) m
-  rows_each n [] k = tt
-  rows_each n (x ∷ m) k = (k.0, rows_each n m k.1)
-
-  each_rows : (n : ℕ) (m : List (Name × List F)) → EachEntry (λ a es. NormalRow NormalF f n (Some es)) m → NormalRows NormalF f n m
-  each_rows n [] k = tt
-  each_rows n (x ∷ m) k = (k.0, each_rows n m k.1)
-
   row_keeps : (n : ℕ) (a : Name) (es fs : List F) → NormalRow NormalF f n (Some es) → NormalRow NormalF f n (Some fs) → NormalRow NormalF f n (Some (row_join f es fs))
   row_keeps n a es fs j k = (row_lattice high n).join_normal (Some es) (Some fs) j k
 
   tags_joins : (n : ℕ) (m w : List (Name × List F)) → NormalRows NormalF f n m → NormalRows NormalF f n w → kept (tags_join f m w) ≡ tags_join e (kept m) (kept w)
-  tags_joins n m w j k = mapped-united name_same (map lower) (row_join f) (row_join e) (λ a es. NormalRow NormalF f n (Some es)) (row_keeps n) (λ a es fs p q. row_joins es fs p.1 q.1) m w (rows_each n m j) (rows_each n w k)
+  tags_joins n m w j k = mapped-united name_same (map lower) (row_join f) (row_join e) (λ a es. NormalRow NormalF f n (Some es)) (row_keeps n) (λ a es fs p q. row_joins es fs p.1 q.1) m w j k
 
   joined_rows : (n : ℕ) (m w : List (Name × List F)) → NormalRows NormalF f n m → NormalRows NormalF f n w → NormalRows NormalF f n (tags_join f m w)
-  joined_rows n m w j k = each_rows n (tags_join f m w) (each-united name_same (map lower) (row_join f) (row_join e) (λ a es. NormalRow NormalF f n (Some es)) (row_keeps n) (λ a es fs p q. row_joins es fs p.1 q.1) m w (rows_each n m j) (rows_each n w k))
+  joined_rows n m w j k = each-united name_same (map lower) (row_join f) (row_join e) (λ a es. NormalRow NormalF f n (Some es)) (row_keeps n) (λ a es fs p q. row_joins es fs p.1 q.1) m w j k
 
   capped_stay : (n : ℕ) (m : List (Name × List F)) (b : Bool) → f.has_tags ≡ true → NormalRows NormalF f n m → body_lower lower f e (cond b (tags m) (product (elements f (tags m)))) ≡ cond b (tags (kept m)) (product (elements e (tags (kept m))))
   capped_stay n m true a k = tags_kept m a

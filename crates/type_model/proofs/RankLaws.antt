@@ -18,7 +18,7 @@ use Rattle.type_sets.proofs.NameHeights as name_heights
 use Rattle.type_sets.proofs.NumberHeights as number_heights
 use Rattle.type_sets.proofs.BitHeights as bit_heights
 use Rattle.type_model.specs.Values.{Value, nil, cons, tuple}
-use Rattle.type_model.specs.Tables.{keys, is_table, find}
+use Rattle.type_model.specs.Tables.{keys, EachEntry, is_table, find}
 use Rattle.type_model.specs.Shapes.{Flag, floats, pids, ports, references, nils, maps, Flags, Functions, no_function, of_arity, all_functions, PlainParts, Cell, Body, product, tags, Tuples, sizes, all_tuples, Parts, TypeAt}
 use Rattle.type_model.specs.HasType.{has_flag, has_arity, HasRow, HasCell, HasBody, HasTuple, HasParts, HasAt}
 use Rattle.type_model.specs.Operations.{Ops, row_at, ops}
@@ -27,7 +27,7 @@ use Rattle.type_model.specs.Laws.{BelowBy, Laws}
 use Rattle.type_model.specs.ValueShapes.{PlainBelow, an_int, an_atom, some_bits, of_flag, a_function, leaf, value_of_shape, shape-value_of_shape, HasShape, has-shape}
 use Rattle.type_model.specs.Ranks.{flags_rank, functions_rank, plain_rank, cell_rank, table_rank, row_rank, body_rank, most_body, tuples_rank, parts_rank, most_parts, most_at, rank, FallsAt}
 use Rattle.type_model.proofs.TableLaws as tables
-use Rattle.type_model.proofs.TableLaws.{EachEntry, some-none}
+use Rattle.type_model.proofs.TableLaws.{some-none}
 use Rattle.type_model.proofs.CellLaws.{value_of, cell-below}
 use Rattle.type_model.proofs.RowLaws.{BelowEach, values_of, each-below}
 use Rattle.type_model.proofs.BodyLaws.{rows_at, row_at_normal, tag_of, not_tags, body_lattice}

@@ -8,7 +8,7 @@ use Rattle.std.specs.FinSet.{IsAntisymmetric}
 use Rattle.type_sets.specs.Ascending.{is_below_all, is_ascending, has_item, placed, merged}
 use Rattle.type_sets.proofs.Truths.{both, first, second, decided, is_false}
 use Rattle.type_sets.proofs.AscendingLaws as ascending
-use Rattle.type_model.specs.Tables.{keys, held, mapped, all_hold, and_entry, chosen, joined, both_at, is_table, find, put, united}
+use Rattle.type_model.specs.Tables.{keys, held, mapped, all_hold, and_entry, chosen, EachEntry, joined, both_at, is_table, find, put, united}
 use Rattle.type_model.specs.Operations.{met_with, is_empty}
 
 -- ---- what two tables hold at one key
@@ -43,12 +43,6 @@ same_some x y e = ap (λ o. none_or o x) e
 
 pub some-none : {X : Type 0} (x : X) → Some x ≡ None → ⊥
 some-none x e = true≢false (ap is_some e)
-
--- ---- what holds of each entry
-
-abbrev pub EachEntry : {K X : Type 0} → (K → X → Type 0) → List (K × X) → Type 0
-EachEntry P [] = Unit {0}
-EachEntry P (e ∷ m) = P e.0 e.1 × EachEntry P m
 
 -- ---- help for what follows
 

@@ -4,7 +4,7 @@ use Rattle.std.specs.Ordering.{nat_cmp}
 use Rattle.type_sets.specs.Few.{are_few}
 use Rattle.type_sets.specs.Names.{Name, name_cmp}
 use Rattle.type_model.specs.declared.limits.TheConstants.{MAX_SIZES, MAX_ELEMENTS}
-use Rattle.type_model.specs.Tables.{is_table}
+use Rattle.type_model.specs.Tables.{EachOf, EachEntry, is_table}
 use Rattle.type_model.specs.Shapes.{Functions, no_function, of_arity, all_functions, Cell, Body, product, tags, Tuples, sizes, all_tuples, Parts, TypeAt}
 use Rattle.type_model.specs.Operations.{Ops, is_empty, ops}
 
@@ -24,8 +24,7 @@ module _ {E : Type 0} (Normal : E → Type 0) (o : Ops E) where
   NormalCell (Some c) = IsElement c.element
 
   abbrev pub AreElements : List E → Type 0
-  AreElements [] = Unit {0}
-  AreElements (e ∷ es) = IsElement e × AreElements es
+  AreElements es = EachOf IsElement es
 
   -- a product of n element types
   abbrev pub NormalRow : ℕ → Option (List E) → Type 0
@@ -38,8 +37,7 @@ module _ {E : Type 0} (Normal : E → Type 0) (o : Ops E) where
   FirstIsOpen (e ∷ es) = o.only e ≡ None
 
   abbrev pub NormalRows : ℕ → List (Name × List E) → Type 0
-  NormalRows n [] = Unit {0}
-  NormalRows n (e ∷ m) = NormalRow n (Some e.1) × NormalRows n m
+  NormalRows n m = EachEntry (λ a es. NormalRow n (Some es)) m
 
   -- some tags, ascending, each with the types of n more elements; there may be too many
   abbrev pub AreTags : ℕ → List (Name × List E) → Type 0

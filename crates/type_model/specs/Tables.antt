@@ -33,6 +33,14 @@ abbrev pub chosen : {K X Y : Type 0} → (K → X → Option Y) → List (K × X
 chosen f [] = []
 chosen f (e ∷ m) = and_entry e.0 (f e.0 e.1) (chosen f m)
 
+-- what holds of each of a list, and of each entry
+abbrev pub EachOf : {A : Type 0} → (A → Type 0) → List A → Type 0
+EachOf Q [] = Unit {0}
+EachOf Q (x ∷ xs) = Q x × EachOf Q xs
+
+abbrev pub EachEntry : {K X : Type 0} → (K → X → Type 0) → List (K × X) → Type 0
+EachEntry P m = EachOf (λ e. P e.0 e.1) m
+
 -- what two tables hold at one key: what one of them holds, and else both, joined
 abbrev pub joined : {X : Type 0} → (X → X → X) → Option X → Option X → Option X
 joined j None y = y
