@@ -5,7 +5,7 @@ use Rattle.std.proofs.lemmas.List.{take_more, map_push}
 use Rattle.type_model.specs.Tables.{mapped}
 use Rattle.type_model.specs.Shapes.{TypeAt, Body, product, tags}
 use Rattle.type_model.specs.Operations.{ops, elements}
-use Rattle.type_model.specs.Normal.{AreElements, NormalRow, NormalRows, NormalBody, NormalSizes, NormalParts, NormalAt}
+use Rattle.type_model.specs.Normal.{AreElements, NormalRow, NormalParts, NormalAt}
 use Rattle.type_model.specs.Cut.{row_lower, cell_lower, body_lower, tuples_lower, parts_lower, cut}
 use Rattle.type_model.proofs.BodyLaws.{elements_normal}
 use Rattle.type_model.proofs.CutLaws.{cut_lowering}
@@ -13,14 +13,13 @@ use Rattle.type_model.proofs.LevelLaws.{level_laws}
 use Rattle.type_trees.specs.declared.node.Node.{Node}
 use Rattle.type_trees.specs.declared.node.Node.TheVariants as v
 use Rattle.type_trees.specs.declared.node.PartsOf.{PartsOf}
-use Rattle.type_trees.specs.declared.node.TuplesOf.{TuplesOf}
-use Rattle.type_trees.specs.declared.node.TuplesOf.TheVariants.{Sizes}
 use Rattle.type_trees.specs.declared.node.SizeOf.{SizeOf}
 use Rattle.type_trees.specs.declared.node.BodyOf.{BodyOf}
 use Rattle.type_trees.specs.declared.node.BodyOf.TheVariants.{Product, Tags}
 use Rattle.type_trees.specs.declared.node.TagOf.{TagOf}
-use Rattle.type_trees.specs.View.{view, row_view, tags_view, body_view, sizes_view, tuples_view, cell_view, parts_view, Fits, EachNode, EachTag, EachSize, EachInBody, EachInTuples, EachInCell, RowFits, TagsFit, BodyFits, SizesFit, TuplesFit, PartsFit}
-use Rattle.type_trees.proofs.Views.{view_any, view_of, of_above, one_more, each_at, tag_at, size_at}
+use Rattle.type_trees.specs.View.{view, row_view, tags_view, body_view, sizes_view, tuples_view, cell_view, parts_view, Fits, EachNode, EachInTuples, EachInCell, RowFits, TagsFit, BodyFits, SizesFit, PartsFit}
+use Rattle.type_trees.proofs.Views.{view_any, view_of, of_above, one_more, each_at}
+use Rattle.type_trees.proofs.Inclusions.{rest_fits as rest_of_tag, size_fits}
 
 -- ---- every value, cut
 
@@ -123,48 +122,18 @@ elements_at d [] k i x h = absurd (omega arith)
 elements_at d (n ∷ ns) k zero x h = k.0.1
 elements_at d (n ∷ ns) k (suc i) x h = elements_at d ns k.1 i x (omega arith)
 
-rows_at : (d n : ℕ) (ts : List (TagOf Node)) → NormalRows (NormalAt d) (ops d) n (tags_view d ts) → (i : ℕ) (x : TagOf Node) → i < length ts → NormalRow (NormalAt d) (ops d) n (Some (row_view d (slice_index_or ts i x).rest))
-rows_at d n [] k i x h = absurd (omega arith)
-rows_at d n (t ∷ ts) k zero x h = k.0
-rows_at d n (t ∷ ts) k (suc i) x h = rows_at d n ts k.1 i x (omega arith)
-
-bodies_at : (d : ℕ) (ss : List (SizeOf Node)) → NormalSizes (NormalAt d) (ops d) (sizes_view d ss) → (i : ℕ) (x : SizeOf Node) → i < length ss → NormalBody (NormalAt d) (ops d) (slice_index_or ss i x).size (Some (body_view d (slice_index_or ss i x).body))
-bodies_at d [] k i x h = absurd (omega arith)
-bodies_at d (s ∷ ss) k zero x h = k.1
-bodies_at d (s ∷ ss) k (suc i) x h = bodies_at d ss k.2 i x (omega arith)
-
 -- an element of a row has a value
 pub element_fits : (d : ℕ) (ns : List Node) → ((n : ℕ) × RowFits d n ns) → (i : ℕ) (x : Node) → i < length ns → x ≡ slice_index_or ns i x → Fits d x × ((ops d).is_none (view d x) ≡ false)
 element_fits d ns k i x h e =
     subst (λ y. Fits d y × ((ops d).is_none (view d y) ≡ false)) (sym e) (each_at (Fits d) ns k.1.each i x h, elements_at d ns k.1.normal.1 i x h)
 
 pub rest_fits : (d : ℕ) (ts : List (TagOf Node)) → ((n : ℕ) × TagsFit d n ts) → (i : ℕ) (x : TagOf Node) → i < length ts → x ≡ slice_index_or ts i x → (n : ℕ) × RowFits d n x.rest
-rest_fits d ts k i x h e =
-    subst (λ y. (n : ℕ) × RowFits d n y.rest) (sym e) (k.0, record { normal = rows_at d k.0 ts k.1.normal.2 i x h; each = tag_at (Fits d) ts k.1.each i x h })
+rest_fits d ts k i x h e = (k.0, rest_of_tag d k.0 ts k.1 i x h e)
 
 pub body_fits : (d : ℕ) (ss : List (SizeOf Node)) → SizesFit d ss → (i : ℕ) (x : SizeOf Node) → i < length ss → x ≡ slice_index_or ss i x → (n : ℕ) × BodyFits d n x.body
-body_fits d ss k i x h e =
-    subst (λ y. (n : ℕ) × BodyFits d n y.body) (sym e) ((slice_index_or ss i x).size, record { normal = bodies_at d ss k.normal i x h; each = size_at (Fits d) ss k.each i x h })
-
-pub sizes_fit : (d : ℕ) (t : TuplesOf Node) (ss : List (SizeOf Node)) → t ≡ Sizes ss → TuplesFit d t → SizesFit d ss
-sizes_fit d t ss e k =
-    let l : TuplesFit d (Sizes ss) = subst (TuplesFit d) e k in
-    record { table = l.normal.0; normal = l.normal.2; each = l.each }
+body_fits d ss k i x h e = (x.size, size_fits d ss k i x h e)
 
 -- ---- one more item at the end
-
-module _ (P : Node → Type 0) where
-  pub one_node : (ns : List Node) (y : Node) → EachNode P ns → P y → EachNode P (ns ++ y ∷ [])
-  one_node [] y k p = (p, tt)
-  one_node (n ∷ ns) y k p = (k.0, one_node ns y k.1 p)
-
-  pub one_tag : (ts : List (TagOf Node)) (y : TagOf Node) → EachTag P ts → EachNode P y.rest → EachTag P (ts ++ y ∷ [])
-  one_tag [] y k p = (p, tt)
-  one_tag (t ∷ ts) y k p = (k.0, one_tag ts y k.1 p)
-
-  pub one_size : (ss : List (SizeOf Node)) (y : SizeOf Node) → EachSize P ss → EachInBody P y.body → EachSize P (ss ++ y ∷ [])
-  one_size [] y k p = (p, tt)
-  one_size (s ∷ ss) y k p = (k.0, one_size ss y k.1 p)
 
 module _ {A C : Type 0} (F : List A → List C) (f : A → C) where
   -- goes over a list item by item

@@ -1,5 +1,5 @@
 -- The laws of inclusion between what trees stand for, part by part.
-use Rattle.std.proofs.Common.{◌≡◌, ℕ, zero, suc, ◌+◌, ◌-◌, ◌<◌, ◌≤◌, Bool, true, false, List, [], ◌∷◌, length, Option, Some, None, ◌↔◌, IsTrue, All, take, take_all, slice_index_or, refl, sym, ◌∙◌, subst, subst₂, inl, inr, true≢false, below_more, arith}
+use Rattle.std.proofs.Common.{◌≡◌, ℕ, zero, suc, ◌+◌, ◌-◌, ◌<◌, ◌≤◌, Bool, true, false, List, [], ◌∷◌, map, length, Option, Some, None, ◌↔◌, IsTrue, All, take, take_all, slice_index_or, refl, sym, ◌∙◌, subst, subst₂, inl, inr, true≢false, below_more, arith}
 use Rattle.std.proofs.lemmas.List.{get_or_default, length-map}
 use Rattle.std.proofs.lemmas.List.Elements.{All-more}
 use Rattle.std.specs.Ordering.{nat_cmp}
@@ -9,13 +9,13 @@ use Rattle.type_sets.specs.Names.{Name, name_cmp}
 use Rattle.type_sets.proofs.NameLaws.{name_total, name_same}
 use Rattle.type_model.specs.Values.{Value, nil, and_value, count, heads}
 use Rattle.type_model.specs.Shapes.{TypeAt, Body, Parts, tags, sizes}
-use Rattle.type_model.specs.Tables.{find}
+use Rattle.type_model.specs.Tables.{EachEntry, find}
 use Rattle.type_model.specs.HasType.{HasAt, HasParts, HasCell, HasRow, HasBody, HasTuple}
 use Rattle.type_model.specs.Operations.{ops, row_at}
 use Rattle.type_model.specs.Normal.{NormalAt, NormalRow, NormalRows, NormalBody, NormalSizes}
 use Rattle.type_model.specs.Laws.{BelowBy}
 use Rattle.type_model.specs.ValueShapes.{Shape, leaf, pair, row, shape, value_of_shape, shape-value_of_shape, HasShape, has-shape, PlainBelow}
-use Rattle.type_model.proofs.TableLaws.{EachEntry, each_at, each_from, some-none}
+use Rattle.type_model.proofs.TableLaws.{each_at, each_from, some-none}
 use Rattle.type_model.proofs.CellLaws.{value_of, cell-below, all-more}
 use Rattle.type_model.proofs.RowLaws.{BelowEach, values_of, each-more, each-below}
 use Rattle.type_model.proofs.BodyLaws.{row_at_normal, each_tag, tag_of, not_tags, body_lattice}
@@ -31,7 +31,7 @@ use Rattle.type_trees.specs.declared.node.SizeOf.{SizeOf}
 use Rattle.type_trees.specs.declared.node.BodyOf.{BodyOf}
 use Rattle.type_trees.specs.declared.node.BodyOf.TheVariants as of_body
 use Rattle.type_trees.specs.declared.node.TagOf.{TagOf}
-use Rattle.type_trees.specs.View.{view, Fits, EachNode, EachInBody, row_view, tags_view, body_view, sizes_view, tuples_view, cell_view, parts_view, RowFits, TagsFit, BodyFits, SizesFit, TuplesFit, CellFits}
+use Rattle.type_trees.specs.View.{view, Fits, EachNode, EachInBody, row_view, tags_view, body_view, sizes_view, tuples_view, cell_view, parts_view, tag_entry, size_entry, RowFits, TagsFit, BodyFits, SizesFit, TuplesFit, CellFits}
 use Rattle.type_trees.proofs.Views.{view_any, view_of, of_above, fits_of, parts_normal, size_at, tag_at}
 
 -- ---- tests that tell
@@ -56,6 +56,17 @@ one_item_more P xs i x lt e h p = All-more P xs i x lt h (subst P e p)
 
 pub each_item : {X : Type 0} (P : X → Type 0) (xs : List X) (i : ℕ) → length xs ≤ i → All P (take i xs) → All P xs
 each_item P xs i le h = subst (All P) (take_all i xs le) h
+
+-- what holds of all items holds of each of their entries, and back
+module _ {A K X : Type 0} (entry : A → K × X) (P : K → X → Type 0) where
+  each_entry : (xs : List A) → All (λ x. P (entry x).0 (entry x).1) xs → EachEntry P (map entry xs)
+  each_entry [] f = tt
+  each_entry (x ∷ xs) f = (f 0 x (omega arith), each_entry xs (λ k y h. f (suc k) y (omega arith)))
+
+  all_entries : (xs : List A) → EachEntry P (map entry xs) → All (λ x. P (entry x).0 (entry x).1) xs
+  all_entries [] f k y h = absurd (omega arith)
+  all_entries (x ∷ xs) f zero y h = f.0
+  all_entries (x ∷ xs) f (suc k) y h = all_entries xs f.1 k y (omega arith)
 
 -- ---- a type and its parts
 
@@ -200,27 +211,18 @@ module _ (d : ℕ) (b : BodyOf Node) where
   abbrev EntryBelow : Name → List (TypeAt d) → Type 0
   EntryBelow a es = BelowBy (HasRow (HasAt d)) (Some es) (row_at (ops d) (body_view d b) a)
 
-  tags_from : (ts : List (TagOf Node)) → All TagBelow ts → EachEntry EntryBelow (tags_view d ts)
-  tags_from [] f = tt
-  tags_from (t ∷ ts) f = (f 0 t (omega arith), tags_from ts (λ k x h. f (suc k) x (omega arith)))
-
-  tags_to : (ts : List (TagOf Node)) → EachEntry EntryBelow (tags_view d ts) → All TagBelow ts
-  tags_to [] f k x h = absurd (omega arith)
-  tags_to (t ∷ ts) f zero x h = f.0
-  tags_to (t ∷ ts) f (suc k) x h = tags_to ts f.1 k x (omega arith)
-
   pub each_tag_below : (ts : List (TagOf Node)) → All TagBelow ts → BelowBy (HasBody (HasAt d)) (Some (tags (tags_view d ts))) (Some (body_view d b))
   each_tag_below ts f = each_tag (level_laws d) (tags_view d ts) (body_view d b) (λ a. at (find name_cmp (tags_view d ts) a) a refl)
     where
       at : (r : Option (List (TypeAt d))) (a : Name) → find name_cmp (tags_view d ts) a ≡ r → BelowBy (HasRow (HasAt d)) r (row_at (ops d) (body_view d b) a)
       at None a e = λ vs h. absurd h
-      at (Some es) a e = each_at name_total name_same EntryBelow (tags_view d ts) (tags_from ts f) a es e
+      at (Some es) a e = each_at name_total name_same EntryBelow (tags_view d ts) (each_entry (tag_entry d) EntryBelow ts f) a es e
 
   -- what the inclusion of tags owes one of them
   pub tag_below : (n : ℕ) (ts : List (TagOf Node)) → TagsFit d n ts → BelowBy (HasBody (HasAt d)) (Some (tags (tags_view d ts))) (Some (body_view d b)) → (i : ℕ) (t : TagOf Node) → i < length ts → t ≡ slice_index_or ts i t → TagBelow t
   tag_below n ts k h i t lt e =
       let f = tag_of (level_laws d) (tags_view d ts) (body_view d b) h in
-      subst TagBelow (sym e) (tags_to ts (each_from name_total name_same EntryBelow (tags_view d ts) k.normal.0 (λ a es q. subst (λ r. BelowBy (HasRow (HasAt d)) r (row_at (ops d) (body_view d b) a)) q (f a))) i t lt)
+      subst TagBelow (sym e) (all_entries (tag_entry d) EntryBelow ts (each_from name_total name_same EntryBelow (tags_view d ts) k.normal.0 (λ a es q. subst (λ r. BelowBy (HasRow (HasAt d)) r (row_at (ops d) (body_view d b) a)) q (f a))) i t lt)
 
 rows_normal_at : (d n : ℕ) (ts : List (TagOf Node)) → NormalRows (NormalAt d) (ops d) n (tags_view d ts) → (i : ℕ) (t : TagOf Node) → i < length ts → NormalRow (NormalAt d) (ops d) n (Some (row_view d (slice_index_or ts i t).rest))
 rows_normal_at d n [] k i t h = absurd (omega arith)
@@ -253,27 +255,18 @@ module _ (d : ℕ) (w : List (SizeOf Node)) where
   abbrev BodyBelow : ℕ → Body (TypeAt d) → Type 0
   BodyBelow n x = BelowBy (HasBody (HasAt d)) (Some x) (find nat_cmp (sizes_view d w) n)
 
-  sizes_from : (ss : List (SizeOf Node)) → All SizeBelow ss → EachEntry BodyBelow (sizes_view d ss)
-  sizes_from [] f = tt
-  sizes_from (s ∷ ss) f = (f 0 s (omega arith), sizes_from ss (λ k x h. f (suc k) x (omega arith)))
-
-  sizes_to : (ss : List (SizeOf Node)) → EachEntry BodyBelow (sizes_view d ss) → All SizeBelow ss
-  sizes_to [] f k x h = absurd (omega arith)
-  sizes_to (s ∷ ss) f zero x h = f.0
-  sizes_to (s ∷ ss) f (suc k) x h = sizes_to ss f.1 k x (omega arith)
-
   pub each_size_below : (ss : List (SizeOf Node)) → All SizeBelow ss → BelowBy (HasTuple (HasAt d)) (sizes (sizes_view d ss)) (sizes (sizes_view d w))
   each_size_below ss f vs = at (find nat_cmp (sizes_view d ss) (count vs)) refl
     where
       at : (r : Option (Body (TypeAt d))) → find nat_cmp (sizes_view d ss) (count vs) ≡ r → HasBody (HasAt d) vs r → HasBody (HasAt d) vs (find nat_cmp (sizes_view d w) (count vs))
       at None e h = absurd h
-      at (Some x) e h = each_at nat_cmp_total nat_cmp-IsAntisymmetric BodyBelow (sizes_view d ss) (sizes_from ss f) (count vs) x e vs h
+      at (Some x) e h = each_at nat_cmp_total nat_cmp-IsAntisymmetric BodyBelow (sizes_view d ss) (each_entry (size_entry d) BodyBelow ss f) (count vs) x e vs h
 
   -- what the inclusion of sizes owes one of them
   pub size_below : (ss : List (SizeOf Node)) → SizesFit d ss → BelowBy (HasTuple (HasAt d)) (sizes (sizes_view d ss)) (sizes (sizes_view d w)) → (i : ℕ) (s : SizeOf Node) → i < length ss → s ≡ slice_index_or ss i s → SizeBelow s
   size_below ss k h i s lt e =
       let f = to_size (level_laws d) (sizes_view d ss) (sizes_view d w) k.normal h in
-      subst SizeBelow (sym e) (sizes_to ss (each_from nat_cmp_total nat_cmp-IsAntisymmetric BodyBelow (sizes_view d ss) k.table (λ n x q. subst (λ r. BelowBy (HasBody (HasAt d)) r (find nat_cmp (sizes_view d w) n)) q (f n))) i s lt)
+      subst SizeBelow (sym e) (all_entries (size_entry d) BodyBelow ss (each_from nat_cmp_total nat_cmp-IsAntisymmetric BodyBelow (sizes_view d ss) k.table (λ n x q. subst (λ r. BelowBy (HasBody (HasAt d)) r (find nat_cmp (sizes_view d w) n)) q (f n))) i s lt)
 
 bodies_normal_at : (d : ℕ) (ss : List (SizeOf Node)) → NormalSizes (NormalAt d) (ops d) (sizes_view d ss) → (i : ℕ) (s : SizeOf Node) → i < length ss → NormalBody (NormalAt d) (ops d) (slice_index_or ss i s).size (Some (body_view d (slice_index_or ss i s).body))
 bodies_normal_at d [] k i t h = absurd (omega arith)

@@ -15,7 +15,7 @@ use Rattle.type_sets.proofs.NameLaws.{or_else-no, name_total, name_same}
 use Rattle.type_sets.specs.Numbers as numbers
 use Rattle.type_sets.specs.declared.bits.Bits.TheVariants.{No}
 use Rattle.type_model.specs.Shapes.{TypeAt, PlainParts, no_function, all_tuples, Body, product, tags, sizes}
-use Rattle.type_model.specs.Tables.{keys, held, is_table, put, united}
+use Rattle.type_model.specs.Tables.{EachOf, keys, held, is_table, put, united}
 use Rattle.type_model.specs.Operations.{Ops, ops, zip, is_empty, row_join, rows_join, all_rows_join, tags_join, body_join, elements, capped_tags, capped_sizes, no_flags, of_plain, of_atoms, parts_join}
 use Rattle.type_model.specs.Normal.{NormalAt, NormalRow, NormalRows, AreTags, NormalBody, NormalSizes, NormalParts}
 use Rattle.type_model.proofs.TableLaws.{same_some, table-put, table-united}
@@ -34,20 +34,18 @@ use Rattle.type_trees.specs.declared.node.SizeOf.{SizeOf}
 use Rattle.type_trees.specs.declared.node.BodyOf.{BodyOf}
 use Rattle.type_trees.specs.declared.node.BodyOf.TheVariants.{Product, Tags}
 use Rattle.type_trees.specs.declared.node.TuplesOf.TheVariants.{Sizes}
-use Rattle.type_trees.specs.View.{view, row_view, tags_view, body_view, sizes_view, tuples_view, parts_view, Fits, EachNode, EachTag, EachInBody, EachSize, RowFits, TagsFit, BodyFits, SizesFit, EachInParts, PartsFit}
+use Rattle.type_trees.specs.View.{view, row_view, tags_view, body_view, sizes_view, tuples_view, parts_view, tag_entry, size_entry, Fits, EachNode, EachTag, EachSize, RowFits, TagsFit, BodyFits, SizesFit, EachInParts, PartsFit}
 use Rattle.type_trees.specs.Places.{StandsAt, GoesAt}
-use Rattle.type_trees.proofs.Views.{fits_normal, view_any, view_of, one_more, tag_at, size_at}
+use Rattle.type_trees.proofs.Views.{fits_normal, view_any, view_of, one_more}
 use Rattle.type_trees.proofs.PlaceLaws.{atom_of}
 
 -- ---- the views of lists
 
-pub length-tags_view : (d : ℕ) (ts : List (TagOf Node)) → length (tags_view d ts) ≡ length ts
-length-tags_view d [] = refl
-length-tags_view d (t ∷ ts) = ap suc (length-tags_view d ts)
+length-tags_view : (d : ℕ) (ts : List (TagOf Node)) → length (tags_view d ts) ≡ length ts
+length-tags_view d ts = length-map ts (tag_entry d)
 
-pub length-sizes_view : (d : ℕ) (ss : List (SizeOf Node)) → length (sizes_view d ss) ≡ length ss
-length-sizes_view d [] = refl
-length-sizes_view d (s ∷ ss) = ap suc (length-sizes_view d ss)
+length-sizes_view : (d : ℕ) (ss : List (SizeOf Node)) → length (sizes_view d ss) ≡ length ss
+length-sizes_view d ss = length-map ss (size_entry d)
 
 length-row_view : (d : ℕ) (es : List Node) → length (row_view d es) ≡ length es
 length-row_view d es = length-map es (view d)
@@ -92,23 +90,15 @@ all_atoms ts i names s h e l r d =
 
 -- ---- items one by one
 
-tag_entry : (d : ℕ) (ts : List (TagOf Node)) (i : ℕ) (t : TagOf Node) → i < length ts → t ≡ slice_index_or ts i t → slice_index_or (tags_view d ts) i (t.atom, row_view d t.rest) ≡ (t.atom, row_view d t.rest)
-tag_entry d [] i t h e = absurd (omega arith)
-tag_entry d (u ∷ ts) zero t h e = λ n. ((sym e n).atom, row_view d (sym e n).rest)
-tag_entry d (u ∷ ts) (suc i) t h e = tag_entry d ts i t (omega arith) e
+-- what an item of a list stands for is an item of what the list does
+map_at : {A B : Type 0} (f : A → B) (xs : List A) (i : ℕ) (x : A) → i < length xs → x ≡ slice_index_or xs i x → slice_index_or (map f xs) i (f x) ≡ f x
+map_at f [] i x h e = absurd (omega arith)
+map_at f (y ∷ ys) zero x h e = ap f (sym e)
+map_at f (y ∷ ys) (suc i) x h e = map_at f ys i x (omega arith) e
 
-tags_more : (d : ℕ) (ts : List (TagOf Node)) (i : ℕ) (t : TagOf Node) → i < length ts → t ≡ slice_index_or ts i t → take (i + 1) (tags_view d ts) ≡ take i (tags_view d ts) ++ (t.atom, row_view d t.rest) ∷ []
-tags_more d ts i t h e =
-    take_more (tags_view d ts) i (t.atom, row_view d t.rest) (omega (arith, length-tags_view d ts)) ∙ ap (λ x. take i (tags_view d ts) ++ x ∷ []) (tag_entry d ts i t h e)
-
-size_entry : (d : ℕ) (ss : List (SizeOf Node)) (i : ℕ) (s : SizeOf Node) → i < length ss → s ≡ slice_index_or ss i s → slice_index_or (sizes_view d ss) i (s.size, body_view d s.body) ≡ (s.size, body_view d s.body)
-size_entry d [] i s h e = absurd (omega arith)
-size_entry d (u ∷ ss) zero s h e = λ n. ((sym e n).size, body_view d (sym e n).body)
-size_entry d (u ∷ ss) (suc i) s h e = size_entry d ss i s (omega arith) e
-
-sizes_more : (d : ℕ) (ss : List (SizeOf Node)) (i : ℕ) (s : SizeOf Node) → i < length ss → s ≡ slice_index_or ss i s → take (i + 1) (sizes_view d ss) ≡ take i (sizes_view d ss) ++ (s.size, body_view d s.body) ∷ []
-sizes_more d ss i s h e =
-    take_more (sizes_view d ss) i (s.size, body_view d s.body) (omega (arith, length-sizes_view d ss)) ∙ ap (λ x. take i (sizes_view d ss) ++ x ∷ []) (size_entry d ss i s h e)
+map_more : {A B : Type 0} (f : A → B) (xs : List A) (i : ℕ) (x : A) → i < length xs → x ≡ slice_index_or xs i x → take (i + 1) (map f xs) ≡ take i (map f xs) ++ f x ∷ []
+map_more f xs i x h e =
+    take_more (map f xs) i (f x) (omega (arith, length-map xs f)) ∙ ap (λ y. take i (map f xs) ++ y ∷ []) (map_at f xs i x h e)
 
 -- ---- products, place by place
 
@@ -118,11 +108,6 @@ zip_at f (a ∷ xs) [] i x y e l h p q = absurd (omega arith)
 zip_at f (a ∷ xs) (b ∷ ys) zero x y e l h p q = λ n. f (p n) (q n)
 zip_at f (a ∷ xs) (b ∷ ys) (suc i) x y e l h p q = zip_at f xs ys i x y e (omega arith) (omega arith) p q
 
-row_at : (d : ℕ) (es : List Node) (i : ℕ) (x : Node) → x ≡ slice_index_or es i x → slice_index_or (row_view d es) i (view d x) ≡ view d x
-row_at d [] i x e = refl
-row_at d (a ∷ es) zero x e = ap (view d) (sym e)
-row_at d (a ∷ es) (suc i) x e = row_at d es i x e
-
 pub row_step : (d : ℕ) (a b out new : List Node) (i : ℕ) (x y j : Node) → length a ≡ length b → i < length a → x ≡ slice_index_or a i x → y ≡ slice_index_or b i y → view d j ≡ (ops d).join (view d x) (view d y) → row_view d out ≡ take i (row_join (ops d) (row_view d a) (row_view d b)) → new ≡ out ++ j ∷ [] → row_view d new ≡ take (i + 1) (row_join (ops d) (row_view d a) (row_view d b))
 row_step d a b out new i x y j l h p q e v n =
     let one : length (row_view d a) ≡ length a = length-row_view d a in
@@ -131,7 +116,7 @@ row_step d a b out new i x y j l h p q e v n =
     ap (row_view d) n
     ∙ map-append (view d) out (j ∷ [])
     ∙ (λ k. v k ++ e k ∷ [])
-    ∙ ap (λ z. take i (row_join (ops d) (row_view d a) (row_view d b)) ++ z ∷ []) (sym (zip_at (ops d).join (row_view d a) (row_view d b) i (view d x) (view d y) (view d x) (one ∙ l ∙ sym two) (omega arith) (row_at d a i x p) (row_at d b i y q)))
+    ∙ ap (λ z. take i (row_join (ops d) (row_view d a) (row_view d b)) ++ z ∷ []) (sym (zip_at (ops d).join (row_view d a) (row_view d b) i (view d x) (view d y) (view d x) (one ∙ l ∙ sym two) (omega arith) (map_at (view d) a i x h p) (map_at (view d) b i y (omega arith) q)))
     ∙ sym (take_more (row_join (ops d) (row_view d a) (row_view d b)) i (view d x) (omega arith))
 
 pub row_end : (d : ℕ) (a b out : List Node) (i : ℕ) → length a ≡ length b → length a ≤ i → row_view d out ≡ take i (row_join (ops d) (row_view d a) (row_view d b)) → row_view d out ≡ row_join (ops d) (row_view d a) (row_view d b)
@@ -140,10 +125,6 @@ row_end d a b out i l h v =
     let two : length (row_view d b) ≡ length b = length-row_view d b in
     let whole : length (row_join (ops d) (row_view d a) (row_view d b)) ≡ length a = length-zip (ops d).join (length a) (row_view d a) (row_view d b) one (two ∙ sym l) in
     v ∙ take_all i (row_join (ops d) (row_view d a) (row_view d b)) (omega arith)
-
-pub each_push : (P : Node → Type 0) (ns : List Node) (n : Node) → EachNode P ns → P n → EachNode P (ns ++ n ∷ [])
-each_push P [] n k p = (p, tt)
-each_push P (m ∷ ns) n k p = (k.0, each_push P ns n k.1 p)
 
 -- products of as many types are of one length
 pub same_length : (d n : ℕ) (a b : List Node) → RowFits d n a → RowFits d n b → length a ≡ length b
@@ -184,7 +165,7 @@ rests_step d ts i t out new g h e v n =
     n
     ∙ ap (λ es. row_join (ops d) es (row_view d t.rest)) v
     ∙ sym (all_rows-more (ops d) (take i (tags_view d ts)) (t.atom, row_view d t.rest) (take-filled i (tags_view d ts) g (omega (arith, length-tags_view d ts))))
-    ∙ sym (ap (λ m. all_rows_join (ops d) (held m)) (tags_more d ts i t h e))
+    ∙ sym (ap (λ m. all_rows_join (ops d) (held m)) (map_more (tag_entry d) ts i t h e))
 
 pub rests_end : (d : ℕ) (ts : List (TagOf Node)) (i : ℕ) (out : List Node) → length ts ≤ i → row_view d out ≡ all_rows_join (ops d) (held (take i (tags_view d ts))) → row_view d out ≡ all_rows_join (ops d) (held (tags_view d ts))
 rests_end d ts i out h v =
@@ -220,11 +201,6 @@ module _ (d : ℕ) where
   rows-take n [] (suc i) k = tt
   rows-take n (e ∷ m) (suc i) k = (k.0, rows-take n m i k.1)
 
-  rows-at : (n : ℕ) (m : List (Name × List (TypeAt d))) (i : ℕ) (x : Name × List (TypeAt d)) → Rows n m → i < length m → Row n (slice_index_or m i x).1
-  rows-at n [] i x k h = absurd (omega arith)
-  rows-at n (e ∷ m) zero x k h = k.0
-  rows-at n (e ∷ m) (suc i) x k h = rows-at n m i x k.1 (omega arith)
-
   rows-joined : (n : ℕ) (es : List (TypeAt d)) (m : List (Name × List (TypeAt d))) → Row n es → Rows n m → Row n (rows_join (ops d) es (held m))
   rows-joined n es [] j k = j
   rows-joined n es (e ∷ m) j k = rows-joined n (row_join (ops d) es e.1) m (row-join n es e.1 j k.0) k.1
@@ -239,12 +215,6 @@ module _ (d : ℕ) where
         normal = subst (Row n) (sym v) (all_rows-joined n (take i (tags_view d ts)) (take-filled i (tags_view d ts) g filled) (rows-take n (tags_view d ts) i k.normal.2));
         each = e;
       }
-
-  pub tag_row : (n : ℕ) (ts : List (TagOf Node)) (i : ℕ) (t : TagOf Node) → TagsFit d n ts → i < length ts → t ≡ slice_index_or ts i t → RowFits d n t.rest
-  tag_row n ts i t k h e = record {
-    normal = subst (λ x. Row n x.1) (tag_entry d ts i t h e) (rows-at n (tags_view d ts) i (t.atom, row_view d t.rest) k.normal.2 (omega (arith, length-tags_view d ts)));
-    each = subst (λ x. EachNode (Fits d) x.rest) (sym e) (tag_at (Fits d) ts k.each i t h);
-  }
 
   -- ---- a tag among others
 
@@ -295,11 +265,6 @@ module _ (d : ℕ) where
   sized-take [] (suc i) k = tt
   sized-take (e ∷ m) (suc i) k = (k.0, k.1, sized-take m i k.2)
 
-  sized-at : (m : List (ℕ × Body (TypeAt d))) (i : ℕ) (x : ℕ × Body (TypeAt d)) → Sized m → i < length m → OfSize (slice_index_or m i x).0 (slice_index_or m i x).1
-  sized-at [] i x k h = absurd (omega arith)
-  sized-at (e ∷ m) zero x k h = k.1
-  sized-at (e ∷ m) (suc i) x k h = sized-at m i x k.2 (omega arith)
-
   sized-put : (q : ℕ) (b : Body (TypeAt d)) (m : List (ℕ × Body (TypeAt d))) → nat_lt q 65 ≡ true → OfSize q b → Sized m → Sized (put nat_cmp (body_join (ops d)) q b m)
   sized-put q b [] s n k = (s, n, tt)
   sized-put q b (e ∷ m) s n k =
@@ -320,39 +285,51 @@ module _ (d : ℕ) where
     each = e;
   }
 
-  pub size_body : (ss : List (SizeOf Node)) (i : ℕ) (s : SizeOf Node) → SizesFit d ss → i < length ss → s ≡ slice_index_or ss i s → BodyFits d s.size s.body
-  size_body ss i s k h e = record {
-    normal = subst (λ x. OfSize x.0 x.1) (size_entry d ss i s h e) (sized-at (sizes_view d ss) i (s.size, body_view d s.body) k.normal (omega (arith, length-sizes_view d ss)));
-    each = subst (λ x. EachInBody (Fits d) x.body) (sym e) (size_at (Fits d) ss k.each i s h);
-  }
+map-insert : {A B : Type 0} (f : A → B) (xs : List A) (i : ℕ) (x : A) → map f (insert xs i x) ≡ insert (map f xs) i (f x)
+map-insert f xs zero x = refl
+map-insert f [] (suc i) x = refl
+map-insert f (y ∷ ys) (suc i) x = ap (λ zs. f y ∷ zs) (map-insert f ys i x)
 
--- ---- one more of the second list
+map-slice_set : {A B : Type 0} (f : A → B) (xs : List A) (i : ℕ) (x : A) → map f (slice_set xs i x) ≡ slice_set (map f xs) i (f x)
+map-slice_set f [] i x = refl
+map-slice_set f (y ∷ ys) zero x = refl
+map-slice_set f (y ∷ ys) (suc i) x = ap (λ zs. f y ∷ zs) (map-slice_set f ys i x)
+
+-- ---- one more of the second list, and what is put into a list
 
 united-append : {K X : Type 0} (R : K → K → Ordering) (j : X → X → X) (m w z : List (K × X)) → united R j m (w ++ z) ≡ united R j (united R j m w) z
 united-append R j m [] z = refl
 united-append R j m (e ∷ w) z = united-append R j (put R j e.0 e.1 m) w z
 
-pub tags_step : (d : ℕ) (a b out new : List (TagOf Node)) (i : ℕ) (t : TagOf Node) → i < length b → t ≡ slice_index_or b i t → tags_view d out ≡ tags_join (ops d) (tags_view d a) (take i (tags_view d b)) → tags_view d new ≡ put name_cmp (row_join (ops d)) t.atom (row_view d t.rest) (tags_view d out) → tags_view d new ≡ tags_join (ops d) (tags_view d a) (take (i + 1) (tags_view d b))
-tags_step d a b out new i t h e v n =
-    n
-    ∙ ap (put name_cmp (row_join (ops d)) t.atom (row_view d t.rest)) v
-    ∙ sym (united-append name_cmp (row_join (ops d)) (tags_view d a) (take i (tags_view d b)) ((t.atom, row_view d t.rest) ∷ []))
-    ∙ sym (ap (united name_cmp (row_join (ops d)) (tags_view d a)) (tags_more d b i t h e))
+module _ {A K X : Type 0} (R : K → K → Ordering) (j : X → X → X) (entry : A → K × X) where
+  -- the first list with the entries of so many items of the second, and with one more
+  pub entries_step : (a b out new : List A) (i : ℕ) (x : A) → i < length b → x ≡ slice_index_or b i x → map entry out ≡ united R j (map entry a) (take i (map entry b)) → map entry new ≡ put R j (entry x).0 (entry x).1 (map entry out) → map entry new ≡ united R j (map entry a) (take (i + 1) (map entry b))
+  entries_step a b out new i x h e v n =
+      n
+      ∙ ap (put R j (entry x).0 (entry x).1) v
+      ∙ sym (united-append R j (map entry a) (take i (map entry b)) (entry x ∷ []))
+      ∙ sym (ap (united R j (map entry a)) (map_more entry b i x h e))
 
-pub tags_end : (d : ℕ) (a b out : List (TagOf Node)) (i : ℕ) → length b ≤ i → tags_view d out ≡ tags_join (ops d) (tags_view d a) (take i (tags_view d b)) → tags_view d out ≡ tags_join (ops d) (tags_view d a) (tags_view d b)
-tags_end d a b out i h v =
-    v ∙ ap (united name_cmp (row_join (ops d)) (tags_view d a)) (take_all i (tags_view d b) (omega (arith, length-tags_view d b)))
+  pub entries_end : (a b out : List A) (i : ℕ) → length b ≤ i → map entry out ≡ united R j (map entry a) (take i (map entry b)) → map entry out ≡ united R j (map entry a) (map entry b)
+  entries_end a b out i h v = v ∙ ap (united R j (map entry a)) (take_all i (map entry b) (omega (arith, length-map b entry)))
 
-pub sizes_step : (d : ℕ) (a b out new : List (SizeOf Node)) (i : ℕ) (s : SizeOf Node) → i < length b → s ≡ slice_index_or b i s → sizes_view d out ≡ united nat_cmp (body_join (ops d)) (sizes_view d a) (take i (sizes_view d b)) → sizes_view d new ≡ put nat_cmp (body_join (ops d)) s.size (body_view d s.body) (sizes_view d out) → sizes_view d new ≡ united nat_cmp (body_join (ops d)) (sizes_view d a) (take (i + 1) (sizes_view d b))
-sizes_step d a b out new i s h e v n =
-    n
-    ∙ ap (put nat_cmp (body_join (ops d)) s.size (body_view d s.body)) v
-    ∙ sym (united-append nat_cmp (body_join (ops d)) (sizes_view d a) (take i (sizes_view d b)) ((s.size, body_view d s.body) ∷ []))
-    ∙ sym (ap (united nat_cmp (body_join (ops d)) (sizes_view d a)) (sizes_more d b i s h e))
+  -- an item whose key isn't there
+  pub entry_missing : (xs new : List A) (i : ℕ) (x u : A) → GoesAt R (entry x).0 (map entry xs) i → u ≡ x → new ≡ insert xs i u → map entry new ≡ put R j (entry x).0 (entry x).1 (map entry xs)
+  entry_missing xs new i x u g e n = ap (map entry) n ∙ ap (λ w. map entry (insert xs i w)) e ∙ map-insert entry xs i x ∙ sym (g j (entry x).1)
 
-pub sizes_end : (d : ℕ) (a b out : List (SizeOf Node)) (i : ℕ) → length b ≤ i → sizes_view d out ≡ united nat_cmp (body_join (ops d)) (sizes_view d a) (take i (sizes_view d b)) → sizes_view d out ≡ united nat_cmp (body_join (ops d)) (sizes_view d a) (sizes_view d b)
-sizes_end d a b out i h v =
-    v ∙ ap (united nat_cmp (body_join (ops d)) (sizes_view d a)) (take_all i (sizes_view d b) (omega (arith, length-sizes_view d b)))
+  -- what stands at the place of a key
+  entry_there : (xs : List A) (i : ℕ) (k : K) (there : A) (s : StandsAt R k (map entry xs) i) → i < length xs → there ≡ slice_index_or xs i there → entry there ≡ (k, s.0)
+  entry_there xs i k there s h e =
+      same_some (entry there) (k, s.0) (ap Some (sym (map_at entry xs i there h e)) ∙ sym (slice_get-get_or (map entry xs) i (entry there) (omega (arith, length-map xs entry))) ∙ s.1.0)
+
+  -- and one whose key is there, so that what is held is joined
+  pub entry_found : (xs : List A) (i : ℕ) (x there new : A) → StandsAt R (entry x).0 (map entry xs) i → i < length xs → there ≡ slice_index_or xs i there → (entry new).0 ≡ (entry there).0 → (entry new).1 ≡ j (entry there).1 (entry x).1 → map entry (slice_set xs i new) ≡ put R j (entry x).0 (entry x).1 (map entry xs)
+  entry_found xs i x there new s h e k v =
+      let same = entry_there xs i (entry x).0 there s h e in
+      map-slice_set entry xs i new
+      ∙ (λ n. slice_set (map entry xs) i (k n, v n))
+      ∙ (λ n. slice_set (map entry xs) i ((same n).0, j (same n).1 (entry x).1))
+      ∙ sym (s.1.1 j (entry x).1)
 
 -- ---- what is put into a list
 
@@ -362,85 +339,23 @@ same_item [] i x y h e f = absurd (omega arith)
 same_item (z ∷ xs) zero x y h e f = e ∙ sym f
 same_item (z ∷ xs) (suc i) x y h e f = same_item xs i x y (omega arith) e f
 
-tags-insert : (d : ℕ) (ts : List (TagOf Node)) (i : ℕ) (t : TagOf Node) → tags_view d (insert ts i t) ≡ insert (tags_view d ts) i (t.atom, row_view d t.rest)
-tags-insert d ts zero t = refl
-tags-insert d [] (suc i) t = refl
-tags-insert d (u ∷ ts) (suc i) t = ap (λ m. (u.atom, row_view d u.rest) ∷ m) (tags-insert d ts i t)
+module _ {A : Type 0} (Q : A → Type 0) where
+  each-insert : (xs : List A) (i : ℕ) (x : A) → EachOf Q xs → Q x → EachOf Q (insert xs i x)
+  each-insert xs zero x k p = (p, k)
+  each-insert [] (suc i) x k p = (p, tt)
+  each-insert (y ∷ ys) (suc i) x k p = (k.0, each-insert ys i x k.1 p)
 
-tags-set : (d : ℕ) (ts : List (TagOf Node)) (i : ℕ) (t : TagOf Node) → tags_view d (slice_set ts i t) ≡ slice_set (tags_view d ts) i (t.atom, row_view d t.rest)
-tags-set d [] i t = refl
-tags-set d (u ∷ ts) zero t = refl
-tags-set d (u ∷ ts) (suc i) t = ap (λ m. (u.atom, row_view d u.rest) ∷ m) (tags-set d ts i t)
+  pub each-set : (xs : List A) (i : ℕ) (x : A) → EachOf Q xs → Q x → EachOf Q (slice_set xs i x)
+  each-set [] i x k p = tt
+  each-set (y ∷ ys) zero x k p = (p, k.1)
+  each-set (y ∷ ys) (suc i) x k p = (k.0, each-set ys i x k.1 p)
 
-sizes-insert : (d : ℕ) (ss : List (SizeOf Node)) (i : ℕ) (s : SizeOf Node) → sizes_view d (insert ss i s) ≡ insert (sizes_view d ss) i (s.size, body_view d s.body)
-sizes-insert d ss zero s = refl
-sizes-insert d [] (suc i) s = refl
-sizes-insert d (u ∷ ss) (suc i) s = ap (λ m. (u.size, body_view d u.body) ∷ m) (sizes-insert d ss i s)
-
-sizes-set : (d : ℕ) (ss : List (SizeOf Node)) (i : ℕ) (s : SizeOf Node) → sizes_view d (slice_set ss i s) ≡ slice_set (sizes_view d ss) i (s.size, body_view d s.body)
-sizes-set d [] i s = refl
-sizes-set d (u ∷ ss) zero s = refl
-sizes-set d (u ∷ ss) (suc i) s = ap (λ m. (u.size, body_view d u.body) ∷ m) (sizes-set d ss i s)
-
-each_tag-insert : (P : Node → Type 0) (ts : List (TagOf Node)) (i : ℕ) (t : TagOf Node) → EachTag P ts → EachNode P t.rest → EachTag P (insert ts i t)
-each_tag-insert P ts zero t k p = (p, k)
-each_tag-insert P [] (suc i) t k p = (p, tt)
-each_tag-insert P (u ∷ ts) (suc i) t k p = (k.0, each_tag-insert P ts i t k.1 p)
-
-pub each_tag-set : (P : Node → Type 0) (ts : List (TagOf Node)) (i : ℕ) (t : TagOf Node) → EachTag P ts → EachNode P t.rest → EachTag P (slice_set ts i t)
-each_tag-set P [] i t k p = tt
-each_tag-set P (u ∷ ts) zero t k p = (p, k.1)
-each_tag-set P (u ∷ ts) (suc i) t k p = (k.0, each_tag-set P ts i t k.1 p)
-
-each_size-insert : (P : Node → Type 0) (ss : List (SizeOf Node)) (i : ℕ) (s : SizeOf Node) → EachSize P ss → EachInBody P s.body → EachSize P (insert ss i s)
-each_size-insert P ss zero s k p = (p, k)
-each_size-insert P [] (suc i) s k p = (p, tt)
-each_size-insert P (u ∷ ss) (suc i) s k p = (k.0, each_size-insert P ss i s k.1 p)
-
-pub each_size-set : (P : Node → Type 0) (ss : List (SizeOf Node)) (i : ℕ) (s : SizeOf Node) → EachSize P ss → EachInBody P s.body → EachSize P (slice_set ss i s)
-each_size-set P [] i s k p = tt
-each_size-set P (u ∷ ss) zero s k p = (p, k.1)
-each_size-set P (u ∷ ss) (suc i) s k p = (k.0, each_size-set P ss i s k.1 p)
-
--- a tag that isn't there
-pub tag_missing : (d : ℕ) (ts new : List (TagOf Node)) (i : ℕ) (t u : TagOf Node) → GoesAt name_cmp t.atom (tags_view d ts) i → u ≡ t → new ≡ insert ts i u → tags_view d new ≡ put name_cmp (row_join (ops d)) t.atom (row_view d t.rest) (tags_view d ts)
-tag_missing d ts new i t u g e n =
-    ap (tags_view d) n ∙ ap (λ w. tags_view d (insert ts i w)) e ∙ tags-insert d ts i t ∙ sym (g (row_join (ops d)) (row_view d t.rest))
-
-pub tag_missing_each : (d : ℕ) (ts new : List (TagOf Node)) (i : ℕ) (t u : TagOf Node) → EachTag (Fits d) ts → EachNode (Fits d) t.rest → u ≡ t → new ≡ insert ts i u → EachTag (Fits d) new
-tag_missing_each d ts new i t u k p e n =
-    subst (EachTag (Fits d)) (sym n) (subst (λ w. EachTag (Fits d) (insert ts i w)) (sym e) (each_tag-insert (Fits d) ts i t k p))
-
--- and one that is
-pub tag_found : (d : ℕ) (ts : List (TagOf Node)) (i : ℕ) (t there : TagOf Node) (rest : List Node) → StandsAt name_cmp t.atom (tags_view d ts) i → i < length ts → there ≡ slice_index_or ts i there → row_view d rest ≡ row_join (ops d) (row_view d there.rest) (row_view d t.rest) → tags_view d (slice_set ts i (record { atom = there.atom; rest = rest })) ≡ put name_cmp (row_join (ops d)) t.atom (row_view d t.rest) (tags_view d ts)
-tag_found d ts i t there rest s h e v =
-    let entry : (there.atom, row_view d there.rest) ≡ (t.atom, s.0) = same_some (there.atom, row_view d there.rest) (t.atom, s.0) (ap Some (sym (tag_entry d ts i there h e)) ∙ sym (slice_get-get_or (tags_view d ts) i (there.atom, row_view d there.rest) (omega (arith, length-tags_view d ts))) ∙ s.1.0) in
-    tags-set d ts i (record { atom = there.atom; rest = rest })
-    ∙ (λ n. slice_set (tags_view d ts) i ((entry n).0, v n))
-    ∙ (λ n. slice_set (tags_view d ts) i (t.atom, row_join (ops d) (entry n).1 (row_view d t.rest)))
-    ∙ sym (s.1.1 (row_join (ops d)) (row_view d t.rest))
-
--- the same of sizes
-pub size_missing : (d : ℕ) (ss new : List (SizeOf Node)) (i : ℕ) (s u : SizeOf Node) → GoesAt nat_cmp s.size (sizes_view d ss) i → u ≡ s → new ≡ insert ss i u → sizes_view d new ≡ put nat_cmp (body_join (ops d)) s.size (body_view d s.body) (sizes_view d ss)
-size_missing d ss new i s u g e n =
-    ap (sizes_view d) n ∙ ap (λ w. sizes_view d (insert ss i w)) e ∙ sizes-insert d ss i s ∙ sym (g (body_join (ops d)) (body_view d s.body))
-
-pub size_missing_each : (d : ℕ) (ss new : List (SizeOf Node)) (i : ℕ) (s u : SizeOf Node) → EachSize (Fits d) ss → EachInBody (Fits d) s.body → u ≡ s → new ≡ insert ss i u → EachSize (Fits d) new
-size_missing_each d ss new i s u k p e n =
-    subst (EachSize (Fits d)) (sym n) (subst (λ w. EachSize (Fits d) (insert ss i w)) (sym e) (each_size-insert (Fits d) ss i s k p))
+  pub missing_each : (xs new : List A) (i : ℕ) (x u : A) → EachOf Q xs → Q x → u ≡ x → new ≡ insert xs i u → EachOf Q new
+  missing_each xs new i x u k p e n = subst (EachOf Q) (sym n) (subst (λ w. EachOf Q (insert xs i w)) (sym e) (each-insert xs i x k p))
 
 -- the size that stands at the place is equal
 pub size_same : (d : ℕ) (ss : List (SizeOf Node)) (i k : ℕ) (there : SizeOf Node) → StandsAt nat_cmp k (sizes_view d ss) i → i < length ss → there ≡ slice_index_or ss i there → there.size ≡ k
-size_same d ss i k there s h e =
-    ap (λ (x : ℕ × Body (TypeAt d)). x.0) (same_some (there.size, body_view d there.body) (k, s.0) (ap Some (sym (size_entry d ss i there h e)) ∙ sym (slice_get-get_or (sizes_view d ss) i (there.size, body_view d there.body) (omega (arith, length-sizes_view d ss))) ∙ s.1.0))
-
-pub size_found : (d : ℕ) (ss : List (SizeOf Node)) (i : ℕ) (s there : SizeOf Node) (b : BodyOf Node) → StandsAt nat_cmp s.size (sizes_view d ss) i → i < length ss → there ≡ slice_index_or ss i there → body_view d b ≡ body_join (ops d) (body_view d there.body) (body_view d s.body) → sizes_view d (slice_set ss i (record { size = there.size; body = b })) ≡ put nat_cmp (body_join (ops d)) s.size (body_view d s.body) (sizes_view d ss)
-size_found d ss i s there b k h e v =
-    let entry : (there.size, body_view d there.body) ≡ (s.size, k.0) = same_some (there.size, body_view d there.body) (s.size, k.0) (ap Some (sym (size_entry d ss i there h e)) ∙ sym (slice_get-get_or (sizes_view d ss) i (there.size, body_view d there.body) (omega (arith, length-sizes_view d ss))) ∙ k.1.0) in
-    sizes-set d ss i (record { size = there.size; body = b })
-    ∙ (λ n. slice_set (sizes_view d ss) i ((entry n).0, v n))
-    ∙ (λ n. slice_set (sizes_view d ss) i (s.size, body_join (ops d) (entry n).1 (body_view d s.body)))
-    ∙ sym (k.1.1 (body_join (ops d)) (body_view d s.body))
+size_same d ss i k there s h e = ap (λ (x : ℕ × Body (TypeAt d)). x.0) (entry_there nat_cmp (body_join (ops d)) (size_entry d) ss i k there s h e)
 
 -- ---- bodies
 

@@ -1,19 +1,11 @@
 -- A tree that stands for a type stands for the same type at each higher level.
-use Rattle.std.proofs.Common.{◌≡◌, ℕ, zero, suc, ◌≤◌, true, cond, List, [], ◌∷◌, map, Option, Some, None, refl, sym, ap, ◌∙◌, subst, arith}
-use Rattle.std.specs.Prelude.{nat_lt}
-use Rattle.std.specs.Ordering.{nat_cmp}
-use Rattle.std.specs.Cmp.{nat_cmp_total}
-use Rattle.std.specs.FinSet.{nat_cmp-IsAntisymmetric}
-use Rattle.std.proofs.lemmas.List.{length-map}
-use Rattle.type_sets.specs.Names.{Name}
-use Rattle.type_sets.proofs.NameLaws.{name_total, name_same}
-use Rattle.type_model.specs.Tables.{is_table, mapped}
-use Rattle.type_model.specs.Shapes.{Cell, Body, product, tags, Tuples, sizes, all_tuples, Parts, TypeAt}
+use Rattle.std.proofs.Common.{◌≡◌, ℕ, zero, suc, ◌≤◌, List, [], ◌∷◌, Option, Some, None, refl, sym, ap, ◌∙◌, subst, arith}
+use Rattle.type_model.specs.Tables.{mapped}
+use Rattle.type_model.specs.Shapes.{Cell, product, Tuples, sizes, all_tuples, Parts, TypeAt}
 use Rattle.type_model.specs.HasType.{HasAt}
-use Rattle.type_model.specs.Operations.{plain_none, ops, elements}
-use Rattle.type_model.specs.Normal.{IsElement, NormalCell, AreElements, NormalRow, FirstIsOpen, NormalRows, AreTags, NormalBody, NormalSizes, NormalTuples, NormalAt}
+use Rattle.type_model.specs.Operations.{plain_none, ops}
+use Rattle.type_model.specs.Normal.{IsElement, NormalCell, NormalSizes, NormalTuples, NormalAt}
 use Rattle.type_model.specs.Cut.{row_lower, cell_lower, body_lower, tuples_lower, parts_lower, cut}
-use Rattle.type_model.proofs.TableLaws.{table-mapped, length-mapped, empty-mapped}
 use Rattle.type_model.proofs.CutLaws.{cut_exact}
 use Rattle.type_model.proofs.LevelLaws.{level_laws}
 use Rattle.type_trees.specs.declared.node.Node.{Node, out-Node, roll-Node, roll-out-Node}
@@ -27,9 +19,9 @@ use Rattle.type_trees.specs.declared.node.SizeOf.{SizeOf}
 use Rattle.type_trees.specs.declared.node.BodyOf.{BodyOf}
 use Rattle.type_trees.specs.declared.node.BodyOf.TheVariants.{Product, Tags}
 use Rattle.type_trees.specs.declared.node.TagOf.{TagOf}
-use Rattle.type_trees.specs.View.{view, row_view, tags_view, body_view, sizes_view, tuples_view, cell_view, parts_view, Fits, EachNode, EachTag, EachSize, EachInBody, RowFits, TagsFit, BodyFits, SizesFit, TuplesFit, CellFits, PartsFit}
+use Rattle.type_trees.specs.View.{view, row_view, tags_view, body_view, sizes_view, tuples_view, cell_view, parts_view, Fits, EachNode, EachTag, EachSize, EachInBody, BodyFits, TuplesFit, CellFits, PartsFit}
 use Rattle.type_trees.proofs.Views.{zero_fits, any_fits, view_of, fits_of, of_fits, parts_normal}
-use Rattle.type_trees.proofs.CutTrees.{any_cut, parts_cut, parts_kept, cut_parts_fit, tags_above, above_tags, tags_kept, tags_fit}
+use Rattle.type_trees.proofs.CutTrees.{any_cut, parts_cut, parts_kept, cut_parts_fit, tags_kept, tags_fit}
 
 -- ---- the parts of a type at another level are in normal form
 
@@ -44,40 +36,7 @@ module _ (e d : ℕ) where
       let x : Parts (TypeAt e) = record { plain = plain_none; cell = None; tuples = t } in
       (parts_kept e d x (tt, tt, k)).2
 
-  elements_kept : (xs : List (TypeAt e)) → AreElements (NormalAt e) (ops e) xs → AreElements (NormalAt d) (ops d) (map (cut e d) xs)
-  elements_kept [] k = tt
-  elements_kept (x ∷ xs) k = (cell_kept (Some (record { element = x; is_proper = true })) k.0, elements_kept xs k.1)
-
-  row_kept : (n : ℕ) (xs : List (TypeAt e)) → NormalRow (NormalAt e) (ops e) n (Some xs) → NormalRow (NormalAt d) (ops d) n (Some (map (cut e d) xs))
-  row_kept n xs k = (length-map xs (cut e d) ∙ k.0, elements_kept xs k.1)
-
-  rows_kept : (n : ℕ) (m : List (Name × List (TypeAt e))) → NormalRows (NormalAt e) (ops e) n m → NormalRows (NormalAt d) (ops d) n (mapped (map (cut e d)) m)
-  rows_kept n [] k = tt
-  rows_kept n (x ∷ m) k = (row_kept n x.1 k.0, rows_kept n m k.1)
-
-  are_tags_kept : (n : ℕ) (m : List (Name × List (TypeAt e))) → AreTags (NormalAt e) (ops e) n m → AreTags (NormalAt d) (ops d) n (mapped (map (cut e d)) m)
-  are_tags_kept n m k = (table-mapped name_total name_same (map (cut e d)) m k.0, empty-mapped name_total name_same (map (cut e d)) m ∙ k.1, rows_kept n m k.2)
-
-  -- a product of one element says it of the first
-  first_kept : (xs : List (TypeAt e)) → AreElements (NormalAt e) (ops e) xs → FirstIsOpen (NormalAt e) (ops e) xs → FirstIsOpen (NormalAt d) (ops d) (map (cut e d) xs)
-  first_kept [] k f = tt
-  first_kept (x ∷ xs) k f = (tuples_kept (sizes ((1, product (x ∷ [])) ∷ [])) (refl, refl, (refl, ((refl, (k.0, tt)), f), tt))).2.1.1
-
-  body_kept : ((ops e).has_tags ≡ true → (ops d).has_tags ≡ true) → (n : ℕ) (b : Body (TypeAt e)) → NormalBody (NormalAt e) (ops e) n (Some b) → NormalBody (NormalAt d) (ops d) n (Some (body_lower (cut e d) (ops e) (ops d) b))
-  body_kept s n (product xs) k = (row_kept n xs k.0, first_kept xs k.0.1 k.1)
-  body_kept s zero (tags m) k = absurd k
-  body_kept s (suc n) (tags m) k =
-      subst (λ h. NormalBody (NormalAt d) (ops d) (suc n) (Some (cond h (tags (mapped (map (cut e d)) m)) (product (map (cut e d) (elements (ops e) (tags m))))))) (sym (s k.2)) (are_tags_kept n m k.0, ap (λ i. nat_lt i 14) (length-mapped name_total name_same (map (cut e d)) m) ∙ k.1, s k.2)
-
-  sizes_kept : ((ops e).has_tags ≡ true → (ops d).has_tags ≡ true) → (m : List (ℕ × Body (TypeAt e))) → NormalSizes (NormalAt e) (ops e) m → NormalSizes (NormalAt d) (ops d) (mapped (body_lower (cut e d) (ops e) (ops d)) m)
-  sizes_kept s [] k = tt
-  sizes_kept s (x ∷ m) k = (k.0, body_kept s x.0 x.1 k.1, sizes_kept s m k.2)
-
 -- ---- one level up, from what holds of the elements
-
--- tags stand from level 1 of the elements on
-tags_stay : (e d : ℕ) → e ≤ d → (ops e).has_tags ≡ true → (ops d).has_tags ≡ true
-tags_stay e d le h = above_tags d (let k = tags_above e h in omega arith)
 
 module _ (e d : ℕ) (le : e ≤ d) (up : (t : Node) → Fits e t → Fits d t × (view d t ≡ cut e d (view e t))) where
   nodes_up : (ns : List Node) → EachNode (Fits e) ns → EachNode (Fits d) ns × (row_view d ns ≡ row_lower (cut e d) (ops e) (ops d) (row_view e ns))
@@ -108,33 +67,6 @@ module _ (e d : ℕ) (le : e ≤ d) (up : (t : Node) → Fits e t → Fits d t �
       let a = each_body_up s.size s.body (record { normal = k.1; each = f.0 }) in
       let b = each_size_up ss k.2 f.1 in
       ((a.0, b.0), cc (a.1, b.1))
-
-  row_up : (n : ℕ) (ns : List Node) → RowFits e n ns → RowFits d n ns × (row_view d ns ≡ row_lower (cut e d) (ops e) (ops d) (row_view e ns))
-  row_up n ns k =
-      let a = nodes_up ns k.each in
-      (record { normal = subst (λ x. NormalRow (NormalAt d) (ops d) n (Some x)) (sym a.1) (row_kept e d n (row_view e ns) k.normal); each = a.0 }, a.1)
-
-  tags_up : (n : ℕ) (ts : List (TagOf Node)) → TagsFit e n ts → TagsFit d n ts × (tags_view d ts ≡ mapped (row_lower (cut e d) (ops e) (ops d)) (tags_view e ts))
-  tags_up n ts k =
-      let a = each_tag_up ts k.each in
-      (record { normal = subst (AreTags (NormalAt d) (ops d) n) (sym a.1) (are_tags_kept e d n (tags_view e ts) k.normal); each = a.0 }, a.1)
-
-  body_up : (n : ℕ) (b : BodyOf Node) → BodyFits e n b → BodyFits d n b × (body_view d b ≡ body_lower (cut e d) (ops e) (ops d) (body_view e b))
-  body_up n b k =
-      let a = each_body_up n b k in
-      (record { normal = subst (λ x. NormalBody (NormalAt d) (ops d) n (Some x)) (sym a.1) (body_kept e d (tags_stay e d le) n (body_view e b) k.normal); each = a.0 }, a.1)
-
-  sizes_up : (ss : List (SizeOf Node)) → SizesFit e ss → SizesFit d ss × (sizes_view d ss ≡ mapped (body_lower (cut e d) (ops e) (ops d)) (sizes_view e ss))
-  sizes_up ss k =
-      let a = each_size_up ss k.normal k.each in
-      let m = sizes_view e ss in (
-        record {
-          table = ap (is_table nat_cmp) a.1 ∙ table-mapped nat_cmp_total nat_cmp-IsAntisymmetric (body_lower (cut e d) (ops e) (ops d)) m k.table;
-          normal = subst (NormalSizes (NormalAt d) (ops d)) (sym a.1) (sizes_kept e d (tags_stay e d le) m k.normal);
-          each = a.0;
-        },
-        a.1,
-      )
 
   tuples_up : (t : TuplesOf Node) → TuplesFit e t → TuplesFit d t × (tuples_view d t ≡ tuples_lower (cut e d) (ops e) (ops d) (tuples_view e t))
   tuples_up All k = (record { normal = tt; each = tt }, refl)
@@ -196,30 +128,3 @@ pub lift : (e d : ℕ) → e ≤ d → (t : Node) → Fits e t → Fits d t × (
 lift zero d le t k = let z = zero_fits t k in (any_fits t z d, any_cut t t z z zero d)
 lift (suc e) zero le t k = absurd (omega arith)
 lift (suc e) (suc d) le t k = next_up e d (omega arith) (lift e d (omega arith)) t k
-
--- ---- and its parts
-
-module _ (e d : ℕ) (le : e ≤ d) where
-  pub lift_nodes : (ns : List Node) → EachNode (Fits e) ns → EachNode (Fits d) ns × (row_view d ns ≡ row_lower (cut e d) (ops e) (ops d) (row_view e ns))
-  lift_nodes = nodes_up e d le (lift e d le)
-
-  pub lift_row : (n : ℕ) (ns : List Node) → RowFits e n ns → RowFits d n ns × (row_view d ns ≡ row_lower (cut e d) (ops e) (ops d) (row_view e ns))
-  lift_row = row_up e d le (lift e d le)
-
-  pub lift_tags : (n : ℕ) (ts : List (TagOf Node)) → TagsFit e n ts → TagsFit d n ts × (tags_view d ts ≡ mapped (row_lower (cut e d) (ops e) (ops d)) (tags_view e ts))
-  lift_tags = tags_up e d le (lift e d le)
-
-  pub lift_body : (n : ℕ) (b : BodyOf Node) → BodyFits e n b → BodyFits d n b × (body_view d b ≡ body_lower (cut e d) (ops e) (ops d) (body_view e b))
-  lift_body = body_up e d le (lift e d le)
-
-  pub lift_sizes : (ss : List (SizeOf Node)) → SizesFit e ss → SizesFit d ss × (sizes_view d ss ≡ mapped (body_lower (cut e d) (ops e) (ops d)) (sizes_view e ss))
-  lift_sizes = sizes_up e d le (lift e d le)
-
-  pub lift_tuples : (t : TuplesOf Node) → TuplesFit e t → TuplesFit d t × (tuples_view d t ≡ tuples_lower (cut e d) (ops e) (ops d) (tuples_view e t))
-  lift_tuples = tuples_up e d le (lift e d le)
-
-  pub lift_cell : (c : Option (CellOf Node)) → CellFits e c → CellFits d c × (cell_view d c ≡ cell_lower (cut e d) (ops e) (ops d) (cell_view e c))
-  lift_cell = cell_up e d le (lift e d le)
-
-  pub lift_parts : (p : PartsOf Node) → PartsFit e p → PartsFit d p × (parts_view d p ≡ parts_lower (cut e d) (ops e) (ops d) (parts_view e p))
-  lift_parts = parts_up e d le (lift e d le)

@@ -1,19 +1,18 @@
 -- The type whose values are those of both, one part at a time.
-use Rattle.std.proofs.Common.{◌≡◌, ℕ, zero, suc, ◌+◌, ◌-◌, ◌<◌, ◌≤◌, Bool, true, false, ◌||◌, List, [], ◌∷◌, ◌++◌, Option, Some, None, length, drop, refl, sym, ap, ◌∙◌, subst, arith}
+use Rattle.std.proofs.Common.{◌≡◌, ℕ, suc, ◌+◌, ◌-◌, ◌<◌, ◌≤◌, Bool, true, false, ◌||◌, List, [], ◌∷◌, ◌++◌, Option, Some, None, length, drop, refl, sym, ap, ◌∙◌, subst, map}
 use Rattle.std.specs.Prelude.{slice_index_or}
 use Rattle.std.specs.Ordering.{nat_cmp}
-use Rattle.std.proofs.lemmas.List.{append_assoc, append-nil, length-map, map-append, drop_all, at_drop_more}
+use Rattle.std.proofs.lemmas.List.{append_assoc, append-nil, map-append, drop_all, at_drop_more}
 use Rattle.type_sets.specs.Names.{Name}
 use Rattle.type_model.specs.Shapes.{TypeAt, Body, tags, sizes}
 use Rattle.type_model.specs.HasType.{HasAt, HasRow}
 use Rattle.type_model.specs.Operations.{Ops, ops, zip, or_none, met_with, has_none, row_meet, row_at, some_tags, tags_meet, body_meet, sizes_meet, parts_meet, tuples_meet}
 use Rattle.type_model.specs.Tables.{all_hold, and_entry, chosen, find}
-use Rattle.type_model.specs.Normal.{NormalAt, NormalRow, NormalRows, NormalBody, NormalSizes, NormalTuples}
+use Rattle.type_model.specs.Normal.{NormalAt, NormalTuples}
 use Rattle.type_model.specs.Laws.{BelowBy, Laws}
 use Rattle.type_model.proofs.LatticeLaws.{meet-below, meet-above}
 use Rattle.type_model.proofs.RowLaws.{row_lattice}
-use Rattle.type_model.proofs.BodyLaws.{row_at_normal}
-use Rattle.type_model.proofs.TupleLaws.{normal_at, tuples_lattice}
+use Rattle.type_model.proofs.TupleLaws.{tuples_lattice}
 use Rattle.type_model.proofs.LevelLaws.{level_laws}
 use Rattle.type_trees.specs.declared.node.Node.{Node}
 use Rattle.type_trees.specs.declared.node.Node.TheVariants as v
@@ -21,10 +20,10 @@ use Rattle.type_trees.specs.declared.node.PartsOf.{PartsOf}
 use Rattle.type_trees.specs.declared.node.TuplesOf.{TuplesOf}
 use Rattle.type_trees.specs.declared.node.TuplesOf.TheVariants.{Sizes}
 use Rattle.type_trees.specs.declared.node.SizeOf.{SizeOf}
-use Rattle.type_trees.specs.declared.node.BodyOf.{BodyOf}
 use Rattle.type_trees.specs.declared.node.TagOf.{TagOf}
-use Rattle.type_trees.specs.View.{view, Fits, EachNode, EachTag, EachInBody, EachSize, row_view, tags_view, body_view, sizes_view, tuples_view, parts_view, RowFits, TagsFit, BodyFits, SizesFit, TuplesFit, CellFits, PartsFit}
-use Rattle.type_trees.proofs.Views.{fits_normal, of_above, of_fits, fits_of, view_of, view_any, one_more, parts_normal, size_at, tag_at}
+use Rattle.type_trees.specs.View.{view, Fits, EachNode, EachTag, EachInBody, EachSize, row_view, tags_view, body_view, sizes_view, tuples_view, parts_view, tag_entry, size_entry, RowFits, TuplesFit, CellFits, PartsFit}
+use Rattle.type_sets.proofs.Truths.{in_second}
+use Rattle.type_trees.proofs.Views.{fits_normal, of_above, of_fits, fits_of, view_of, view_any, one_more, parts_normal, each_more}
 
 -- ---- types
 
@@ -90,65 +89,32 @@ drop_item xs i x h e = at_drop_more (λ l. l) xs i x h ∙ ap (λ y. y ∷ drop 
 next_done : {A : Type 0} (xs : List A) (y : A) (ys : List A) → (xs ++ (y ∷ [])) ++ ys ≡ xs ++ (y ∷ ys)
 next_done xs y ys = append_assoc xs (y ∷ []) ys
 
--- of two lists, what both stand for
-tags-append : (d : ℕ) (ts us : List (TagOf Node)) → tags_view d (ts ++ us) ≡ tags_view d ts ++ tags_view d us
-tags-append d [] us = refl
-tags-append d (t ∷ ts) us = ap (λ m. (t.atom, row_view d t.rest) ∷ m) (tags-append d ts us)
-
-sizes-append : (d : ℕ) (ss us : List (SizeOf Node)) → sizes_view d (ss ++ us) ≡ sizes_view d ss ++ sizes_view d us
-sizes-append d [] us = refl
-sizes-append d (s ∷ ss) us = ap (λ m. (s.size, body_view d s.body) ∷ m) (sizes-append d ss us)
-
--- the same for one item that is added last
-tags_done : (d : ℕ) (new out : List (TagOf Node)) (t : TagOf Node) (later : List (Name × List (TypeAt d))) → new ≡ out ++ t ∷ [] → tags_view d new ++ later ≡ tags_view d out ++ ((t.atom, row_view d t.rest) ∷ later)
-tags_done d new out t later e = ap (λ ts. tags_view d ts ++ later) e ∙ ap (λ m. m ++ later) (tags-append d out (t ∷ [])) ∙ next_done (tags_view d out) (t.atom, row_view d t.rest) later
-
-sizes_done : (d : ℕ) (new out : List (SizeOf Node)) (s : SizeOf Node) (later : List (ℕ × Body (TypeAt d))) → new ≡ out ++ s ∷ [] → sizes_view d new ++ later ≡ sizes_view d out ++ ((s.size, body_view d s.body) ∷ later)
-sizes_done d new out s later e = ap (λ ss. sizes_view d ss ++ later) e ∙ ap (λ m. m ++ later) (sizes-append d out (s ∷ [])) ∙ next_done (sizes_view d out) (s.size, body_view d s.body) later
-
-row_done : (d : ℕ) (new out : List Node) (n : Node) (later : List (TypeAt d)) → new ≡ out ++ n ∷ [] → row_view d new ++ later ≡ row_view d out ++ (view d n ∷ later)
-row_done d new out n later e = ap (λ ns. row_view d ns ++ later) e ∙ ap (λ l. l ++ later) (map-append (view d) out (n ∷ [])) ∙ next_done (row_view d out) (view d n) later
+-- of the images of items, where one item is added last
+map_done : {A B : Type 0} (f : A → B) (new out : List A) (x : A) (later : List B) → new ≡ out ++ x ∷ [] → map f new ++ later ≡ map f out ++ (f x ∷ later)
+map_done f new out x later e = ap (λ xs. map f xs ++ later) e ∙ ap (λ m. m ++ later) (map-append f out (x ∷ [])) ∙ next_done (map f out) (f x) later
 
 -- what each item had, and the one that is added, each has
-each_end : (P : Node → Type 0) (ns : List Node) (n : Node) → EachNode P ns → P n → EachNode P (ns ++ n ∷ [])
-each_end P [] n k h = (h, tt)
-each_end P (m ∷ ns) n k h = (k.0, each_end P ns n k.1 h)
-
-pub each_more : (P : Node → Type 0) (new ns : List Node) (n : Node) → new ≡ ns ++ n ∷ [] → EachNode P ns → P n → EachNode P new
-each_more P new ns n e k h = subst (EachNode P) (sym e) (each_end P ns n k h)
-
-each_tag_end : (P : Node → Type 0) (ts : List (TagOf Node)) (t : TagOf Node) → EachTag P ts → EachNode P t.rest → EachTag P (ts ++ t ∷ [])
-each_tag_end P [] t k h = (h, tt)
-each_tag_end P (u ∷ ts) t k h = (k.0, each_tag_end P ts t k.1 h)
-
 pub each_tag_more : (P : Node → Type 0) (new ts : List (TagOf Node)) (t : TagOf Node) → new ≡ ts ++ t ∷ [] → EachTag P ts → EachNode P t.rest → EachTag P new
-each_tag_more P new ts t e k h = subst (EachTag P) (sym e) (each_tag_end P ts t k h)
-
-each_size_end : (P : Node → Type 0) (ss : List (SizeOf Node)) (s : SizeOf Node) → EachSize P ss → EachInBody P s.body → EachSize P (ss ++ s ∷ [])
-each_size_end P [] s k h = (h, tt)
-each_size_end P (r ∷ ss) s k h = (k.0, each_size_end P ss s k.1 h)
+each_tag_more P = each_more (λ t. EachNode P t.rest)
 
 pub each_size_more : (P : Node → Type 0) (new ss : List (SizeOf Node)) (s : SizeOf Node) → new ≡ ss ++ s ∷ [] → EachSize P ss → EachInBody P s.body → EachSize P new
-each_size_more P new ss s e k h = subst (EachSize P) (sym e) (each_size_end P ss s k h)
+each_size_more P = each_more (λ s. EachInBody P s.body)
 
 -- ---- the same types after each of some atoms
 
 pub spread_more : (d : ℕ) (new out : List (TagOf Node)) (t : TagOf Node) (atoms later : List Name) (rest : List Node) → new ≡ out ++ t ∷ [] → atoms ≡ t.atom ∷ later → t.rest ≡ rest → tags_view d new ++ all_hold later (row_view d rest) ≡ tags_view d out ++ all_hold atoms (row_view d rest)
 spread_more d new out t atoms later rest e f g =
-    tags_done d new out t (all_hold later (row_view d rest)) e
+    map_done (tag_entry d) new out t (all_hold later (row_view d rest)) e
     ∙ ap (λ r. tags_view d out ++ ((t.atom, row_view d r) ∷ all_hold later (row_view d rest))) g
     ∙ ap (λ ks. tags_view d out ++ all_hold ks (row_view d rest)) (sym f)
 
 -- ---- the types of two products, place by place
 
-pub same_length : (d n : ℕ) (a b : List Node) → RowFits d n a → RowFits d n b → length a ≡ length b
-same_length d n a b j k = sym (length-map a (view d)) ∙ j.normal.0 ∙ sym k.normal.0 ∙ length-map b (view d)
-
 -- one place more, and no change to the whole
 pub row_more : (d : ℕ) (new out a b xs ys : List Node) (x y m : Node) → new ≡ out ++ m ∷ [] → a ≡ x ∷ xs → b ≡ y ∷ ys → view d m ≡ (ops d).meet (view d x) (view d y) → row_view d new ++ zip (ops d).meet (row_view d xs) (row_view d ys) ≡ row_view d out ++ zip (ops d).meet (row_view d a) (row_view d b)
 row_more d new out a b xs ys x y m i e f g =
     let later = zip (ops d).meet (row_view d xs) (row_view d ys) in
-    row_done d new out m later i
+    map_done (view d) new out m later i
     ∙ ap (λ t. row_view d out ++ (t ∷ later)) g
     ∙ ap (λ l. row_view d out ++ zip (ops d).meet (row_view d l) (row_view d (y ∷ ys))) (sym e)
     ∙ ap (λ l. row_view d out ++ zip (ops d).meet (row_view d a) (row_view d l)) (sym f)
@@ -165,58 +131,41 @@ filled_end o (f ∷ es) e h k = neither (o.is_none f) (has_none o es) (has_none 
 pub filled_more : (d : ℕ) (new out : List Node) (m : Node) → new ≡ out ++ m ∷ [] → has_none (ops d) (row_view d out) ≡ false → (ops d).is_none (view d m) ≡ false → has_none (ops d) (row_view d new) ≡ false
 filled_more d new out m e h k = ap (λ ns. has_none (ops d) (row_view d ns)) e ∙ ap (has_none (ops d)) (map-append (view d) out (m ∷ [])) ∙ filled_end (ops d) (row_view d out) (view d m) h k
 
-either : (a b : Bool) → b ≡ true → (a || b) ≡ true
-either true b h = refl
-either false b h = h
-
 none_among : {E : Type 0} (o : Ops E) (es : List E) (e : E) (fs : List E) → o.is_none e ≡ true → has_none o (es ++ e ∷ fs) ≡ true
 none_among o [] e fs h = ap (λ b. b || has_none o fs) h
-none_among o (g ∷ es) e fs h = either (o.is_none g) (has_none o (es ++ e ∷ fs)) (none_among o es e fs h)
+none_among o (g ∷ es) e fs h = in_second (o.is_none g) (has_none o (es ++ e ∷ fs)) (none_among o es e fs h)
 
 -- where a place has no value, the product has none
 pub row_none : (d : ℕ) (out a b xs ys : List Node) (x y m : Node) (es fs : List (TypeAt d)) → a ≡ x ∷ xs → b ≡ y ∷ ys → view d m ≡ (ops d).meet (view d x) (view d y) → (ops d).is_none (view d m) ≡ true → row_view d out ++ zip (ops d).meet (row_view d a) (row_view d b) ≡ zip (ops d).meet es fs → None ≡ row_meet (ops d) es fs
 row_none d out a b xs ys x y m es fs e f g z h =
     let later = zip (ops d).meet (row_view d xs) (row_view d ys) in
-    let split : zip (ops d).meet es fs ≡ row_view d out ++ (view d m ∷ later) = sym h ∙ sym (row_more d (out ++ m ∷ []) out a b xs ys x y m refl e f g) ∙ row_done d (out ++ m ∷ []) out m later refl in
+    let split : zip (ops d).meet es fs ≡ row_view d out ++ (view d m ∷ later) = sym h ∙ sym (row_more d (out ++ m ∷ []) out a b xs ys x y m refl e f g) ∙ map_done (view d) (out ++ m ∷ []) out m later refl in
     sym (ap (λ b. or_none b (zip (ops d).meet es fs)) (ap (has_none (ops d)) split ∙ none_among (ops d) (row_view d out) (view d m) later z))
 
 -- ---- tags
 
--- the types after a tag
-rest_normal : (d n : ℕ) (ts : List (TagOf Node)) → NormalRows (NormalAt d) (ops d) n (tags_view d ts) → (i : ℕ) (x : TagOf Node) → i < length ts → NormalRow (NormalAt d) (ops d) n (Some (row_view d (slice_index_or ts i x).rest))
-rest_normal d n [] k i x h = absurd (omega arith)
-rest_normal d n (t ∷ ts) k zero x h = k.0
-rest_normal d n (t ∷ ts) k (suc i) x h = rest_normal d n ts k.1 i x (omega arith)
+-- one entry more is chosen, or none, and no change to the whole
+module _ {A K X : Type 0} (entry : A → K × X) (choose : K → X → Option X) where
+  entry_chosen : (new out ts us : List A) (t u : A) → new ≡ out ++ u ∷ [] → ts ≡ t ∷ us → (entry u).0 ≡ (entry t).0 → choose (entry t).0 (entry t).1 ≡ Some (entry u).1 → map entry new ++ chosen choose (map entry us) ≡ map entry out ++ chosen choose (map entry ts)
+  entry_chosen new out ts us t u e f k h =
+      map_done entry new out u (chosen choose (map entry us)) e
+      ∙ ap (λ q. map entry out ++ ((q, (entry u).1) ∷ chosen choose (map entry us))) k
+      ∙ ap (λ z. map entry out ++ and_entry (entry t).0 z (chosen choose (map entry us))) (sym h)
+      ∙ ap (λ l. map entry out ++ chosen choose (map entry l)) (sym f)
 
-pub rest_fits : (d n : ℕ) (ts : List (TagOf Node)) → TagsFit d n ts → (i : ℕ) (x : TagOf Node) → i < length ts → x ≡ slice_index_or ts i x → RowFits d n x.rest
-rest_fits d n ts k i x h e = subst (λ t. RowFits d n t.rest) (sym e) (record { normal = rest_normal d n ts k.normal.2 i x h; each = tag_at (Fits d) ts k.each i x h })
-
--- the types after an atom
-pub after_fits : (d n : ℕ) (b : BodyOf Node) (a : Name) (r : List Node) → BodyFits d (suc n) b → Some (row_view d r) ≡ row_at (ops d) (body_view d b) a → EachNode (Fits d) r → RowFits d n r
-after_fits d n b a r k e h = record { normal = subst (NormalRow (NormalAt d) (ops d) n) (sym e) (row_at_normal (level_laws d) n (body_view d b) a k.normal); each = h }
-
--- an entry that is chosen, and one that isn't
-chosen_some : {K X Y : Type 0} (f : K → X → Option Y) (k : K) (x : X) (m : List (K × X)) (y : Y) → f k x ≡ Some y → chosen f ((k, x) ∷ m) ≡ (k, y) ∷ chosen f m
-chosen_some f k x m y e = ap (λ z. and_entry k z (chosen f m)) e
-
-chosen_none : {K X Y : Type 0} (f : K → X → Option Y) (k : K) (x : X) (m : List (K × X)) → f k x ≡ None → chosen f ((k, x) ∷ m) ≡ chosen f m
-chosen_none f k x m e = ap (λ z. and_entry k z (chosen f m)) e
+  none_chosen : (new out ts us : List A) (t : A) → new ≡ out → ts ≡ t ∷ us → choose (entry t).0 (entry t).1 ≡ None → map entry new ++ chosen choose (map entry us) ≡ map entry out ++ chosen choose (map entry ts)
+  none_chosen new out ts us t g e h =
+      ap (λ l. map entry l ++ chosen choose (map entry us)) g
+      ∙ ap (λ z. map entry out ++ and_entry (entry t).0 z (chosen choose (map entry us))) (sym h)
+      ∙ ap (λ l. map entry out ++ chosen choose (map entry l)) (sym e)
 
 -- one tag more, or the same tags, and no change to the whole
 pub tags_more : (d : ℕ) (new out ts us : List (TagOf Node)) (t u : TagOf Node) (b : Body (TypeAt d)) (r : List (TypeAt d)) → new ≡ out ++ u ∷ [] → ts ≡ t ∷ us → u.atom ≡ t.atom → Some r ≡ row_at (ops d) b t.atom → Some (row_view d u.rest) ≡ row_meet (ops d) (row_view d t.rest) r → tags_view d new ++ tags_meet (ops d) (tags_view d us) b ≡ tags_view d out ++ tags_meet (ops d) (tags_view d ts) b
 tags_more d new out ts us t u b r e f g h k =
-    let choose : Name → List (TypeAt d) → Option (List (TypeAt d)) = λ a es. met_with (row_meet (ops d) es) (row_at (ops d) b a) in
-    tags_done d new out u (chosen choose (tags_view d us)) e
-    ∙ ap (λ a. tags_view d out ++ ((a, row_view d u.rest) ∷ chosen choose (tags_view d us))) g
-    ∙ ap (λ m. tags_view d out ++ m) (sym (chosen_some choose t.atom (row_view d t.rest) (tags_view d us) (row_view d u.rest) (ap (met_with (row_meet (ops d) (row_view d t.rest))) (sym h) ∙ sym k)))
-    ∙ ap (λ l. tags_view d out ++ tags_meet (ops d) (tags_view d l) b) (sym f)
+    entry_chosen (tag_entry d) (λ a es. met_with (row_meet (ops d) es) (row_at (ops d) b a)) new out ts us t u e f g (ap (met_with (row_meet (ops d) (row_view d t.rest))) (sym h) ∙ sym k)
 
 pub tags_fewer : (d : ℕ) (new out ts us : List (TagOf Node)) (t : TagOf Node) (b : Body (TypeAt d)) → new ≡ out → ts ≡ t ∷ us → None ≡ met_with (row_meet (ops d) (row_view d t.rest)) (row_at (ops d) b t.atom) → tags_view d new ++ tags_meet (ops d) (tags_view d us) b ≡ tags_view d out ++ tags_meet (ops d) (tags_view d ts) b
-tags_fewer d new out ts us t b g e f =
-    let choose : Name → List (TypeAt d) → Option (List (TypeAt d)) = λ a es. met_with (row_meet (ops d) es) (row_at (ops d) b a) in
-    ap (λ l. tags_view d l ++ chosen choose (tags_view d us)) g
-    ∙ ap (λ m. tags_view d out ++ m) (sym (chosen_none choose t.atom (row_view d t.rest) (tags_view d us) (sym f)))
-    ∙ ap (λ l. tags_view d out ++ tags_meet (ops d) (tags_view d l) b) (sym e)
+tags_fewer d new out ts us t b g e f = none_chosen (tag_entry d) (λ a es. met_with (row_meet (ops d) es) (row_at (ops d) b a)) new out ts us t g e (sym f)
 
 -- what is left at the end are tags, where there are any
 pub tags_left : (d : ℕ) (out ts : List (TagOf Node)) (i : ℕ) (b : Body (TypeAt d)) (m : List (Name × List (TypeAt d))) → (out ≡ [] → ⊥) → length ts ≤ i → tags_view d out ++ tags_meet (ops d) (tags_view d (drop i ts)) b ≡ m → Some (tags (tags_view d out)) ≡ some_tags (ops d) m
@@ -228,34 +177,13 @@ tags_left d out ts i b m f h e = some out f ∙ ap (some_tags (ops d)) (sym (app
 
 -- ---- sizes
 
--- the tuples of a size
-size_normal : (d : ℕ) (ss : List (SizeOf Node)) → NormalSizes (NormalAt d) (ops d) (sizes_view d ss) → (i : ℕ) (x : SizeOf Node) → i < length ss → NormalBody (NormalAt d) (ops d) (slice_index_or ss i x).size (Some (body_view d (slice_index_or ss i x).body))
-size_normal d [] k i x h = absurd (omega arith)
-size_normal d (s ∷ ss) k zero x h = k.1
-size_normal d (s ∷ ss) k (suc i) x h = size_normal d ss k.2 i x (omega arith)
-
-pub size_fits : (d : ℕ) (ss : List (SizeOf Node)) → SizesFit d ss → (i : ℕ) (x : SizeOf Node) → i < length ss → x ≡ slice_index_or ss i x → BodyFits d x.size x.body
-size_fits d ss k i x h e = subst (λ s. BodyFits d s.size s.body) (sym e) (record { normal = size_normal d ss k.normal i x h; each = size_at (Fits d) ss k.each i x h })
-
--- the tuples of a size that is found
-pub found_fits : (d n : ℕ) (ss : List (SizeOf Node)) (b : BodyOf Node) → SizesFit d ss → Some (body_view d b) ≡ find nat_cmp (sizes_view d ss) n → EachInBody (Fits d) b → BodyFits d n b
-found_fits d n ss b k e h = record { normal = subst (NormalBody (NormalAt d) (ops d) n) (sym e) (normal_at (level_laws d) (sizes_view d ss) k.normal n); each = h }
-
 -- one size more, or the same sizes, and no change to the whole
 pub sizes_more : (d : ℕ) (new out ss rs : List (SizeOf Node)) (s u : SizeOf Node) (w : List (ℕ × Body (TypeAt d))) (b : Body (TypeAt d)) → new ≡ out ++ u ∷ [] → ss ≡ s ∷ rs → u.size ≡ s.size → Some b ≡ find nat_cmp w s.size → Some (body_view d u.body) ≡ body_meet (ops d) (body_view d s.body) b → sizes_view d new ++ sizes_meet (ops d) (sizes_view d rs) w ≡ sizes_view d out ++ sizes_meet (ops d) (sizes_view d ss) w
 sizes_more d new out ss rs s u w b e f g h k =
-    let choose : ℕ → Body (TypeAt d) → Option (Body (TypeAt d)) = λ n c. met_with (body_meet (ops d) c) (find nat_cmp w n) in
-    sizes_done d new out u (chosen choose (sizes_view d rs)) e
-    ∙ ap (λ n. sizes_view d out ++ ((n, body_view d u.body) ∷ chosen choose (sizes_view d rs))) g
-    ∙ ap (λ m. sizes_view d out ++ m) (sym (chosen_some choose s.size (body_view d s.body) (sizes_view d rs) (body_view d u.body) (ap (met_with (body_meet (ops d) (body_view d s.body))) (sym h) ∙ sym k)))
-    ∙ ap (λ l. sizes_view d out ++ sizes_meet (ops d) (sizes_view d l) w) (sym f)
+    entry_chosen (size_entry d) (λ n c. met_with (body_meet (ops d) c) (find nat_cmp w n)) new out ss rs s u e f g (ap (met_with (body_meet (ops d) (body_view d s.body))) (sym h) ∙ sym k)
 
 pub sizes_fewer : (d : ℕ) (new out ss rs : List (SizeOf Node)) (s : SizeOf Node) (w : List (ℕ × Body (TypeAt d))) → new ≡ out → ss ≡ s ∷ rs → None ≡ met_with (body_meet (ops d) (body_view d s.body)) (find nat_cmp w s.size) → sizes_view d new ++ sizes_meet (ops d) (sizes_view d rs) w ≡ sizes_view d out ++ sizes_meet (ops d) (sizes_view d ss) w
-sizes_fewer d new out ss rs s w g e f =
-    let choose : ℕ → Body (TypeAt d) → Option (Body (TypeAt d)) = λ n c. met_with (body_meet (ops d) c) (find nat_cmp w n) in
-    ap (λ l. sizes_view d l ++ chosen choose (sizes_view d rs)) g
-    ∙ ap (λ m. sizes_view d out ++ m) (sym (chosen_none choose s.size (body_view d s.body) (sizes_view d rs) (sym f)))
-    ∙ ap (λ l. sizes_view d out ++ sizes_meet (ops d) (sizes_view d l) w) (sym e)
+sizes_fewer d new out ss rs s w g e f = none_chosen (size_entry d) (λ n c. met_with (body_meet (ops d) c) (find nat_cmp w n)) new out ss rs s g e (sym f)
 
 -- ---- tuples
 

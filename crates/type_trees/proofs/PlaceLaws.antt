@@ -70,22 +70,18 @@ module _ {A K : Type 0} (R : K → K → Ordering) (key : A → K) (k : K) where
 abbrev pub atom_of : TagOf Node → Name
 atom_of t = t.atom
 
-tags-entries : (d : ℕ) (ts : List (TagOf Node)) → entries atom_of (λ t. row_view d t.rest) ts ≡ tags_view d ts
-tags-entries d [] = refl
-tags-entries d (t ∷ ts) = ap (λ m. (t.atom, row_view d t.rest) ∷ m) (tags-entries d ts)
-
 pub tag-goes_before : (k : Name) (ts : List (TagOf Node)) (i : ℕ) (t : TagOf Node) → i < length ts → t ≡ slice_index_or ts i t → name_cmp k t.atom ≡ Less → Behind name_cmp atom_of k ts i → (d : ℕ) → GoesAt name_cmp k (tags_view d ts) i
 tag-goes_before k ts i t h e l b d =
-    subst (λ m. GoesAt name_cmp k m i) (tags-entries d ts) (goes-before name_cmp atom_of k (λ t. row_view d t.rest) ts i t h e l b)
+    goes-before name_cmp atom_of k (λ t. row_view d t.rest) ts i t h e l b
 
 pub tag-goes_last : (k : Name) (ts : List (TagOf Node)) (i : ℕ) → i ≤ length ts → length ts ≤ i → Behind name_cmp atom_of k ts i → (d : ℕ) → GoesAt name_cmp k (tags_view d ts) (length ts)
 tag-goes_last k ts i g h b d =
     let e : i ≡ length ts = omega arith in
-    subst (λ n. GoesAt name_cmp k (tags_view d ts) n) e (subst (λ m. GoesAt name_cmp k m i) (tags-entries d ts) (goes-last name_cmp atom_of k (λ t. row_view d t.rest) ts i e b))
+    subst (λ n. GoesAt name_cmp k (tags_view d ts) n) e (goes-last name_cmp atom_of k (λ t. row_view d t.rest) ts i e b)
 
 pub tag-stands : (k : Name) (ts : List (TagOf Node)) (i : ℕ) (t : TagOf Node) → i < length ts → t ≡ slice_index_or ts i t → name_cmp k t.atom ≡ Equal → Behind name_cmp atom_of k ts i → (d : ℕ) → StandsAt name_cmp k (tags_view d ts) i
 tag-stands k ts i t h e q b d =
-    subst (λ m. StandsAt name_cmp k m i) (tags-entries d ts) (stands-at name_cmp atom_of k (λ t. row_view d t.rest) ts i t h e (name_same k t.atom q) q b)
+    stands-at name_cmp atom_of k (λ t. row_view d t.rest) ts i t h e (name_same k t.atom q) q b
 
 -- the outcome of comparing the bytes of two atoms
 pub compared : (k l x y : Name) (r s : Ordering) → x ≡ k → y ≡ l → r ≡ name_cmp x y → r ≡ s → name_cmp k l ≡ s
@@ -96,19 +92,15 @@ compared k l x y r s e f g h = sym (λ n. name_cmp (e n) (f n)) ∙ sym g ∙ h
 abbrev pub number_of : SizeOf Node → ℕ
 number_of s = s.size
 
-sizes-entries : (d : ℕ) (ss : List (SizeOf Node)) → entries number_of (λ s. body_view d s.body) ss ≡ sizes_view d ss
-sizes-entries d [] = refl
-sizes-entries d (s ∷ ss) = ap (λ m. (s.size, body_view d s.body) ∷ m) (sizes-entries d ss)
-
 pub size-goes_before : (k : ℕ) (ss : List (SizeOf Node)) (i : ℕ) (s : SizeOf Node) → i < length ss → s ≡ slice_index_or ss i s → nat_cmp k s.size ≡ Less → Behind nat_cmp number_of k ss i → (d : ℕ) → GoesAt nat_cmp k (sizes_view d ss) i
 size-goes_before k ss i s h e l b d =
-    subst (λ m. GoesAt nat_cmp k m i) (sizes-entries d ss) (goes-before nat_cmp number_of k (λ s. body_view d s.body) ss i s h e l b)
+    goes-before nat_cmp number_of k (λ s. body_view d s.body) ss i s h e l b
 
 pub size-goes_last : (k : ℕ) (ss : List (SizeOf Node)) (i : ℕ) → i ≤ length ss → length ss ≤ i → Behind nat_cmp number_of k ss i → (d : ℕ) → GoesAt nat_cmp k (sizes_view d ss) (length ss)
 size-goes_last k ss i g h b d =
     let e : i ≡ length ss = omega arith in
-    subst (λ n. GoesAt nat_cmp k (sizes_view d ss) n) e (subst (λ m. GoesAt nat_cmp k m i) (sizes-entries d ss) (goes-last nat_cmp number_of k (λ s. body_view d s.body) ss i e b))
+    subst (λ n. GoesAt nat_cmp k (sizes_view d ss) n) e (goes-last nat_cmp number_of k (λ s. body_view d s.body) ss i e b)
 
 pub size-stands : (k : ℕ) (ss : List (SizeOf Node)) (i : ℕ) (s : SizeOf Node) → i < length ss → s ≡ slice_index_or ss i s → nat_cmp k s.size ≡ Equal → Behind nat_cmp number_of k ss i → (d : ℕ) → StandsAt nat_cmp k (sizes_view d ss) i
 size-stands k ss i s h e q b d =
-    subst (λ m. StandsAt nat_cmp k m i) (sizes-entries d ss) (stands-at nat_cmp number_of k (λ s. body_view d s.body) ss i s h e (nat_cmp-IsAntisymmetric k s.size q) q b)
+    stands-at nat_cmp number_of k (λ s. body_view d s.body) ss i s h e (nat_cmp-IsAntisymmetric k s.size q) q b

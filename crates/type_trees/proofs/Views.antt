@@ -1,6 +1,7 @@
 -- What the trees of the code stand for, one level at a time.
-use Rattle.std.proofs.Common.{◌≡◌, ℕ, zero, suc, ◌-◌, ◌<◌, ◌≤◌, Bool, true, false, List, [], ◌∷◌, Option, Some, None, is_some, refl, sym, ap, ◌∙◌, subst, true≢false, arith}
+use Rattle.std.proofs.Common.{◌≡◌, ℕ, zero, suc, ◌-◌, ◌<◌, ◌≤◌, Bool, true, false, List, [], ◌∷◌, ◌++◌, Option, Some, None, is_some, refl, sym, ap, ◌∙◌, subst, true≢false, arith}
 use Rattle.std.specs.Prelude.{◌↔◌, IsTrue, slice_index_or, length}
+use Rattle.type_model.specs.Tables.{EachOf}
 use Rattle.type_model.specs.Shapes.{TypeAt}
 use Rattle.type_model.specs.Operations.{ops, is_empty, parts_is_none, no_cell}
 use Rattle.type_model.specs.Normal.{NormalAt, NormalParts}
@@ -102,20 +103,25 @@ fits_normal (suc d) t h = go (out-Node t) h
 
 -- ---- the items of lists
 
+module _ {A : Type 0} (Q : A → Type 0) where
+  pub each_at : (xs : List A) → EachOf Q xs → (i : ℕ) (x : A) → i < length xs → Q (slice_index_or xs i x)
+  each_at [] k i x h = absurd (omega arith)
+  each_at (y ∷ ys) k zero x h = k.0
+  each_at (y ∷ ys) k (suc i) x h = each_at ys k.1 i x (omega arith)
+
+  -- one item more at the end
+  pub each_push : (xs : List A) (x : A) → EachOf Q xs → Q x → EachOf Q (xs ++ x ∷ [])
+  each_push [] x k h = (h, tt)
+  each_push (y ∷ ys) x k h = (k.0, each_push ys x k.1 h)
+
+  pub each_more : (new xs : List A) (x : A) → new ≡ xs ++ x ∷ [] → EachOf Q xs → Q x → EachOf Q new
+  each_more new xs x e k h = subst (EachOf Q) (sym e) (each_push xs x k h)
+
 pub size_at : (P : Node → Type 0) (ss : List (SizeOf Node)) → EachSize P ss → (i : ℕ) (x : SizeOf Node) → i < length ss → EachInBody P (slice_index_or ss i x).body
-size_at P [] k i x h = absurd (omega arith)
-size_at P (s ∷ ss) k zero x h = k.0
-size_at P (s ∷ ss) k (suc i) x h = size_at P ss k.1 i x (omega arith)
+size_at P = each_at (λ s. EachInBody P s.body)
 
 pub tag_at : (P : Node → Type 0) (ts : List (TagOf Node)) → EachTag P ts → (i : ℕ) (x : TagOf Node) → i < length ts → EachNode P (slice_index_or ts i x).rest
-tag_at P [] k i x h = absurd (omega arith)
-tag_at P (t ∷ ts) k zero x h = k.0
-tag_at P (t ∷ ts) k (suc i) x h = tag_at P ts k.1 i x (omega arith)
-
-pub each_at : (P : Node → Type 0) (ns : List Node) → EachNode P ns → (i : ℕ) (x : Node) → i < length ns → P (slice_index_or ns i x)
-each_at P [] k i x h = absurd (omega arith)
-each_at P (n ∷ ns) k zero x h = k.0
-each_at P (n ∷ ns) k (suc i) x h = each_at P ns k.1 i x (omega arith)
+tag_at P = each_at (λ t. EachNode P t.rest)
 
 -- ---- whether there is a value
 

@@ -1,11 +1,11 @@
 -- The type that a tree of the code stands for, at each level, and which trees stand for one.
-use Rattle.std.specs.Prelude.{◌≡◌, ℕ, zero, suc, Bool, true, false, List, [], ◌∷◌, map, Option, Some, None}
+use Rattle.std.specs.Prelude.{◌≡◌, ℕ, zero, suc, Bool, true, false, List, map, Option, Some, None}
 use Rattle.std.specs.Ordering.{nat_cmp}
 use Rattle.type_sets.specs.Names.{Name}
 use Rattle.type_model.specs.Shapes.{Cell, Body, product, tags, Tuples, sizes, all_tuples, Parts, TypeAt}
 use Rattle.type_model.specs.Operations.{ops}
 use Rattle.type_model.specs.Normal.{NormalCell, NormalRow, AreTags, NormalBody, NormalSizes, NormalTuples, NormalParts, NormalAt}
-use Rattle.type_model.specs.Tables.{is_table}
+use Rattle.type_model.specs.Tables.{EachOf, is_table}
 use Rattle.type_trees.specs.declared.node.Node.{Node, out-Node}
 use Rattle.type_trees.specs.declared.node.Node.TheOpen.{Node-F}
 use Rattle.type_trees.specs.declared.node.PartsOf.{PartsOf}
@@ -20,16 +20,14 @@ use Rattle.type_trees.specs.declared.node.TagOf.{TagOf}
 -- one level, with what the elements stand for
 module _ {A E : Type 0} (f : A → E) where
   abbrev pub tags_of : List (TagOf A) → List (Name × List E)
-  tags_of [] = []
-  tags_of (t ∷ ts) = (t.atom, map f t.rest) ∷ tags_of ts
+  tags_of ts = map (λ (t : TagOf A). (t.atom, map f t.rest)) ts
 
   abbrev pub body_of : BodyOf A → Body E
   body_of (Product es) = product (map f es)
   body_of (Tags ts) = tags (tags_of ts)
 
   abbrev pub sizes_of : List (SizeOf A) → List (ℕ × Body E)
-  sizes_of [] = []
-  sizes_of (s ∷ ss) = (s.size, body_of s.body) ∷ sizes_of ss
+  sizes_of ss = map (λ (s : SizeOf A). (s.size, body_of s.body)) ss
 
   abbrev pub tuples_of : TuplesOf A → Tuples E
   tuples_of All = all_tuples
@@ -57,20 +55,17 @@ view (suc d) n = layer (ops (suc d)).any (view d) (out-Node n)
 -- each element stands for a type
 module _ {A : Type 0} (P : A → Type 0) where
   abbrev pub EachNode : List A → Type 0
-  EachNode [] = Unit {0}
-  EachNode (n ∷ ns) = P n × EachNode ns
+  EachNode ns = EachOf P ns
 
   abbrev pub EachTag : List (TagOf A) → Type 0
-  EachTag [] = Unit {0}
-  EachTag (t ∷ ts) = EachNode t.rest × EachTag ts
+  EachTag ts = EachOf (λ (t : TagOf A). EachNode t.rest) ts
 
   abbrev pub EachInBody : BodyOf A → Type 0
   EachInBody (Product es) = EachNode es
   EachInBody (Tags ts) = EachTag ts
 
   abbrev pub EachSize : List (SizeOf A) → Type 0
-  EachSize [] = Unit {0}
-  EachSize (s ∷ ss) = EachInBody s.body × EachSize ss
+  EachSize ss = EachOf (λ (s : SizeOf A). EachInBody s.body) ss
 
   abbrev pub EachInTuples : TuplesOf A → Type 0
   EachInTuples All = Unit {0}
@@ -119,6 +114,13 @@ cell_view d c = cell_of (view d) c
 
 abbrev pub parts_view : (d : ℕ) → PartsOf Node → Parts (TypeAt d)
 parts_view d p = parts_of (view d) p
+
+-- what a tag and a size stand for, with its key
+abbrev pub tag_entry : (d : ℕ) → TagOf Node → Name × List (TypeAt d)
+tag_entry d t = (t.atom, row_view d t.rest)
+
+abbrev pub size_entry : (d : ℕ) → SizeOf Node → ℕ × Body (TypeAt d)
+size_entry d s = (s.size, body_view d s.body)
 
 -- so many element types
 pub record RowFits (d n : ℕ) (es : List Node) : Type 0 where

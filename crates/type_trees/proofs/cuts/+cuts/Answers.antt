@@ -6,9 +6,10 @@ use Rattle.type_model.specs.Shapes.{tags}
 use Rattle.type_trees.specs.declared.node.Node.{Node}
 use Rattle.type_trees.specs.declared.node.TagOf.{TagOf}
 use Rattle.type_model.specs.Tables.{mapped}
-use Rattle.type_trees.specs.View.{Fits, row_view, tags_view, sizes_view, EachNode, EachTag, EachSize, RowFits, TagsFit, SizesFit}
-use Rattle.type_trees.proofs.Views.{any_fits, of_above, below_fits}
-use Rattle.type_trees.proofs.CutTrees.{any_cut, zero_cut, of_cut, cut_parts_fit, row_of, tags_of, product_fits, tags_kept, tags_lost, element_fits, rest_fits, body_fits, sizes_fit, one_node, one_tag, one_size, row_further, tags_further, sizes_further}
+use Rattle.type_trees.specs.View.{Fits, row_view, tags_view, sizes_view, EachNode, EachTag, EachInBody, EachSize, RowFits, TagsFit, SizesFit}
+use Rattle.type_trees.proofs.Views.{any_fits, of_above, below_fits, each_push}
+use Rattle.type_trees.proofs.Inclusions.{sizes_fit}
+use Rattle.type_trees.proofs.CutTrees.{any_cut, zero_cut, of_cut, cut_parts_fit, row_of, tags_of, product_fits, tags_kept, tags_lost, element_fits, rest_fits, body_fits, row_further, tags_further, sizes_further}
 use Rattle.type_trees.proofs.cuts.+cuts.Goals as goal
 
 pub cut-returns-then-to-eq0-clause-fits : goal.cut-returns-then-to-eq0-clause-fits
@@ -62,7 +63,7 @@ cut_row-cut-requires t c = let f = element_fits c.args.from c.args.row.now c.req
 pub cut_row-loop-element-preserved : goal.cut_row-loop-element-preserved
 cut_row-loop-element-preserved t c = record {
   value = ap (row_view c.args.to) c.in_ok-add.ensures.ok ∙ row_further c.args.from c.args.to c.args.row.now c.loop-element.out c.loop-element.element-index c.element-item.result c.in_ok-cut.cut c.loop-element-test.true c.element-item.is c.loop-element.invariant.value c.in_ok-cut.ensures.value;
-  each = subst (EachNode (Fits c.args.to)) (sym c.in_ok-add.ensures.ok) (one_node (Fits c.args.to) c.loop-element.out c.in_ok-cut.cut c.loop-element.invariant.each c.in_ok-cut.ensures.fits);
+  each = subst (EachNode (Fits c.args.to)) (sym c.in_ok-add.ensures.ok) (each_push (Fits c.args.to) c.loop-element.out c.in_ok-cut.cut c.loop-element.invariant.each c.in_ok-cut.ensures.fits);
 }
 
 pub cut_sizes-cut_body-requires : goal.cut_sizes-cut_body-requires
@@ -71,7 +72,7 @@ cut_sizes-cut_body-requires t c = (omega (arith, c.decreases), body_fits c.args.
 pub cut_sizes-loop-size-preserved : goal.cut_sizes-loop-size-preserved
 cut_sizes-loop-size-preserved t c = record {
   value = ap (sizes_view c.args.to) c.in_ok-add.ensures.ok ∙ sizes_further c.args.from c.args.to c.args.sizes.now c.loop-size.out c.loop-size.size-index c.size-item.result c.in_ok-body.body c.loop-size-test.true c.size-item.is c.loop-size.invariant.value c.in_ok-body.ensures.value;
-  each = subst (EachSize (Fits c.args.to)) (sym c.in_ok-add.ensures.ok) (one_size (Fits c.args.to) c.loop-size.out (record { size = c.size-item.result.size; body = c.in_ok-body.body }) c.loop-size.invariant.each c.in_ok-body.ensures.each);
+  each = subst (EachSize (Fits c.args.to)) (sym c.in_ok-add.ensures.ok) (each_push (λ s. EachInBody (Fits c.args.to) s.body) c.loop-size.out (record { size = c.size-item.result.size; body = c.in_ok-body.body }) c.loop-size.invariant.each c.in_ok-body.ensures.each);
 }
 
 pub cut_tags-cut_row-requires : goal.cut_tags-cut_row-requires
@@ -81,7 +82,7 @@ pub cut_tags-loop-tag-preserved : goal.cut_tags-loop-tag-preserved
 cut_tags-loop-tag-preserved t c = let y : TagOf Node = record { atom = c.in_ok-atom.atom; rest = c.in_ok-rest.rest } in
     record {
       value = ap (tags_view c.args.to) c.in_ok-add.ensures.ok ∙ tags_further c.args.from c.args.to c.args.tags.now c.loop-tag.out c.loop-tag.tag-index c.tag-item.result y c.loop-tag-test.true c.tag-item.is c.loop-tag.invariant.value c.in_ok-atom.ensures (c.in_ok-rest.ensures.value ∙ ap (λ r. row_lower (levels.cut c.args.from c.args.to) (ops c.args.from) (ops c.args.to) (row_view c.args.from r)) c.as_slice.ensures);
-      each = subst (EachTag (Fits c.args.to)) (sym c.in_ok-add.ensures.ok) (one_tag (Fits c.args.to) c.loop-tag.out y c.loop-tag.invariant.each c.in_ok-rest.ensures.each);
+      each = subst (EachTag (Fits c.args.to)) (sym c.in_ok-add.ensures.ok) (each_push (λ t. EachNode (Fits c.args.to) t.rest) c.loop-tag.out y c.loop-tag.invariant.each c.in_ok-rest.ensures.each);
     }
 
 pub cut_tuples-cut_sizes-requires : goal.cut_tuples-cut_sizes-requires

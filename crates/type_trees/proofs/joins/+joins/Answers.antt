@@ -1,4 +1,4 @@
-use Rattle.std.proofs.Common.{ℕ, ◌<◌, length, sym, ap, ◌∙◌, subst, arith}
+use Rattle.std.proofs.Common.{ℕ, ◌<◌, length, refl, sym, ap, ◌∙◌, subst, arith}
 use Rattle.std.specs.Ordering.{nat_cmp}
 use Rattle.std.proofs.lemmas.Result.{IfOk-weaker}
 use Rattle.type_sets.specs.Names.{name_cmp}
@@ -6,10 +6,11 @@ use Rattle.type_model.specs.Shapes.{product, tags as tagged}
 use Rattle.type_model.specs.Operations.{ops, elements, row_join, tags_join, body_join}
 use Rattle.type_trees.specs.declared.node.Node.{Node}
 use Rattle.type_trees.specs.declared.node.TagOf.{TagOf}
-use Rattle.type_trees.specs.View.{row_view, tags_view, body_view, sizes_view, Fits, EachNode, TagsFit, BodyFits}
+use Rattle.type_trees.specs.View.{row_view, tags_view, body_view, sizes_view, tag_entry, size_entry, Fits, EachNode, EachInBody, TagsFit, BodyFits}
 use Rattle.type_trees.specs.Places.{StandsAt, GoesAt}
-use Rattle.type_trees.proofs.Views.{of_above, below_fits}
-use Rattle.type_trees.proofs.JoinLaws.{few_tags, many_tags, row_step, row_end, each_push, same_length, rests_step, rests_end, rests_fit, same_item, tag_row, tags_so_far, tags_joined, sizes_so_far, size_body, tags_step, tags_end, sizes_step, sizes_end, tag_missing, tag_missing_each, tag_found, each_tag-set, size_missing, size_missing_each, size_same, size_found, each_size-set, tags_of_body, tags_of_bodies, product_of_body, elements_fit, row_is, tags_elements, any_left, any_right, joined_below, joined_above, rows_below, rows_above, parts_fit, made_join, made_fit}
+use Rattle.type_trees.proofs.Views.{of_above, below_fits, each_push}
+use Rattle.type_trees.proofs.JoinLaws.{few_tags, many_tags, row_step, row_end, same_length, rests_step, rests_end, rests_fit, same_item, tags_so_far, tags_joined, sizes_so_far, size_same, tags_of_body, tags_of_bodies, product_of_body, elements_fit, row_is, tags_elements, any_left, any_right, joined_below, joined_above, rows_below, rows_above, parts_fit, made_join, made_fit, entries_step, entries_end, entry_missing, missing_each, entry_found, each-set}
+use Rattle.type_trees.proofs.Inclusions.{rest_fits, size_fits}
 use Rattle.type_trees.proofs.joins.+joins.Goals as goal
 
 pub cap_tags-returns-then-len-le-MAX_MEMBERS-clause-value : goal.cap_tags-returns-then-len-le-MAX_MEMBERS-clause-value
@@ -129,7 +130,7 @@ join_rests-join_row-requires t c = (
     c.requires.0,
     (
       row_is c.args.level c.requires.0 _ _ c.as_slice-in-loop-i.ensures (rests_fit c.args.level c.requires.0 c.args.tags.now c.loop-i.i c.loop-i.out c.requires.1 (omega arith) c.loop-i.invariant.value c.loop-i.invariant.each),
-      row_is c.args.level c.requires.0 _ _ (c.as_slice-in-loop-i-2.ensures ∙ sym (ap (λ (x : TagOf Node). x.rest) c.index-tags-i.is)) (tag_row c.args.level c.requires.0 c.args.tags.now c.loop-i.i c.index-tags-i.result c.requires.1 (omega arith) c.index-tags-i.is),
+      row_is c.args.level c.requires.0 _ _ (c.as_slice-in-loop-i-2.ensures ∙ sym (ap (λ (x : TagOf Node). x.rest) c.index-tags-i.is)) (rest_fits c.args.level c.requires.0 c.args.tags.now c.requires.1 c.loop-i.i c.index-tags-i.result (omega arith) c.index-tags-i.is),
     ),
   ),
 )
@@ -158,19 +159,19 @@ join_sizes-put_size-requires t c = (
   omega (arith, c.decreases),
   (
     sizes_so_far c.args.level c.args.a.now c.args.b.now c.loop-size.out.items c.loop-size.size-index c.requires.a c.requires.b c.loop-size.invariant.value c.loop-size.invariant.each,
-    size_body c.args.level c.args.b.now c.loop-size.size-index c.size-item.result c.requires.b c.loop-size-test.true c.size-item.is,
+    size_fits c.args.level c.args.b.now c.requires.b c.loop-size.size-index c.size-item.result c.loop-size-test.true c.size-item.is,
   ),
 )
 
 pub join_sizes-loop-size-preserved : goal.join_sizes-loop-size-preserved
 join_sizes-loop-size-preserved t c = record {
-  value = sizes_step c.args.level c.args.a.now c.args.b.now c.loop-size.out.items c.put_size.new.sizes.items c.loop-size.size-index c.size-item.result c.loop-size-test.true c.size-item.is c.loop-size.invariant.value c.in_ok-put_size.ensures.value;
+  value = entries_step nat_cmp (body_join (ops c.args.level)) (size_entry c.args.level) c.args.a.now c.args.b.now c.loop-size.out.items c.put_size.new.sizes.items c.loop-size.size-index c.size-item.result c.loop-size-test.true c.size-item.is c.loop-size.invariant.value c.in_ok-put_size.ensures.value;
   each = c.in_ok-put_size.ensures.each;
 }
 
 pub join_sizes-returns-clause-value : goal.join_sizes-returns-clause-value
 join_sizes-returns-clause-value t c =
-    sizes_end c.args.level c.args.a.now c.args.b.now c.from_vec.result c.loop-size.size-index c.loop-size-test.false (ap (sizes_view c.args.level) c.from_vec.ensures ∙ c.loop-size.invariant.value)
+    entries_end nat_cmp (body_join (ops c.args.level)) (size_entry c.args.level) c.args.a.now c.args.b.now c.from_vec.result c.loop-size.size-index c.loop-size-test.false (ap (sizes_view c.args.level) c.from_vec.ensures ∙ c.loop-size.invariant.value)
 
 pub join_tags-put_tag-requires : goal.join_tags-put_tag-requires
 join_tags-put_tag-requires t c = (
@@ -179,20 +180,20 @@ join_tags-put_tag-requires t c = (
     c.requires.0,
     (
       tags_so_far c.args.level c.requires.0 c.args.a.now c.args.b.now c.loop-tag.out.items c.loop-tag.tag-index c.requires.1.0 c.requires.1.1 c.loop-tag.invariant.value c.loop-tag.invariant.each,
-      tag_row c.args.level c.requires.0 c.args.b.now c.loop-tag.tag-index c.tag-item.result c.requires.1.1 c.loop-tag-test.true c.tag-item.is,
+      rest_fits c.args.level c.requires.0 c.args.b.now c.requires.1.1 c.loop-tag.tag-index c.tag-item.result c.loop-tag-test.true c.tag-item.is,
     ),
   ),
 )
 
 pub join_tags-loop-tag-preserved : goal.join_tags-loop-tag-preserved
 join_tags-loop-tag-preserved t c = record {
-  value = tags_step c.args.level c.args.a.now c.args.b.now c.loop-tag.out.items c.put_tag.new.tags.items c.loop-tag.tag-index c.tag-item.result c.loop-tag-test.true c.tag-item.is c.loop-tag.invariant.value c.in_ok-put_tag.ensures.value;
+  value = entries_step name_cmp (row_join (ops c.args.level)) (tag_entry c.args.level) c.args.a.now c.args.b.now c.loop-tag.out.items c.put_tag.new.tags.items c.loop-tag.tag-index c.tag-item.result c.loop-tag-test.true c.tag-item.is c.loop-tag.invariant.value c.in_ok-put_tag.ensures.value;
   each = c.in_ok-put_tag.ensures.each;
 }
 
 pub join_tags-returns-clause-value : goal.join_tags-returns-clause-value
 join_tags-returns-clause-value t c =
-    tags_end c.args.level c.args.a.now c.args.b.now c.from_vec.result c.loop-tag.tag-index c.loop-tag-test.false (ap (tags_view c.args.level) c.from_vec.ensures ∙ c.loop-tag.invariant.value)
+    entries_end name_cmp (row_join (ops c.args.level)) (tag_entry c.args.level) c.args.a.now c.args.b.now c.from_vec.result c.loop-tag.tag-index c.loop-tag-test.false (ap (tags_view c.args.level) c.from_vec.ensures ∙ c.loop-tag.invariant.value)
 
 pub join_tuples-returns-in_ok-joined-in-Sizes-b-clause-each :
     goal.join_tuples-returns-in_ok-joined-in-Sizes-b-clause-each
@@ -208,7 +209,7 @@ put_size-join_body-requires t c =
       (
         c.args.size.now.size,
         (
-          subst (λ n. BodyFits c.args.level n c.index.result.now.body) same (size_body c.args.level items c.in-Ok.at c.index.result.now c.requires.sizes within c.index.ensures),
+          subst (λ n. BodyFits c.args.level n c.index.result.now.body) same (size_fits c.args.level items c.requires.sizes c.in-Ok.at c.index.result.now within c.index.ensures),
           c.requires.size,
         ),
       ),
@@ -218,12 +219,12 @@ pub put_size-returns-in_ok-copied-in-Err-clause-value :
     goal.put_size-returns-in_ok-copied-in-Err-clause-value
 put_size-returns-in_ok-copied-in-Err-clause-value t c =
     let goes = subst (λ ss. GoesAt nat_cmp c.args.size.now.size (sizes_view c.args.level ss) c.in-Err.at) c.as_slice.ensures.value (c.in-Err.ensures.missing c.args.level) in
-    IfOk-weaker c.insert_size.result _ _ (λ _ e. size_missing c.args.level c.args.sizes.now.items c.insert_size.new.sizes.items c.in-Err.at c.args.size.now c.in_ok-copied-in-Err.copied goes c.in_ok-copied-in-Err.ensures e) c.insert_size.ensures
+    IfOk-weaker c.insert_size.result _ _ (λ _ e. entry_missing nat_cmp (body_join (ops c.args.level)) (size_entry c.args.level) c.args.sizes.now.items c.insert_size.new.sizes.items c.in-Err.at c.args.size.now c.in_ok-copied-in-Err.copied goes c.in_ok-copied-in-Err.ensures e) c.insert_size.ensures
 
 pub put_size-returns-in_ok-copied-in-Err-clause-each :
     goal.put_size-returns-in_ok-copied-in-Err-clause-each
 put_size-returns-in_ok-copied-in-Err-clause-each t c =
-    IfOk-weaker c.insert_size.result _ _ (λ _ e. size_missing_each c.args.level c.args.sizes.now.items c.insert_size.new.sizes.items c.in-Err.at c.args.size.now c.in_ok-copied-in-Err.copied c.requires.sizes.each c.requires.size.each c.in_ok-copied-in-Err.ensures e) c.insert_size.ensures
+    IfOk-weaker c.insert_size.result _ _ (λ _ e. missing_each (λ s. EachInBody (Fits c.args.level) s.body) c.args.sizes.now.items c.insert_size.new.sizes.items c.in-Err.at c.args.size.now c.in_ok-copied-in-Err.copied c.requires.sizes.each c.requires.size.each c.in_ok-copied-in-Err.ensures e) c.insert_size.ensures
 
 pub put_size-returns-in_ok-body-in-Ok-clause-value :
     goal.put_size-returns-in_ok-body-in-Ok-clause-value
@@ -232,31 +233,31 @@ put_size-returns-in_ok-body-in-Ok-clause-value t c =
     let within = subst (λ ss. c.in-Ok.at < length ss) c.as_slice.ensures.value c.in-Ok.ensures.found_within in
     let stands = subst (λ ss. StandsAt nat_cmp c.args.size.now.size (sizes_view c.args.level ss) c.in-Ok.at) c.as_slice.ensures.value (c.in-Ok.ensures.found c.args.level) in
     let read = same_item items c.in-Ok.at c.index.result.now c.index_mut.result.now within c.index.ensures c.index_mut.ensures.value in
-    size_found c.args.level items c.in-Ok.at c.args.size.now c.index_mut.result.now c.in_ok-body-in-Ok.body stands within c.index_mut.ensures.value (c.in_ok-body-in-Ok.ensures.value ∙ (λ n. body_join (ops c.args.level) (body_view c.args.level (read n).body) (body_view c.args.level c.args.size.now.body)))
+    entry_found nat_cmp (body_join (ops c.args.level)) (size_entry c.args.level) items c.in-Ok.at c.args.size.now c.index_mut.result.now (record { size = c.index_mut.result.now.size; body = c.in_ok-body-in-Ok.body }) stands within c.index_mut.ensures.value refl (c.in_ok-body-in-Ok.ensures.value ∙ (λ n. body_join (ops c.args.level) (body_view c.args.level (read n).body) (body_view c.args.level c.args.size.now.body)))
 
 pub put_size-returns-in_ok-body-in-Ok-clause-each :
     goal.put_size-returns-in_ok-body-in-Ok-clause-each
 put_size-returns-in_ok-body-in-Ok-clause-each t c =
-    each_size-set (Fits c.args.level) c.args.sizes.now.items c.in-Ok.at (record { size = c.index_mut.result.now.size; body = c.in_ok-body-in-Ok.body }) c.requires.sizes.each c.in_ok-body-in-Ok.ensures.each
+    each-set (λ s. EachInBody (Fits c.args.level) s.body) c.args.sizes.now.items c.in-Ok.at (record { size = c.index_mut.result.now.size; body = c.in_ok-body-in-Ok.body }) c.requires.sizes.each c.in_ok-body-in-Ok.ensures.each
 
 pub put_tag-join_rest-requires : goal.put_tag-join_rest-requires
 put_tag-join_rest-requires t c =
     let items = c.args.tags.now.items in
     let within = subst (λ ts. c.in-Ok.at < length ts) c.as_slice.ensures.value c.in-Ok.ensures.found_within in (
       omega (arith, c.decreases),
-      (c.requires.0, (tag_row c.args.level c.requires.0 items c.in-Ok.at c.index.result.now c.requires.1.0 within c.index.ensures, c.requires.1.1)),
+      (c.requires.0, (rest_fits c.args.level c.requires.0 items c.requires.1.0 c.in-Ok.at c.index.result.now within c.index.ensures, c.requires.1.1)),
     )
 
 pub put_tag-returns-in_ok-copied-in-Err-clause-value :
     goal.put_tag-returns-in_ok-copied-in-Err-clause-value
 put_tag-returns-in_ok-copied-in-Err-clause-value t c =
     let goes = subst (λ ts. GoesAt name_cmp c.args.tag.now.atom (tags_view c.args.level ts) c.in-Err.at) c.as_slice.ensures.value (c.in-Err.ensures.missing c.args.level) in
-    IfOk-weaker c.insert_tag.result _ _ (λ _ e. tag_missing c.args.level c.args.tags.now.items c.insert_tag.new.tags.items c.in-Err.at c.args.tag.now c.in_ok-copied-in-Err.copied goes c.in_ok-copied-in-Err.ensures e) c.insert_tag.ensures
+    IfOk-weaker c.insert_tag.result _ _ (λ _ e. entry_missing name_cmp (row_join (ops c.args.level)) (tag_entry c.args.level) c.args.tags.now.items c.insert_tag.new.tags.items c.in-Err.at c.args.tag.now c.in_ok-copied-in-Err.copied goes c.in_ok-copied-in-Err.ensures e) c.insert_tag.ensures
 
 pub put_tag-returns-in_ok-copied-in-Err-clause-each :
     goal.put_tag-returns-in_ok-copied-in-Err-clause-each
 put_tag-returns-in_ok-copied-in-Err-clause-each t c =
-    IfOk-weaker c.insert_tag.result _ _ (λ _ e. tag_missing_each c.args.level c.args.tags.now.items c.insert_tag.new.tags.items c.in-Err.at c.args.tag.now c.in_ok-copied-in-Err.copied c.requires.1.0.each c.requires.1.1.each c.in_ok-copied-in-Err.ensures e) c.insert_tag.ensures
+    IfOk-weaker c.insert_tag.result _ _ (λ _ e. missing_each (λ t. EachNode (Fits c.args.level) t.rest) c.args.tags.now.items c.insert_tag.new.tags.items c.in-Err.at c.args.tag.now c.in_ok-copied-in-Err.copied c.requires.1.0.each c.requires.1.1.each c.in_ok-copied-in-Err.ensures e) c.insert_tag.ensures
 
 pub put_tag-returns-in_ok-rest-in-Ok-clause-value :
     goal.put_tag-returns-in_ok-rest-in-Ok-clause-value
@@ -265,9 +266,9 @@ put_tag-returns-in_ok-rest-in-Ok-clause-value t c =
     let within = subst (λ ts. c.in-Ok.at < length ts) c.as_slice.ensures.value c.in-Ok.ensures.found_within in
     let stands = subst (λ ts. StandsAt name_cmp c.args.tag.now.atom (tags_view c.args.level ts) c.in-Ok.at) c.as_slice.ensures.value (c.in-Ok.ensures.found c.args.level) in
     let read = same_item items c.in-Ok.at c.index.result.now c.index_mut.result.now within c.index.ensures c.index_mut.ensures.value in
-    tag_found c.args.level items c.in-Ok.at c.args.tag.now c.index_mut.result.now c.in_ok-rest-in-Ok.rest stands within c.index_mut.ensures.value (c.in_ok-rest-in-Ok.ensures.value ∙ (λ n. row_join (ops c.args.level) (row_view c.args.level (read n).rest) (row_view c.args.level c.args.tag.now.rest)))
+    entry_found name_cmp (row_join (ops c.args.level)) (tag_entry c.args.level) items c.in-Ok.at c.args.tag.now c.index_mut.result.now (record { atom = c.index_mut.result.now.atom; rest = c.in_ok-rest-in-Ok.rest }) stands within c.index_mut.ensures.value refl (c.in_ok-rest-in-Ok.ensures.value ∙ (λ n. row_join (ops c.args.level) (row_view c.args.level (read n).rest) (row_view c.args.level c.args.tag.now.rest)))
 
 pub put_tag-returns-in_ok-rest-in-Ok-clause-each :
     goal.put_tag-returns-in_ok-rest-in-Ok-clause-each
 put_tag-returns-in_ok-rest-in-Ok-clause-each t c =
-    each_tag-set (Fits c.args.level) c.args.tags.now.items c.in-Ok.at (record { atom = c.index_mut.result.now.atom; rest = c.in_ok-rest-in-Ok.rest }) c.requires.1.0.each c.in_ok-rest-in-Ok.ensures.each
+    each-set (λ t. EachNode (Fits c.args.level) t.rest) c.args.tags.now.items c.in-Ok.at (record { atom = c.index_mut.result.now.atom; rest = c.in_ok-rest-in-Ok.rest }) c.requires.1.0.each c.in_ok-rest-in-Ok.ensures.each

@@ -5,9 +5,10 @@ use Rattle.type_model.specs.Shapes.{tags as tagged}
 use Rattle.type_model.specs.Operations.{ops, met_with, row_meet, body_meet}
 use Rattle.type_trees.specs.View.{Fits, row_view, tags_view, body_view, sizes_view, TuplesFit, RowFits, EachNode, EachTag, EachInBody, EachSize}
 use Rattle.type_trees.specs.declared.node.TuplesOf.TheVariants.{Sizes}
-use Rattle.type_trees.proofs.Views.{of_above, below_fits}
-use Rattle.type_trees.proofs.MeetViews.{met_below, met_above, row_below, meet_of_any, meet_with_any, meet_of_parts, meet_of_parts_fits, drop_item, same_length, row_more, row_none, filled_more, each_more, each_tag_more, each_size_more, rest_fits, after_fits, tags_more, tags_fewer, size_fits, found_fits, sizes_more, sizes_fewer, tags_left, sizes_fit}
-use Rattle.type_trees.proofs.JoinLaws.{product_of_body}
+use Rattle.type_trees.proofs.Views.{of_above, below_fits, each_more}
+use Rattle.type_trees.proofs.Inclusions.{rest_fits, after_fits, size_fits, found_fits}
+use Rattle.type_trees.proofs.MeetViews.{met_below, met_above, row_below, meet_of_any, meet_with_any, meet_of_parts, meet_of_parts_fits, drop_item, row_more, row_none, filled_more, each_tag_more, each_size_more, tags_more, tags_fewer, sizes_more, sizes_fewer, tags_left, sizes_fit}
+use Rattle.type_trees.proofs.JoinLaws.{same_length, product_of_body}
 use Rattle.type_trees.proofs.meets.+meets.Goals as goal
 use Rattle.type_trees.proofs.meets.+meets.Goals.{meet_sizes-in-Some+in_ok-body+in-Some-2+in_ok-add, meet_sizes-in-Some+in_ok-body+in_default-2, meet_sizes-in_default, meet_tags-in-Some+in_ok-rest+in-Some-2+in_ok-atom+in_ok-add, meet_tags-in-Some+in_ok-rest+in_default-2, meet_tags-in_default}
 
@@ -71,7 +72,7 @@ meet_sizes-meet_body-requires t c = (
     c.size-item.result.size,
     (
       size_fits c.args.level c.args.a.now c.requires.a c.loop-size.size-index c.size-item.result c.loop-size-test.true c.size-item.is,
-      found_fits c.args.level c.size-item.result.size c.args.b.now c.in-Some.other.now c.requires.b (c.in-Some.ensures.value c.args.level) (c.in-Some.ensures.each c.args.level c.requires.b.each),
+      found_fits c.args.level c.args.b.now c.size-item.result.size c.in-Some.other.now c.requires.b (c.in-Some.ensures.value c.args.level) (c.in-Some.ensures.each c.args.level c.requires.b.each),
     ),
   ),
 )
