@@ -2,10 +2,8 @@
 use Rattle.std.proofs.Common.{◌≡◌, ℕ, ◌-◌, ◌≤◌, ◌<◌, Bool, true, List, [], ◌∷◌, map, Some, refl, sym, ap, ◌∙◌, subst, inl, inr}
 use Rattle.std.specs.Prelude.{◌↔◌, IsTrue}
 use Rattle.type_model.specs.Values.{Value, Values, no_value, and_value, count, cons as cons_value, tuple as tuple_value}
-use Rattle.type_model.specs.Shapes.{TypeAt}
 use Rattle.type_model.specs.HasType.{HasAt, HasEach}
 use Rattle.type_model.specs.Operations.{ops}
-use Rattle.type_model.specs.Normal.{NormalAt}
 use Rattle.type_model.specs.Cut as levels
 use Rattle.type_model.specs.Parts.{value_at}
 use Rattle.type_model.proofs.LevelLaws.{level_laws}
@@ -76,11 +74,6 @@ unfolding HasType cut
 cut-above d t v h =
     let low = levels.cut 4 d t.ty in
     (cut_lowering d 4).above low ((cut_lowering 4 d).normal t.ty t.normal) v ((cut_lowering 4 d).above t.ty t.normal v h)
-
--- a type of the level has the values of the one that it is the lift of
-of_level : (d : ℕ) → d ≤ 4 → (u : Type4) (w : TypeAt d) → NormalAt d w → u.ty ≡ levels.cut d 4 w → (v : Value) → HasType v u → HasAt d v w
-unfolding HasType
-of_level d k u w n e v h = cut_exact d 4 k w n v (subst (HasAt 4 v) e h)
 
 pub cut-least : (d : ℕ) → d ≤ 4 → (t u : Type4) → IsOfLevel d u → Below t u → Below (cut d t) u
 unfolding HasType cut

@@ -11,7 +11,9 @@ use Rattle.type_model.specs.Cut as levels
 use Rattle.type_model.specs.Parts.{elem_at, tail_at, lifted, element_of, tail_parts, element_at, element_with, is_list, product_of}
 use Rattle.type_model.specs.Normal.{NormalAt, NormalBody}
 use Rattle.type_model.specs.Laws.{BelowBy}
-use Rattle.type_model.proofs.CutLaws.{size_found}
+use Rattle.type_model.proofs.TupleLaws.{normal_at}
+use Rattle.type_model.proofs.MadeLaws.{cell_type, cons-made}
+use Rattle.type_model.proofs.LevelLaws.{level_laws}
 use Rattle.type_trees.specs.declared.node.Node.{Node}
 use Rattle.type_trees.specs.declared.node.Node.TheVariants as v
 use Rattle.type_trees.specs.declared.node.PartsOf.{PartsOf}
@@ -143,7 +145,7 @@ tuples_of_fit n p x e k f =
 pub body_fits : (n : Node) (p : PartsOf Node) (ss : List (SizeOf Node)) (size : ℕ) (b : BodyOf Node) → n ≡ v.Of p → Fits 4 n → p.tuples ≡ Sizes ss → Some (body_view 3 b) ≡ find nat_cmp (sizes_view 3 ss) size → (EachSize (Fits 3) ss → EachInBody (Fits 3) b) → BodyFits 3 size b
 body_fits n p ss size b e k f g h =
     let q = tuples_of_fit n p (Sizes ss) e k f in
-    record { normal = subst (NormalBody (NormalAt 3) (ops 3) size) (sym g) (size_found (NormalAt 3) (ops 3) (sizes_view 3 ss) q.normal.2 size); each = h q.each }
+    record { normal = subst (NormalBody (NormalAt 3) (ops 3) size) (sym g) (normal_at (level_laws 3) (sizes_view 3 ss) q.normal.2 size); each = h q.each }
 
 -- from what stands at the place
 project_is : (t r : Type4) (n i : ℕ) (x : Tuples (TypeAt 3)) (y : Option (TypeAt 3)) → t.ty.tuples ≡ x → element_at (ops 3) x n (i - 1) ≡ y → r.ty ≡ lifted 3 y → r ≡ project t n i
@@ -241,29 +243,19 @@ tuple_type ts r w n e f g = tuple_is ts r (view 5 w) (sym e) (g ∙ f)
 
 -- ---- lists of types
 
--- the lists where neither type is none
-abbrev cons_alone : Type4 → Type4 → Bool → TypeAt 4
-cons_alone h t proper =
-    record {
-      plain = plain_none;
-      cell = Some (record { element = element_with (ops 3) (levels.cut 4 3 h.ty) t.ty.cell; is_proper = proper && is_list (ops 3) t.ty });
-      tuples = sizes [];
-    }
-
 pub cons_none_head : (h t r : Type4) (proper : Bool) → is_none h ≡ true → r ≡ none → r ≡ cons h t proper
 unfolding none is_none cons
 cons_none_head h t r proper e f =
-    f ∙ same_type none (cons h t proper) (sym (ap (λ b. cond b (ops 4).none (cond ((ops 4).is_none t.ty) (ops 4).none (cons_alone h t proper))) e))
+    f ∙ same_type none (cons h t proper) (sym (ap (λ b. cond b (ops 4).none (cond ((ops 4).is_none t.ty) (ops 4).none (cell_type 3 h.ty t.ty proper))) e))
 
 pub cons_none_tail : (h t r : Type4) (proper : Bool) → is_none h ≡ false → is_none t ≡ true → r ≡ none → r ≡ cons h t proper
 unfolding none is_none cons
 cons_none_tail h t r proper e f g =
-    g ∙ same_type none (cons h t proper) (sym (ap (λ b. cond b (ops 4).none (cond ((ops 4).is_none t.ty) (ops 4).none (cons_alone h t proper))) e ∙ ap (λ b. cond b (ops 4).none (cons_alone h t proper)) f))
+    g ∙ same_type none (cons h t proper) (sym (ap (λ b. cond b (ops 4).none (cond ((ops 4).is_none t.ty) (ops 4).none (cell_type 3 h.ty t.ty proper))) e ∙ ap (λ b. cond b (ops 4).none (cell_type 3 h.ty t.ty proper)) f))
 
-cons_filled : (h t : Type4) (proper : Bool) → is_none h ≡ false → is_none t ≡ false → (cons h t proper).ty ≡ cons_alone h t proper
+cons_filled : (h t : Type4) (proper : Bool) → is_none h ≡ false → is_none t ≡ false → (cons h t proper).ty ≡ cell_type 3 h.ty t.ty proper
 unfolding is_none cons
-cons_filled h t proper e f =
-    ap (λ b. cond b (ops 4).none (cond ((ops 4).is_none t.ty) (ops 4).none (cons_alone h t proper))) e ∙ ap (λ b. cond b (ops 4).none (cons_alone h t proper)) f
+cons_filled h t proper e f = cons-made 3 h.ty t.ty proper e f
 
 -- the element type that the code makes
 element_is : (h t : Type4) (a b l n : Node) → view 4 a ≡ h.ty → view 4 b ≡ t.ty → view 3 l ≡ levels.cut 4 3 (view 4 a) → view 3 n ≡ element_with (ops 3) (view 3 l) (view 4 b).cell → view 3 n ≡ element_with (ops 3) (levels.cut 4 3 h.ty) t.ty.cell
@@ -273,14 +265,14 @@ element_is h t a b l n e f g k =
 -- it has a value
 pub element_filled : (h t : Type4) (a b l n : Node) → view 4 a ≡ h.ty → view 4 b ≡ t.ty → is_none h ≡ false → is_none t ≡ false → view 3 l ≡ levels.cut 4 3 (view 4 a) → view 3 n ≡ element_with (ops 3) (view 3 l) (view 4 b).cell → (ops 3).is_none (view 3 n) ≡ false
 element_filled h t a b l n e f p q g k =
-    let whole : NormalAt 4 (cons_alone h t true) = subst (NormalAt 4) (cons_filled h t true p q) (cons h t true).normal in
-    ap (ops 3).is_none (element_is h t a b l n e f g k) ∙ (normal_parts 3 (cons_alone h t true) whole).1.1
+    let whole : NormalAt 4 (cell_type 3 h.ty t.ty true) = subst (NormalAt 4) (cons_filled h t true p q) (cons h t true).normal in
+    ap (ops 3).is_none (element_is h t a b l n e f g k) ∙ (normal_parts 3 (cell_type 3 h.ty t.ty true) whole).1.1
 
 pub cons_type : (h t r : Type4) (proper is_proper : Bool) (a b l n x : Node) → view 4 a ≡ h.ty → view 4 b ≡ t.ty → is_none h ≡ false → is_none t ≡ false → view 3 l ≡ levels.cut 4 3 (view 4 a) → view 3 n ≡ element_with (ops 3) (view 3 l) (view 4 b).cell → is_proper ≡ (proper && is_list (ops 3) (view 4 b)) → view 4 x ≡ record { plain = plain_none; cell = Some (record { element = view 3 n; is_proper = is_proper }); tuples = sizes [] } → r.ty ≡ view 4 x → r ≡ cons h t proper
 cons_type h t r proper is_proper a b l n x e f p q g k m y z =
     let element = element_is h t a b l n e f g k in
     let ends : is_proper ≡ (proper && is_list (ops 3) t.ty) = m ∙ ap (λ x. proper && is_list (ops 3) x) f in
-    let cell : view 4 x ≡ cons_alone h t proper = y ∙ (λ i. record { plain = plain_none; cell = Some (record { element = element i; is_proper = ends i }); tuples = sizes [] }) in
+    let cell : view 4 x ≡ cell_type 3 h.ty t.ty proper = y ∙ (λ i. record { plain = plain_none; cell = Some (record { element = element i; is_proper = ends i }); tuples = sizes [] }) in
     same_type r (cons h t proper) (z ∙ cell ∙ sym (cons_filled h t proper p q))
 
 -- ---- the ends that one asks for
