@@ -18,10 +18,10 @@ use Rattle.type_lattice.specs.Types.{Type4, same_type}
 use Rattle.type_text.specs.Starts.{Lacks}
 use Rattle.type_text.specs.Words.{WordStop, TypeStop}
 use Rattle.type_text.specs.Texts.{after, separated, low_text, high_text, range_word, is_any, text_at, text_of}
-use Rattle.type_text.specs.WordTypes.{of_ints, of_functions, of_row, IsWord, AreWords, spelled, joined_with, one_atom, every_atom, one_int, ints_between, every_float, whole_bits, every_bits, every_pid, every_port, every_reference, every_map, every_function, one_arity, empty_list, proper_list, any_list, every_tuple, one_tuple}
+use Rattle.type_text.specs.WordTypes.{of_ints, of_functions, of_row, IsWord, AreWords, spelled, joined_with, one_atom, one_int, ints_between, every_function, one_arity, proper_list, any_list, one_tuple, name_of, named}
 use Rattle.type_model.specs.Operations.{of_list}
 use Rattle.type_text.proofs.Prints.{any_is_all}
-use Rattle.type_text.proofs.WordStarts.{begins, signed-start, at_every_atom, at_float, at_whole_bits, at_every_bits, at_pid, at_port, at_reference, at_map, at_nil, at_every_tuple, at_every_int, at_every_function, at_quote, at_number, at_range, at_arity, at_proper_list, at_any_list, at_tuple}
+use Rattle.type_text.proofs.WordStarts.{begins, signed-start, at_every_int, at_quote, at_number, at_range, at_arity, at_proper_list, at_any_list, at_tuple, at_named}
 use Rattle.type_text.proofs.TypeStarts.{text_any, text_none, at_any, at_none, at_words, not_at_end}
 use Rattle.type_text.proofs.WordLaws.{words_of}
 use Rattle.type_text.proofs.WordReads.{words_stop, no_bar, elements_stop, no_comma}
@@ -66,7 +66,7 @@ module _ (d : ℕ) (once : Once d) where
       let m = at_quote z v k (quoted a ++ r) q _ x refl in
       let same = quoted_once a m.0 r q m.1.0 in
       (ap (λ b. of_atoms (ops d) (names.listed (b ∷ []))) same.0 ∙ sym m.1.1, same.1)
-  word_once w z u v r q every_atom k f g x = let m = at_every_atom z v k (codes "atom()" ++ r) q r x refl in (sym m.0, m.1)
+  word_once w z u v r q (named n) k f g x = let m = at_named n z v k (name_of n ++ r) q r x refl in (sym m.0, m.1)
   word_once w z u v r q (one_int n j) k f g x =
       let s = signed-start n j in
       let m = at_number z v k (signed_decimal n ++ r) q s.0 (s.1.0 ++ r) x (ap (λ t. t ++ r) s.1.1.0) s.1.1.1 in
@@ -80,23 +80,14 @@ module _ (d : ℕ) (once : Once d) where
       let m = at_range z v k now q ((low_text l ++ codes ".." ++ high_text h ++ codes ")") ++ r) x refl (λ more b. true≢false (ap (begins (codes "integer()")) (sym b))) in
       let same = ends_once l m.0 h m.1.0 r q m.1.1.1.0 in
       ((λ i. of_ints (ops d) (numbers.range (same.0 i) (same.1.0 i))) ∙ sym m.1.1.1.1, same.1.1)
-  word_once w z u v r q every_float k f g x = let m = at_float z v k (codes "float()" ++ r) q r x refl in (sym m.0, m.1)
-  word_once w z u v r q whole_bits k f g x = let m = at_whole_bits z v k (codes "binary()" ++ r) q r x refl in (sym m.0, m.1)
-  word_once w z u v r q every_bits k f g x = let m = at_every_bits z v k (codes "bitstring()" ++ r) q r x refl in (sym m.0, m.1)
-  word_once w z u v r q every_pid k f g x = let m = at_pid z v k (codes "pid()" ++ r) q r x refl in (sym m.0, m.1)
-  word_once w z u v r q every_port k f g x = let m = at_port z v k (codes "port()" ++ r) q r x refl in (sym m.0, m.1)
-  word_once w z u v r q every_reference k f g x = let m = at_reference z v k (codes "reference()" ++ r) q r x refl in (sym m.0, m.1)
-  word_once w z u v r q every_map k f g x = let m = at_map z v k (codes "map()" ++ r) q r x refl in (sym m.0, m.1)
-  word_once w z u v r q every_function k f g x = let m = at_every_function z v k (codes "fun()" ++ r) q r x refl in (sym m.0, m.1)
   word_once w z u v r q (one_arity n j) k f g x =
       let now = (codes "fun(" ++ decimal n ++ codes ")") ++ r in
-      let not_all : Lacks now (codes "fun()") = λ more b. one_not_all n (ap (λ p. p.plain.functions) (at_every_function {text = text_at d} {Normal = NormalAt d} {o = ops d} (codes "fun(" ++ decimal n ++ codes ")") u (one_arity n j) now r more refl b).0) in
+      let not_all : Lacks now (codes "fun()") = λ more b. one_not_all n (ap (λ p. p.plain.functions) (at_named {text = text_at d} {Normal = NormalAt d} {o = ops d} every_function (codes "fun(" ++ decimal n ++ codes ")") u (one_arity n j) now r more refl b).0) in
       let m = at_arity z v k now q ((decimal n ++ codes ")") ++ r) x refl not_all in
       let a = ltb-true n (2 ^ 32) j in
       let b = ltb-true m.0 (2 ^ 32) m.1.0 in
       let same = decimal_once n m.0 (codes ")" ++ r) (codes ")" ++ q) (omega (arith, a)) (omega (arith, b)) refl refl (sym (append_assoc (decimal n) (codes ")") r) ∙ m.1.1.0) in
       (ap (λ y. of_functions (ops d) (of_arity y)) same.0 ∙ sym m.1.1.1, ap (drop 1) same.1)
-  word_once w z u v r q empty_list k f g x = let m = at_nil z v k (codes "[]" ++ r) q r x refl in (sym m.0, m.1)
   word_once w z u v r q (proper_list e j) k f g x =
       let m = at_proper_list z v k ((codes "cons(" ++ text_at d e ++ codes ")") ++ r) q ((text_at d e ++ codes ")") ++ r) x refl in
       let same = once e m.0 (codes ")" ++ r) (codes ")" ++ q) j.0 m.1.0.0 refl refl (sym (append_assoc (text_at d e) (codes ")") r) ∙ m.1.1.0) in
@@ -105,7 +96,6 @@ module _ (d : ℕ) (once : Once d) where
       let m = at_any_list z v k ((codes "cons_any(" ++ text_at d e ++ codes ")") ++ r) q ((text_at d e ++ codes ")") ++ r) x refl in
       let same = once e m.0 (codes ")" ++ r) (codes ")" ++ q) j.0 m.1.0.0 refl refl (sym (append_assoc (text_at d e) (codes ")") r) ∙ m.1.1.0) in
       (ap (λ y. of_list (ops d) y false) same.0 ∙ sym m.1.1.1, ap (drop 1) same.1)
-  word_once w z u v r q every_tuple k f g x = let m = at_every_tuple z v k (codes "tuple()" ++ r) q r x refl in (sym m.0, m.1)
   word_once w z u v r q (one_tuple es j few) k f g x =
       let row = separated (codes ",") (map (text_at d) es) in
       let m = at_tuple z v k ((codes "{" ++ row ++ codes "}") ++ r) q ((row ++ codes "}") ++ r) x refl in

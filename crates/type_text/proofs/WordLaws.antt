@@ -20,13 +20,14 @@ use Rattle.type_sets.proofs.AscendingLaws as ascending
 use Rattle.type_sets.proofs.NameLaws as name_laws
 use Rattle.type_sets.proofs.NumberLaws as number_laws
 use Rattle.type_model.specs.Values.{Value, atom, Values, no_value, and_value, count}
-use Rattle.type_model.specs.Tables.{is_table, find}
+use Rattle.type_model.specs.Tables.{EachOf, is_table, find}
 use Rattle.type_model.specs.Shapes.{Flag, floats, pids, ports, references, nils, maps, Flags, Functions, no_function, of_arity, all_functions, PlainParts, Cell, Body, product, tags, Tuples, sizes, all_tuples, Parts, TypeAt}
 use Rattle.type_model.specs.HasType.{has_flag, HasEach, HasRow, HasTag, HasBody, HasTuple}
 use Rattle.type_model.specs.Operations.{Ops, no_flags, plain_none, body_of, of_plain, of_atoms, parts_is_none, parts_join, ops}
 use Rattle.type_model.specs.Normal.{NormalFunctions, IsElement, AreElements, NormalCell, NormalRow, NormalRows, NormalBody, NormalSizes, NormalTuples, NormalParts, NormalAt}
 use Rattle.type_model.specs.Laws.{BelowBy, Lattice, Laws}
 use Rattle.type_model.specs.ValueShapes.{Leaf, has_leaf, an_int, an_atom, some_bits, of_flag, a_function, Shape, leaf, pair, row, HasShape}
+use Rattle.type_model.proofs.LatticeLaws.{SomeOf, some_first, some_later, some_either, all-is}
 use Rattle.type_model.proofs.PlainLaws.{no_flags-has, plain-none_empty}
 use Rattle.type_model.proofs.CellLaws.{filled-not_none}
 use Rattle.type_model.proofs.RowLaws.{count_each}
@@ -35,67 +36,23 @@ use Rattle.type_model.proofs.TableLaws as tables
 use Rattle.type_model.proofs.PartsLaws.{shape_lattice}
 use Rattle.type_model.proofs.LevelLaws.{level_laws}
 use Rattle.type_text.specs.Texts.{separated, word_if, atom_words, range_word, int_words, bits_words, function_words, plain_words, cell_words, tuple_word, tag_words, body_words, size_words, tuples_words, parts_words, is_any, text_at}
-use Rattle.type_text.specs.WordTypes.{of_ints, of_bits, of_flags, of_functions, of_cell, of_row, IsWordOf, one_atom, every_atom, one_int, ints_between, every_float, whole_bits, every_bits, every_pid, every_port, every_reference, every_map, every_function, one_arity, empty_list, proper_list, any_list, every_tuple, one_tuple, IsWord, AreWordsOf, spelled, joined_with, WordsOf}
+use Rattle.type_text.specs.WordTypes.{of_ints, of_bits, of_flags, of_functions, of_cell, of_row, IsWordOf, named, one_atom, every_atom, one_int, ints_between, every_float, whole_bits, every_bits, every_pid, every_port, every_reference, every_map, every_function, one_arity, empty_list, proper_list, any_list, every_tuple, one_tuple, IsWord, AreWordsOf, spelled, joined_with, WordsOf}
 use Rattle.type_model.specs.Operations.{of_list, of_tuples}
 
--- ---- a type joined with others, one after the other
+-- ---- words with their types
 
 -- one of the types has the value
 abbrev pub SomeHas : {V T : Type 0} → (V → T → Type 0) → V → List (List ℕ × T) → Type 0
-SomeHas Has v [] = ⊥
-SomeHas Has v (p ∷ ps) = Has v p.1 ⊎ SomeHas Has v ps
+SomeHas Has v ps = SomeOf (λ p. Has v p.1) ps
 
 abbrev pub EachNormal : {T : Type 0} → (T → Type 0) → List (List ℕ × T) → Type 0
-EachNormal Normal [] = Unit {0}
-EachNormal Normal (p ∷ ps) = Normal p.1 × EachNormal Normal ps
-
-module _ {V T : Type 0} {Has : V → T → Type 0} {Normal : T → Type 0} {none : T} {meet join : T → T → T} (l : Lattice Has Normal none meet join) where
-  pub joined_with-normal : (u : T) (ps : List (List ℕ × T)) → Normal u → EachNormal Normal ps → Normal (joined_with join u ps)
-  joined_with-normal u [] k ks = k
-  joined_with-normal u (p ∷ ps) k ks = joined_with-normal (join u p.1) ps (l.join_normal u p.1 k ks.0) ks.1
-
-  joined_with-first : (u : T) (ps : List (List ℕ × T)) → Normal u → EachNormal Normal ps → BelowBy Has u (joined_with join u ps)
-  joined_with-first u [] k ks v h = h
-  joined_with-first u (p ∷ ps) k ks v h = joined_with-first (join u p.1) ps (l.join_normal u p.1 k ks.0) ks.1 v (l.join_left u p.1 k ks.0 v h)
-
-  joined_with-later : (u : T) (ps : List (List ℕ × T)) → Normal u → EachNormal Normal ps → (v : V) → SomeHas Has v ps → Has v (joined_with join u ps)
-  joined_with-later u [] k ks v h = absurd h
-  joined_with-later u (p ∷ ps) k ks v (inl h) = joined_with-first (join u p.1) ps (l.join_normal u p.1 k ks.0) ks.1 v (l.join_right u p.1 k ks.0 v h)
-  joined_with-later u (p ∷ ps) k ks v (inr h) = joined_with-later (join u p.1) ps (l.join_normal u p.1 k ks.0) ks.1 v h
-
-  joined_with-least : (u : T) (ps : List (List ℕ × T)) (t : T) → Normal u → EachNormal Normal ps → Normal t → BelowBy Has u t → ((v : V) → SomeHas Has v ps → Has v t) → BelowBy Has (joined_with join u ps) t
-  joined_with-least u [] t k ks n f g = f
-  joined_with-least u (p ∷ ps) t k ks n f g =
-      joined_with-least (join u p.1) ps t (l.join_normal u p.1 k ks.0) ks.1 n (l.join_least u p.1 t k ks.0 n f (λ v h. g v (inl h))) (λ v h. g v (inr h))
-
-  -- types that together have just the values of a type join to it
-  pub joined_with-is : (u : T) (ps : List (List ℕ × T)) (t : T) → Normal u → EachNormal Normal ps → Normal t → ((v : V) → Has v u ⊎ SomeHas Has v ps → Has v t) → ((v : V) → Has v t → Has v u ⊎ SomeHas Has v ps) → joined_with join u ps ≡ t
-  joined_with-is u ps t k ks n f g =
-      l.same (joined_with join u ps) t (joined_with-normal u ps k ks) n (joined_with-least u ps t k ks n (λ v h. f v (inl h)) (λ v h. f v (inr h))) (λ v h. elim (g v h) [
-        | inl x ↦ joined_with-first u ps k ks v x
-        | inr x ↦ joined_with-later u ps k ks v x
-      ])
+EachNormal Normal ps = EachOf (λ p. Normal p.1) ps
 
 -- ---- words in a row
 
 spelled-append : {T : Type 0} (ps qs : List (List ℕ × T)) → spelled (ps ++ qs) ≡ spelled ps ++ spelled qs
 spelled-append [] qs = refl
 spelled-append (p ∷ ps) qs = ap (λ ws. p.0 ∷ ws) (spelled-append ps qs)
-
-module _ {V T : Type 0} (Has : V → T → Type 0) (v : V) where
-  some-left : (ps qs : List (List ℕ × T)) → SomeHas Has v ps → SomeHas Has v (ps ++ qs)
-  some-left [] qs h = absurd h
-  some-left (p ∷ ps) qs (inl h) = inl h
-  some-left (p ∷ ps) qs (inr h) = inr (some-left ps qs h)
-
-  some-right : (ps qs : List (List ℕ × T)) → SomeHas Has v qs → SomeHas Has v (ps ++ qs)
-  some-right [] qs h = h
-  some-right (p ∷ ps) qs h = inr (some-right ps qs h)
-
-  some-either : (ps qs : List (List ℕ × T)) → SomeHas Has v (ps ++ qs) → SomeHas Has v ps ⊎ SomeHas Has v qs
-  some-either [] qs h = inr h
-  some-either (p ∷ ps) qs (inl h) = inl (inl h)
-  some-either (p ∷ ps) qs (inr h) = elim (some-either ps qs h) [ inl x ↦ inl (inr x) | inr x ↦ inr x ]
 
 -- ---- the words of each part of a type, with their types
 
@@ -121,7 +78,7 @@ module _ {E : Type 0} {Has : Value → E → Type 0} {Normal : E → Type 0} {o 
   word_of-normal w u (one_arity n k) = (k, tt, (refl, refl, tt))
   word_of-normal w u (proper_list e k) = (tt, k, (refl, refl, tt))
   word_of-normal w u (any_list e k) = (tt, k, (refl, refl, tt))
-  word_of-normal w u every_tuple = (tt, tt, tt)
+  word_of-normal w u (named every_tuple) = (tt, tt, tt)
   word_of-normal w u (one_tuple es k few) = (tt, tt, (refl, refl, (few, body_of_normal l (length es) es (refl, k), tt)))
   word_of-normal w u i = (tt, tt, (refl, refl, tt))
 
@@ -129,6 +86,7 @@ module _ {E : Type 0} {Has : Value → E → Type 0} {Normal : E → Type 0} {o 
   word_of-not_none w u (one_atom a) = ap (λ s. parts_is_none o (of_atoms o s)) (names.or_else-yes (a ∷ []) names.none refl)
   word_of-not_none w u (one_int n k) = ap (λ s. parts_is_none o (of_ints o s)) (numbers.or_else-yes (n ∷ []) numbers.none (number_laws.one-listed n k))
   word_of-not_none w u (ints_between a b k) = ap (λ s. parts_is_none o (of_ints o s)) (numbers.range-yes a b k)
+  word_of-not_none w u (named every_atom) = refl
   word_of-not_none w u i = refl
 
   words_of-normal : (ps : Pairs) → Words ps → EachNormal (NormalParts Normal o) ps
@@ -162,8 +120,8 @@ module _ {E : Type 0} {Has : Value → E → Type 0} {Normal : E → Type 0} {o 
     pairs = s.pairs ++ t.pairs;
     words = words-append s.pairs t.pairs s.words t.words;
     same = spelled-append s.pairs t.pairs ∙ (λ i. s.same i ++ t.same i);
-    out = λ f h. elim (some-either HasF f s.pairs t.pairs h) [ inl x ↦ inl (s.out f x) | inr x ↦ inr (t.out f x) ];
-    into = λ f h. elim h [ inl x ↦ some-left HasF f s.pairs t.pairs (s.into f x) | inr x ↦ some-right HasF f s.pairs t.pairs (t.into f x) ];
+    out = λ f h. elim (some_either (λ p. HasF f p.1) s.pairs t.pairs h) [ inl x ↦ inl (s.out f x) | inr x ↦ inr (t.out f x) ];
+    into = λ f h. elim h [ inl x ↦ some_first (λ p. HasF f p.1) s.pairs t.pairs (s.into f x) | inr x ↦ some_later (λ p. HasF f p.1) s.pairs t.pairs (t.into f x) ];
   }
 
   no_shape : (f : Shape) → HasF f (of_plain o plain_none) → ⊥
@@ -209,7 +167,7 @@ module _ {E : Type 0} {Has : Value → E → Type 0} {Normal : E → Type 0} {o 
   atoms_spelled : (s : Names) → Spelled (atom_words s) (λ f. HasF f (of_atoms o s))
   atoms_spelled (names.some xs e) =
       changed (λ f. HasF f (of_atoms o (names.some xs e))) (listed_atoms xs) (λ f h. atom-in (names.some xs e) f h) (λ f h. atom-out (names.some xs e) f h)
-  atoms_spelled names.every = one (codes "atom()") (of_atoms o names.every) every_atom
+  atoms_spelled names.every = one (codes "atom()") (of_atoms o names.every) (named every_atom)
 
   -- ---- integers
 
@@ -277,12 +235,12 @@ module _ {E : Type 0} {Has : Value → E → Type 0} {Normal : E → Type 0} {o 
   flag_word nils = codes "[]"
 
   flag_is_word : (k : Flag) → Word (flag_word k) (of_flags o (only k true))
-  flag_is_word floats = every_float
-  flag_is_word pids = every_pid
-  flag_is_word ports = every_port
-  flag_is_word references = every_reference
-  flag_is_word maps = every_map
-  flag_is_word nils = empty_list
+  flag_is_word floats = named every_float
+  flag_is_word pids = named every_pid
+  flag_is_word ports = named every_port
+  flag_is_word references = named every_reference
+  flag_is_word maps = named every_map
+  flag_is_word nils = named empty_list
 
   no_flag_left : (k : Flag) → only k false ≡ no_flags
   no_flag_left floats = refl
@@ -294,13 +252,13 @@ module _ {E : Type 0} {Has : Value → E → Type 0} {Normal : E → Type 0} {o 
 
   bits_spelled : (s : Bits) → Spelled (bits_words s) (λ f. HasF f (of_bits o s))
   bits_spelled No = nothing (λ f. HasF f (of_bits o No)) no_shape
-  bits_spelled Whole = one (codes "binary()") (of_bits o Whole) whole_bits
-  bits_spelled Any = one (codes "bitstring()") (of_bits o Any) every_bits
+  bits_spelled Whole = one (codes "binary()") (of_bits o Whole) (named whole_bits)
+  bits_spelled Any = one (codes "bitstring()") (of_bits o Any) (named every_bits)
 
   functions_spelled : (s : Functions) → NormalFunctions s → Spelled (function_words s) (λ f. HasF f (of_functions o s))
   functions_spelled no_function k = nothing (λ f. HasF f (of_functions o no_function)) no_shape
   functions_spelled (of_arity n) k = one (codes "fun(" ++ decimal n ++ codes ")") (of_functions o (of_arity n)) (one_arity n k)
-  functions_spelled all_functions k = one (codes "fun()") (of_functions o all_functions) every_function
+  functions_spelled all_functions k = one (codes "fun()") (of_functions o all_functions) (named every_function)
 
   -- ---- all that hold none
 
@@ -512,19 +470,19 @@ module _ {E : Type 0} {Has : Value → E → Type 0} {Normal : E → Type 0} {o 
 
   tuples_spelled : (t : Tuples E) → NormalTuples Normal o t → Spelled (tuples_words text t) (λ f. HasF f (of_tuples o t))
   tuples_spelled (sizes m) k = changed (λ f. HasF f (of_tuples o (sizes m))) (sizes_spelled m k.0 k.2) (λ f h. row-in (sizes m) f h) (λ f h. row-out (sizes m) f h)
-  tuples_spelled all_tuples k = one (codes "tuple()") (of_tuples o all_tuples) every_tuple
+  tuples_spelled all_tuples k = one (codes "tuple()") (of_tuples o all_tuples) (named every_tuple)
 
   -- ---- a whole type
 
-  abbrev EachOf : Parts E → Shape → Type 0
-  EachOf t f = (HasF f (of_plain o t.plain) ⊎ HasF f (of_cell o t.cell)) ⊎ HasF f (of_tuples o t.tuples)
+  abbrev InOnePart : Parts E → Shape → Type 0
+  InOnePart t f = (HasF f (of_plain o t.plain) ⊎ HasF f (of_cell o t.cell)) ⊎ HasF f (of_tuples o t.tuples)
 
-  parts-into : (t : Parts E) (f : Shape) → HasF f t → EachOf t f
+  parts-into : (t : Parts E) (f : Shape) → HasF f t → InOnePart t f
   parts-into t (leaf x) h = inl (inl h)
   parts-into t (pair x y) h = inl (inr h)
   parts-into t (row vs) h = inr h
 
-  parts-out : (t : Parts E) (f : Shape) → EachOf t f → HasF f t
+  parts-out : (t : Parts E) (f : Shape) → InOnePart t f → HasF f t
   parts-out t (leaf x) (inl (inl h)) = h
   parts-out t (leaf x) (inl (inr h)) = absurd (plain-none_empty x h)
   parts-out t (leaf x) (inr h) = absurd (plain-none_empty x h)
@@ -560,7 +518,7 @@ module _ {E : Type 0} {Has : Value → E → Type 0} {Normal : E → Type 0} {o 
     is_word = words.0;
     are_words = words.1;
     written = sym same;
-    together = joined_with-is (shape_lattice l) p.1 ps t (word_of-normal p.0 p.1 words.0) (words_of-normal ps words.1) k out into;
+    together = all-is (shape_lattice l) (λ q. q.1) p.1 ps t (word_of-normal p.0 p.1 words.0) (words_of-normal ps words.1) k out into;
   }
 
   pub written : (t : Parts E) → NormalParts Normal o t → parts_is_none o t ≡ false → Written t
@@ -575,14 +533,6 @@ one_name zero t a = absurd (true≢false (sym t))
 one_name (suc d) t a =
     let one : names.or_else (a ∷ []) names.every ≡ names.some (a ∷ []) refl = names.or_else-yes (a ∷ []) names.every refl in
     (ap (λ s. text_at (suc d) (of_atoms (ops d) s)) one ∙ append-nil (quoted a), ap (λ s. (ops (suc d)).only (of_atoms (ops d) s)) one)
-
-pub word-normal : (d : ℕ) (w : List ℕ) (u : TypeAt (suc d)) → IsWord d w u → NormalAt (suc d) u
-unfolding NormalAt
-word-normal d w u i = word_of-normal (level_laws d) (text_at d) (one_name d) w u i
-
-pub word-not_none : (d : ℕ) (w : List ℕ) (u : TypeAt (suc d)) → IsWord d w u → (ops (suc d)).is_none u ≡ false
-unfolding ops
-word-not_none d w u i = word_of-not_none (level_laws d) (text_at d) (one_name d) w u i
 
 -- what is neither any nor none is written as its words
 pub text-words : (d : ℕ) (t : TypeAt (suc d)) → is_any (suc d) t ≡ false → (ops (suc d)).is_none t ≡ false → text_at (suc d) t ≡ separated (codes " | ") (parts_words (text_at d) t)

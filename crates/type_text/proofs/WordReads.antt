@@ -16,7 +16,7 @@ use Rattle.type_trees.proofs.Views.{fits_normal, view_any}
 use Rattle.type_text.specs.Texts.{after, separated, text_at}
 use Rattle.type_text.specs.Words.{WordStop, TypeStop}
 use Rattle.type_text.specs.Starts.{is_number, begins_number, Lacks, NoTypeName}
-use Rattle.type_text.specs.WordTypes.{of_functions, IsWord, AreWords, spelled, joined_with, WordsOf}
+use Rattle.type_text.specs.WordTypes.{of_functions, Named, every_atom, every_float, whole_bits, every_bits, every_pid, every_port, every_reference, every_map, every_function, empty_list, every_tuple, name_of, IsWord, AreWords, spelled, joined_with, WordsOf}
 use Rattle.type_text.proofs.Prints.{any_is_all}
 use Rattle.type_text.proofs.LeafLaws.{word_stop}
 use Rattle.type_text.proofs.WordStarts.{IsNumberStart, NoStart, is_number-true, at_arity, some_start}
@@ -273,23 +273,26 @@ no_start now quote number brace proper any name = record {
   number = no_number_there now number;
   quote = quote;
   brace = brace;
-  every_atom = name.every_atom;
+  named = of_name;
   every_int = name.interval.every;
   range = name.interval.range;
-  float = name.flag.float;
-  whole_bits = name.bits.whole;
-  every_bits = name.bits.every;
-  pid = name.flag.pid;
-  port = name.flag.port;
-  reference = name.flag.reference;
-  map = name.flag.map;
-  every_function = name.function.every;
   arity = name.function.arity;
-  nil = name.flag.nil;
   proper_list = proper;
   any_list = any;
-  every_tuple = name.every_tuple;
 }
+  where
+    of_name : (k : Named) → Lacks now (name_of k)
+    of_name every_atom = name.every_atom
+    of_name every_float = name.flag.float
+    of_name whole_bits = name.bits.whole
+    of_name every_bits = name.bits.every
+    of_name every_pid = name.flag.pid
+    of_name every_port = name.flag.port
+    of_name every_reference = name.flag.reference
+    of_name every_map = name.flag.map
+    of_name every_function = name.function.every
+    of_name empty_list = name.flag.nil
+    of_name every_tuple = name.every_tuple
 
 pub name_found : (d : ℕ) (w rest : List ℕ) (u : TypeAt (suc d)) → IsWord d w u → (now : List ℕ) → now ≡ w ++ rest → (o : Option (Node × Bor (List ℕ))) → (NoTypeName now → NoStart now) → MatchOption o (NoTypeName now) (λ p. (view (suc d) p.0 ≡ u) × (p.1.now ≡ rest)) → Found (suc d) u rest o
 name_found d w rest u i now e None f m = some_start w u i now rest e (f m)

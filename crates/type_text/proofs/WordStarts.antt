@@ -5,8 +5,8 @@ use Rattle.std.proofs.Common.{◌≡◌, ◌⊎◌, inl, inr, ℕ, suc, ◌≤�
 use Rattle.std.specs.Prelude.{codes, nat_lt, nat_le, ◌==◌}
 use Rattle.std.specs.Fmt.{decimal, signed_decimal}
 use Rattle.std.specs.Str.Parse.{AllDigits}
-use borrow.Author.Tests.{ltb-true, le-leb, eq-eqb}
-use Rattle.type_sets.proofs.Truths.{both, in_first, in_second}
+use borrow.Author.Tests.{ltb-true, le-leb, eqb-true, eq-eqb}
+use Rattle.type_sets.proofs.Truths.{both, first, is_false, in_first, in_second}
 use Rattle.std.proofs.lemmas.Fmt.{decimal_is_IsNumeral_wide}
 use Rattle.std.proofs.lemmas.Str.Parse.{digit_from_value}
 use Rattle.type_kinds.specs.Quoted.{quoted}
@@ -25,7 +25,7 @@ use Rattle.type_model.specs.Operations.{Ops, of_atoms}
 use Rattle.type_model.specs.Normal.{IsElement, AreElements}
 use Rattle.type_text.specs.Starts.{is_number, begins_number, Lacks}
 use Rattle.type_text.specs.Texts.{separated, low_text, high_text, range_word}
-use Rattle.type_text.specs.WordTypes.{float_flag, pid_flag, port_flag, reference_flag, map_flag, nil_flag, of_ints, of_bits, of_flags, of_functions, of_row, IsWordOf, one_atom, every_atom, one_int, ints_between, every_float, whole_bits, every_bits, every_pid, every_port, every_reference, every_map, every_function, one_arity, empty_list, proper_list, any_list, every_tuple, one_tuple}
+use Rattle.type_text.specs.WordTypes.{float_flag, pid_flag, port_flag, reference_flag, map_flag, nil_flag, of_ints, of_bits, of_flags, of_functions, of_row, Named, every_atom, every_float, whole_bits, every_bits, every_pid, every_port, every_reference, every_map, every_function, empty_list, every_tuple, name_of, type_named, IsWordOf, one_atom, named, one_int, ints_between, one_arity, proper_list, any_list, one_tuple}
 use Rattle.type_model.specs.Operations.{of_list, of_tuples}
 
 -- a minus or a digit
@@ -81,83 +81,72 @@ pub is_number-true : (b : ℕ) → IsNumberStart b → is_number b ≡ true
 is_number-true b (inl e) = in_first (b == 45) (nat_le 48 b && nat_le b 57) (eq-eqb b 45 e)
 is_number-true b (inr h) = in_second (b == 45) (nat_le 48 b && nat_le b 57) (both (nat_le 48 b) (nat_le b 57) (le-leb 48 b h.0) (le-leb b 57 h.1))
 
+-- what begins so, and what stands behind
+begins-itself : (p t : List ℕ) → begins p (p ++ t) ≡ true
+begins-itself [] t = refl
+begins-itself (x ∷ p) t = both (x == x) (begins p (p ++ t)) (eq-eqb x x refl) (begins-itself p t)
+
+same_behind : (p s t : List ℕ) → p ++ s ≡ p ++ t → s ≡ t
+same_behind [] s t e = e
+same_behind (x ∷ p) s t e = same_behind p s t (ap (drop 1) e)
+
+-- the name of a kind begins with a sign above the digits, and no interval begins with one
+named-start : (k : Named) → (b : ℕ) × ((p : List ℕ) × ((name_of k ≡ b ∷ p) × (is_number b ≡ false)))
+named-start every_atom = (97, (codes "tom()", (refl, refl)))
+named-start k = (_, (_, (refl, refl)))
+
+no_range : (k : Named) (t : List ℕ) → begins (name_of k) (codes "integer(" ++ t) ≡ false
+no_range every_atom t = refl
+no_range k t = refl
+
+-- so no number begins with a name, nor a digit with a closing bracket
+first_begins : (b c : ℕ) (p t : List ℕ) → begins (b ∷ p) (c ∷ t) ≡ true → b ≡ c
+first_begins b c p t h = eqb-true b c (first (b == c) (begins p t) h)
+
+no_name : (k : Named) (n : ℤ) → is_narrow n ≡ true → (rest : List ℕ) → begins (name_of k) (signed_decimal n ++ rest) ≡ true → ⊥
+no_name k n j rest h =
+    let s = signed-start n j in
+    let m = named-start k in
+    let same = first_begins m.0 s.0 m.1.0 (s.1.0 ++ rest) ((λ i. begins (sym m.1.1.0 i) (sym s.1.1.0 i ++ rest)) ∙ h) in
+    true≢false (sym (is_number-true s.0 s.1.1.1) ∙ ap is_number (sym same) ∙ m.1.1.1)
+
+no_arity : (n : ℕ) → nat_lt n (2 ^ 32) ≡ true → (rest : List ℕ) → begins (codes ")") (decimal n ++ rest) ≡ true → ⊥
+no_arity n k rest h =
+    let s = decimal-start n (omega (arith, ltb-true n (2 ^ 32) k)) in
+    omega (arith, s.1.1.1.0, first_begins 41 s.0 [] (s.1.0 ++ rest) (ap (λ t. begins (codes ")") (t ++ rest)) (sym s.1.1.0) ∙ h))
+
 module _ {E : Type 0} {text : E → List ℕ} {Normal : E → Type 0} {o : Ops E} where
   -- ---- the words of one spelling
 
-  pub at_every_atom : (w : List ℕ) (u : Parts E) → IsWordOf text Normal o w u → (now rest more : List ℕ) → now ≡ w ++ rest → now ≡ codes "atom()" ++ more → (u ≡ of_atoms o names.every) × (more ≡ rest)
-  at_every_atom w u every_atom now rest more a b = (refl, ap (drop 6) (sym b ∙ a))
-  at_every_atom w u (one_int n k) now rest more a b = absurd (no_number n k rest 97 (codes "tom()" ++ more) (sym a ∙ b) (omega arith))
-  at_every_atom w u (ints_between l h k) now rest more a b = absurd (true≢false (ap (begins (codes "atom()")) (sym b ∙ a ∙ ap (λ t. t ++ rest) (range-start l h).1)))
-  at_every_atom w u i now rest more a b = absurd (true≢false (ap (begins (codes "atom()")) (sym b ∙ a)))
+  -- a word doesn't begin with the name of a kind, or is that name
+  begun : (k : Named) (w : List ℕ) (u : Parts E) → IsWordOf text Normal o w u → (rest : List ℕ) → (begins (name_of k) (w ++ rest) ≡ false) ⊎ ((w ≡ name_of k) × (u ≡ type_named o k))
+  begun every_atom w u (named every_atom) rest = inr (refl, refl)
+  begun every_float w u (named every_float) rest = inr (refl, refl)
+  begun whole_bits w u (named whole_bits) rest = inr (refl, refl)
+  begun every_bits w u (named every_bits) rest = inr (refl, refl)
+  begun every_pid w u (named every_pid) rest = inr (refl, refl)
+  begun every_port w u (named every_port) rest = inr (refl, refl)
+  begun every_reference w u (named every_reference) rest = inr (refl, refl)
+  begun every_map w u (named every_map) rest = inr (refl, refl)
+  begun every_function w u (named every_function) rest = inr (refl, refl)
+  begun empty_list w u (named empty_list) rest = inr (refl, refl)
+  begun every_tuple w u (named every_tuple) rest = inr (refl, refl)
+  begun k w u (one_int n j) rest = inl (is_false (begins (name_of k) (signed_decimal n ++ rest)) (λ h. no_name k n j rest h))
+  begun k w u (ints_between l h j) rest = inl (ap (λ t. begins (name_of k) (t ++ rest)) (range-start l h).1 ∙ no_range k ((range-start l h).0 ++ rest))
+  begun every_function w u (one_arity n j) rest = inl (is_false (begins (codes ")") ((decimal n ++ codes ")") ++ rest)) (λ h. no_arity n j (codes ")" ++ rest) (ap (begins (codes ")")) (sym (append_assoc (decimal n) (codes ")") rest)) ∙ h)))
+  begun k w u i rest = inl refl
 
-  pub at_float : (w : List ℕ) (u : Parts E) → IsWordOf text Normal o w u → (now rest more : List ℕ) → now ≡ w ++ rest → now ≡ codes "float()" ++ more → (u ≡ of_flags o float_flag) × (more ≡ rest)
-  at_float w u every_float now rest more a b = (refl, ap (drop 7) (sym b ∙ a))
-  at_float w u (one_int n k) now rest more a b = absurd (no_number n k rest 102 (codes "loat()" ++ more) (sym a ∙ b) (omega arith))
-  at_float w u (ints_between l h k) now rest more a b = absurd (true≢false (ap (begins (codes "float()")) (sym b ∙ a ∙ ap (λ t. t ++ rest) (range-start l h).1)))
-  at_float w u i now rest more a b = absurd (true≢false (ap (begins (codes "float()")) (sym b ∙ a)))
-
-  pub at_whole_bits : (w : List ℕ) (u : Parts E) → IsWordOf text Normal o w u → (now rest more : List ℕ) → now ≡ w ++ rest → now ≡ codes "binary()" ++ more → (u ≡ of_bits o Whole) × (more ≡ rest)
-  at_whole_bits w u whole_bits now rest more a b = (refl, ap (drop 8) (sym b ∙ a))
-  at_whole_bits w u (one_int n k) now rest more a b = absurd (no_number n k rest 98 (codes "inary()" ++ more) (sym a ∙ b) (omega arith))
-  at_whole_bits w u (ints_between l h k) now rest more a b = absurd (true≢false (ap (begins (codes "binary()")) (sym b ∙ a ∙ ap (λ t. t ++ rest) (range-start l h).1)))
-  at_whole_bits w u i now rest more a b = absurd (true≢false (ap (begins (codes "binary()")) (sym b ∙ a)))
-
-  pub at_every_bits : (w : List ℕ) (u : Parts E) → IsWordOf text Normal o w u → (now rest more : List ℕ) → now ≡ w ++ rest → now ≡ codes "bitstring()" ++ more → (u ≡ of_bits o Any) × (more ≡ rest)
-  at_every_bits w u every_bits now rest more a b = (refl, ap (drop 11) (sym b ∙ a))
-  at_every_bits w u (one_int n k) now rest more a b = absurd (no_number n k rest 98 (codes "itstring()" ++ more) (sym a ∙ b) (omega arith))
-  at_every_bits w u (ints_between l h k) now rest more a b = absurd (true≢false (ap (begins (codes "bitstring()")) (sym b ∙ a ∙ ap (λ t. t ++ rest) (range-start l h).1)))
-  at_every_bits w u i now rest more a b = absurd (true≢false (ap (begins (codes "bitstring()")) (sym b ∙ a)))
-
-  pub at_pid : (w : List ℕ) (u : Parts E) → IsWordOf text Normal o w u → (now rest more : List ℕ) → now ≡ w ++ rest → now ≡ codes "pid()" ++ more → (u ≡ of_flags o pid_flag) × (more ≡ rest)
-  at_pid w u every_pid now rest more a b = (refl, ap (drop 5) (sym b ∙ a))
-  at_pid w u (one_int n k) now rest more a b = absurd (no_number n k rest 112 (codes "id()" ++ more) (sym a ∙ b) (omega arith))
-  at_pid w u (ints_between l h k) now rest more a b = absurd (true≢false (ap (begins (codes "pid()")) (sym b ∙ a ∙ ap (λ t. t ++ rest) (range-start l h).1)))
-  at_pid w u i now rest more a b = absurd (true≢false (ap (begins (codes "pid()")) (sym b ∙ a)))
-
-  pub at_port : (w : List ℕ) (u : Parts E) → IsWordOf text Normal o w u → (now rest more : List ℕ) → now ≡ w ++ rest → now ≡ codes "port()" ++ more → (u ≡ of_flags o port_flag) × (more ≡ rest)
-  at_port w u every_port now rest more a b = (refl, ap (drop 6) (sym b ∙ a))
-  at_port w u (one_int n k) now rest more a b = absurd (no_number n k rest 112 (codes "ort()" ++ more) (sym a ∙ b) (omega arith))
-  at_port w u (ints_between l h k) now rest more a b = absurd (true≢false (ap (begins (codes "port()")) (sym b ∙ a ∙ ap (λ t. t ++ rest) (range-start l h).1)))
-  at_port w u i now rest more a b = absurd (true≢false (ap (begins (codes "port()")) (sym b ∙ a)))
-
-  pub at_reference : (w : List ℕ) (u : Parts E) → IsWordOf text Normal o w u → (now rest more : List ℕ) → now ≡ w ++ rest → now ≡ codes "reference()" ++ more → (u ≡ of_flags o reference_flag) × (more ≡ rest)
-  at_reference w u every_reference now rest more a b = (refl, ap (drop 11) (sym b ∙ a))
-  at_reference w u (one_int n k) now rest more a b = absurd (no_number n k rest 114 (codes "eference()" ++ more) (sym a ∙ b) (omega arith))
-  at_reference w u (ints_between l h k) now rest more a b = absurd (true≢false (ap (begins (codes "reference()")) (sym b ∙ a ∙ ap (λ t. t ++ rest) (range-start l h).1)))
-  at_reference w u i now rest more a b = absurd (true≢false (ap (begins (codes "reference()")) (sym b ∙ a)))
-
-  pub at_map : (w : List ℕ) (u : Parts E) → IsWordOf text Normal o w u → (now rest more : List ℕ) → now ≡ w ++ rest → now ≡ codes "map()" ++ more → (u ≡ of_flags o map_flag) × (more ≡ rest)
-  at_map w u every_map now rest more a b = (refl, ap (drop 5) (sym b ∙ a))
-  at_map w u (one_int n k) now rest more a b = absurd (no_number n k rest 109 (codes "ap()" ++ more) (sym a ∙ b) (omega arith))
-  at_map w u (ints_between l h k) now rest more a b = absurd (true≢false (ap (begins (codes "map()")) (sym b ∙ a ∙ ap (λ t. t ++ rest) (range-start l h).1)))
-  at_map w u i now rest more a b = absurd (true≢false (ap (begins (codes "map()")) (sym b ∙ a)))
-
-  pub at_nil : (w : List ℕ) (u : Parts E) → IsWordOf text Normal o w u → (now rest more : List ℕ) → now ≡ w ++ rest → now ≡ codes "[]" ++ more → (u ≡ of_flags o nil_flag) × (more ≡ rest)
-  at_nil w u empty_list now rest more a b = (refl, ap (drop 2) (sym b ∙ a))
-  at_nil w u (one_int n k) now rest more a b = absurd (no_number n k rest 91 (codes "]" ++ more) (sym a ∙ b) (omega arith))
-  at_nil w u (ints_between l h k) now rest more a b = absurd (true≢false (ap (begins (codes "[]")) (sym b ∙ a ∙ ap (λ t. t ++ rest) (range-start l h).1)))
-  at_nil w u i now rest more a b = absurd (true≢false (ap (begins (codes "[]")) (sym b ∙ a)))
-
-  pub at_every_tuple : (w : List ℕ) (u : Parts E) → IsWordOf text Normal o w u → (now rest more : List ℕ) → now ≡ w ++ rest → now ≡ codes "tuple()" ++ more → (u ≡ of_tuples o all_tuples) × (more ≡ rest)
-  at_every_tuple w u every_tuple now rest more a b = (refl, ap (drop 7) (sym b ∙ a))
-  at_every_tuple w u (one_int n k) now rest more a b = absurd (no_number n k rest 116 (codes "uple()" ++ more) (sym a ∙ b) (omega arith))
-  at_every_tuple w u (ints_between l h k) now rest more a b = absurd (true≢false (ap (begins (codes "tuple()")) (sym b ∙ a ∙ ap (λ t. t ++ rest) (range-start l h).1)))
-  at_every_tuple w u i now rest more a b = absurd (true≢false (ap (begins (codes "tuple()")) (sym b ∙ a)))
+  pub at_named : (k : Named) (w : List ℕ) (u : Parts E) → IsWordOf text Normal o w u → (now rest more : List ℕ) → now ≡ w ++ rest → now ≡ name_of k ++ more → (u ≡ type_named o k) × (more ≡ rest)
+  at_named k w u i now rest more a b = elim (begun k w u i rest) [
+    | inl h ↦ absurd (true≢false (sym (begins-itself (name_of k) more) ∙ ap (begins (name_of k)) (sym b ∙ a) ∙ h))
+    | inr s ↦ (s.1, same_behind (name_of k) more rest (sym b ∙ a ∙ ap (λ t. t ++ rest) s.0))
+  ]
 
   pub at_every_int : (w : List ℕ) (u : Parts E) → IsWordOf text Normal o w u → (now rest more : List ℕ) → now ≡ w ++ rest → now ≡ codes "integer()" ++ more → (u ≡ of_ints o numbers.all) × (more ≡ rest)
   at_every_int w u (ints_between Min Max k) now rest more a b = (ap (of_ints o) (numbers.range-yes Min Max refl), ap (drop 9) (sym b ∙ a))
   at_every_int w u (one_int n k) now rest more a b = absurd (no_number n k rest 105 (codes "nteger()" ++ more) (sym a ∙ b) (omega arith))
+  at_every_int w u (named every_atom) now rest more a b = absurd (true≢false (ap (begins (codes "integer()")) (sym b ∙ a)))
   at_every_int w u i now rest more a b = absurd (true≢false (ap (begins (codes "integer()")) (sym b ∙ a)))
-
-  pub at_every_function : (w : List ℕ) (u : Parts E) → IsWordOf text Normal o w u → (now rest more : List ℕ) → now ≡ w ++ rest → now ≡ codes "fun()" ++ more → (u ≡ of_functions o all_functions) × (more ≡ rest)
-  at_every_function w u every_function now rest more a b = (refl, ap (drop 5) (sym b ∙ a))
-  at_every_function w u (one_arity n k) now rest more a b =
-      let s = decimal-start n (omega (arith, ltb-true n (2 ^ 32) k)) in
-      let e : 41 ∷ more ≡ s.0 ∷ (s.1.0 ++ codes ")" ++ rest) = ap (drop 4) (sym b ∙ a) ∙ ap (λ t. t ++ codes ")" ++ rest) s.1.1.0 in
-      absurd (omega (arith, first_same 41 s.0 more (s.1.0 ++ codes ")" ++ rest) e, s.1.1.1.0))
-  at_every_function w u (one_int n k) now rest more a b = absurd (no_number n k rest 102 (codes "un()" ++ more) (sym a ∙ b) (omega arith))
-  at_every_function w u (ints_between l h k) now rest more a b = absurd (true≢false (ap (begins (codes "fun()")) (sym b ∙ a ∙ ap (λ t. t ++ rest) (range-start l h).1)))
-  at_every_function w u i now rest more a b = absurd (true≢false (ap (begins (codes "fun()")) (sym b ∙ a)))
 
   -- ---- the words that hold something
 
@@ -166,12 +155,14 @@ module _ {E : Type 0} {text : E → List ℕ} {Normal : E → Type 0} {o : Ops E
   at_quote w u (one_atom x) now rest more a b = (x, (a, refl))
   at_quote w u (one_int n k) now rest more a b = elim (number-start n k rest 39 more (sym a ∙ b)) [ inl x ↦ absurd (omega (arith, x)) | inr x ↦ absurd (omega (arith, x.0)) ]
   at_quote w u (ints_between l h k) now rest more a b = absurd (true≢false (ap (begins (codes "'")) (sym b ∙ a ∙ ap (λ t. t ++ rest) (range-start l h).1)))
+  at_quote w u (named every_atom) now rest more a b = absurd (true≢false (ap (begins (codes "'")) (sym b ∙ a)))
   at_quote w u i now rest more a b = absurd (true≢false (ap (begins (codes "'")) (sym b ∙ a)))
 
   -- one integer
   pub at_number : (w : List ℕ) (u : Parts E) → IsWordOf text Normal o w u → (now rest : List ℕ) (b : ℕ) (more : List ℕ) → now ≡ w ++ rest → now ≡ b ∷ more → IsNumberStart b → (n : ℤ) × ((is_narrow n ≡ true) × ((now ≡ signed_decimal n ++ rest) × (u ≡ of_ints o (numbers.listed (n ∷ [])))))
   at_number w u (one_int n k) now rest b more a e s = (n, (k, (a, refl)))
   at_number w u (ints_between l h k) now rest b more a e s = absurd (true≢false (sym (is_number-true b s) ∙ ap begins_number (sym e ∙ a ∙ ap (λ t. t ++ rest) (range-start l h).1)))
+  at_number w u (named every_atom) now rest b more a e s = absurd (true≢false (sym (is_number-true b s) ∙ ap begins_number (sym e ∙ a)))
   at_number w u i now rest b more a e s = absurd (true≢false (sym (is_number-true b s) ∙ ap begins_number (sym e ∙ a)))
 
   -- an interval, where the text is not `integer()`
@@ -179,11 +170,12 @@ module _ {E : Type 0} {text : E → List ℕ} {Normal : E → Type 0} {o : Ops E
   at_range w u (ints_between Min Max k) now rest more a b not = absurd (not rest a)
   at_range w u (ints_between l h k) now rest more a b not = (l, (h, (k, (ap (drop 8) (sym b ∙ a), refl))))
   at_range w u (one_int n k) now rest more a b not = absurd (no_number n k rest 105 (codes "nteger(" ++ more) (sym a ∙ b) (omega arith))
+  at_range w u (named every_atom) now rest more a b not = absurd (true≢false (ap (begins (codes "integer(")) (sym b ∙ a)))
   at_range w u i now rest more a b not = absurd (true≢false (ap (begins (codes "integer(")) (sym b ∙ a)))
 
   -- the functions of one arity, where the text is not `fun()`
   pub at_arity : (w : List ℕ) (u : Parts E) → IsWordOf text Normal o w u → (now rest more : List ℕ) → now ≡ w ++ rest → now ≡ codes "fun(" ++ more → Lacks now (codes "fun()") → (n : ℕ) × ((nat_lt n (2 ^ 32) ≡ true) × ((more ≡ decimal n ++ (codes ")" ++ rest)) × (u ≡ of_functions o (of_arity n))))
-  at_arity w u every_function now rest more a b not = absurd (not rest a)
+  at_arity w u (named every_function) now rest more a b not = absurd (not rest a)
   at_arity w u (one_arity n k) now rest more a b not = (n, (k, (ap (drop 4) (sym b ∙ a) ∙ append_assoc (decimal n) (codes ")") rest, refl)))
   at_arity w u (one_int n k) now rest more a b not = absurd (no_number n k rest 102 (codes "un(" ++ more) (sym a ∙ b) (omega arith))
   at_arity w u (ints_between l h k) now rest more a b not = absurd (true≢false (ap (begins (codes "fun(")) (sym b ∙ a ∙ ap (λ t. t ++ rest) (range-start l h).1)))
@@ -194,6 +186,7 @@ module _ {E : Type 0} {text : E → List ℕ} {Normal : E → Type 0} {o : Ops E
   at_proper_list w u (proper_list e k) now rest more a b = (e, (k, (ap (drop 5) (sym b ∙ a) ∙ append_assoc (text e) (codes ")") rest, refl)))
   at_proper_list w u (one_int n k) now rest more a b = absurd (no_number n k rest 99 (codes "ons(" ++ more) (sym a ∙ b) (omega arith))
   at_proper_list w u (ints_between l h k) now rest more a b = absurd (true≢false (ap (begins (codes "cons(")) (sym b ∙ a ∙ ap (λ t. t ++ rest) (range-start l h).1)))
+  at_proper_list w u (named every_atom) now rest more a b = absurd (true≢false (ap (begins (codes "cons(")) (sym b ∙ a)))
   at_proper_list w u i now rest more a b = absurd (true≢false (ap (begins (codes "cons(")) (sym b ∙ a)))
 
   -- lists with any ends
@@ -201,6 +194,7 @@ module _ {E : Type 0} {text : E → List ℕ} {Normal : E → Type 0} {o : Ops E
   at_any_list w u (any_list e k) now rest more a b = (e, (k, (ap (drop 9) (sym b ∙ a) ∙ append_assoc (text e) (codes ")") rest, refl)))
   at_any_list w u (one_int n k) now rest more a b = absurd (no_number n k rest 99 (codes "ons_any(" ++ more) (sym a ∙ b) (omega arith))
   at_any_list w u (ints_between l h k) now rest more a b = absurd (true≢false (ap (begins (codes "cons_any(")) (sym b ∙ a ∙ ap (λ t. t ++ rest) (range-start l h).1)))
+  at_any_list w u (named every_atom) now rest more a b = absurd (true≢false (ap (begins (codes "cons_any(")) (sym b ∙ a)))
   at_any_list w u i now rest more a b = absurd (true≢false (ap (begins (codes "cons_any(")) (sym b ∙ a)))
 
   -- the tuples of some element types
@@ -208,6 +202,7 @@ module _ {E : Type 0} {text : E → List ℕ} {Normal : E → Type 0} {o : Ops E
   at_tuple w u (one_tuple es k few) now rest more a b = (es, (k, (few, (ap (drop 1) (sym b ∙ a) ∙ append_assoc (separated (codes ",") (map text es)) (codes "}") rest, refl))))
   at_tuple w u (one_int n k) now rest more a b = absurd (no_number n k rest 123 more (sym a ∙ b) (omega arith))
   at_tuple w u (ints_between l h k) now rest more a b = absurd (true≢false (ap (begins (codes "{")) (sym b ∙ a ∙ ap (λ t. t ++ rest) (range-start l h).1)))
+  at_tuple w u (named every_atom) now rest more a b = absurd (true≢false (ap (begins (codes "{")) (sym b ∙ a)))
   at_tuple w u i now rest more a b = absurd (true≢false (ap (begins (codes "{")) (sym b ∙ a)))
 
   -- ---- no word begins as a type that has none, or as what ends a tuple
@@ -215,16 +210,19 @@ module _ {E : Type 0} {text : E → List ℕ} {Normal : E → Type 0} {o : Ops E
   pub not_any : (w : List ℕ) (u : Parts E) → IsWordOf text Normal o w u → (now rest : List ℕ) → now ≡ w ++ rest → Lacks now (codes "any()")
   not_any w u (one_int n k) now rest a more b = absurd (no_number n k rest 97 (codes "ny()" ++ more) (sym a ∙ b) (omega arith))
   not_any w u (ints_between l h k) now rest a more b = absurd (true≢false (ap (begins (codes "any()")) (sym b ∙ a ∙ ap (λ t. t ++ rest) (range-start l h).1)))
+  not_any w u (named every_atom) now rest a more b = absurd (true≢false (ap (begins (codes "any()")) (sym b ∙ a)))
   not_any w u i now rest a more b = absurd (true≢false (ap (begins (codes "any()")) (sym b ∙ a)))
 
   pub not_none : (w : List ℕ) (u : Parts E) → IsWordOf text Normal o w u → (now rest : List ℕ) → now ≡ w ++ rest → Lacks now (codes "none()")
   not_none w u (one_int n k) now rest a more b = absurd (no_number n k rest 110 (codes "one()" ++ more) (sym a ∙ b) (omega arith))
   not_none w u (ints_between l h k) now rest a more b = absurd (true≢false (ap (begins (codes "none()")) (sym b ∙ a ∙ ap (λ t. t ++ rest) (range-start l h).1)))
+  not_none w u (named every_atom) now rest a more b = absurd (true≢false (ap (begins (codes "none()")) (sym b ∙ a)))
   not_none w u i now rest a more b = absurd (true≢false (ap (begins (codes "none()")) (sym b ∙ a)))
 
   pub not_closed : (w : List ℕ) (u : Parts E) → IsWordOf text Normal o w u → (now rest : List ℕ) → now ≡ w ++ rest → Lacks now (codes "}")
   not_closed w u (one_int n k) now rest a more b = absurd (no_number n k rest 125 more (sym a ∙ b) (omega arith))
   not_closed w u (ints_between l h k) now rest a more b = absurd (true≢false (ap (begins (codes "}")) (sym b ∙ a ∙ ap (λ t. t ++ rest) (range-start l h).1)))
+  not_closed w u (named every_atom) now rest a more b = absurd (true≢false (ap (begins (codes "}")) (sym b ∙ a)))
   not_closed w u i now rest a more b = absurd (true≢false (ap (begins (codes "}")) (sym b ∙ a)))
 
 -- ---- each word begins in one of these ways
@@ -234,46 +232,20 @@ pub record NoStart (now : List ℕ) : Type 0 where
   pub number : (b : ℕ) (more : List ℕ) → now ≡ b ∷ more → IsNumberStart b → ⊥
   pub quote : Lacks now (codes "'")
   pub brace : Lacks now (codes "{")
-  pub every_atom : Lacks now (codes "atom()")
   pub every_int : Lacks now (codes "integer()")
   pub range : Lacks now (codes "integer(")
-  pub float : Lacks now (codes "float()")
-  pub whole_bits : Lacks now (codes "binary()")
-  pub every_bits : Lacks now (codes "bitstring()")
-  pub pid : Lacks now (codes "pid()")
-  pub port : Lacks now (codes "port()")
-  pub reference : Lacks now (codes "reference()")
-  pub map : Lacks now (codes "map()")
-  pub every_function : Lacks now (codes "fun()")
+  pub named : (k : Named) → Lacks now (name_of k)
   pub arity : Lacks now (codes "fun(")
-  pub nil : Lacks now (codes "[]")
   pub proper_list : Lacks now (codes "cons(")
   pub any_list : Lacks now (codes "cons_any(")
-  pub every_tuple : Lacks now (codes "tuple()")
 
 pub some_start : {E : Type 0} {text : E → List ℕ} {Normal : E → Type 0} {o : Ops E} (w : List ℕ) (u : Parts E) → IsWordOf text Normal o w u → (now rest : List ℕ) → now ≡ w ++ rest → NoStart now → ⊥
 some_start w u (one_atom x) now rest a n = n.quote _ a
-some_start w u every_atom now rest a n = n.every_atom rest a
+some_start w u (named k) now rest a n = n.named k rest a
 some_start w u (one_int z k) now rest a n = let s = signed-start z k in n.number s.0 (s.1.0 ++ rest) (a ∙ ap (λ t. t ++ rest) s.1.1.0) s.1.1.1
 some_start w u (ints_between Min Max k) now rest a n = n.every_int rest a
 some_start w u (ints_between l h k) now rest a n = n.range (range_tail l h ++ rest) a
-some_start w u every_float now rest a n = n.float rest a
-some_start w u whole_bits now rest a n = n.whole_bits rest a
-some_start w u every_bits now rest a n = n.every_bits rest a
-some_start w u every_pid now rest a n = n.pid rest a
-some_start w u every_port now rest a n = n.port rest a
-some_start w u every_reference now rest a n = n.reference rest a
-some_start w u every_map now rest a n = n.map rest a
-some_start w u every_function now rest a n = n.every_function rest a
 some_start w u (one_arity m k) now rest a n = n.arity (decimal m ++ codes ")" ++ rest) a
-some_start w u empty_list now rest a n = n.nil rest a
 some_start {text = text} w u (proper_list e k) now rest a n = n.proper_list (text e ++ codes ")" ++ rest) a
 some_start {text = text} w u (any_list e k) now rest a n = n.any_list (text e ++ codes ")" ++ rest) a
-some_start w u every_tuple now rest a n = n.every_tuple rest a
 some_start {text = text} w u (one_tuple es k few) now rest a n = n.brace (separated (codes ",") (map text es) ++ codes "}" ++ rest) a
-
--- so no word is empty
-pub not_empty : {E : Type 0} {text : E → List ℕ} {Normal : E → Type 0} {o : Ops E} (w : List ℕ) (u : Parts E) → IsWordOf text Normal o w u → (b : ℕ) × ((more : List ℕ) × (w ≡ b ∷ more))
-not_empty w u (one_int n k) = let s = signed-start n k in (s.0, (s.1.0, s.1.1.0))
-not_empty w u (ints_between l h k) = let s = range-start l h in (105, (codes "nteger(" ++ s.0, s.1))
-not_empty w u i = (_, (_, refl))

@@ -14,6 +14,7 @@ use Rattle.type_sets.specs.declared.bits.Bits.TheVariants.{No, Whole, Any}
 use Rattle.type_model.specs.declared.limits.TheConstants.{MAX_ELEMENTS}
 use Rattle.type_model.specs.Shapes.{Flags, Functions, no_function, of_arity, all_functions, Cell, sizes, all_tuples, Parts, TypeAt}
 use Rattle.type_model.specs.Operations.{Ops, no_flags, plain_none, body_of, of_plain, of_atoms, of_list, of_tuples, ops}
+use Rattle.type_model.specs.Elements.{joined_all}
 use Rattle.type_model.specs.Normal.{IsElement, AreElements, NormalAt}
 use Rattle.type_text.specs.Texts.{after, range_word, tuple_word, text_at}
 
@@ -59,27 +60,58 @@ module _ {E : Type 0} (o : Ops E) where
 
 -- ---- words
 
+-- the kinds of values that have a word for all of them
+pub data Named : Type 0 where
+  every_atom : Named
+  every_float : Named
+  whole_bits : Named
+  every_bits : Named
+  every_pid : Named
+  every_port : Named
+  every_reference : Named
+  every_map : Named
+  every_function : Named
+  empty_list : Named
+  every_tuple : Named
+
+-- this word, and the type of these values
+abbrev pub name_of : Named → List ℕ
+name_of every_atom = codes "atom()"
+name_of every_float = codes "float()"
+name_of whole_bits = codes "binary()"
+name_of every_bits = codes "bitstring()"
+name_of every_pid = codes "pid()"
+name_of every_port = codes "port()"
+name_of every_reference = codes "reference()"
+name_of every_map = codes "map()"
+name_of every_function = codes "fun()"
+name_of empty_list = codes "[]"
+name_of every_tuple = codes "tuple()"
+
+abbrev pub type_named : {E : Type 0} → Ops E → Named → Parts E
+type_named o every_atom = of_atoms o names.every
+type_named o every_float = of_flags o float_flag
+type_named o whole_bits = of_bits o Whole
+type_named o every_bits = of_bits o Any
+type_named o every_pid = of_flags o pid_flag
+type_named o every_port = of_flags o port_flag
+type_named o every_reference = of_flags o reference_flag
+type_named o every_map = of_flags o map_flag
+type_named o every_function = of_functions o all_functions
+type_named o empty_list = of_flags o nil_flag
+type_named o every_tuple = of_tuples o all_tuples
+
 -- a word, and the type that it stands for. The types of elements are normal and not none, and a tuple has at most MAX_ELEMENTS of them
 pub data IsWordOf {E : Type 0} (text : E → List ℕ) (Normal : E → Type 0) (o : Ops E) : List ℕ → Parts E → Type 0 where
   one_atom : (a : Name) → IsWordOf text Normal o (quoted a) (of_atoms o (names.listed (a ∷ [])))
-  every_atom : IsWordOf text Normal o (codes "atom()") (of_atoms o names.every)
+  named : (k : Named) → IsWordOf text Normal o (name_of k) (type_named o k)
   one_int : (n : ℤ) → is_narrow n ≡ true → IsWordOf text Normal o (signed_decimal n) (of_ints o (numbers.listed (n ∷ [])))
   ints_between : (l : Low) (h : High) → is_range l h ≡ true → IsWordOf text Normal o (range_word l h) (of_ints o (numbers.range l h))
-  every_float : IsWordOf text Normal o (codes "float()") (of_flags o float_flag)
-  whole_bits : IsWordOf text Normal o (codes "binary()") (of_bits o Whole)
-  every_bits : IsWordOf text Normal o (codes "bitstring()") (of_bits o Any)
-  every_pid : IsWordOf text Normal o (codes "pid()") (of_flags o pid_flag)
-  every_port : IsWordOf text Normal o (codes "port()") (of_flags o port_flag)
-  every_reference : IsWordOf text Normal o (codes "reference()") (of_flags o reference_flag)
-  every_map : IsWordOf text Normal o (codes "map()") (of_flags o map_flag)
-  every_function : IsWordOf text Normal o (codes "fun()") (of_functions o all_functions)
   -- the functions of one arity
   one_arity : (n : ℕ) → nat_lt n (2 ^ 32) ≡ true → IsWordOf text Normal o (codes "fun(" ++ decimal n ++ codes ")") (of_functions o (of_arity n))
-  empty_list : IsWordOf text Normal o (codes "[]") (of_flags o nil_flag)
   -- the lists with proper ends, and those with any
   proper_list : (e : E) → IsElement Normal o e → IsWordOf text Normal o (codes "cons(" ++ text e ++ codes ")") (of_list o e true)
   any_list : (e : E) → IsElement Normal o e → IsWordOf text Normal o (codes "cons_any(" ++ text e ++ codes ")") (of_list o e false)
-  every_tuple : IsWordOf text Normal o (codes "tuple()") (of_tuples o all_tuples)
   -- the tuples of some element types. Where the first is one atom, this is the word of a tag
   one_tuple : (es : List E) → AreElements Normal o es → nat_lt (length es) (MAX_ELEMENTS + 1) ≡ true → IsWordOf text Normal o (tuple_word (map text es)) (of_row o es)
 
@@ -104,8 +136,7 @@ spelled (p ∷ ps) = p.0 ∷ spelled ps
 
 -- a type joined with those of some words, one after the other
 abbrev pub joined_with : {T : Type 0} → (T → T → T) → T → List (List ℕ × T) → T
-joined_with join u [] = u
-joined_with join u (p ∷ ps) = joined_with join (join u p.1) ps
+joined_with join u ps = joined_all join (λ p. p.1) u ps
 
 -- the words that a type is written in: the first, and those after it
 pub record WordsOf (d : ℕ) (t : TypeAt (suc d)) : Type 0 where

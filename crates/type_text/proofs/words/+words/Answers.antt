@@ -6,8 +6,7 @@ use Rattle.type_sets.specs.Names as names
 use Rattle.type_sets.specs.Numbers as numbers
 use Rattle.type_trees.specs.declared.node.Node.TheVariants as v
 use Rattle.type_trees.specs.View.{row_view, Fits}
-use Rattle.type_trees.proofs.Views.{any_fits, one_more}
-use Rattle.type_trees.proofs.MeetViews.{each_more}
+use Rattle.type_trees.proofs.Views.{any_fits, one_more, each_more}
 use Rattle.type_text.specs.WordTypes.{of_ints}
 use Rattle.type_text.proofs.WordStarts.{at_quote, at_number, at_tuple, at_proper_list, at_any_list}
 use Rattle.type_text.proofs.WordReads.{found_none, found_some, if_found, found_as, found_at, next_word, words_further, words_end, next_element, first_element, no_element, elements_further, elements_end, elements_more, TypeRead, any_read, zero_read, no_word_read, words_read, quote_there, no_quote, number_there, no_start, name_found}

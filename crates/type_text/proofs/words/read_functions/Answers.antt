@@ -2,12 +2,13 @@ use Rattle.std.proofs.Common.{◌∷◌, sym, ap, refl, ◌∙◌}
 use Rattle.type_model.specs.Shapes.{of_arity}
 use Rattle.type_model.specs.Operations.{ops}
 use Rattle.type_text.specs.WordTypes.{of_functions}
-use Rattle.type_text.proofs.WordStarts.{at_every_function}
+use Rattle.type_text.specs.WordTypes as word
+use Rattle.type_text.proofs.WordStarts.{at_named}
 use Rattle.type_text.proofs.WordReads.{arity_read}
 use Rattle.type_text.proofs.words.read_functions.Goals as goal
 
 pub returns-in-Some-clause-complete : goal.returns-in-Some-clause-complete
-returns-in-Some-clause-complete c d w rest u i e = let s = at_every_function w u i c.args.text.now rest c.in-Some.rest.now e c.in-Some.ensures.exact in (sym s.0, s.1)
+returns-in-Some-clause-complete c d w rest u i e = let s = at_named word.every_function w u i c.args.text.now rest c.in-Some.rest.now e c.in-Some.ensures.exact in (sym s.0, s.1)
 
 pub returns-in_err-arity-clause-complete : goal.returns-in_err-arity-clause-complete
 returns-in_err-arity-clause-complete c d w rest u i e =
