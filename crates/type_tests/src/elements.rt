@@ -66,16 +66,6 @@ fn types_are_equal_by_their_values(rt: HostRuntime) -> Result<(), TextFault> {
     Ok(())
 }
 
-// A value that can be moved to another thread, and shared with one.
-fn crosses_threads<T: Send + Sync>(_: &T) -> bool {
-    true
-}
-
-#[test]
-fn types_cross_threads(rt: HostRuntime) {
-    assert!(rt; crosses_threads(&Ty::any()));
-}
-
 #[test]
 fn narrowing(rt: HostRuntime) -> Result<(), TextFault> {
     let alloc = rt.alloc();

@@ -14,6 +14,8 @@ mod elements;
 #[cfg(test)]
 mod table;
 #[cfg(test)]
+mod threads;
+#[cfg(test)]
 mod values;
 #[cfg(test)]
 mod worked;
