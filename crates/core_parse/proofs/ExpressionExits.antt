@@ -15,7 +15,7 @@ use Rattle.core_ast.specs.Model as m
 use Rattle.core_ast.specs.Tree.{trees}
 use Rattle.core_ast.specs.Notes.{note_tree}
 use Rattle.core_parse.specs.declared.fault.Fault.{Fault}
-use Rattle.core_parse.specs.declared.fault.Fault.TheVariants.{Syntax}
+use Rattle.core_parse.specs.declared.fault.Fault.TheVariants.{Syntax, TooDeep}
 use Rattle.core_parse.specs.Begins.{depth_limit}
 use Rattle.core_parse.specs.Build.{text, value, fun_name, at, nil, is_chain, with_note}
 use Rattle.core_parse.specs.Grammar.{a, the, noted_, annotation, expression, bare_expression, other_expression, list}
@@ -237,6 +237,20 @@ module _ (d n : ℕ) where
         on s.Fun p = tt
         on s.Text p = tt
         on _ p = absurd cc
+
+    -- a list without annotation brackets
+    module _ (h : q ≡ s.OpenSquare) where
+      no_bracket : q ≡ s.OpenRound → ⊥
+      no_bracket e = let z : s.OpenSquare ≡ s.OpenRound = sym h ∙ e in absurd cc
+
+      pub expression_list_deep : (x : Bool) → x ≡ too_deep q d → x ≡ true → d ≤ 401 → Refuses (expression d) ts (TooDeep place)
+      expression_list_deep x e i r = expression_bare_bad no_bracket (TooDeep place) (bare_expression_deep x e i r true (sym (ap starts_expression h)) refl)
+
+      pub expression_list_bad : (f : Fault) → Refuses (bare_expression d) ts f → Refuses (expression d) ts f
+      expression_list_bad f z = expression_bare_bad no_bracket f z
+
+      pub expression_list : (vs : List Token) (e : m.Tree) (p : ℕ) → ReadsBareExpression d n ts e vs p → ReadsExpression d n ts e vs p
+      expression_list vs e p z = expression_bare no_bracket vs e p z
 
     -- neither a string nor a list
     module _ (g : q ≡ s.Text → ⊥) (h : q ≡ s.OpenSquare → ⊥) where

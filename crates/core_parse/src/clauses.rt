@@ -66,21 +66,50 @@ pub fn clauses<'a>(
     ensures shorter { IfOk result (λ r. length r.rest.now < length tokens.now) }
     ensures err { IfErr result (λ e. Refuses (clauses_to close depth) tokens.now e) }
 {
-    let mut items = items;
-    let mut left = tokens;
-    let mut next_label = label;
+    let first = match next(tokens) {
+        Ok(found) => found,
+        Err(fault) => {
+            discard_clauses(items);
+            return Err(fault);
+        }
+    };
+    if same(first.sort, close) {
+        return Ok(ReadClauses {
+            items,
+            rest: first.rest,
+            label,
+        });
+    }
+    let ReadClause {
+        mark,
+        patterns,
+        guard,
+        body,
+        rest: mut left,
+        label: mut next_label,
+    } = match clause(alloc, tokens, depth, label) {
+        Ok(found) => found,
+        Err(fault) => {
+            discard_clauses(items);
+            return Err(fault);
+        }
+    };
+    let mut items = match with_clause(items, mark, patterns, guard, body) {
+        Ok(items) => items,
+        Err(Memory) => return Err(Fault::Memory),
+    };
     loop {
-        let first = match next(left) {
+        let token = match next(left) {
             Ok(found) => found,
             Err(fault) => {
                 discard_clauses(items);
                 return Err(fault);
             }
         };
-        if same(first.sort, close) {
+        if same(token.sort, close) {
             return Ok(ReadClauses {
                 items,
-                rest: first.rest,
+                rest: token.rest,
                 label: next_label,
             });
         }

@@ -100,6 +100,15 @@ pub fn expression<'a>(
         Ok(found) => found,
         Err(fault) => return Err(fault),
     };
+    if same(first.sort, Sort::OpenSquare) {
+        if is_too_deep(first.sort, depth) {
+            return Err(Fault::TooDeep(first.place));
+        }
+        return match list(alloc, tokens, first, depth, label) {
+            Ok(found) => Ok(found),
+            Err(fault) => Err(fault),
+        };
+    }
     if !same(first.sort, Sort::OpenRound) {
         return match bare_expression(alloc, tokens, depth, label) {
             Ok(found) => Ok(found),

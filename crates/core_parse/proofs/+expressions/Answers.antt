@@ -18,7 +18,7 @@ use Rattle.core_parse.proofs.FormExits.{try_0_bad, try_1_bad, try_2_bad, try_3_b
 use Rattle.core_parse.proofs.RunExits.{definitions_end, definitions_close, definitions_bad}
 use Rattle.core_parse.proofs.ExpressionListExits.{list_open_end, list_nil, list_unclosed, list_closes, list_done, list_first_bad, list_first_item, list_ran_out, list_stuck, list_shut, list_comma_bad, list_item, list_bar_end, list_text, list_inner_end, list_tail_nil, list_merge_bad, list_merge, list_round_bad, list_note_bad, list_noted, list_tail_bad, list_tailed, one_more, one_deeper, not_this_sort}
 use Rattle.core_parse.proofs.StringExits.{string_weight}
-use Rattle.core_parse.proofs.ExpressionExits.{expression_none, expression_bare, expression_bare_bad, expression_in_bad, expression_note_bad, expression_noted, bare_none, bare_expression_deep, bare_expression_dull, bare_other, bare_other_bad, variable_made, literal_made, other_none, other_else, other_variable, other_literal, other_nil_bad, other_nil}
+use Rattle.core_parse.proofs.ExpressionExits.{expression_none, expression_list, expression_list_bad, expression_list_deep, expression_bare, expression_bare_bad, expression_in_bad, expression_note_bad, expression_noted, bare_none, bare_expression_deep, bare_expression_dull, bare_other, bare_other_bad, variable_made, literal_made, other_none, other_else, other_variable, other_literal, other_nil_bad, other_nil}
 use Rattle.core_parse.specs.Labels.{number, number_pattern}
 use Rattle.core_parse.proofs.PairExits.{map_expression_bad, map_expression_new, map_expression_updated, map_pair_end, map_pair_bare_ok, map_pair_bare_bad, map_pair_open_end, map_pair_second_bad, map_pair_second_ok, map_pair_second_note_bad, map_pair_key_bad, map_pair_key_end, map_pair_noted_ok, map_pair_noted_value_bad, map_pair_key_note_bad, map_pair_value_bad, map_pair_ok, map_pair_note_bad, bare_map_pair_key_bad, bare_map_pair_value_bad, bare_map_pair_ok, key_value_end, key_value_other, key_value_bad, key_value, pair_valued, pair_carried, pair_parts_are}
 use Rattle.core_parse.proofs.MapPairExits.{map_pairs_begin, map_pairs_end, map_pairs_close, map_bar_refused, map_bar_done, map_pairs_no_comma, map_pairs_first, map_pairs_comma, one_is_some, updated_bad, updated_lacks, map_pairs_bad, map_pairs_more, pair_kept}
@@ -141,30 +141,43 @@ chains::step-returns-in-Err-take-2-clause-err t c = step_in_bad _ c.args.label c
 pub chains::step-returns-in-Ok-let_step-clause-ok : goal.chains::step-returns-in-Ok-let_step-clause-ok
 chains::step-returns-in-Ok-let_step-clause-ok t c = step_let _ _ _ _ _ (is_let _ c.requires.sort (λ z. iff_false c.same.ensures c.if-same.false z)) _ _ c.in-Ok-variables.ensures.ok _ c.in-Ok-take.ensures.ok _ _ _ c.in-Ok-expression.ensures.ok _ c.in-Ok-take-2.ensures.ok _ _ c.mark-mark.ensures c.in-Ok-let_step.ensures
 
-pub clauses::clauses-loop-found-init : goal.clauses::clauses-loop-found-init
-clauses::clauses-loop-found-init t c = record { so_far = clauses_start _ _ _ c.requires.closes _ _ _ refl; labels = omega arith; shorter = omega arith }
-
 pub clauses::clauses-returns-in-Err-clause-err : goal.clauses::clauses-returns-in-Err-clause-err
-clauses::clauses-returns-in-Err-clause-err t c = clauses_end _ _ _ c.requires.closes _ _ _ _ _ c.loop-found.invariant.so_far _ c.in-Err.ensures.err
+clauses::clauses-returns-in-Err-clause-err t c = clauses_end _ _ c.args.label c.requires.closes [] _ _ [] _ (clauses_start _ _ _ c.requires.closes [] _ [] refl) _ c.in-Err.ensures.err
 
 pub clauses::clauses-returns-then-same-clause-ok : goal.clauses::clauses-returns-then-same-clause-ok
-clauses::clauses-returns-then-same-clause-ok t c = clauses_close _ _ _ c.requires.closes _ _ _ _ _ c.loop-found.invariant.so_far _ _ _ _ c.in-Ok.ensures.ok (c.same.ensures.0 c.if-same.true)
+clauses::clauses-returns-then-same-clause-ok t c = clauses_close _ _ _ c.requires.closes c.args.items _ _ c.args.items _ (clauses_start _ _ _ c.requires.closes c.args.items _ c.args.items refl) _ _ _ _ c.in-Ok.ensures.ok (c.same.ensures.0 c.if-same.true)
 
-pub clauses::clauses-returns-then-same-clause-labels : goal.clauses::clauses-returns-then-same-clause-labels
-clauses::clauses-returns-then-same-clause-labels t c = omega (arith, c.loop-found.invariant.labels, c.in-Ok.ensures.lighter)
+pub clauses::clauses-returns-in-Err-clause-clause-err : goal.clauses::clauses-returns-in-Err-clause-clause-err
+clauses::clauses-returns-in-Err-clause-clause-err t c = clauses_bad _ _ c.args.label c.requires.closes [] _ _ [] _ (clauses_start _ _ _ c.requires.closes [] _ [] refl) _ _ _ _ c.in-Ok.ensures.ok (λ e. differs c.if-same.false (c.same.ensures.1 e)) _ c.in-Err-clause.ensures.err
 
-pub clauses::clauses-returns-then-same-clause-shorter : goal.clauses::clauses-returns-then-same-clause-shorter
-clauses::clauses-returns-then-same-clause-shorter t c = omega (arith, c.loop-found.invariant.shorter, c.in-Ok.ensures.shorter)
+pub clauses::clauses-loop-found-init : goal.clauses::clauses-loop-found-init
+clauses::clauses-loop-found-init t c = record {
+  so_far = clauses_next _ _ _ c.requires.closes c.args.items _ _ c.args.items _ (clauses_start _ _ _ c.requires.closes c.args.items _ c.args.items refl) _ _ _ _ c.in-Ok.ensures.ok (λ e. differs c.if-same.false (c.same.ensures.1 e)) _ _ _ _ c.in-Ok-with_clause.ensures.2 (clause_kept c.in-Ok-with_clause.ensures.1 c.in-Ok-clause.ensures.ok);
+  labels = c.in-Ok-clause.ensures.labels;
+  shorter = omega (arith, c.in-Ok-clause.ensures.shorter);
+}
+
+pub clauses::clauses-returns-in-Err-next-clause-err : goal.clauses::clauses-returns-in-Err-next-clause-err
+clauses::clauses-returns-in-Err-next-clause-err t c = clauses_end _ _ _ c.requires.closes _ _ _ _ _ c.loop-found.invariant.so_far _ c.in-Err-next.ensures.err
+
+pub clauses::clauses-returns-then-same-2-clause-ok : goal.clauses::clauses-returns-then-same-2-clause-ok
+clauses::clauses-returns-then-same-2-clause-ok t c = clauses_close _ _ _ c.requires.closes _ _ _ _ _ c.loop-found.invariant.so_far _ _ _ _ c.in-Ok-next.ensures.ok (c.same-in-loop-found.ensures.0 c.if-same-2.true)
+
+pub clauses::clauses-returns-then-same-2-clause-labels : goal.clauses::clauses-returns-then-same-2-clause-labels
+clauses::clauses-returns-then-same-2-clause-labels t c = omega (arith, c.loop-found.invariant.labels, c.in-Ok-next.ensures.lighter)
+
+pub clauses::clauses-returns-then-same-2-clause-shorter : goal.clauses::clauses-returns-then-same-2-clause-shorter
+clauses::clauses-returns-then-same-2-clause-shorter t c = omega (arith, c.loop-found.invariant.shorter, c.in-Ok-next.ensures.shorter)
 
 pub clauses::clauses-loop-found-preserved : goal.clauses::clauses-loop-found-preserved
 clauses::clauses-loop-found-preserved t c = record {
-  so_far = clauses_next _ _ _ c.requires.closes _ _ _ _ _ c.loop-found.invariant.so_far _ _ _ _ c.in-Ok.ensures.ok (λ e. differs c.if-same.false (c.same.ensures.1 e)) _ _ _ _ c.in-Ok-with_clause.ensures.2 (clause_kept c.in-Ok-with_clause.ensures.1 c.in-Ok-clause.ensures.ok);
-  labels = omega (arith, c.loop-found.invariant.labels, c.in-Ok-clause.ensures.labels);
-  shorter = omega (arith, c.loop-found.invariant.shorter, c.in-Ok-clause.ensures.shorter);
+  so_far = clauses_next _ _ _ c.requires.closes _ _ _ _ _ c.loop-found.invariant.so_far _ _ _ _ c.in-Ok-next.ensures.ok (λ e. differs c.if-same-2.false (c.same-in-loop-found.ensures.1 e)) _ _ _ _ c.in-Ok-with_clause-2.ensures.2 (clause_kept c.in-Ok-with_clause-2.ensures.1 c.in-Ok-clause-2.ensures.ok);
+  labels = omega (arith, c.loop-found.invariant.labels, c.in-Ok-clause-2.ensures.labels);
+  shorter = omega (arith, c.loop-found.invariant.shorter, c.in-Ok-clause-2.ensures.shorter);
 }
 
-pub clauses::clauses-returns-in-Err-clause-clause-err : goal.clauses::clauses-returns-in-Err-clause-clause-err
-clauses::clauses-returns-in-Err-clause-clause-err t c = clauses_bad _ _ _ c.requires.closes _ _ _ _ _ c.loop-found.invariant.so_far _ _ _ _ c.in-Ok.ensures.ok (λ e. differs c.if-same.false (c.same.ensures.1 e)) _ c.in-Err-clause.ensures.err
+pub clauses::clauses-returns-in-Err-clause-2-clause-err : goal.clauses::clauses-returns-in-Err-clause-2-clause-err
+clauses::clauses-returns-in-Err-clause-2-clause-err t c = clauses_bad _ _ _ c.requires.closes _ _ _ _ _ c.loop-found.invariant.so_far _ _ _ _ c.in-Ok-next.ensures.ok (λ e. differs c.if-same-2.false (c.same-in-loop-found.ensures.1 e)) _ c.in-Err-clause-2.ensures.err
 
 pub clauses::clause-returns-in-Err-expression-clause-err : goal.clauses::clause-returns-in-Err-expression-clause-err
 clauses::clause-returns-in-Err-expression-clause-err t c = guard_bad c.args.depth c.args.label _ _ _ _ _ _ c.in-Ok.ensures.ok _ c.in-Err-expression.ensures.err
@@ -585,20 +598,32 @@ expression_lists::elements-returns-in-Err-expression-2-clause-err t c = list_mer
 pub expressions::expression-returns-in-Err-clause-err : goal.expressions::expression-returns-in-Err-clause-err
 expressions::expression-returns-in-Err-clause-err t c = expression_none _ 0 _ _ c.in-Err.ensures.err
 
+pub expressions::expression-returns-then-is_too_deep-clause-err : goal.expressions::expression-returns-then-is_too_deep-clause-err
+expressions::expression-returns-then-is_too_deep-clause-err t c = expression_list_deep _ 0 _ _ _ _ _ c.in-Ok.ensures.ok (c.same.ensures.0 c.if-same.true) _ c.is_too_deep.ensures c.if-is_too_deep.true c.requires.shallow
+
+pub expressions::expression-returns-in-Ok-list-clause-ok : goal.expressions::expression-returns-in-Ok-list-clause-ok
+expressions::expression-returns-in-Ok-list-clause-ok t c = expression_list _ _ _ _ _ _ _ c.in-Ok.ensures.ok (c.same.ensures.0 c.if-same.true) _ _ _ c.in-Ok-list.ensures.ok
+
+pub expressions::expression-returns-in-Ok-list-clause-shallow : goal.expressions::expression-returns-in-Ok-list-clause-shallow
+expressions::expression-returns-in-Ok-list-clause-shallow t c = within_limit _ _ (sym c.is_too_deep.ensures ∙ c.if-is_too_deep.false)
+
+pub expressions::expression-returns-in-Err-list-clause-err : goal.expressions::expression-returns-in-Err-list-clause-err
+expressions::expression-returns-in-Err-list-clause-err t c = expression_list_bad _ 0 _ _ _ _ _ c.in-Ok.ensures.ok (c.same.ensures.0 c.if-same.true) _ c.in-Err-list.ensures.err
+
 pub expressions::expression-returns-in-Ok-bare_expression-clause-ok : goal.expressions::expression-returns-in-Ok-bare_expression-clause-ok
-expressions::expression-returns-in-Ok-bare_expression-clause-ok t c = expression_bare _ _ _ _ _ _ _ c.in-Ok.ensures.ok (iff_false c.same.ensures c.if-not-same.true) _ _ _ c.in-Ok-bare_expression.ensures.ok
+expressions::expression-returns-in-Ok-bare_expression-clause-ok t c = expression_bare _ _ _ _ _ _ _ c.in-Ok.ensures.ok (iff_false c.same-2.ensures c.if-not-same.true) _ _ _ c.in-Ok-bare_expression.ensures.ok
 
 pub expressions::expression-returns-in-Err-bare_expression-clause-err : goal.expressions::expression-returns-in-Err-bare_expression-clause-err
-expressions::expression-returns-in-Err-bare_expression-clause-err t c = expression_bare_bad _ 0 _ _ _ _ _ c.in-Ok.ensures.ok (iff_false c.same.ensures c.if-not-same.true) _ c.in-Err-bare_expression.ensures.err
+expressions::expression-returns-in-Err-bare_expression-clause-err t c = expression_bare_bad _ 0 _ _ _ _ _ c.in-Ok.ensures.ok (iff_false c.same-2.ensures c.if-not-same.true) _ c.in-Err-bare_expression.ensures.err
 
 pub expressions::expression-returns-in-Err-bare_expression-2-clause-err : goal.expressions::expression-returns-in-Err-bare_expression-2-clause-err
-expressions::expression-returns-in-Err-bare_expression-2-clause-err t c = expression_in_bad _ 0 _ _ _ _ _ c.in-Ok.ensures.ok (c.same.ensures.0 c.if-not-same.false) _ c.in-Err-bare_expression-2.ensures.err
+expressions::expression-returns-in-Err-bare_expression-2-clause-err t c = expression_in_bad _ 0 _ _ _ _ _ c.in-Ok.ensures.ok (c.same-2.ensures.0 c.if-not-same.false) _ c.in-Err-bare_expression-2.ensures.err
 
 pub expressions::expression-returns-in-Ok-annotated-clause-ok : goal.expressions::expression-returns-in-Ok-annotated-clause-ok
-expressions::expression-returns-in-Ok-annotated-clause-ok t c = expression_noted _ _ _ _ _ _ _ c.in-Ok.ensures.ok (c.same.ensures.0 c.if-not-same.false) _ _ _ c.in-Ok-bare_expression-2.ensures.ok _ _ _ c.in-Ok-annotated.ensures.ok.2 c.in-Ok-annotated.ensures.ok.1
+expressions::expression-returns-in-Ok-annotated-clause-ok t c = expression_noted _ _ _ _ _ _ _ c.in-Ok.ensures.ok (c.same-2.ensures.0 c.if-not-same.false) _ _ _ c.in-Ok-bare_expression-2.ensures.ok _ _ _ c.in-Ok-annotated.ensures.ok.2 c.in-Ok-annotated.ensures.ok.1
 
 pub expressions::expression-returns-in-Err-annotated-clause-err : goal.expressions::expression-returns-in-Err-annotated-clause-err
-expressions::expression-returns-in-Err-annotated-clause-err t c = expression_note_bad _ _ _ _ _ _ _ c.in-Ok.ensures.ok (c.same.ensures.0 c.if-not-same.false) _ _ _ c.in-Ok-bare_expression-2.ensures.ok _ c.in-Err-annotated.ensures.err
+expressions::expression-returns-in-Err-annotated-clause-err t c = expression_note_bad _ _ _ _ _ _ _ c.in-Ok.ensures.ok (c.same-2.ensures.0 c.if-not-same.false) _ _ _ c.in-Ok-bare_expression-2.ensures.ok _ c.in-Err-annotated.ensures.err
 
 pub expressions::bare_expression-returns-in-Err-clause-err : goal.expressions::bare_expression-returns-in-Err-clause-err
 expressions::bare_expression-returns-in-Err-clause-err t c = bare_none _ 0 _ _ c.in-Err.ensures.err
@@ -1337,8 +1362,8 @@ patterns::patterns-returns-in-Err-pattern-2-clause-err t c = items_worse _ _ (cl
 pub chains::steps-step-requires-in-Some : goal.chains::steps-step-requires-in-Some
 chains::steps-step-requires-in-Some t c = (search rules, (search rules, (search rules, begins_sort _ _ _ _ _ _ c.in-Some.ensures.found)))
 
-pub clauses::clauses-clause-requires : goal.clauses::clauses-clause-requires
-clauses::clauses-clause-requires t c = (search rules, (search rules, omega (arith, c.requires.labels, c.loop-found.invariant.labels)))
+pub clauses::clauses-clause-requires-in-loop-found : goal.clauses::clauses-clause-requires-in-loop-found
+clauses::clauses-clause-requires-in-loop-found t c = (search rules, (search rules, omega (arith, c.requires.labels, c.loop-found.invariant.labels)))
 
 pub clauses::clause-expression-requires : goal.clauses::clause-expression-requires
 clauses::clause-expression-requires t c = (search rules, (search rules, omega (arith, c.requires.labels, c.in-Ok.ensures.labels)))
@@ -1402,3 +1427,6 @@ patterns::other_pattern-map_pattern-requires t c = (search rules, (search rules,
 
 pub patterns::patterns-pattern-requires-in-loop-found : goal.patterns::patterns-pattern-requires-in-loop-found
 patterns::patterns-pattern-requires-in-loop-found t c = (search rules, (search rules, omega (arith, c.requires.labels, c.loop-found.invariant.labels, c.in-Ok-next.ensures.lighter)))
+
+pub expressions::expression-list-requires : goal.expressions::expression-list-requires
+expressions::expression-list-requires t c = (search rules, (within_limit _ _ (sym c.is_too_deep.ensures ∙ c.if-is_too_deep.false), (search rules, (search rules, (search rules, (omega (arith, c.in-Ok.ensures.lighter, two_at_least c.in-Ok.found.token.now.kind), c.same.ensures.0 c.if-same.true))))))
