@@ -79,7 +79,8 @@ pub fn is_literal(sort: Sort) -> bool
     }
 }
 
-/// The expression that comes first, with or without annotation brackets.
+/// The expression that comes first, with or without annotation brackets. A list without them is read from
+/// here, and not from `bare_expression`, so that the frame of a list's reader is in the way of lists alone.
 #[cycle(expressions)]
 #[inline(never)]
 pub fn expression<'a>(
