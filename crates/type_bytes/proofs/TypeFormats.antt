@@ -183,13 +183,13 @@ module _ {E : Type 0} (Normal : E → Type 0) (o : Ops E) (short : E → Bool) (
       let most = k.0.0 in
       let body = to_body s.0 s.1 k.0.1 in
       let later = to_sizes m k.1 in
-      ((lt-ltb s.0 65 (omega arith), body.0, later.0), both_true (is_short_size short s) (list_all (is_short_size short) m) body.1 later.1)
+      (((lt-ltb s.0 65 (omega arith), body.0), later.0), both_true (is_short_size short s) (list_all (is_short_size short) m) body.1 later.1)
 
   from_sizes : (m : List (ℕ × Body E)) → NormalSizes Normal o m → IsTrue (list_all (is_short_size short) m) → Each (GoodSize o Good spelled element t) m
   from_sizes [] k h = tt
   from_sizes (s ∷ m) k h =
-      let most = ltb-true s.0 65 k.0 in
-      ((omega arith, from_body s.0 s.1 k.1 (first_true (is_short_size short s) (list_all (is_short_size short) m) h)), from_sizes m k.2 (second_true (is_short_size short s) (list_all (is_short_size short) m) h))
+      let most = ltb-true s.0 65 k.0.0 in
+      ((omega arith, from_body s.0 s.1 k.0.1 (first_true (is_short_size short s) (list_all (is_short_size short) m) h)), from_sizes m k.1 (second_true (is_short_size short s) (list_all (is_short_size short) m) h))
 
   to_tuples : (u : Tuples E) → GoodTuples o Good spelled element t u → NormalTuples Normal o u × IsTrue (are_short_tuples short u)
   to_tuples (sizes m) k = let all = to_sizes m k.1.1 in let most = k.1.0 in ((k.0, lt-ltb (length m) 9 (omega arith), all.0), all.1)

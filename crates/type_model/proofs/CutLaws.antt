@@ -164,7 +164,7 @@ module _ {F E : Type 0} {HasF : Value → F → Type 0} {NormalF : F → Type 0}
 
   sizes_normal : (m : List (ℕ × Body F)) → NormalSizes NormalF f m → NormalSizes NormalE e (mapped (body_lower lower f e) m)
   sizes_normal [] k = tt
-  sizes_normal (x ∷ m) k = (k.0, body_normal x.0 x.1 k.1, sizes_normal m k.2)
+  sizes_normal (x ∷ m) k = ((k.0.0, body_normal x.0 x.1 k.0.1), sizes_normal m k.1)
 
   tuples_normal : (t : Tuples F) → NormalTuples NormalF f t → NormalTuples NormalE e (tuples_lower lower f e t)
   tuples_normal all_tuples k = tt

@@ -201,8 +201,8 @@ module _ (d : ℕ) where
   entry_normal : (s : Numbers) (m : List (ℕ × Body (TypeAt d))) → NormalSizes (NormalAt d) (ops d) m → EachEntry (λ n b. EachOf UpNormal (at_places s 1 (elements (ops d) b))) m
   entry_normal s [] k = tt
   entry_normal s (b ∷ m) k = (
-    places_each s UpNormal 1 (elements (ops d) b.1) (λ i e q h. (cut_lowering d (suc d)).normal e (element_there (level_laws d) (elements (ops d) b.1) (elements_normal (level_laws d) b.0 b.1 k.1).1 i e q).0),
-    entry_normal s m k.2,
+    places_each s UpNormal 1 (elements (ops d) b.1) (λ i e q h. (cut_lowering d (suc d)).normal e (element_there (level_laws d) (elements (ops d) b.1) (elements_normal (level_laws d) b.0 b.1 k.0.1).1 i e q).0),
+    entry_normal s m k.1,
   )
 
   sizes_normal : (s : Numbers) (m : List (ℕ × Body (TypeAt d))) → NormalSizes (NormalAt d) (ops d) m → EachOf UpNormal (sizes_at (ops d) s m)

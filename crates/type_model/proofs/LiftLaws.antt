@@ -12,9 +12,10 @@ use Rattle.type_model.specs.Values.{Value}
 use Rattle.type_model.specs.Tables.{EachEntry, keys, held, mapped, put, united}
 use Rattle.type_model.specs.Shapes.{Cell, Body, product, tags, Tuples, sizes, all_tuples, Parts, TypeAt}
 use Rattle.type_model.specs.Operations.{Ops, row_join, rows_join, all_rows_join, elements, tags_join, capped_tags, body_join, capped_sizes, tuples_join, cell_join, parts_join, plain_join, ops}
-use Rattle.type_model.specs.Normal.{AreElements, NormalRow, NormalRows, NormalBody, NormalSizes, NormalTuples, NormalCell, NormalParts, NormalAt}
+use Rattle.type_model.specs.Normal.{AreElements, NormalRow, NormalRows, NormalBody, NormalSize, NormalSizes, NormalTuples, NormalCell, NormalParts, NormalAt}
 use Rattle.type_model.specs.Cut.{cell_lower, body_lower, tuples_lower, parts_lower, cut}
 use Rattle.type_model.specs.Laws.{Laws}
+use Rattle.type_model.proofs.TableLaws as tables
 use Rattle.type_model.proofs.TableLaws.{keys-mapped, length-mapped}
 use Rattle.type_model.proofs.RowLaws.{row_lattice}
 use Rattle.type_model.proofs.BodyLaws.{elements_normal, body_lattice}
@@ -33,23 +34,10 @@ module _ {K X Y : Type 0} {R : K → K → Ordering} (same : IsAntisymmetric R) 
         | Greater ↦ λ s. ap (λ w. (e.0, g e.1) ∷ w) (mapped-put a x m p q.1)
       ] refl
 
-  each-put : (a : K) (x : X) (m : List (K × X)) → P a x → EachEntry P m → EachEntry P (put R j a x m)
-  each-put a x [] p q = (p, tt)
-  each-put a x (e ∷ m) p q =
-      elim (R a e.0) as (λ r. R a e.0 ≡ r → EachEntry P (cond (is_lt r) ((a, x) ∷ e ∷ m) (cond (is_eq r) ((e.0, j e.1 x) ∷ m) (e ∷ put R j a x m)))) [
-        | Less ↦ λ s. (p, q)
-        | Equal ↦ λ s. (keeps e.0 e.1 x q.0 (subst (λ z. P z x) (same a e.0 s) p), q.1)
-        | Greater ↦ λ s. (q.0, each-put a x m p q.1)
-      ] refl
-
   mapped-united : (m w : List (K × X)) → EachEntry P m → EachEntry P w → mapped g (united R j m w) ≡ united R k (mapped g m) (mapped g w)
   mapped-united m [] p q = refl
   mapped-united m (e ∷ w) p q =
-      mapped-united (put R j e.0 e.1 m) w (each-put e.0 e.1 m q.0 p) q.1 ∙ ap (λ z. united R k z (mapped g w)) (mapped-put e.0 e.1 m q.0 p)
-
-  each-united : (m w : List (K × X)) → EachEntry P m → EachEntry P w → EachEntry P (united R j m w)
-  each-united m [] p q = p
-  each-united m (e ∷ w) p q = each-united (put R j e.0 e.1 m) w (each-put e.0 e.1 m q.0 p) q.1
+      mapped-united (put R j e.0 e.1 m) w (tables.each-put same j P keeps e.0 e.1 m q.0 p) q.1 ∙ ap (λ z. united R k z (mapped g w)) (mapped-put e.0 e.1 m q.0 p)
 
 -- ---- from the types of one level to those of another, and so one level up
 
@@ -94,7 +82,7 @@ module _ {F E : Type 0} {HasF : Value → F → Type 0} {NormalF : F → Type 0}
   tags_joins n m w j k = mapped-united name_same (map lower) (row_join f) (row_join e) (λ a es. NormalRow NormalF f n (Some es)) (row_keeps n) (λ a es fs p q. row_joins es fs p.1 q.1) m w j k
 
   joined_rows : (n : ℕ) (m w : List (Name × List F)) → NormalRows NormalF f n m → NormalRows NormalF f n w → NormalRows NormalF f n (tags_join f m w)
-  joined_rows n m w j k = each-united name_same (map lower) (row_join f) (row_join e) (λ a es. NormalRow NormalF f n (Some es)) (row_keeps n) (λ a es fs p q. row_joins es fs p.1 q.1) m w j k
+  joined_rows n m w j k = tables.each-united name_same (row_join f) (λ a es. NormalRow NormalF f n (Some es)) (row_keeps n) m w j k
 
   capped_stay : (n : ℕ) (m : List (Name × List F)) (b : Bool) → f.has_tags ≡ true → NormalRows NormalF f n m → body_lower lower f e (cond b (tags m) (product (elements f (tags m)))) ≡ cond b (tags (kept m)) (product (elements e (tags (kept m))))
   capped_stay n m true a k = tags_kept m a
@@ -124,18 +112,14 @@ module _ {F E : Type 0} {HasF : Value → F → Type 0} {NormalF : F → Type 0}
       ∙ (λ i. body_join e (sym (tags_kept m j.2) i) (sym (tags_kept w k.2) i))
 
   -- ---- tuples
-  sizes_each : (m : List (ℕ × Body F)) → NormalSizes NormalF f m → EachEntry (λ n b. NormalBody NormalF f n (Some b)) m
-  sizes_each [] k = tt
-  sizes_each (x ∷ m) k = (k.1, sizes_each m k.2)
-
-  body_keeps : (n : ℕ) (b c : Body F) → NormalBody NormalF f n (Some b) → NormalBody NormalF f n (Some c) → NormalBody NormalF f n (Some (body_join f b c))
-  body_keeps n b c j k = (body_lattice high n).join_normal (Some b) (Some c) j k
+  size_keeps : (n : ℕ) (b c : Body F) → NormalSize NormalF f n b → NormalSize NormalF f n c → NormalSize NormalF f n (body_join f b c)
+  size_keeps n b c j k = (j.0, (body_lattice high n).join_normal (Some b) (Some c) j.1 k.1)
 
   abbrev low_sizes : List (ℕ × Body F) → List (ℕ × Body E)
   low_sizes m = mapped (body_lower lower f e) m
 
   sizes_joins : (m w : List (ℕ × Body F)) → NormalSizes NormalF f m → NormalSizes NormalF f w → low_sizes (united nat_cmp (body_join f) m w) ≡ united nat_cmp (body_join e) (low_sizes m) (low_sizes w)
-  sizes_joins m w j k = mapped-united nat_cmp-IsAntisymmetric (body_lower lower f e) (body_join f) (body_join e) (λ n b. NormalBody NormalF f n (Some b)) body_keeps body_joins m w (sizes_each m j) (sizes_each w k)
+  sizes_joins m w j k = mapped-united nat_cmp-IsAntisymmetric (body_lower lower f e) (body_join f) (body_join e) (NormalSize NormalF f) size_keeps (λ n b c p q. body_joins n b c p.1 q.1) m w j k
 
   sizes_capped : (m : List (ℕ × Body F)) → tuples_lower lower f e (capped_sizes f m) ≡ capped_sizes e (low_sizes m)
   sizes_capped m =

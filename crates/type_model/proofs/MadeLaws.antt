@@ -8,14 +8,14 @@ use Rattle.type_sets.specs.Names as names
 use Rattle.type_sets.specs.Numbers as numbers
 use Rattle.type_sets.specs.declared.bits.Bits.TheVariants.{No}
 use Rattle.type_sets.proofs.NameLaws as name_laws
-use Rattle.type_sets.proofs.AscendingLaws.{is_it, itself}
+use Rattle.type_sets.proofs.AscendingLaws.{itself}
 use Rattle.type_sets.proofs.Truths.{both, first, second}
 use Rattle.type_model.specs.Values.{Value, atom, nil, cons, tuple, Values, no_value, and_value, count, heads, end_of}
 use Rattle.type_model.specs.Tables.{find}
 use Rattle.type_model.specs.Shapes.{nils, no_function, PlainParts, Cell, Body, Tuples, sizes, all_tuples, Parts, TypeAt}
 use Rattle.type_model.specs.HasType.{HasAll, HasEach, HasCell, HasBody, HasTuple, HasParts, HasAt}
 use Rattle.type_model.specs.Operations.{Ops, plain_none, plain_all, is_no_plain, is_atoms, is_empty, has_none, body_of, elements, no_tuples, of_plain, ops}
-use Rattle.type_model.specs.Normal.{IsElement, NormalCell, AreElements, NormalBody, NormalSizes, NormalTuples, NormalParts, NormalAt}
+use Rattle.type_model.specs.Normal.{IsElement, NormalCell, AreElements, NormalBody, NormalTuples, NormalParts, NormalAt}
 use Rattle.type_model.specs.Cut.{cut}
 use Rattle.type_model.specs.Parts.{value_at, AreNormal, product_of, proper_cell, without_nil, is_list, element_with, element_at, flags_of_nil, tail_parts, tuple_at, cons_at, lifted, project_at, element_of, elem_at, tail_at}
 use Rattle.type_model.specs.Laws.{BelowBy, Laws}
@@ -24,7 +24,7 @@ use Rattle.type_model.proofs.PlainLaws.{plain-none_is, plain-none_empty, is_atom
 use Rattle.type_model.proofs.CellLaws.{no_nil, value_of, filled-not_none, all-more, element-join}
 use Rattle.type_model.proofs.RowLaws.{neither, values_of, count_each, row_filled-not_none}
 use Rattle.type_model.proofs.BodyLaws.{body_of_in, body_of_out, body_of_normal, elements_normal, elements_above}
-use Rattle.type_model.proofs.TupleLaws.{normal_at, tuples_lattice}
+use Rattle.type_model.proofs.TupleLaws.{normal_at, small_at, some_at, tuples_lattice}
 use Rattle.type_model.proofs.PartsLaws.{next_laws}
 use Rattle.type_model.proofs.LevelLaws.{level_laws}
 use Rattle.type_model.proofs.CutLaws.{is_true, cut_lowering}
@@ -44,7 +44,7 @@ module _ {E : Type 0} {Has : Value → E → Type 0} {Normal : E → Type 0} {o 
   row_parts b es = record { plain = plain_none; cell = None; tuples = row_tuples b es }
 
   row_tuples_normal : (b : Bool) (es : List E) → nat_lt (length es) 65 ≡ b → AreElements Normal o es → NormalTuples Normal o (row_tuples b es)
-  row_tuples_normal true es q k = (refl, refl, (q, body_of_normal l (length es) es (refl, k), tt))
+  row_tuples_normal true es q k = (refl, refl, ((q, body_of_normal l (length es) es (refl, k)), tt))
   row_tuples_normal false es q k = tt
 
   pub product_normal : (es : List E) → AreNormal Normal es → NormalParts Normal o (product_of o es)
@@ -82,18 +82,10 @@ module _ {E : Type 0} {Has : Value → E → Type 0} {Normal : E → Type 0} {o 
         (refl, (t.0, (t.1.0, λ q. row_tuples_out (nat_lt (length es) 65) es t.0 q t.1.1)))
   ] h
 
-  -- the sizes of a normal type are at most 64
-  size_few : (m : List (ℕ × Body E)) → NormalSizes Normal o m → (n : ℕ) (vs : Values) → HasBody Has vs (find nat_cmp m n) → nat_lt n 65 ≡ true
-  size_few [] k n vs h = absurd h
-  size_few (x ∷ m) k n vs h = elim (eq_by_cmp nat_cmp n x.0) as (λ b. eq_by_cmp nat_cmp n x.0 ≡ b → HasBody Has vs (cond b (Some x.1) (find nat_cmp m n)) → nat_lt n 65 ≡ true) [
-    | true ↦ λ q _. ap (λ i. nat_lt i 65) (is_it nat_cmp_total nat_cmp-IsAntisymmetric n x.0 q) ∙ k.0
-    | false ↦ λ q y. size_few m k.2 n vs y
-  ] refl h
-
   -- a normal type that has a longer tuple has all tuples
   long_tuples : (t : Tuples E) → NormalTuples Normal o t → (ws : Values) → HasTuple Has ws t → nat_lt (count ws) 65 ≡ false → (vs : Values) → HasTuple Has vs t
   long_tuples all_tuples k ws h q vs = tt
-  long_tuples (sizes m) k ws h q vs = absurd (true≢false (sym (size_few m k.2 (count ws) ws h) ∙ q))
+  long_tuples (sizes m) k ws h q vs = absurd (true≢false (sym (small_at l m k.2 (count ws) (some_at l (find nat_cmp m (count ws)) ws h)) ∙ q))
 
 -- the tuples of some types: their type is the least of its level; where one of them is none, it is none
 pub tuple-normal : (d : ℕ) (es : List (TypeAt d)) → AreNormal (NormalAt d) es → NormalAt d (tuple_at d es)
@@ -326,7 +318,7 @@ module _ {E : Type 0} {Has : Value → E → Type 0} {Normal : E → Type 0} {o 
   tuple_place all_tuples k vs h i v q = (o.any, (refl, (l.any_normal, l.any_in v)))
   tuple_place (sizes m) k vs h i v q =
       let n = count vs in
-      let few : nat_lt n 65 ≡ true = size_few l m k.2 n vs h in
+      let few : nat_lt n 65 ≡ true = small_at l m k.2 n (some_at l (find nat_cmp m n) vs h) in
       let w = body_place n (find nat_cmp m n) (normal_at l m k.2 n) vs h i v q in
       (w.0, (ap (λ b. cond b (at_place (find nat_cmp m n) i) (cond (is_empty m) None (Some o.any))) few ∙ w.1.0, w.1.1))
 

@@ -3,8 +3,9 @@ use Rattle.std.specs.Prelude.{◌≡◌, ℕ, zero, suc, Bool, List, [], ◌∷�
 use Rattle.std.specs.Coded.{Coded-set, coded_bool, coded_ℕ, coded_option, coded_list, Unit-prop}
 use Rattle.type_sets.specs.Names.{Name}
 use Rattle.type_model.specs.Shapes.{Functions, no_function, of_arity, all_functions, Cell, Body, product, tags, Tuples, sizes, all_tuples, Parts, TypeAt}
+use Rattle.type_model.specs.Tables.{EachOf}
 use Rattle.type_model.specs.Operations.{Ops, ops}
-use Rattle.type_model.specs.Normal.{NormalFunctions, IsElement, NormalCell, AreElements, NormalRow, FirstIsOpen, NormalRows, NormalTags, NormalBody, NormalSizes, NormalTuples, NormalParts, NormalAt}
+use Rattle.type_model.specs.Normal.{NormalFunctions, IsElement, NormalCell, NormalRow, FirstIsOpen, NormalRows, NormalTags, NormalBody, NormalSize, NormalSizes, NormalTuples, NormalParts, NormalAt}
 
 test_once : (a b : Bool) → IsProp (a ≡ b)
 test_once a b = Coded-set coded_bool a b
@@ -14,6 +15,10 @@ two p q = λ x y i. (p x.0 y.0 i, q x.1 y.1 i)
 
 three : {A B C : Type 0} → IsProp A → IsProp B → IsProp C → IsProp (A × B × C)
 three p q r = λ x y i. (p x.0 y.0 i, q x.1 y.1 i, r x.2 y.2 i)
+
+each_once : {A : Type 0} (Q : A → Type 0) → ((x : A) → IsProp (Q x)) → (xs : List A) → IsProp (EachOf Q xs)
+each_once Q f [] = Unit-prop
+each_once Q f (x ∷ xs) = two (f x) (each_once Q f xs)
 
 functions_once : (f : Functions) → IsProp (NormalFunctions f)
 functions_once no_function = Unit-prop
@@ -28,21 +33,16 @@ module _ {E : Type 0} (Normal : E → Type 0) (o : Ops E) (once : (e : E) → Is
   cell_once None = Unit-prop
   cell_once (Some c) = element_once c.element
 
-  elements_once : (es : List E) → IsProp (AreElements Normal o es)
-  elements_once [] = Unit-prop
-  elements_once (e ∷ es) = two (element_once e) (elements_once es)
-
   row_once : (n : ℕ) (r : Option (List E)) → IsProp (NormalRow Normal o n r)
   row_once n None = Unit-prop
-  row_once n (Some es) = two (Coded-set coded_ℕ _ _) (elements_once es)
+  row_once n (Some es) = two (Coded-set coded_ℕ _ _) (each_once (IsElement Normal o) element_once es)
 
   first_once : (es : List E) → IsProp (FirstIsOpen Normal o es)
   first_once [] = Unit-prop
   first_once (e ∷ es) = Coded-set (coded_option (coded_list (coded_list coded_ℕ))) (o.only e) None
 
   rows_once : (n : ℕ) (m : List (Name × List E)) → IsProp (NormalRows Normal o n m)
-  rows_once n [] = Unit-prop
-  rows_once n (e ∷ m) = two (row_once n (Some e.1)) (rows_once n m)
+  rows_once n m = each_once (λ e. NormalRow Normal o n (Some e.1)) (λ e. row_once n (Some e.1)) m
 
   tags_once : (n : ℕ) (m : List (Name × List E)) → IsProp (NormalTags Normal o n m)
   tags_once zero m = λ x y. absurd x
@@ -54,8 +54,7 @@ module _ {E : Type 0} (Normal : E → Type 0) (o : Ops E) (once : (e : E) → Is
   body_once n (Some (tags m)) = tags_once n m
 
   sizes_once : (m : List (ℕ × Body E)) → IsProp (NormalSizes Normal o m)
-  sizes_once [] = Unit-prop
-  sizes_once (e ∷ m) = three (test_once _ _) (body_once e.0 (Some e.1)) (sizes_once m)
+  sizes_once m = each_once (λ e. NormalSize Normal o e.0 e.1) (λ e. two (test_once _ _) (body_once e.0 (Some e.1))) m
 
   tuples_once : (t : Tuples E) → IsProp (NormalTuples Normal o t)
   tuples_once (sizes m) = three (test_once _ _) (test_once _ _) (sizes_once m)

@@ -332,7 +332,7 @@ module _ {E : Type 0} {Has : Value → E → Type 0} {Normal : E → Type 0} {o 
 
   bodies-most : (m : List (ℕ × Body E)) → NormalSizes Normal o m → EachEntry (λ n b. of_body b ≤ highest) m
   bodies-most [] k = tt
-  bodies-most (e ∷ m) k = (body-most e.0 e.1 (let h = ltb-true e.0 65 k.0 in omega (arith, h)) k.1, bodies-most m k.2)
+  bodies-most (e ∷ m) k = (body-most e.0 e.1 (let h = ltb-true e.0 65 k.0.0 in omega (arith, h)) k.0.1, bodies-most m k.1)
 
   -- no more than eight sizes
   sizes-most : (m : List (ℕ × Body E)) → NormalTuples Normal o (sizes m) → tuples_rank rank_of most (sizes m) ≤ 8 * (1 + highest)

@@ -1,5 +1,5 @@
 -- The laws of tables: what is found at a key.
-use Rattle.std.specs.Prelude.{ℕ, suc, Bool, true, false, cond, ◌||◌, List, [], ◌∷◌, length, Option, Some, None, is_some, option_map}
+use Rattle.std.specs.Prelude.{ℕ, zero, suc, Bool, true, false, cond, ◌||◌, List, [], ◌∷◌, length, take, Option, Some, None, is_some, option_map}
 use Rattle.std.proofs.Common.{◌≡◌, ◌≤◌, refl, sym, ap, ◌∙◌, subst, arith, inl, inr, true≢false, Less, Equal, Greater}
 use Rattle.std.specs.declared.cmp.Ordering.{Ordering}
 use Rattle.std.specs.Ordering.{is_lt, is_eq, eq_by_cmp, ordering_reverse}
@@ -8,7 +8,7 @@ use Rattle.std.specs.FinSet.{IsAntisymmetric}
 use Rattle.type_sets.specs.Ascending.{is_below_all, is_ascending, has_item, placed, merged}
 use Rattle.type_sets.proofs.Truths.{both, first, second, decided, is_false}
 use Rattle.type_sets.proofs.AscendingLaws as ascending
-use Rattle.type_model.specs.Tables.{keys, held, mapped, all_hold, and_entry, chosen, EachEntry, joined, both_at, is_table, find, put, united}
+use Rattle.type_model.specs.Tables.{keys, held, mapped, all_hold, and_entry, chosen, EachOf, EachEntry, joined, both_at, is_table, find, put, united}
 use Rattle.type_model.specs.Operations.{met_with, is_empty}
 
 -- ---- what two tables hold at one key
@@ -310,3 +310,24 @@ module _ {K : Type 0} {R : K → K → Ordering} (t : IsTotalOrder R) (same : Is
       | inr s ↦ find-later e m q s ∙ h
     ])),
   )
+
+-- of the first of a list
+pub each-take : {A : Type 0} (Q : A → Type 0) (xs : List A) (i : ℕ) → EachOf Q xs → EachOf Q (take i xs)
+each-take Q xs zero k = tt
+each-take Q [] (suc i) k = tt
+each-take Q (x ∷ xs) (suc i) k = (k.0, each-take Q xs i k.1)
+
+-- and of each entry of a united table, if it holds of what two entries of one key become
+module _ {K X : Type 0} {R : K → K → Ordering} (same : IsAntisymmetric R) (j : X → X → X) (P : K → X → Type 0) (keeps : (a : K) (x y : X) → P a x → P a y → P a (j x y)) where
+  pub each-put : (a : K) (x : X) (m : List (K × X)) → P a x → EachEntry P m → EachEntry P (put R j a x m)
+  each-put a x [] p q = (p, tt)
+  each-put a x (e ∷ m) p q =
+      elim (R a e.0) as (λ r. R a e.0 ≡ r → EachEntry P (cond (is_lt r) ((a, x) ∷ e ∷ m) (cond (is_eq r) ((e.0, j e.1 x) ∷ m) (e ∷ put R j a x m)))) [
+        | Less ↦ λ s. (p, q)
+        | Equal ↦ λ s. (keeps e.0 e.1 x q.0 (subst (λ z. P z x) (same a e.0 s) p), q.1)
+        | Greater ↦ λ s. (q.0, each-put a x m p q.1)
+      ] refl
+
+  pub each-united : (m w : List (K × X)) → EachEntry P m → EachEntry P w → EachEntry P (united R j m w)
+  each-united m [] p q = p
+  each-united m (e ∷ w) p q = each-united (put R j e.0 e.1 m) w (each-put e.0 e.1 m q.0 p) q.1

@@ -2,17 +2,18 @@
 use Rattle.std.proofs.Common.{◌≡◌, ◌≤◌, ◌⊎◌, inl, inr, ℕ, zero, suc, true, false, List, [], ◌∷◌, Option, Some, None, length, refl, sym, ap, ◌∙◌, subst, arith, true≢false}
 use borrow.Author.Tests.{ltb-true, ltb-false, lt-ltb}
 use Rattle.std.specs.Prelude.{nat_lt, cond, is_some}
-use Rattle.std.specs.Ordering.{nat_cmp, is_lt, eq_by_cmp}
+use Rattle.std.specs.Ordering.{nat_cmp}
 use Rattle.std.specs.Cmp.{IsTotalOrder, nat_cmp_total}
 use Rattle.std.specs.FinSet.{IsAntisymmetric, nat_cmp-IsAntisymmetric}
 use Rattle.type_sets.proofs.AscendingLaws as ascending
 use Rattle.type_model.specs.Values.{Value, nil, Values, no_value, and_value, count}
-use Rattle.type_model.specs.Tables.{is_table, find, and_entry, joined, both_at, put, united}
+use Rattle.type_model.specs.Tables.{is_table, find, and_entry, joined, both_at, united}
 use Rattle.type_model.specs.Shapes.{Body, Tuples, sizes, all_tuples}
 use Rattle.type_model.specs.HasType.{HasBody, HasTuple}
 use Rattle.type_model.specs.Operations.{Ops, met_with, body_meet, body_join, sizes_meet, tuples_meet, capped_sizes, tuples_join}
-use Rattle.type_model.specs.Normal.{NormalBody, NormalSizes, NormalTuples}
+use Rattle.type_model.specs.Normal.{NormalBody, NormalSize, NormalSizes, NormalTuples}
 use Rattle.type_model.specs.Laws.{BelowBy, Lattice, Laws}
+use Rattle.type_model.proofs.TableLaws as tables
 use Rattle.type_model.proofs.TableLaws.{met_with-both_at, find-chosen, table-chosen, length-chosen, find-united, table-united, same_table, length-within}
 use Rattle.type_model.proofs.BodyLaws.{body_lattice, count_body}
 
@@ -69,19 +70,14 @@ module _ {E : Type 0} {Has : Value → E → Type 0} {Normal : E → Type 0} {o 
 
   -- the body of a size is normal at it
   pub normal_at : (m : Sizes) → NormalS m → (q : ℕ) → NormalB q (At m q)
-  normal_at [] k q = tt
-  normal_at (e ∷ m) k q = elim (eq_by_cmp nat_cmp q e.0) as (λ b. eq_by_cmp nat_cmp q e.0 ≡ b → NormalB q (cond b (Some e.1) (At m q))) [
-    | true ↦ λ i. subst (λ n. NormalB n (Some e.1)) (sym (ascending.is_it total exact q e.0 i)) k.1
-    | false ↦ λ i. normal_at m k.2 q
+  normal_at m k q = elim (At m q) as (λ b. At m q ≡ b → NormalB q b) [
+    | None ↦ λ e. tt
+    | Some b ↦ λ e. (tables.each_at total exact (NormalSize Normal o) m k q b e).1
   ] refl
 
   -- a size that is there is at most 64
   pub small_at : (m : Sizes) → NormalS m → (q : ℕ) → is_some (At m q) ≡ true → nat_lt q 65 ≡ true
-  small_at [] k q h = absurd (true≢false (sym h))
-  small_at (e ∷ m) k q h = elim (eq_by_cmp nat_cmp q e.0) as (λ b. eq_by_cmp nat_cmp q e.0 ≡ b → is_some (cond b (Some e.1) (At m q)) ≡ true → nat_lt q 65 ≡ true) [
-    | true ↦ λ i x. subst (λ n. nat_lt n 65 ≡ true) (sym (ascending.is_it total exact q e.0 i)) k.0
-    | false ↦ λ i x. small_at m k.2 q x
-  ] refl h
+  small_at m k q h = let x = tables.found_at (At m q) h in (tables.each_at total exact (NormalSize Normal o) m k q x.0 x.1).0
 
   pub some_at : (b : Option (Body E)) (vs : Values) → HasB vs b → is_some b ≡ true
   some_at None vs h = absurd h
@@ -120,7 +116,7 @@ module _ {E : Type 0} {Has : Value → E → Type 0} {Normal : E → Type 0} {o 
   tuples-filled : (s : Tuples E) → NormalT s → (s ≡ sizes []) ⊎ ((vs : Values) × HasT vs s)
   tuples-filled all_tuples k = inr (no_value, tt)
   tuples-filled (sizes []) k = inl refl
-  tuples-filled (sizes (e ∷ m)) k = elim ((bodies e.0).filled (Some e.1) k.2.1) [
+  tuples-filled (sizes (e ∷ m)) k = elim ((bodies e.0).filled (Some e.1) k.2.0.1) [
     | inl z ↦ absurd (true≢false (ap is_some z))
     | inr v ↦ inr (v.0, from_size (e ∷ m) k.2 e.0 v.0 (subst (λ b. HasB v.0 (cond b (Some e.1) (At m e.0))) (sym (ascending.itself total exact e.0)) v.1))
   ]
@@ -133,12 +129,12 @@ module _ {E : Type 0} {Has : Value → E → Type 0} {Normal : E → Type 0} {o 
 
   normal-entry : (q : ℕ) (b : Option (Body E)) (m : Sizes) → nat_lt q 65 ≡ true → NormalB q b → NormalS m → NormalS (and_entry q b m)
   normal-entry q None m s n k = k
-  normal-entry q (Some b) m s n k = (s, n, k)
+  normal-entry q (Some b) m s n k = ((s, n), k)
 
   normal-meet : (m w : Sizes) → NormalS m → NormalS w → NormalS (sizes_meet o m w)
   normal-meet [] w j k = tt
   normal-meet (e ∷ m) w j k =
-      normal-entry e.0 (met_with (body_meet o e.1) (At w e.0)) (sizes_meet o m w) j.0 (subst (NormalB e.0) (sym (met_with-both_at (body_meet o) (Some e.1) (At w e.0))) ((bodies e.0).meet_normal (Some e.1) (At w e.0) j.1 (normal_at w k e.0))) (normal-meet m w j.2 k)
+      normal-entry e.0 (met_with (body_meet o e.1) (At w e.0)) (sizes_meet o m w) j.0.0 (subst (NormalB e.0) (sym (met_with-both_at (body_meet o) (Some e.1) (At w e.0))) ((bodies e.0).meet_normal (Some e.1) (At w e.0) j.0.1 (normal_at w k e.0))) (normal-meet m w j.1 k)
 
   tuples-meet_normal : (s t : Tuples E) → NormalT s → NormalT t → NormalT (tuples_meet o s t)
   tuples-meet_normal all_tuples t j k = k
@@ -168,20 +164,9 @@ module _ {E : Type 0} {Has : Value → E → Type 0} {Normal : E → Type 0} {o 
   abbrev unite : Sizes → Sizes → Sizes
   unite m w = united nat_cmp (body_join o) m w
 
-  normal-put : (q : ℕ) (b : Body E) (m : Sizes) → nat_lt q 65 ≡ true → NormalB q (Some b) → NormalS m → NormalS (put nat_cmp (body_join o) q b m)
-  normal-put q b [] s n k = (s, n, tt)
-  normal-put q b (e ∷ m) s n k =
-      elim (is_lt (nat_cmp q e.0)) as (λ x. NormalS (cond x ((q, b) ∷ e ∷ m) (cond (eq_by_cmp nat_cmp q e.0) ((e.0, body_join o e.1 b) ∷ m) (e ∷ put nat_cmp (body_join o) q b m)))) [
-        | true ↦ (s, n, k)
-        | false ↦ elim (eq_by_cmp nat_cmp q e.0) as (λ y. eq_by_cmp nat_cmp q e.0 ≡ y → NormalS (cond y ((e.0, body_join o e.1 b) ∷ m) (e ∷ put nat_cmp (body_join o) q b m))) [
-          | true ↦ λ i. (k.0, (bodies e.0).join_normal (Some e.1) (Some b) k.1 (subst (λ z. NormalB z (Some b)) (ascending.is_it total exact q e.0 i) n), k.2)
-          | false ↦ λ i. (k.0, k.1, normal-put q b m s n k.2)
-        ] refl
-      ]
-
   normal-unite : (m w : Sizes) → NormalS m → NormalS w → NormalS (unite m w)
-  normal-unite m [] j k = j
-  normal-unite m (e ∷ w) j k = normal-unite (put nat_cmp (body_join o) e.0 e.1 m) w (normal-put e.0 e.1 m k.0 k.1 j) k.2
+  normal-unite m w j k =
+      tables.each-united exact (body_join o) (NormalSize Normal o) (λ q b c p s. (p.0, (bodies q).join_normal (Some b) (Some c) p.1 s.1)) m w j k
 
   unite-table : (m w : Sizes) → is_table nat_cmp m ≡ true → is_table nat_cmp (unite m w) ≡ true
   unite-table m w e = table-united total exact (body_join o) m w e

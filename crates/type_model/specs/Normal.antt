@@ -53,9 +53,11 @@ module _ {E : Type 0} (Normal : E → Type 0) (o : Ops E) where
   NormalBody n (Some (product es)) = NormalRow n (Some es) × FirstIsOpen es
   NormalBody n (Some (tags m)) = NormalTags n m
 
+  abbrev pub NormalSize : ℕ → Body E → Type 0
+  NormalSize n b = (nat_lt n (MAX_ELEMENTS + 1) ≡ true) × NormalBody n (Some b)
+
   abbrev pub NormalSizes : List (ℕ × Body E) → Type 0
-  NormalSizes [] = Unit {0}
-  NormalSizes (e ∷ m) = (nat_lt e.0 (MAX_ELEMENTS + 1) ≡ true) × NormalBody e.0 (Some e.1) × NormalSizes m
+  NormalSizes m = EachEntry NormalSize m
 
   -- at most MAX_SIZES sizes, ascending, of at most MAX_ELEMENTS elements
   abbrev pub NormalTuples : Tuples E → Type 0

@@ -466,7 +466,7 @@ module _ {E : Type 0} {Has : Value → E → Type 0} {Normal : E → Type 0} {o 
   sizes_spelled : (m : List (ℕ × Body E)) → is_table nat_cmp m ≡ true → NormalSizes Normal o m → Spelled (size_words text m) (IsRow (λ vs. HasTuple Has vs (sizes m)))
   sizes_spelled [] table k = nothing (IsRow (λ vs. HasTuple Has vs (sizes []))) (λ f h. h.1.1)
   sizes_spelled (e ∷ m) table k =
-      changed (IsRow (λ vs. HasTuple Has vs (sizes (e ∷ m)))) (append (body_spelled e.0 e.1 k.0 k.1) (sizes_spelled m (tables.table-rest nat_cmp_total nat_cmp-IsAntisymmetric e m table) k.2)) (size-out e m k.1 table) (size-into e m)
+      changed (IsRow (λ vs. HasTuple Has vs (sizes (e ∷ m)))) (append (body_spelled e.0 e.1 k.0.0 k.0.1) (sizes_spelled m (tables.table-rest nat_cmp_total nat_cmp-IsAntisymmetric e m table) k.1)) (size-out e m k.0.1 table) (size-into e m)
 
   tuples_spelled : (t : Tuples E) → NormalTuples Normal o t → Spelled (tuples_words text t) (λ f. HasF f (of_tuples o t))
   tuples_spelled (sizes m) k = changed (λ f. HasF f (of_tuples o (sizes m))) (sizes_spelled m k.0 k.2) (λ f h. row-in (sizes m) f h) (λ f h. row-out (sizes m) f h)

@@ -12,7 +12,7 @@ use Rattle.type_model.specs.Shapes.{TypeAt, Body, Parts, tags, sizes}
 use Rattle.type_model.specs.Tables.{EachEntry, find}
 use Rattle.type_model.specs.HasType.{HasAt, HasParts, HasCell, HasRow, HasBody, HasTuple}
 use Rattle.type_model.specs.Operations.{ops, row_at}
-use Rattle.type_model.specs.Normal.{NormalAt, NormalRow, NormalRows, NormalBody, NormalSizes}
+use Rattle.type_model.specs.Normal.{NormalAt, NormalRow, NormalRows, NormalBody, NormalSize}
 use Rattle.type_model.specs.Laws.{BelowBy}
 use Rattle.type_model.specs.ValueShapes.{Shape, leaf, pair, row, shape, value_of_shape, shape-value_of_shape, HasShape, has-shape, PlainBelow}
 use Rattle.type_model.proofs.TableLaws.{each_at, each_from, some-none}
@@ -268,13 +268,8 @@ module _ (d : ℕ) (w : List (SizeOf Node)) where
       let f = to_size (level_laws d) (sizes_view d ss) (sizes_view d w) k.normal h in
       subst SizeBelow (sym e) (all_entries (size_entry d) BodyBelow ss (each_from nat_cmp_total nat_cmp-IsAntisymmetric BodyBelow (sizes_view d ss) k.table (λ n x q. subst (λ r. BelowBy (HasBody (HasAt d)) r (find nat_cmp (sizes_view d w) n)) q (f n))) i s lt)
 
-bodies_normal_at : (d : ℕ) (ss : List (SizeOf Node)) → NormalSizes (NormalAt d) (ops d) (sizes_view d ss) → (i : ℕ) (s : SizeOf Node) → i < length ss → NormalBody (NormalAt d) (ops d) (slice_index_or ss i s).size (Some (body_view d (slice_index_or ss i s).body))
-bodies_normal_at d [] k i t h = absurd (omega arith)
-bodies_normal_at d (s ∷ ss) k zero t h = k.1
-bodies_normal_at d (s ∷ ss) k (suc i) t h = bodies_normal_at d ss k.2 i t (omega arith)
-
 pub size_fits : (d : ℕ) (ss : List (SizeOf Node)) → SizesFit d ss → (i : ℕ) (s : SizeOf Node) → i < length ss → s ≡ slice_index_or ss i s → BodyFits d s.size s.body
-size_fits d ss k i s lt e = subst (λ x. BodyFits d x.size x.body) (sym e) (record { normal = bodies_normal_at d ss k.normal i s lt; each = size_at (Fits d) ss k.each i s lt })
+size_fits d ss k i s lt e = subst (λ x. BodyFits d x.size x.body) (sym e) (record { normal = (all_entries (size_entry d) (NormalSize (NormalAt d) (ops d)) ss k.normal i s lt).1; each = size_at (Fits d) ss k.each i s lt })
 
 -- what is found at a size
 pub found_fits : (d : ℕ) (w : List (SizeOf Node)) (n : ℕ) (x : BodyOf Node) → SizesFit d w → Some (body_view d x) ≡ find nat_cmp (sizes_view d w) n → EachInBody (Fits d) x → BodyFits d n x

@@ -17,8 +17,8 @@ use Rattle.type_sets.specs.declared.bits.Bits.TheVariants.{No}
 use Rattle.type_model.specs.Shapes.{TypeAt, PlainParts, no_function, all_tuples, Body, product, tags, sizes}
 use Rattle.type_model.specs.Tables.{EachOf, keys, held, is_table, put, united}
 use Rattle.type_model.specs.Operations.{Ops, ops, zip, is_empty, row_join, rows_join, all_rows_join, tags_join, body_join, elements, capped_tags, capped_sizes, no_flags, of_plain, of_atoms, parts_join}
-use Rattle.type_model.specs.Normal.{NormalAt, NormalRow, NormalRows, AreTags, NormalBody, NormalSizes, NormalParts}
-use Rattle.type_model.proofs.TableLaws.{same_some, table-put, table-united}
+use Rattle.type_model.specs.Normal.{NormalAt, NormalRow, NormalRows, AreTags, NormalSize, NormalSizes, NormalParts}
+use Rattle.type_model.proofs.TableLaws.{same_some, table-united, each-take, each-united}
 use Rattle.type_model.proofs.RowLaws.{length-zip, row_lattice}
 use Rattle.type_model.proofs.BodyLaws.{body_lattice, elements_normal}
 use Rattle.type_model.specs.HasType.{HasAt, HasRow}
@@ -183,6 +183,10 @@ put-filled R j k x (e ∷ m) =
       | Greater ↦ refl
     ]
 
+united-filled : {K X : Type 0} (R : K → K → Ordering) (j : X → X → X) (m w : List (K × X)) → is_empty m ≡ false → is_empty (united R j m w) ≡ false
+united-filled R j m [] h = h
+united-filled R j m (e ∷ w) h = united-filled R j (put R j e.0 e.1 m) w (put-filled R j e.0 e.1 m)
+
 module _ (d : ℕ) where
   abbrev Row : ℕ → List (TypeAt d) → Type 0
   Row n es = NormalRow (NormalAt d) (ops d) n (Some es)
@@ -196,11 +200,6 @@ module _ (d : ℕ) where
   row-join : (n : ℕ) (es fs : List (TypeAt d)) → Row n es → Row n fs → Row n (row_join (ops d) es fs)
   row-join n es fs j k = (row_lattice (level_laws d) n).join_normal (Some es) (Some fs) j k
 
-  rows-take : (n : ℕ) (m : List (Name × List (TypeAt d))) (i : ℕ) → Rows n m → Rows n (take i m)
-  rows-take n m zero k = tt
-  rows-take n [] (suc i) k = tt
-  rows-take n (e ∷ m) (suc i) k = (k.0, rows-take n m i k.1)
-
   rows-joined : (n : ℕ) (es : List (TypeAt d)) (m : List (Name × List (TypeAt d))) → Row n es → Rows n m → Row n (rows_join (ops d) es (held m))
   rows-joined n es [] j k = j
   rows-joined n es (e ∷ m) j k = rows-joined n (row_join (ops d) es e.1) m (row-join n es e.1 j k.0) k.1
@@ -212,33 +211,23 @@ module _ (d : ℕ) where
   pub rests_fit : (n : ℕ) (ts : List (TagOf Node)) (i : ℕ) (out : List Node) → TagsFit d n ts → 1 ≤ i → row_view d out ≡ all_rows_join (ops d) (held (take i (tags_view d ts))) → EachNode (Fits d) out → RowFits d n out
   rests_fit n ts i out k g v e =
       let filled = filled-length (tags_view d ts) k.normal.1 in record {
-        normal = subst (Row n) (sym v) (all_rows-joined n (take i (tags_view d ts)) (take-filled i (tags_view d ts) g filled) (rows-take n (tags_view d ts) i k.normal.2));
+        normal = subst (Row n) (sym v) (all_rows-joined n (take i (tags_view d ts)) (take-filled i (tags_view d ts) g filled) (each-take (λ e. Row n e.1) (tags_view d ts) i k.normal.2));
         each = e;
       }
 
   -- ---- a tag among others
 
-  rows-put : (n : ℕ) (k : Name) (es : List (TypeAt d)) (m : List (Name × List (TypeAt d))) → Row n es → Rows n m → Rows n (put name_cmp (row_join (ops d)) k es m)
-  rows-put n k es [] r j = (r, tt)
-  rows-put n k es (e ∷ m) r j =
-      elim (name_cmp k e.0) as (λ s. Rows n (cond (is_lt s) ((k, es) ∷ e ∷ m) (cond (is_eq s) ((e.0, row_join (ops d) e.1 es) ∷ m) (e ∷ put name_cmp (row_join (ops d)) k es m)))) [
-        | Less ↦ (r, j)
-        | Equal ↦ (row-join n e.1 es j.0 r, j.1)
-        | Greater ↦ (j.0, rows-put n k es m r j.1)
-      ]
-
-  tagged-put : (n : ℕ) (k : Name) (es : List (TypeAt d)) (m : List (Name × List (TypeAt d))) → Row n es → Tagged n m → Tagged n (put name_cmp (row_join (ops d)) k es m)
-  tagged-put n k es m r j =
-      (table-put name_total name_same (row_join (ops d)) k es m j.0, put-filled name_cmp (row_join (ops d)) k es m, rows-put n k es m r j.2)
-
   tagged-united : (n : ℕ) (m w : List (Name × List (TypeAt d))) → Tagged n m → Rows n w → Tagged n (united name_cmp (row_join (ops d)) m w)
-  tagged-united n m [] j k = j
-  tagged-united n m (e ∷ w) j k = tagged-united n (put name_cmp (row_join (ops d)) e.0 e.1 m) w (tagged-put n e.0 e.1 m k.0 j) k.1
+  tagged-united n m w j k = (
+    table-united name_total name_same (row_join (ops d)) m w j.0,
+    united-filled name_cmp (row_join (ops d)) m w j.1,
+    each-united name_same (row_join (ops d)) (λ a es. Row n es) (λ a es fs p q. row-join n es fs p q) m w j.2 k,
+  )
 
   -- the tags of the first and some of the second
   pub tags_so_far : (n : ℕ) (a b out : List (TagOf Node)) (i : ℕ) → TagsFit d n a → TagsFit d n b → tags_view d out ≡ tags_join (ops d) (tags_view d a) (take i (tags_view d b)) → EachTag (Fits d) out → TagsFit d n out
   tags_so_far n a b out i j k v e = record {
-    normal = subst (Tagged n) (sym v) (tagged-united n (tags_view d a) (take i (tags_view d b)) j.normal (rows-take n (tags_view d b) i k.normal.2));
+    normal = subst (Tagged n) (sym v) (tagged-united n (tags_view d a) (take i (tags_view d b)) j.normal (each-take (λ e. Row n e.1) (tags_view d b) i k.normal.2));
     each = e;
   }
 
@@ -251,37 +240,17 @@ module _ (d : ℕ) where
 
   -- ---- a size among others
 
-  abbrev OfSize : ℕ → Body (TypeAt d) → Type 0
-  OfSize n b = NormalBody (NormalAt d) (ops d) n (Some b)
-
   abbrev Sized : List (ℕ × Body (TypeAt d)) → Type 0
   Sized m = NormalSizes (NormalAt d) (ops d) m
 
-  body-join : (n : ℕ) (b c : Body (TypeAt d)) → OfSize n b → OfSize n c → OfSize n (body_join (ops d) b c)
-  body-join n b c j k = (body_lattice (level_laws d) n).join_normal (Some b) (Some c) j k
-
-  sized-take : (m : List (ℕ × Body (TypeAt d))) (i : ℕ) → Sized m → Sized (take i m)
-  sized-take m zero k = tt
-  sized-take [] (suc i) k = tt
-  sized-take (e ∷ m) (suc i) k = (k.0, k.1, sized-take m i k.2)
-
-  sized-put : (q : ℕ) (b : Body (TypeAt d)) (m : List (ℕ × Body (TypeAt d))) → nat_lt q 65 ≡ true → OfSize q b → Sized m → Sized (put nat_cmp (body_join (ops d)) q b m)
-  sized-put q b [] s n k = (s, n, tt)
-  sized-put q b (e ∷ m) s n k =
-      elim (nat_cmp q e.0) as (λ r. nat_cmp q e.0 ≡ r → Sized (cond (is_lt r) ((q, b) ∷ e ∷ m) (cond (is_eq r) ((e.0, body_join (ops d) e.1 b) ∷ m) (e ∷ put nat_cmp (body_join (ops d)) q b m)))) [
-        | Less ↦ λ i. (s, n, k)
-        | Equal ↦ λ i. (k.0, body-join e.0 e.1 b k.1 (subst (λ z. OfSize z b) (nat_cmp-IsAntisymmetric q e.0 i) n), k.2)
-        | Greater ↦ λ i. (k.0, k.1, sized-put q b m s n k.2)
-      ] refl
-
   sized-united : (m w : List (ℕ × Body (TypeAt d))) → Sized m → Sized w → Sized (united nat_cmp (body_join (ops d)) m w)
-  sized-united m [] j k = j
-  sized-united m (e ∷ w) j k = sized-united (put nat_cmp (body_join (ops d)) e.0 e.1 m) w (sized-put e.0 e.1 m k.0 k.1 j) k.2
+  sized-united m w j k =
+      each-united nat_cmp-IsAntisymmetric (body_join (ops d)) (NormalSize (NormalAt d) (ops d)) (λ n b c p q. (p.0, (body_lattice (level_laws d) n).join_normal (Some b) (Some c) p.1 q.1)) m w j k
 
   pub sizes_so_far : (a b out : List (SizeOf Node)) (i : ℕ) → SizesFit d a → SizesFit d b → sizes_view d out ≡ united nat_cmp (body_join (ops d)) (sizes_view d a) (take i (sizes_view d b)) → EachSize (Fits d) out → SizesFit d out
   sizes_so_far a b out i j k v e = record {
     table = ap (is_table nat_cmp) v ∙ table-united nat_cmp_total nat_cmp-IsAntisymmetric (body_join (ops d)) (sizes_view d a) (take i (sizes_view d b)) j.table;
-    normal = subst Sized (sym v) (sized-united (sizes_view d a) (take i (sizes_view d b)) j.normal (sized-take (sizes_view d b) i k.normal));
+    normal = subst Sized (sym v) (sized-united (sizes_view d a) (take i (sizes_view d b)) j.normal (each-take (λ e. NormalSize (NormalAt d) (ops d) e.0 e.1) (sizes_view d b) i k.normal));
     each = e;
   }
 

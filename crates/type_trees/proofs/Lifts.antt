@@ -64,8 +64,8 @@ module _ (e d : ℕ) (le : e ≤ d) (up : (t : Node) → Fits e t → Fits d t �
   each_size_up : (ss : List (SizeOf Node)) → NormalSizes (NormalAt e) (ops e) (sizes_view e ss) → EachSize (Fits e) ss → EachSize (Fits d) ss × (sizes_view d ss ≡ mapped (body_lower (cut e d) (ops e) (ops d)) (sizes_view e ss))
   each_size_up [] k f = (tt, refl)
   each_size_up (s ∷ ss) k f =
-      let a = each_body_up s.size s.body (record { normal = k.1; each = f.0 }) in
-      let b = each_size_up ss k.2 f.1 in
+      let a = each_body_up s.size s.body (record { normal = k.0.1; each = f.0 }) in
+      let b = each_size_up ss k.1 f.1 in
       ((a.0, b.0), cc (a.1, b.1))
 
   tuples_up : (t : TuplesOf Node) → TuplesFit e t → TuplesFit d t × (tuples_view d t ≡ tuples_lower (cut e d) (ops e) (ops d) (tuples_view e t))
