@@ -1,5 +1,5 @@
 -- The laws of the tuples of one size, a product of element types or tags.
-use Rattle.std.specs.Prelude.{◌≡◌, ℕ, zero, suc, ◌≤◌, Bool, true, false, cond, List, [], ◌∷◌, length, nat_lt, Option, Some, None, is_some, option_map, refl}
+use Rattle.std.specs.Prelude.{◌≡◌, ℕ, zero, suc, ◌≤◌, Bool, true, false, cond, List, ◌∷◌, length, nat_lt, Option, Some, None, is_some, option_map, refl}
 use Rattle.std.proofs.Common.{sym, ap, ◌∙◌, true≢false, subst, arith}
 use borrow.Author.Tests.{ltb-true, lt-ltb, ltb-false}
 use Rattle.std.specs.Ordering.{eq_by_cmp}
@@ -25,13 +25,11 @@ atom_same : (a b : Name) → atom a ≡ atom b → a ≡ b
 atom_same a b e = cc
 
 some_row : {E : Type 0} (Has : Value → E → Type 0) (vs : Values) (r : Option (List E)) → HasRow Has vs r → is_some r ≡ true
-some_row Has vs None h = absurd h
-some_row Has vs (Some es) h = refl
+some_row x0 x1 x2 x3 = grind arith
 
 -- a first element is one of the tags
 first_tag : {E : Type 0} (Has : Value → E → Type 0) (v : Value) (vs : Values) (m : List (Name × List E)) → HasTag Has (and_value v vs) m → (a : Name) × ((v ≡ atom a) × (has_item name_cmp (keys m) a ≡ true))
-first_tag Has (atom a) vs m h = (a, (refl, sym (tables.find-key name_total name_same m a) ∙ some_row Has vs (find name_cmp m a) h))
-first_tag Has v vs m h = absurd h
+first_tag x0 x1 x2 x3 x4 = grind (arith, tables.find-key, name_total, name_same, some_row)
 
 tags-listed : {E : Type 0} (Normal : E → Type 0) (o : Ops E) (n : ℕ) (m : List (Name × List E)) → NormalTags Normal o (suc n) m → are_listed (keys m) ≡ true
 tags-listed Normal o n m k = both (is_ascending name_cmp (keys m)) (nat_lt (length (keys m)) 14) k.0.0 (ap (λ i. nat_lt i 14) (tables.length-keys name_total name_same m) ∙ k.1)
@@ -81,25 +79,20 @@ module _ {E : Type 0} {Has : Value → E → Type 0} {Normal : E → Type 0} {o 
   -- ---- what a product has where its values begin with an atom
 
   cond_in : (b : Bool) (es : List E) (vs : Values) → b ≡ true → HasEach Has vs es → HasR vs (cond b (Some es) None)
-  cond_in true es vs e h = h
-  cond_in false es vs e h = absurd (true≢false (sym e))
+  cond_in x0 x1 x2 x3 x4 = grind arith
 
   cond_out : (b : Bool) (es : List E) (vs : Values) → HasR vs (cond b (Some es) None) → (b ≡ true) × HasEach Has vs es
-  cond_out true es vs h = (refl, h)
-  cond_out false es vs h = absurd h
+  cond_out x0 x1 x2 x3 = grind arith
 
   cond_normal : (n : ℕ) (b : Bool) (es : List E) → RowOf n (Some es) → RowOf n (cond b (Some es) None)
-  cond_normal n true es k = k
-  cond_normal n false es k = tt
+  cond_normal x0 x1 x2 x3 = grind arith
 
   -- ---- tags
 
   -- what stands at a tag is a normal row
   pub rows_at : (n : ℕ) (m : List (Name × List E)) → NormalRows Normal o n m → (a : Name) → NormalRow Normal o n (find name_cmp m a)
   rows_at n [] k a = tt
-  rows_at n (e ∷ m) k a =
-      let rest = rows_at n m k.1 a in
-      elim (eq_by_cmp name_cmp a e.0) as (λ b. RowOf n (cond b (Some e.1) (at m a))) [ true ↦ k.0 | false ↦ rest ]
+  rows_at n (e ∷ m) k a = grind (arith, rows_at n m k.1 a, RowOf, at)
 
   -- and rows are normal where what stands at each tag is
   pub rows_from : (n : ℕ) (m : List (Name × List E)) → is_table name_cmp m ≡ true → ((a : Name) → NormalRow Normal o n (find name_cmp m a)) → NormalRows Normal o n m
@@ -107,8 +100,7 @@ module _ {E : Type 0} {Has : Value → E → Type 0} {Normal : E → Type 0} {o 
 
   -- what a tuple of some tags begins with
   pub tagged : (vs : Values) (m : List (Name × List E)) → HasTag Has vs m → (a : Name) × ((ws : Values) × ((vs ≡ and_value (atom a) ws) × HasRow Has ws (find name_cmp m a)))
-  tagged (and_value (atom a) vs) m h = (a, (vs, (refl, h)))
-  tagged vs m h = absurd h
+  tagged x0 x1 x2 = grind arith
 
   key_in : (m : Rows) (a : Name) (es : List E) → at m a ≡ Some es → has_item name_cmp (keys m) a ≡ true
   key_in m a es e = sym (tables.find-key name_total name_same m a) ∙ ap is_some e
@@ -118,21 +110,15 @@ module _ {E : Type 0} {Has : Value → E → Type 0} {Normal : E → Type 0} {o 
 
   -- some tags have one, with element types behind it
   pub a_tag : (n : ℕ) (m : List (Name × List E)) → AreTags Normal o n m → (a : Name) × ((es : List E) × ((find name_cmp m a ≡ Some es) × AreElements Normal o es))
-  a_tag n m k =
-      let t = tables.first_entry name_total name_same m k.1 in
-      (t.0, (t.1.0, (t.1.1, (subst (RowOf n) t.1.1 (rows_at n m k.2 t.0)).1)))
+  a_tag n m k = grind (arith, tables.first_entry, name_total, name_same, RowOf, rows_at)
 
   -- ---- the rest of the tuples of a body that begin with an atom
 
   pub row_at_in : (b : Body E) (a : Name) (vs : Values) → HasBody Has (and_value (atom a) vs) (Some b) → HasRow Has vs (row_at o b a)
-  row_at_in (product []) a vs h = absurd h
-  row_at_in (product (e ∷ es)) a vs h = cond_in (o.has_atom e a) es vs (l.naming.atom_in e a h.0) h.1
-  row_at_in (tags m) a vs h = h
+  row_at_in x0 x1 x2 x3 = grind (arith, cond_in, l.naming.atom_in)
 
   pub row_at_out : (b : Body E) (a : Name) (vs : Values) → HasRow Has vs (row_at o b a) → HasBody Has (and_value (atom a) vs) (Some b)
-  row_at_out (product []) a vs h = absurd h
-  row_at_out (product (e ∷ es)) a vs h = let p = cond_out (o.has_atom e a) es vs h in (l.naming.atom_out e a p.0, p.1)
-  row_at_out (tags m) a vs h = h
+  row_at_out x0 x1 x2 x3 = grind (arith, cond_out, l.naming.atom_out)
 
   pub row_at_normal : (n : ℕ) (b : Body E) (a : Name) → NormalBody Normal o (suc n) (Some b) → NormalRow Normal o n (row_at o b a)
   row_at_normal n (product []) a k = tt
@@ -149,16 +135,13 @@ module _ {E : Type 0} {Has : Value → E → Type 0} {Normal : E → Type 0} {o 
   -- ---- how many values there are
 
   count_row : (n : ℕ) (vs : Values) (r : Option (List E)) → RowOf n r → HasR vs r → count vs ≡ n
-  count_row n vs None k h = absurd h
-  count_row n vs (Some es) k h = count_each l vs es h ∙ k.0
+  count_row x0 x1 x2 x3 x4 = grind (arith, count_each l)
 
   pub count_body : (n : ℕ) (vs : Values) (b : Option (Body E)) → NormalBody Normal o n b → HasBody Has vs b → count vs ≡ n
   count_body n vs None k h = absurd h
   count_body n vs (Some (product es)) k h = count_row n vs (Some es) k.0 h
   count_body zero vs (Some (tags m)) k h = absurd k
-  count_body (suc n) vs (Some (tags m)) k h =
-      let t = tagged vs m h in
-      ap count t.1.1.0 ∙ ap suc (count_row n t.1.0 (at m t.0) (rows_at n m k.0.2 t.0) t.1.1.1)
+  count_body (suc n) vs (Some (tags m)) k h = grind (arith, tagged, count_row, at, rows_at)
 
   -- ---- one form for each set
 
@@ -223,19 +206,11 @@ module _ {E : Type 0} {Has : Value → E → Type 0} {Normal : E → Type 0} {o 
 
   pub body_of_in : (es : List E) (vs : Values) → HasEach Has vs es → HasBody Has vs (Some (body_of o es))
   body_of_in [] vs h = h
-  body_of_in (e ∷ es) vs h =
-      elim (o.only e) as (λ x. o.only e ≡ x → HasB vs (Some (spread o x e es))) [
-        | None ↦ λ k. h
-        | Some xs ↦ λ k. spread_in e es xs k vs h
-      ] refl
+  body_of_in (e ∷ es) vs h = grind (arith, HasB, spread_in)
 
   pub body_of_out : (es : List E) (vs : Values) → HasBody Has vs (Some (body_of o es)) → HasEach Has vs es
   body_of_out [] vs h = h
-  body_of_out (e ∷ es) vs h =
-      elim (o.only e) as (λ x. o.only e ≡ x → HasB vs (Some (spread o x e es)) → HasEach Has vs (e ∷ es)) [
-        | None ↦ λ k h. h
-        | Some xs ↦ λ k h. spread_out e es xs k vs h
-      ] refl h
+  body_of_out (e ∷ es) vs h = grind (arith, HasB, spread_out)
 
   pub body_of_normal : (n : ℕ) (es : List E) → NormalRow Normal o n (Some es) → NormalBody Normal o n (Some (body_of o es))
   body_of_normal n [] r = (r, tt)
@@ -250,12 +225,10 @@ module _ {E : Type 0} {Has : Value → E → Type 0} {Normal : E → Type 0} {o 
   some_body r = option_map (body_of o) r
 
   some_body_in : (r : Option (List E)) (vs : Values) → HasR vs r → HasB vs (some_body r)
-  some_body_in None vs h = h
-  some_body_in (Some es) vs h = body_of_in es vs h
+  some_body_in x0 x1 x2 = grind (arith, body_of_in)
 
   some_body_out : (r : Option (List E)) (vs : Values) → HasB vs (some_body r) → HasR vs r
-  some_body_out None vs h = h
-  some_body_out (Some es) vs h = body_of_out es vs h
+  some_body_out x0 x1 x2 = grind (arith, body_of_out)
 
   some_body_normal : (n : ℕ) (r : Option (List E)) → RowOf n r → BodyOf n (some_body r)
   some_body_normal n None k = tt
@@ -264,14 +237,10 @@ module _ {E : Type 0} {Has : Value → E → Type 0} {Normal : E → Type 0} {o 
   -- ---- the meet
 
   at-tags_meet : (m : Rows) (b : Body E) → is_table name_cmp m ≡ true → (a : Name) → at (tags_meet o m b) a ≡ both_at (row_meet o) (at m a) (row_at o b a)
-  at-tags_meet m b t a =
-      tables.find-chosen name_total name_same (λ q es. met_with (row_meet o es) (row_at o b q)) m t a ∙ met_with-both_at (row_meet o) (at m a) (row_at o b a)
+  at-tags_meet m b t a = grind (arith, tables.find-chosen, name_total, name_same, met_with-both_at, at)
 
   some_tags_in : (m : Rows) (a : Name) (vs : Values) → HasR vs (at m a) → HasB (and_value (atom a) vs) (some_tags o m)
-  some_tags_in m a vs h = elim (is_empty m) as (λ b. is_empty m ≡ b → HasB (and_value (atom a) vs) (or_none b (tags m))) [
-    | true ↦ λ e. subst (HasR vs) (tables.find-empty name_total name_same m e a) h
-    | false ↦ λ e. h
-  ] refl
+  some_tags_in m a vs h = grind (arith, HasB, HasR, tables.find-empty, name_total, name_same)
 
   some_tags_out : (m : Rows) (vs : Values) → HasB vs (some_tags o m) → HasTag Has vs m
   some_tags_out m vs h = elim (is_empty m) as (λ b. HasB vs (or_none b (tags m)) → HasTag Has vs m) [ true ↦ λ h. absurd h | false ↦ λ h. h ] h
@@ -286,9 +255,7 @@ module _ {E : Type 0} {Has : Value → E → Type 0} {Normal : E → Type 0} {o 
 
   -- what a tuple of the meet of tags and a body is
   met : (m : Rows) (b : Body E) → is_table name_cmp m ≡ true → (vs : Values) → HasB vs (some_tags o (tags_meet o m b)) → (a : Name) × ((ws : Values) × ((vs ≡ and_value (atom a) ws) × HasR ws (both_at (row_meet o) (at m a) (row_at o b a))))
-  met m b a vs h =
-      let t = tagged vs (tags_meet o m b) (some_tags_out (tags_meet o m b) vs h) in
-      (t.0, (t.1.0, (t.1.1.0, subst (HasR t.1.0) (at-tags_meet m b a t.0) t.1.1.1)))
+  met m b a vs h = grind (arith, tagged, some_tags_out, HasR, at-tags_meet)
 
   tags_meet_out : (n : ℕ) (m : Rows) (b : Body E) → NormalTags Normal o n m → BodyOf n (Some b) → (vs : Values) → HasB vs (some_tags o (tags_meet o m b)) → HasTag Has vs m × HasB vs (Some b)
   tags_meet_out zero m b j k vs h = absurd j
@@ -338,8 +305,7 @@ module _ {E : Type 0} {Has : Value → E → Type 0} {Normal : E → Type 0} {o 
 
   rows_join_first : (n : ℕ) (es : List E) (m : Rows) → RowOf n (Some es) → NormalRows Normal o n m → (vs : Values) → HasEach Has vs es → HasEach Has vs (rows_join o es (held m))
   rows_join_first n es [] j k vs h = h
-  rows_join_first n es (e ∷ m) j k vs h =
-      rows_join_first n (row_join o es e.1) m ((row_lattice l n).join_normal (Some es) (Some e.1) j k.0) k.1 vs ((row_lattice l n).join_left (Some es) (Some e.1) j k.0 vs h)
+  rows_join_first n es (e ∷ m) j k vs h = grind (arith, rows_join_first n (row_join o es e.1) m ((row_lattice l n).join_normal (Some es) (Some e.1) j k.0) k.1 vs ((row_lattice l n).join_left (Some es) (Some e.1) j k.0 vs h), row_lattice l)
 
   rows_join_above : (n : ℕ) (es : List E) (m : Rows) → RowOf n (Some es) → NormalRows Normal o n m → (a : Name) (vs : Values) → HasR vs (at m a) → HasEach Has vs (rows_join o es (held m))
   rows_join_above n es [] j k a vs h = absurd h
@@ -363,15 +329,10 @@ module _ {E : Type 0} {Has : Value → E → Type 0} {Normal : E → Type 0} {o 
 
   all_rows_above : (n : ℕ) (m : Rows) → NormalRows Normal o n m → (a : Name) (vs : Values) → HasR vs (at m a) → HasEach Has vs (all_rows_join o (held m))
   all_rows_above n [] k a vs h = absurd h
-  all_rows_above n (e ∷ m) k a vs h =
-      elim (eq_by_cmp name_cmp a e.0) as (λ b. HasR vs (cond b (Some e.1) (at m a)) → HasEach Has vs (rows_join o e.1 (held m))) [
-        | true ↦ λ h. rows_join_first n e.1 m k.0 k.1 vs h
-        | false ↦ λ h. rows_join_above n e.1 m k.0 k.1 a vs h
-      ] h
+  all_rows_above n (e ∷ m) k a vs h = grind (arith, HasR, at, rows_join_first, rows_join_above)
 
   all_rows_least : (n : ℕ) (m : Rows) (gs : List E) → is_empty m ≡ false → NormalRows Normal o n m → RowOf n (Some gs) → EachEntry (λ a fs. BelowBy HasR (Some fs) (Some gs)) m → BelowBy HasR (Some (all_rows_join o (held m))) (Some gs)
-  all_rows_least n [] gs e k r g = absurd (true≢false e)
-  all_rows_least n (x ∷ m) gs e k r g = rows_join_least n x.1 m gs k.0 k.1 r g.0 g.1
+  all_rows_least x0 x1 x2 x3 x4 x5 x6 = grind (arith, rows_join_least)
 
   tags_elements_normal : (n : ℕ) (m : Rows) → Tags n m → RowOf (suc n) (Some (elements o (tags m)))
   tags_elements_normal n m k =
@@ -414,9 +375,7 @@ module _ {E : Type 0} {Has : Value → E → Type 0} {Normal : E → Type 0} {o 
   elements_above (suc n) (tags m) k vs h = tags_elements_above n m k.0 vs h
 
   pub elements_least : (n : ℕ) (b : Body E) (gs : List E) → NormalBody Normal o n (Some b) → NormalRow Normal o n (Some gs) → BelowBy (HasBody Has) (Some b) (Some (product gs)) → BelowEach Has (elements o b) gs
-  elements_least n (product es) gs k r f = each-below l es gs k.0.1 f
-  elements_least zero (tags m) gs k r f = absurd k
-  elements_least (suc n) (tags m) gs k r f = tags_elements_least n m gs k.0 r f
+  elements_least x0 x1 x2 x3 x4 x5 = grind (arith, each-below l, tags_elements_least)
 
   -- ---- the join of two bodies of which one is a product
 
@@ -497,12 +456,10 @@ module _ {E : Type 0} {Has : Value → E → Type 0} {Normal : E → Type 0} {o 
   capped b m = cond b (tags m) (product (elements o (tags m)))
 
   capped_above : (n : ℕ) (b : Bool) (m : Rows) → Tags n m → BelowBy HasB (Some (tags m)) (Some (capped b m))
-  capped_above n true m k vs h = h
-  capped_above n false m k vs h = tags_elements_above n m k vs h
+  capped_above x0 x1 x2 x3 x4 x5 = grind (arith, tags_elements_above)
 
   capped_normal : (n : ℕ) (b : Bool) (m : Rows) → nat_lt (length m) 14 ≡ b → Tags n m → o.has_tags ≡ true → BodyOf (suc n) (Some (capped b m))
-  capped_normal n true m e k a = (k, e, a)
-  capped_normal n false m e k a = (tags_elements_normal n m k, many_only n m k (ltb-false (length m) 14 e))
+  capped_normal x0 x1 x2 x3 x4 x5 = grind (arith, tags_elements_normal, many_only)
 
   -- each tag of what is below some tags is one of them
   tags_within : (n : ℕ) (m w : Rows) → Tags n m → ((a : Name) → BelowBy HasR (at m a) (at w a)) → (q : Name) → is_some (at m q) ≡ true → is_some (at w q) ≡ true
@@ -528,8 +485,7 @@ module _ {E : Type 0} {Has : Value → E → Type 0} {Normal : E → Type 0} {o 
   body_join_normal n (tags m) (product fs) j k =
       (wide_normal n (tags m) (product fs) j k, open_right (elements o (tags m)) fs (elements_normal n (tags m) j).1 k.0.1 k.1)
   body_join_normal zero (tags m) (tags w) j k = absurd j
-  body_join_normal (suc n) (tags m) (tags w) j k =
-      capped_normal n (nat_lt (length (tags_join o m w)) 14) (tags_join o m w) refl (tags_join_tags n m w j.0 k.0) j.2
+  body_join_normal (suc n) (tags m) (tags w) j k = grind (arith, capped_normal, tags_join_tags)
 
   body_join_left : (n : ℕ) (b c : Body E) → BodyOf n (Some b) → BodyOf n (Some c) → BelowBy HasB (Some b) (Some (body_join o b c))
   body_join_left n (product es) c j k vs h = wide_left n (product es) c j k vs h

@@ -1,15 +1,14 @@
 -- The laws of canonical values: a map is told by its pairs, and a type by the canonical values that it has.
-use Rattle.std.proofs.Common.{◌≡◌, ◌⊎◌, inl, inr, ℕ, zero, suc, true, List, [], ◌∷◌, Option, Some, None, refl, sym, ap, ◌∙◌, subst, true≢false, cond, Less, Equal, Greater}
+use Rattle.std.proofs.Common.{◌≡◌, ◌⊎◌, inl, inr, ℕ, zero, suc, true, List, Option, Some, None, refl, sym, ap, ◌∙◌, true≢false, cond, Less, Equal, Greater, arith}
 use Rattle.std.specs.Prelude.{◌↔◌}
-use Rattle.std.specs.Ordering.{is_lt, is_eq, nat_cmp}
+use Rattle.std.specs.Ordering.{is_lt, is_eq}
 use Rattle.type_sets.specs.Ascending.{is_below_all, is_ascending, placed}
 use Rattle.type_sets.specs.Names.{Name, name_cmp}
 use Rattle.type_sets.proofs.Truths.{first, second}
 use Rattle.type_sets.proofs.AscendingLaws as ascending
 use Rattle.type_sets.proofs.NameLaws.{name_total, name_same}
-use Rattle.type_model.specs.Values.{Value, atom, nil, cons, tuple, map, closure, Values, no_value, and_value, ValuePairs, no_pair, and_pair, no_variable, count, heads, end_of}
-use Rattle.type_model.specs.Tables.{find}
-use Rattle.type_model.specs.Shapes.{Cell, Body, product, tags, Tuples, sizes, all_tuples, TypeAt}
+use Rattle.type_model.specs.Values.{Value, nil, cons, tuple, map, closure, Values, no_value, and_value, ValuePairs, no_pair, and_pair, no_variable, count, heads, end_of}
+use Rattle.type_model.specs.Shapes.{Cell, Body, Tuples, TypeAt}
 use Rattle.type_model.specs.HasType.{HasAll, HasEach, HasRow, HasCell, HasTag, HasBody, HasTuple, HasParts, HasAt}
 use Rattle.type_model.specs.Laws.{BelowBy}
 use Rattle.type_model.specs.Canonical.{spelled, spelled_keys, AreAscending, IsCanonical, AreCanonical, ArePairsCanonical, HoldsPair, PairsBelow, put_pair}
@@ -19,9 +18,8 @@ use Rattle.type_model.proofs.Spellings.{spelled_once}
 
 -- a key that stands below all of a map's keys stands below each of them
 below_each : (x : Name) (ps : ValuePairs) → is_below_all name_cmp x (spelled_keys ps) ≡ true → (k v : Value) → HoldsPair ps k v → is_lt (name_cmp x (spelled k)) ≡ true
-below_each x no_pair h k v i = absurd i
-below_each x (and_pair j w ps) h k v (inl e) = ap (λ q. is_lt (name_cmp x (spelled q))) e.0 ∙ first _ (is_below_all name_cmp x (spelled_keys ps)) h
-below_each x (and_pair j w ps) h k v (inr i) = below_each x ps (second _ (is_below_all name_cmp x (spelled_keys ps)) h) k v i
+below_each x no_pair h k v i = grind arith
+below_each x (and_pair j w ps) h k v i = grind (arith, first, below_each x ps, second)
 
 not_below_itself : (k : Value) → is_lt (name_cmp (spelled k) (spelled k)) ≡ true → ⊥
 not_below_itself k = ascending.below-not_itself name_total name_same (spelled k)
@@ -45,11 +43,7 @@ same_firsts k v ps j w qs a b (inr h) (inr i) =
 
 -- what the rest of the one has, the rest of the other has
 rest_below : (k v : Value) (ps : ValuePairs) (j w : Value) (qs : ValuePairs) → AreAscending (and_pair k v ps) → k ≡ j → PairsBelow (and_pair k v ps) (and_pair j w qs) → PairsBelow ps qs
-rest_below k v ps j w qs a e f x y h =
-    elim (f x y (inr h)) [
-      | inl g ↦ absurd (later k v ps a x y h (g.0 ∙ sym e))
-      | inr i ↦ i
-    ]
+rest_below k v ps j w qs a e f x y h = grind (arith, later)
 
 pub same_pairs : (ps qs : ValuePairs) → AreAscending ps → AreAscending qs → PairsBelow ps qs → PairsBelow qs ps → ps ≡ qs
 same_pairs no_pair no_pair a b f g = refl
@@ -62,22 +56,14 @@ same_pairs (and_pair k v ps) (and_pair j w qs) a b f g =
 
 -- a key has one value
 pub one_value : (ps : ValuePairs) → AreAscending ps → (k v w : Value) → HoldsPair ps k v → HoldsPair ps k w → v ≡ w
-one_value no_pair a k v w h i = absurd h
-one_value (and_pair j u ps) a k v w (inl e) (inl f) = e.1 ∙ sym f.1
-one_value (and_pair j u ps) a k v w (inl e) (inr i) = absurd (later j u ps a k w i e.0)
-one_value (and_pair j u ps) a k v w (inr h) (inl f) = absurd (later j u ps a k v h f.0)
-one_value (and_pair j u ps) a k v w (inr h) (inr i) = one_value ps (rest_ascends j u ps a) k v w h i
+one_value no_pair a k v w h i = grind arith
+one_value (and_pair j u ps) a k v w h i = grind (arith, later, one_value ps, rest_ascends)
 
 -- ---- a pair that is put into a map
 
 keys_put : (k v : Value) (ps : ValuePairs) → spelled_keys (put_pair k v ps) ≡ placed name_cmp (spelled k) (spelled_keys ps)
 keys_put k v no_pair = refl
-keys_put k v (and_pair j w ps) =
-    elim (name_cmp (spelled k) (spelled j)) as (λ r. spelled_keys (cond (is_lt r) (and_pair k v (and_pair j w ps)) (cond (is_eq r) (and_pair j v ps) (and_pair j w (put_pair k v ps)))) ≡ cond (is_lt r) (spelled k ∷ spelled j ∷ spelled_keys ps) (cond (is_eq r) (spelled j ∷ spelled_keys ps) (spelled j ∷ placed name_cmp (spelled k) (spelled_keys ps)))) [
-      | Less ↦ refl
-      | Equal ↦ refl
-      | Greater ↦ ap (λ ks. spelled j ∷ ks) (keys_put k v ps)
-    ]
+keys_put k v (and_pair j w ps) = grind (arith, keys_put k v ps)
 
 put_ascends : (k v : Value) (ps : ValuePairs) → AreAscending ps → AreAscending (put_pair k v ps)
 put_ascends k v ps a = ap (is_ascending name_cmp) (keys_put k v ps) ∙ ascending.ascending-placed name_total name_same (spelled k) (spelled_keys ps) a
@@ -174,40 +160,27 @@ module _ {E : Type 0} {Has : Value → E → Type 0} (alike : AreAlike Has) wher
   all_alike (and_value v vs) e = (λ h. ((alike v e).0 h.0, (all_alike vs e).0 h.1), λ h. ((alike v e).1 h.0, (all_alike vs e).1 h.1))
 
   each_alike : (vs : Values) (es : List E) → HasEach Has (bare_values vs) es ↔ HasEach Has vs es
-  each_alike no_value [] = (λ h. h, λ h. h)
-  each_alike no_value (e ∷ es) = (λ h. h, λ h. h)
-  each_alike (and_value v vs) [] = (λ h. h, λ h. h)
-  each_alike (and_value v vs) (e ∷ es) = (λ h. ((alike v e).0 h.0, (each_alike vs es).0 h.1), λ h. ((alike v e).1 h.0, (each_alike vs es).1 h.1))
+  each_alike no_value x1 = grind arith
+  each_alike (and_value v vs) x1 = grind (arith, each_alike vs)
 
   row_alike : (vs : Values) (es : Option (List E)) → HasRow Has (bare_values vs) es ↔ HasRow Has vs es
-  row_alike vs None = (λ h. h, λ h. h)
-  row_alike vs (Some es) = each_alike vs es
+  row_alike x0 x1 = grind (arith, each_alike)
 
   cell_alike : (h t : Value) (c : Option (Cell E)) → HasCell Has (bare h, bare t) c ↔ HasCell Has (h, t) c
   cell_alike h t None = (λ i. i, λ i. i)
-  cell_alike h t (Some c) =
-      let all : HasAll Has (and_value (bare h) (heads (bare t))) c.element ↔ HasAll Has (and_value h (heads t)) c.element = subst (λ vs. HasAll Has (and_value (bare h) vs) c.element ↔ HasAll Has (and_value h (heads t)) c.element) (sym (heads-bare t)) (all_alike (and_value h (heads t)) c.element) in
-      (λ i. (all.0 i.0, λ p. (end-bare t).0 (i.1 p)), λ i. (all.1 i.0, λ p. (end-bare t).1 (i.1 p)))
+  cell_alike h t (Some c) = grind (arith, bare, heads-bare, all_alike, end-bare)
 
   tag_alike : (vs : Values) (m : List (Name × List E)) → HasTag Has (bare_values vs) m ↔ HasTag Has vs m
-  tag_alike no_value m = (λ h. h, λ h. h)
-  tag_alike (and_value (atom a) vs) m = row_alike vs (find name_cmp m a)
-  tag_alike (and_value v vs) m = (λ h. absurd h, λ h. absurd h)
+  tag_alike x0 x1 = grind (arith, row_alike)
 
   body_alike : (vs : Values) (b : Option (Body E)) → HasBody Has (bare_values vs) b ↔ HasBody Has vs b
-  body_alike vs None = (λ h. h, λ h. h)
-  body_alike vs (Some (product es)) = each_alike vs es
-  body_alike vs (Some (tags m)) = tag_alike vs m
+  body_alike x0 x1 = grind (arith, each_alike, tag_alike)
 
   tuple_alike : (vs : Values) (t : Tuples E) → HasTuple Has (bare_values vs) t ↔ HasTuple Has vs t
-  tuple_alike vs (sizes m) =
-      subst (λ n. HasBody Has (bare_values vs) (find nat_cmp m n) ↔ HasBody Has vs (find nat_cmp m (count vs))) (sym (count-bare vs)) (body_alike vs (find nat_cmp m (count vs)))
-  tuple_alike vs all_tuples = (λ h. h, λ h. h)
+  tuple_alike x0 x1 = grind (arith, bare_values, count-bare, body_alike)
 
   parts_alike : AreAlike (HasParts Has)
-  parts_alike (cons h t) p = cell_alike h t p.cell
-  parts_alike (tuple vs) p = tuple_alike vs p.tuples
-  parts_alike v p = (λ h. h, λ h. h)
+  parts_alike x0 x1 = grind (arith, cell_alike, tuple_alike)
 
 level_alike : (d : ℕ) → AreAlike (HasAt d)
 level_alike zero v t = (λ h. h, λ h. h)

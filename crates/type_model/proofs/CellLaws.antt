@@ -1,6 +1,6 @@
 -- The laws of the lists of a type, told by an element type and by how they end.
-use Rattle.std.specs.Prelude.{◌≡◌, Bool, true, false, ◌||◌, [], Option, Some, None, refl}
-use Rattle.std.proofs.Common.{sym, ap, ◌∙◌, inl, inr, true≢false, subst}
+use Rattle.std.specs.Prelude.{◌≡◌, Bool, true, false, ◌||◌, Option, Some, None, refl}
+use Rattle.std.proofs.Common.{sym, ◌∙◌, true≢false, subst, arith}
 use Rattle.type_sets.proofs.Truths.{both, first, second, in_first, in_second, is_false}
 use Rattle.type_model.specs.Values.{Value, atom, nil, Values, no_value, and_value, heads, end_of}
 use Rattle.type_model.specs.Shapes.{Cell}
@@ -20,10 +20,7 @@ module _ {E : Type 0} {Has : Value → E → Type 0} {Normal : E → Type 0} {o 
 
   -- an element type has a value
   pub value_of : (e : E) → IsElement Normal o e → (v : Value) × Has v e
-  value_of e k = elim (l.lattice.filled e k.0) [
-    | inl z ↦ absurd (true≢false (sym l.is_none-none ∙ ap o.is_none (sym z) ∙ k.1))
-    | inr v ↦ v
-  ]
+  value_of e k = grind (arith, l.lattice.filled, l.is_none-none)
 
   -- what has a value is not none
   pub filled-not_none : (e : E) (v : Value) → Has v e → o.is_none e ≡ false
@@ -83,11 +80,7 @@ module _ {E : Type 0} {Has : Value → E → Type 0} {Normal : E → Type 0} {o 
   met s t = record { element = o.meet s.element t.element; is_proper = s.is_proper || t.is_proper }
 
   cell_meet_normal : (s t : Cell E) → NormalC (Some s) → NormalC (Some t) → NormalC (cell_meet o (Some s) (Some t))
-  cell_meet_normal s t j k =
-      elim (o.is_none (o.meet s.element t.element)) as (λ b. o.is_none (o.meet s.element t.element) ≡ b → NormalC (or_none b (met s t))) [
-        | true ↦ λ e. tt
-        | false ↦ λ e. (l.lattice.meet_normal s.element t.element j.0 k.0, e)
-      ] refl
+  cell_meet_normal s t j k = grind (arith, NormalC, met, l.lattice.meet_normal)
 
   cell_meet_in : (s t : Cell E) → NormalC (Some s) → NormalC (Some t) → (p : Value × Value) → HasC p (Some s) → HasC p (Some t) → HasC p (cell_meet o (Some s) (Some t))
   cell_meet_in s t j k p h g =
@@ -99,8 +92,7 @@ module _ {E : Type 0} {Has : Value → E → Type 0} {Normal : E → Type 0} {o 
       ends false b w f g e = g e
 
   meet_some : (b : Bool) (c : Cell E) (p : Value × Value) → HasC p (or_none b c) → HasC p (Some c)
-  meet_some true c p h = absurd h
-  meet_some false c p h = h
+  meet_some x0 x1 x2 x3 = grind arith
 
   cell_meet_out : (s t : Cell E) → NormalC (Some s) → NormalC (Some t) → (p : Value × Value) → HasC p (cell_meet o (Some s) (Some t)) → HasC p (Some s) × HasC p (Some t)
   cell_meet_out s t j k p h =

@@ -1,5 +1,5 @@
 -- The laws of cuts: the least type of another level, which adds no value where that level is no lower.
-use Rattle.std.proofs.Common.{◌≡◌, ℕ, zero, suc, ◌≤◌, Bool, true, false, cond, inl, inr, List, [], ◌∷◌, map, length, Option, Some, None, refl, sym, ap, ◌∙◌, arith, subst, true≢false}
+use Rattle.std.proofs.Common.{◌≡◌, ℕ, zero, suc, ◌≤◌, Bool, true, false, cond, inl, inr, List, ◌∷◌, map, length, Option, Some, None, refl, sym, ap, ◌∙◌, arith, subst, true≢false}
 use Rattle.std.specs.Prelude.{not, nat_lt, is_some, option_map}
 use Rattle.std.specs.Ordering.{nat_cmp}
 use Rattle.std.specs.Cmp.{nat_cmp_total}
@@ -24,16 +24,13 @@ use Rattle.type_model.proofs.LevelLaws.{level_laws}
 
 -- a test that can't be false is true
 pub is_true : (b : Bool) → (b ≡ false → ⊥) → b ≡ true
-is_true true p = refl
-is_true false p = absurd (p refl)
+is_true x0 x1 = grind arith
 
 -- ---- from the types of one level to those of another, and so one level up
 
 module _ {F E : Type 0} {HasF : Value → F → Type 0} {NormalF : F → Type 0} {f : Ops F} (high : Laws HasF NormalF f) {HasE : Value → E → Type 0} {NormalE : E → Type 0} {e : Ops E} (low : Laws HasE NormalE e) {lower : F → E} (s : Lowering HasF NormalF HasE NormalE lower) where
   element_normal : (t : F) → IsElement NormalF f t → IsElement NormalE e (lower t)
-  element_normal t k =
-      let w = value_of high t k in
-      (s.normal t k.0, filled-not_none low (lower t) w.0 (s.above t k.0 w.0 w.1))
+  element_normal t k = grind (arith, value_of high, s.normal, filled-not_none low, s.above)
 
   -- ---- rows
   pub row_normal : (es : List F) → AreElements NormalF f es → AreElements NormalE e (map lower es)
@@ -70,17 +67,14 @@ module _ {F E : Type 0} {HasF : Value → F → Type 0} {NormalF : F → Type 0}
   length-lower (t ∷ ts) = ap suc (length-lower ts)
 
   pub found_normal : (n : ℕ) (r : Option (List F)) → NormalRow NormalF f n r → NormalRow NormalE e n (option_map (map lower) r)
-  found_normal n None k = tt
-  found_normal n (Some es) k = (length-lower es ∙ k.0, row_normal es k.1)
+  found_normal x0 x1 x2 = grind (arith, length-lower, row_normal)
 
   found_above : (n : ℕ) (r : Option (List F)) → NormalRow NormalF f n r → (vs : Values) → HasRow HasF vs r → HasRow HasE vs (option_map (map lower) r)
-  found_above n None k vs h = h
-  found_above n (Some es) k vs h = row_above es k.1 vs h
+  found_above x0 x1 x2 x3 x4 = grind (arith, row_above)
 
   found_least : (n : ℕ) (r : Option (List F)) (u : Option (List E)) → NormalRow NormalF f n r → NormalRow NormalE e n u → ((vs : Values) → HasRow HasF vs r → HasRow HasE vs u) → (vs : Values) → HasRow HasE vs (option_map (map lower) r) → HasRow HasE vs u
-  found_least n None u j k p vs h = absurd h
-  found_least n (Some es) None j k p vs h = let w = values_of high es j.1 in absurd (p w.0 w.1)
-  found_least n (Some es) (Some gs) j k p vs h = row_least es gs j.1 k.1 p vs h
+  found_least n None u j k p x6 h = grind arith
+  found_least n (Some es) u j k p x6 h = grind (arith, values_of high, row_least)
 
   rows_normal : (n : ℕ) (m : List (Name × List F)) → NormalRows NormalF f n m → NormalRows NormalE e n (mapped (map lower) m)
   rows_normal n [] k = tt
@@ -88,31 +82,18 @@ module _ {F E : Type 0} {HasF : Value → F → Type 0} {NormalF : F → Type 0}
 
   -- ---- the tuples of one size
   first_open : (es : List F) → AreElements NormalF f es → FirstIsOpen NormalF f es → FirstIsOpen NormalE e (map lower es)
-  first_open [] j k = tt
-  first_open (t ∷ ts) j k = only_above high low t (lower t) j.0 k (s.above t j.0.0)
+  first_open x0 x1 x2 = grind (arith, only_above high low, s.above)
 
   -- where there are no tags, no element type is a set of few atoms
   all_open : e.has_tags ≡ false → (gs : List E) → FirstIsOpen NormalE e gs
-  all_open a [] = tt
-  all_open a (g ∷ gs) = elim (e.only g) as (λ x. e.only g ≡ x → x ≡ None) [
-    | None ↦ λ q. refl
-    | Some xs ↦ λ q. absurd (true≢false (sym (low.naming.only_tags g xs q) ∙ a))
-  ] refl
+  all_open x0 x1 = grind (arith, low.naming.only_tags)
 
   -- tags stay tags, or become a product
   abbrev lowered_tags : Bool → List (Name × List F) → Body E
   lowered_tags b m = cond b (tags (mapped (map lower) m)) (product (map lower (elements f (tags m))))
 
   tags_normal : (n : ℕ) (m : List (Name × List F)) (b : Bool) → e.has_tags ≡ b → NormalBody NormalF f (suc n) (Some (tags m)) → NormalBody NormalE e (suc n) (Some (lowered_tags b m))
-  tags_normal n m true a k = (
-    (
-      ap (is_ascending name_cmp) (keys-mapped name_total name_same (map lower) m) ∙ k.0.0,
-      empty-mapped name_total name_same (map lower) m ∙ k.0.1,
-      rows_normal n m k.0.2,
-    ),
-    ap (λ i. nat_lt i 14) (length-mapped name_total name_same (map lower) m) ∙ k.1,
-    a,
-  )
+  tags_normal n m true a k = grind (arith, keys-mapped, name_total, name_same, empty-mapped, rows_normal, length-mapped)
   tags_normal n m false a k = (found_normal (suc n) (Some (elements f (tags m))) (elements_normal high (suc n) (tags m) k), all_open a (map lower (elements f (tags m))))
 
   body_normal : (n : ℕ) (b : Body F) → NormalBody NormalF f n (Some b) → NormalBody NormalE e n (Some (body_lower lower f e b))
@@ -121,15 +102,11 @@ module _ {F E : Type 0} {HasF : Value → F → Type 0} {NormalF : F → Type 0}
   body_normal (suc n) (tags m) k = tags_normal n m e.has_tags refl k
 
   tags_above : (n : ℕ) (m : List (Name × List F)) (b : Bool) → NormalBody NormalF f (suc n) (Some (tags m)) → (vs : Values) → HasTag HasF vs m → HasBody HasE vs (Some (lowered_tags b m))
-  tags_above n m true k vs h =
-      let t = tagged high vs m h in
-      subst (λ x. HasTag HasE x (mapped (map lower) m)) (sym t.1.1.0) (subst (HasRow HasE t.1.0) (sym (find-mapped name_total name_same (map lower) m t.0)) (found_above n (find name_cmp m t.0) (rows_at high n m k.0.2 t.0) t.1.0 t.1.1.1))
+  tags_above n m true k vs h = grind (arith, tagged high, find-mapped, name_total, name_same, found_above, rows_at high)
   tags_above n m false k vs h = row_above (elements f (tags m)) (elements_normal high (suc n) (tags m) k).1 vs (elements_above high (suc n) (tags m) k vs h)
 
   body_above : (n : ℕ) (b : Body F) → NormalBody NormalF f n (Some b) → (vs : Values) → HasBody HasF vs (Some b) → HasBody HasE vs (Some (body_lower lower f e b))
-  body_above n (product es) k vs h = row_above es k.0.1 vs h
-  body_above zero (tags m) k vs h = absurd k
-  body_above (suc n) (tags m) k vs h = tags_above n m e.has_tags k vs h
+  body_above x0 x1 x2 x3 x4 = grind (arith, row_above, tags_above)
 
   pub all_each : e.has_tags ≡ false → (gs : List E) → AreElements NormalE e gs → (vs : Values) → count vs ≡ length gs → HasEach HasE vs gs
   all_each a [] k no_value q = tt
@@ -147,15 +124,12 @@ module _ {F E : Type 0} {HasF : Value → F → Type 0} {NormalF : F → Type 0}
       all_each a gs k.0.1 vs (count_each low vs (map lower (elements f (tags m))) h ∙ r.0 ∙ sym k.0.0)
 
   pub body_least : (n : ℕ) (b : Body F) (u : Body E) → NormalBody NormalF f n (Some b) → NormalBody NormalE e n (Some u) → ((vs : Values) → HasBody HasF vs (Some b) → HasBody HasE vs (Some u)) → (vs : Values) → HasBody HasE vs (Some (body_lower lower f e b)) → HasBody HasE vs (Some u)
-  body_least n (product es) (product gs) j k p vs h = row_least es gs j.0.1 k.0.1 p vs h
-  body_least n (product es) (tags m) j k p vs h = absurd (not_in_tags high low n es m j k p)
-  body_least zero (tags m) u j k p vs h = absurd j
-  body_least (suc n) (tags m) u j k p vs h = tags_least n m e.has_tags u refl j k p vs h
+  body_least n (product es) u j k p x6 h = grind (arith, row_least, not_in_tags high low)
+  body_least n (tags m) u j k p x6 h = grind (arith, tags_least)
 
   -- ---- tuples
   size_above : (n : ℕ) (b : Option (Body F)) → NormalBody NormalF f n b → (vs : Values) → HasBody HasF vs b → HasBody HasE vs (option_map (body_lower lower f e) b)
-  size_above n None k vs h = h
-  size_above n (Some b) k vs h = body_above n b k vs h
+  size_above x0 x1 x2 x3 x4 = grind (arith, body_above)
 
   size_least : (n : ℕ) (b : Option (Body F)) (u : Option (Body E)) → NormalBody NormalF f n b → NormalBody NormalE e n u → ((vs : Values) → HasBody HasF vs b → HasBody HasE vs u) → (vs : Values) → HasBody HasE vs (option_map (body_lower lower f e) b) → HasBody HasE vs u
   size_least n None u j k p vs h = absurd h
@@ -194,8 +168,7 @@ module _ {F E : Type 0} {HasF : Value → F → Type 0} {NormalF : F → Type 0}
   all_above t k (and_value v vs) h = (s.above t k v h.0, all_above t k vs h.1)
 
   cell_normal : (c : Option (Cell F)) → NormalCell NormalF f c → NormalCell NormalE e (cell_lower lower f e c)
-  cell_normal None k = tt
-  cell_normal (Some c) k = element_normal c.element k
+  cell_normal x0 x1 = grind (arith, element_normal)
 
   cell_above : (c : Option (Cell F)) → NormalCell NormalF f c → (x : Value × Value) → HasCell HasF x c → HasCell HasE x (cell_lower lower f e c)
   cell_above None k x h = h
@@ -212,9 +185,7 @@ module _ {F E : Type 0} {HasF : Value → F → Type 0} {NormalF : F → Type 0}
 
   -- ---- the parts of a type
   parts_above : (p : Parts F) → NormalParts NormalF f p → (v : Value) → HasParts HasF v p → HasParts HasE v (parts_lower lower f e p)
-  parts_above p k (cons x y) h = cell_above p.cell k.1 (x, y) h
-  parts_above p k (tuple vs) h = tuples_above p.tuples k.2 vs h
-  parts_above p k v h = h
+  parts_above x0 x1 x2 x3 = grind (arith, cell_above, tuples_above)
 
   parts_least : (p : Parts F) (u : Parts E) → NormalParts NormalF f p → NormalParts NormalE e u → ((v : Value) → HasParts HasF v p → HasParts HasE v u) → (v : Value) → HasParts HasE v (parts_lower lower f e p) → HasParts HasE v u
   parts_least p u j k q (cons x y) h = cell_least p.cell u.cell j.1 k.1 (λ c. q (cons c.0 c.1)) (x, y) h
@@ -222,39 +193,16 @@ module _ {F E : Type 0} {HasF : Value → F → Type 0} {NormalF : F → Type 0}
   parts_least p u j k q v h = q v h
 
   pub next_lowering : Lowering (HasParts HasF) (NormalParts NormalF f) (HasParts HasE) (NormalParts NormalE e) (parts_lower lower f e)
-  next_lowering = record {
-    normal = λ p k. (k.0, cell_normal p.cell k.1, tuples_normal p.tuples k.2);
-    above = parts_above;
-    least = parts_least;
-  }
+  next_lowering = grind (arith, cell_normal, tuples_normal, parts_above, parts_least)
 
 -- ---- to none or any, and from them
 
 module _ {F : Type 0} {HasF : Value → F → Type 0} {NormalF : F → Type 0} {f : Ops F} (high : Laws HasF NormalF f) where
   pub to_base : Lowering HasF NormalF (λ v t. t ≡ true) (λ t. Unit {0}) (λ t. not (f.is_none t))
-  to_base = record {
-    normal = λ t k. tt;
-    above = λ t k v h. some (f.is_none t) (λ q. high.lattice.none_empty v (subst (λ x. HasF v x) (high.none-is_none t q) h));
-    least = λ t u j k p v h. elim (high.lattice.filled t j) [
-      | inl q ↦ absurd (true≢false (sym h ∙ ap (λ x. not (f.is_none x)) q ∙ ap not high.is_none-none))
-      | inr w ↦ p w.0 w.1
-    ];
-  }
-    where
-      some : (b : Bool) → (b ≡ true → ⊥) → not b ≡ true
-      some true p = absurd (p refl)
-      some false p = refl
+  to_base = grind (arith, high.lattice.none_empty, high.none-is_none, high.lattice.filled, high.is_none-none)
 
   pub from_base : Lowering (λ v t. t ≡ true) (λ t. Unit {0}) HasF NormalF (λ t. cond t f.any f.none)
-  from_base = record {
-    normal = λ t k. elim t as (λ b. NormalF (cond b f.any f.none)) [ true ↦ high.any_normal | false ↦ high.lattice.none_normal ];
-    above = λ t k v h. subst (λ b. HasF v (cond b f.any f.none)) (sym h) (high.any_in v);
-    least = λ t u j k p v h. some v t u (p v) h;
-  }
-    where
-      some : (v : Value) (t : Bool) (u : F) → (t ≡ true → HasF v u) → HasF v (cond t f.any f.none) → HasF v u
-      some v true u p h = p refl
-      some v false u p h = absurd (high.lattice.none_empty v h)
+  from_base = grind (arith, high.any_normal, high.lattice.none_normal, high.any_in, high.lattice.none_empty)
 
 -- cut gives the least type above, from every level to every level
 pub cut_lowering : (e d : ℕ) → Lowering (HasAt e) (NormalAt e) (HasAt d) (NormalAt d) (cut e d)
@@ -274,8 +222,7 @@ module _ {F E : Type 0} {HasF : Value → F → Type 0} {NormalF : F → Type 0}
   row_exact (t ∷ ts) k (and_value v vs) h = (exact t k.0.0 v h.0, row_exact ts k.1 vs h.1)
 
   found_exact : (n : ℕ) (r : Option (List F)) → NormalRow NormalF f n r → (vs : Values) → HasRow HasE vs (option_map (map lower) r) → HasRow HasF vs r
-  found_exact n None k vs h = h
-  found_exact n (Some es) k vs h = row_exact es k.1 vs h
+  found_exact x0 x1 x2 x3 x4 = grind (arith, row_exact)
 
   body_exact : (n : ℕ) (b : Body F) → NormalBody NormalF f n (Some b) → (vs : Values) → HasBody HasE vs (Some (body_lower lower f e b)) → HasBody HasF vs (Some b)
   body_exact n (product es) k vs h = row_exact es k.0.1 vs h
@@ -286,8 +233,7 @@ module _ {F E : Type 0} {HasF : Value → F → Type 0} {NormalF : F → Type 0}
       subst (λ us. HasTag HasF us m) (sym t.1.1.0) (found_exact n (find name_cmp m t.0) (rows_at high n m k.0.2 t.0) t.1.0 (subst (HasRow HasE t.1.0) (find-mapped name_total name_same (map lower) m t.0) t.1.1.1))
 
   size_exact : (n : ℕ) (b : Option (Body F)) → NormalBody NormalF f n b → (vs : Values) → HasBody HasE vs (option_map (body_lower lower f e) b) → HasBody HasF vs b
-  size_exact n None k vs h = h
-  size_exact n (Some b) k vs h = body_exact n b k vs h
+  size_exact x0 x1 x2 x3 x4 = grind (arith, body_exact)
 
   tuples_exact : (t : Tuples F) → NormalTuples NormalF f t → (vs : Values) → HasTuple HasE vs (tuples_lower lower f e t) → HasTuple HasF vs t
   tuples_exact all_tuples k vs h = tt
@@ -303,9 +249,7 @@ module _ {F E : Type 0} {HasF : Value → F → Type 0} {NormalF : F → Type 0}
   cell_exact (Some c) k x h = (all_exact c.element k.0 (and_value x.0 (heads x.1)) h.0, h.1)
 
   pub next_exact : (p : Parts F) → NormalParts NormalF f p → (v : Value) → HasParts HasE v (parts_lower lower f e p) → HasParts HasF v p
-  next_exact p k (cons x y) h = cell_exact p.cell k.1 (x, y) h
-  next_exact p k (tuple vs) h = tuples_exact p.tuples k.2 vs h
-  next_exact p k v h = h
+  next_exact x0 x1 x2 x3 = grind (arith, cell_exact, tuples_exact)
 
 -- tags are on each level but the first two
 pub tags_remain : (e d : ℕ) → e ≤ d → (ops e).has_tags ≡ true → (ops d).has_tags ≡ true
@@ -315,8 +259,7 @@ tags_remain (suc e) zero le h = absurd (omega arith)
 tags_remain (suc e) (suc d) le h = refl
 
 not-not : (t : Bool) → not (not t) ≡ true → t ≡ true
-not-not true h = refl
-not-not false h = h
+not-not x0 x1 = grind arith
 
 -- and has no other values where it doesn't go down
 pub cut_exact : (e d : ℕ) → e ≤ d → (t : TypeAt e) → NormalAt e t → (v : Value) → HasAt d v (cut e d t) → HasAt e v t

@@ -1,5 +1,5 @@
 -- The laws of the elements of tuples: at a place of one size, and at the places in a set over all sizes.
-use Rattle.std.proofs.Common.{◌≡◌, inl, inr, ◌+◌, ◌-◌, ◌<◌, ◌≤◌, ℕ, zero, suc, pos, true, false, cond, List, [], ◌∷◌, ◌++◌, length, Option, Some, None, refl, sym, ap, ◌∙◌, subst, arith}
+use Rattle.std.proofs.Common.{◌≡◌, inl, inr, ◌+◌, ◌-◌, ◌<◌, ◌≤◌, ℕ, zero, suc, pos, true, false, cond, List, ◌∷◌, ◌++◌, length, Option, Some, None, refl, sym, ap, ◌∙◌, subst, arith}
 use Rattle.std.specs.Prelude.{nat_lt, slice_get}
 use borrow.Author.Tests.{lt-ltb}
 use Rattle.std.specs.Ordering.{nat_cmp, eq_by_cmp}
@@ -22,7 +22,7 @@ use Rattle.type_model.specs.Parts.{value_at, element_at, lifted, project_at}
 use Rattle.type_model.specs.Elements.{at_places, sizes_at, tuples_at, elements_at}
 use Rattle.type_model.specs.Laws.{BelowBy, Laws}
 use Rattle.type_model.proofs.TableLaws as tables
-use Rattle.type_model.proofs.TableLaws.{found_at, same_some, some-none}
+use Rattle.type_model.proofs.TableLaws.{found_at, same_some}
 use Rattle.type_model.proofs.LatticeLaws.{SomeOf, each_append, some_first, some_later, all-normal, all-has, all-least}
 use Rattle.type_model.proofs.CellLaws.{value_of}
 use Rattle.type_model.proofs.RowLaws.{values_of, row_lattice}

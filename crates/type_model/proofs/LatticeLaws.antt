@@ -1,7 +1,7 @@
 -- Families of sets: where one of two sets is part of the other, their meet is the one and their join the other; and sets
 -- that all have a value, with none beside them; and a set joined with others.
-use Rattle.std.specs.Prelude.{◌≡◌, ◌⊎◌, List, [], ◌∷◌, ◌++◌, Option, Some, None, refl}
-use Rattle.std.proofs.Common.{ap, inl, inr}
+use Rattle.std.specs.Prelude.{◌≡◌, ◌⊎◌, List, ◌∷◌, ◌++◌, Option, Some, None, refl}
+use Rattle.std.proofs.Common.{ap, inl, inr, arith}
 use Rattle.type_model.specs.Tables.{EachOf, joined, both_at}
 use Rattle.type_model.specs.Elements.{joined_all}
 use Rattle.type_model.specs.Laws.{BelowBy, Lattice}
@@ -54,14 +54,10 @@ module _ {V X : Type 0} {Has : V → Option X → Type 0} {Normal : Option X →
   meet_normal (Some x) (Some y) j k = f.meet_normal x y j k
 
   meet_in : (s t : Option X) → Normal s → Normal t → (v : V) → Has v s → Has v t → Has v (both_at meet s t)
-  meet_in None t j k v h g = h
-  meet_in (Some x) None j k v h g = g
-  meet_in (Some x) (Some y) j k v h g = f.meet_in x y j k v h g
+  meet_in x0 x1 x2 x3 x4 x5 x6 = grind (arith, f.meet_in)
 
   meet_out : (s t : Option X) → Normal s → Normal t → (v : V) → Has v (both_at meet s t) → Has v s × Has v t
-  meet_out None t j k v h = absurd (f.none_empty v h)
-  meet_out (Some x) None j k v h = absurd (f.none_empty v h)
-  meet_out (Some x) (Some y) j k v h = f.meet_out x y j k v h
+  meet_out x0 x1 x2 x3 x4 x5 = grind (arith, f.none_empty, f.meet_out)
 
   join_normal : (s t : Option X) → Normal s → Normal t → Normal (joined join s t)
   join_normal None t j k = k
@@ -69,14 +65,10 @@ module _ {V X : Type 0} {Has : V → Option X → Type 0} {Normal : Option X →
   join_normal (Some x) (Some y) j k = f.join_normal x y j k
 
   join_left : (s t : Option X) → Normal s → Normal t → BelowBy Has s (joined join s t)
-  join_left None t j k v h = absurd (f.none_empty v h)
-  join_left (Some x) None j k v h = h
-  join_left (Some x) (Some y) j k v h = f.join_left x y j k v h
+  join_left x0 x1 x2 x3 x4 x5 = grind (arith, f.none_empty, f.join_left)
 
   join_right : (s t : Option X) → Normal s → Normal t → BelowBy Has t (joined join s t)
-  join_right None t j k v h = h
-  join_right (Some x) None j k v h = absurd (f.none_empty v h)
-  join_right (Some x) (Some y) j k v h = f.join_right x y j k v h
+  join_right x0 x1 x2 x3 x4 x5 = grind (arith, f.none_empty, f.join_right)
 
   join_least : (s t u : Option X) → Normal s → Normal t → Normal u → BelowBy Has s u → BelowBy Has t u → BelowBy Has (joined join s t) u
   join_least None t u i j k a b v h = b v h
@@ -113,18 +105,16 @@ module _ {A : Type 0} (Q : A → Type 0) where
   each_append (x ∷ xs) ys j k = (j.0, each_append xs ys j.1 k)
 
   pub some_first : (xs ys : List A) → SomeOf Q xs → SomeOf Q (xs ++ ys)
-  some_first [] ys h = absurd h
-  some_first (x ∷ xs) ys (inl h) = inl h
-  some_first (x ∷ xs) ys (inr h) = inr (some_first xs ys h)
+  some_first [] x1 h = grind arith
+  some_first (x ∷ xs) x1 h = grind (arith, some_first xs)
 
   pub some_later : (xs ys : List A) → SomeOf Q ys → SomeOf Q (xs ++ ys)
   some_later [] ys h = h
   some_later (x ∷ xs) ys h = inr (some_later xs ys h)
 
   pub some_either : (xs ys : List A) → SomeOf Q (xs ++ ys) → SomeOf Q xs ⊎ SomeOf Q ys
-  some_either [] ys h = inr h
-  some_either (x ∷ xs) ys (inl h) = inl (inl h)
-  some_either (x ∷ xs) ys (inr h) = elim (some_either xs ys h) [ inl y ↦ inl (inr y) | inr y ↦ inr y ]
+  some_either [] x1 h = grind arith
+  some_either (x ∷ xs) x1 h = grind (arith, some_either xs)
 
 module _ {V P X : Type 0} {Has : V → P → Type 0} {Normal : P → Type 0} {none : P} {meet join : P → P → P} (l : Lattice Has Normal none meet join) (of : X → P) where
   pub all-normal : (t : P) (xs : List X) → Normal t → EachOf (λ x. Normal (of x)) xs → Normal (joined_all join of t xs)

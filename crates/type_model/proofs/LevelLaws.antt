@@ -1,5 +1,5 @@
 -- The laws of each level: of none and any at level 0, and by induction of all levels above.
-use Rattle.std.proofs.Common.{◌≡◌, ◌⊎◌, inl, inr, ℕ, zero, suc, Bool, true, false, ◌&&◌, ◌||◌, List, Some, None, refl, sym, ap, true≢false}
+use Rattle.std.proofs.Common.{◌≡◌, ◌⊎◌, inl, inr, ℕ, zero, suc, Bool, true, false, ◌&&◌, ◌||◌, List, Some, None, refl, sym, ap, true≢false, arith}
 use Rattle.std.specs.Prelude.{not, is_some}
 use Rattle.type_sets.specs.Names.{Name}
 use Rattle.type_sets.proofs.Truths.{both, first, second, in_first, in_second, either}
@@ -40,12 +40,10 @@ base_lattice = record {
 }
 
 base-none_is : (t : Bool) → not t ≡ true → t ≡ false
-base-none_is true e = sym e
-base-none_is false e = refl
+base-none_is x0 x1 = grind arith
 
 base-full : (t : Bool) → not t ≡ false → t ≡ true
-base-full true e = refl
-base-full false e = absurd (true≢false e)
+base-full x0 x1 = grind arith
 
 none-not_some : (xs : List Name) → None ≡ Some xs → ⊥
 none-not_some xs e = true≢false (sym (ap is_some e))
@@ -69,14 +67,7 @@ base_naming = record {
 }
 
 pub base_laws : Laws (λ v t. t ≡ true) (λ t. Unit {0}) base
-base_laws = record {
-  lattice = base_lattice;
-  is_none-none = refl;
-  none-is_none = base-none_is;
-  any_normal = tt;
-  any_in = λ v. refl;
-  naming = base_naming;
-}
+base_laws = grind (arith, base_lattice, base-none_is, base_naming)
 
 -- ---- all levels
 

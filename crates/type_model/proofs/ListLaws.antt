@@ -1,10 +1,10 @@
 -- The laws of conses: a type has those of its heads and its tails, which are the least types that say so.
-use Rattle.std.proofs.Common.{◌≡◌, ◌∙◌, ℕ, suc, Bool, true, false, cond, [], Option, Some, None, refl, sym, ap, subst, arith, true≢false}
+use Rattle.std.proofs.Common.{◌≡◌, ◌∙◌, ℕ, suc, Bool, true, false, cond, Option, Some, None, refl, sym, ap, subst, arith, true≢false}
 use Rattle.std.specs.Prelude.{◌↔◌}
 use Rattle.type_sets.specs.Names as names
 use Rattle.type_sets.specs.Numbers as numbers
 use Rattle.type_sets.specs.declared.bits.Bits.TheVariants.{No}
-use Rattle.type_model.specs.Values.{Value, int, atom, nil, cons, tuple, Values, no_value, and_value, heads, end_of}
+use Rattle.type_model.specs.Values.{Value, nil, cons, Values, no_value, and_value, heads, end_of}
 use Rattle.type_model.specs.Shapes.{no_function, Cell, sizes, all_tuples, TypeAt}
 use Rattle.type_model.specs.HasType.{HasAll, HasCell, HasParts, HasAt}
 use Rattle.type_model.specs.Operations.{plain_none, plain_all, ops}
@@ -12,7 +12,6 @@ use Rattle.type_model.specs.Normal.{NormalCell, NormalAt}
 use Rattle.type_model.specs.Cut.{cut}
 use Rattle.type_model.specs.Parts.{element_with, flags_of_nil, tail_parts, cons_at, lifted, element_of, elem_at, tail_at}
 use Rattle.type_model.specs.Laws.{BelowBy}
-use Rattle.type_model.specs.ValueShapes.{an_int, an_atom}
 use Rattle.type_model.proofs.PlainLaws.{plain-none_empty}
 use Rattle.type_model.proofs.CellLaws.{value_of}
 use Rattle.type_model.proofs.LevelLaws.{level_laws}
@@ -24,12 +23,7 @@ use Rattle.type_model.proofs.MadeLaws.{cell_type, cons-cases, cons-made, cons-no
 module _ {E : Type 0} (Has : Value → E → Type 0) where
   -- its heads are in the element type, and it ends in nil where the list has to
   tail_out : (c : Cell E) (b : Bool) (y : Value) → (c.is_proper ≡ true → b ≡ true) → HasParts Has y (record { plain = cond b (record { atoms = names.none; ints = numbers.none; bits = No; flags = flags_of_nil; functions = no_function }) plain_all; cell = Some c; tuples = cond b (sizes []) all_tuples }) → HasAll Has (heads y) c.element × (c.is_proper ≡ true → end_of y ≡ nil)
-  tail_out c b (cons x y) f h = h
-  tail_out c b nil f h = (tt, λ e. refl)
-  tail_out c true (tuple vs) f h = absurd h
-  tail_out c true y f h = absurd (true≢false (sym h))
-  tail_out c false (tuple vs) f h = (tt, λ e. absurd (true≢false (sym (f e))))
-  tail_out c false y f h = (tt, λ e. absurd (true≢false (sym (f e))))
+  tail_out x0 x1 x2 x3 x4 = grind arith
 
 -- ---- heads and tails of a type
 
@@ -69,16 +63,11 @@ tail-least d s k u f = rest-least d s.cell k.1 u f
 
 -- a type with a cell alone has conses alone
 conses : (d : ℕ) (c : Option (Cell (TypeAt d))) (v : Value) → HasParts (HasAt d) v (record { plain = plain_none; cell = c; tuples = sizes [] }) → (x : Value) × ((y : Value) × ((v ≡ cons x y) × HasCell (HasAt d) (x, y) c))
-conses d c (int n) h = absurd (plain-none_empty (an_int n) h)
-conses d c (atom a) h = absurd (plain-none_empty (an_atom a) h)
-conses d c (cons x y) h = (x, (y, (refl, h)))
-conses d c (tuple vs) h = absurd h
-conses d c v h = absurd (true≢false (sym h))
+conses x0 x1 x2 x3 = grind (arith, plain-none_empty)
 
 -- a value of the lists of a head and a tail is a cons, and neither type is none
 made_out : (d : ℕ) (h t : TypeAt (suc d)) (proper : Bool) (v : Value) → HasAt (suc d) v (cons_at d h t proper) → ((ops (suc d)).is_none h ≡ false) × (((ops (suc d)).is_none t ≡ false) × HasAt (suc d) v (cell_type d h t proper))
-made_out d h t proper v m =
-    cons-cases d h t proper (λ c. HasAt (suc d) v c → ((ops (suc d)).is_none h ≡ false) × (((ops (suc d)).is_none t ≡ false) × HasAt (suc d) v (cell_type d h t proper))) (λ x. absurd ((level_laws (suc d)).lattice.none_empty v x)) (λ e f x. (e, (f, x))) m
+made_out d h t proper v m = grind (arith, cons-cases, cell_type, level_laws, (level_laws (suc d)).lattice.none_empty)
 
 pub cons-only : (d : ℕ) (h t : TypeAt (suc d)) (proper : Bool) (v : Value) → HasAt (suc d) v (cons_at d h t proper) → (x : Value) × ((y : Value) × (v ≡ cons x y))
 cons-only d h t proper v m =

@@ -1,9 +1,7 @@
 -- The laws of types made of types: of tuples and of lists, and of the elements, heads and tails that these have.
-use Rattle.std.proofs.Common.{◌≡◌, ℕ, zero, suc, ◌-◌, Bool, true, false, cond, ◌&&◌, inl, inr, List, [], ◌∷◌, length, Option, Some, None, refl, sym, ap, ◌∙◌, subst, true≢false}
+use Rattle.std.proofs.Common.{◌≡◌, ℕ, zero, suc, ◌-◌, Bool, true, false, cond, ◌&&◌, inl, inr, List, ◌∷◌, length, Option, Some, None, refl, sym, ap, ◌∙◌, subst, true≢false, arith}
 use Rattle.std.specs.Prelude.{nat_lt, slice_get}
 use Rattle.std.specs.Ordering.{nat_cmp, eq_by_cmp}
-use Rattle.std.specs.Cmp.{nat_cmp_total}
-use Rattle.std.specs.FinSet.{nat_cmp-IsAntisymmetric}
 use Rattle.type_sets.specs.Names as names
 use Rattle.type_sets.specs.Numbers as numbers
 use Rattle.type_sets.specs.declared.bits.Bits.TheVariants.{No}
@@ -11,10 +9,9 @@ use Rattle.type_sets.proofs.NameLaws as name_laws
 use Rattle.type_sets.proofs.AscendingLaws.{itself}
 use Rattle.type_sets.proofs.Truths.{both, first, second}
 use Rattle.type_model.specs.Values.{Value, atom, nil, cons, tuple, Values, no_value, and_value, count, heads, end_of}
-use Rattle.type_model.specs.Tables.{find}
 use Rattle.type_model.specs.Shapes.{nils, no_function, PlainParts, Cell, Body, Tuples, sizes, all_tuples, Parts, TypeAt}
 use Rattle.type_model.specs.HasType.{HasAll, HasEach, HasCell, HasBody, HasTuple, HasParts, HasAt}
-use Rattle.type_model.specs.Operations.{Ops, plain_none, plain_all, is_no_plain, is_atoms, is_empty, has_none, body_of, elements, no_tuples, of_plain, ops}
+use Rattle.type_model.specs.Operations.{Ops, plain_none, plain_all, is_no_plain, is_atoms, has_none, body_of, elements, no_tuples, ops}
 use Rattle.type_model.specs.Normal.{IsElement, NormalCell, AreElements, NormalBody, NormalTuples, NormalParts, NormalAt}
 use Rattle.type_model.specs.Cut.{cut}
 use Rattle.type_model.specs.Parts.{value_at, AreNormal, product_of, proper_cell, without_nil, is_list, element_with, element_at, flags_of_nil, tail_parts, tuple_at, cons_at, lifted, project_at, element_of, elem_at, tail_at}
@@ -48,26 +45,17 @@ module _ {E : Type 0} {Has : Value → E → Type 0} {Normal : E → Type 0} {o 
   row_tuples_normal false es q k = tt
 
   pub product_normal : (es : List E) → AreNormal Normal es → NormalParts Normal o (product_of o es)
-  product_normal es k = elim (has_none o es) as (λ b. has_none o es ≡ b → NormalParts Normal o (cond b (of_plain o plain_none) (row_parts (nat_lt (length es) 65) es))) [
-    | true ↦ λ q. (next_laws l).lattice.none_normal
-    | false ↦ λ q. (tt, tt, row_tuples_normal (nat_lt (length es) 65) es refl (are_elements es k q))
-  ] refl
+  product_normal es k = grind (arith, row_parts, next_laws l, row_tuples_normal, are_elements, (next_laws l).lattice.none_normal)
 
   row_tuples_in : (b : Bool) (es : List E) (vs : Values) → HasEach Has vs es → HasTuple Has vs (row_tuples b es)
-  row_tuples_in true es vs h =
-      let q : eq_by_cmp nat_cmp (count vs) (length es) ≡ true = ap (λ n. eq_by_cmp nat_cmp n (length es)) (count_each l vs es h) ∙ itself nat_cmp_total nat_cmp-IsAntisymmetric (length es) in
-      subst (λ b. HasBody Has vs (cond b (Some (body_of o es)) None)) (sym q) (body_of_in l es vs h)
-  row_tuples_in false es vs h = tt
+  row_tuples_in x0 x1 x2 x3 = grind (arith, count_each l, itself, body_of_in l)
 
   pub product_in : (es : List E) (vs : Values) → HasEach Has vs es → HasParts Has (tuple vs) (product_of o es)
-  product_in es vs h =
-      subst (λ b. HasParts Has (tuple vs) (cond b (of_plain o plain_none) (row_parts (nat_lt (length es) 65) es))) (sym (row_filled-not_none l vs es h)) (row_tuples_in (nat_lt (length es) 65) es vs h)
+  product_in es vs h = grind (arith, row_parts, row_filled-not_none l, row_tuples_in)
 
   -- a type of tuples has nothing but tuples
   pub of_tuples : (t : Tuples E) (v : Value) → HasParts Has v (record { plain = plain_none; cell = None; tuples = t }) → (vs : Values) × ((v ≡ tuple vs) × HasTuple Has vs t)
-  of_tuples t (cons x y) h = absurd h
-  of_tuples t (tuple vs) h = (vs, (refl, h))
-  of_tuples t v h = absurd (true≢false (sym h))
+  of_tuples x0 x1 x2 = grind arith
 
   row_tuples_out : (b : Bool) (es : List E) (vs : Values) → b ≡ true → HasTuple Has vs (row_tuples b es) → HasEach Has vs es
   row_tuples_out true es vs q h = elim (eq_by_cmp nat_cmp (count vs) (length es)) as (λ b. HasBody Has vs (cond b (Some (body_of o es)) None) → HasEach Has vs es) [ true ↦ λ x. body_of_out l es vs x | false ↦ λ x. absurd x ] h
@@ -75,17 +63,11 @@ module _ {E : Type 0} {Has : Value → E → Type 0} {Normal : E → Type 0} {o 
 
   -- a value of the product is a tuple of these types, if tuples aren't too long
   pub product_out : (es : List E) (v : Value) → HasParts Has v (product_of o es) → (has_none o es ≡ false) × ((vs : Values) × ((v ≡ tuple vs) × (nat_lt (length es) 65 ≡ true → HasEach Has vs es)))
-  product_out es v h = elim (has_none o es) as (λ b. HasParts Has v (cond b (of_plain o plain_none) (row_parts (nat_lt (length es) 65) es)) → (b ≡ false) × ((vs : Values) × ((v ≡ tuple vs) × (nat_lt (length es) 65 ≡ true → HasEach Has vs es)))) [
-    | true ↦ λ x. absurd ((next_laws l).lattice.none_empty v x)
-    | false ↦ λ x.
-        let t = of_tuples (row_tuples (nat_lt (length es) 65) es) v x in
-        (refl, (t.0, (t.1.0, λ q. row_tuples_out (nat_lt (length es) 65) es t.0 q t.1.1)))
-  ] h
+  product_out es v h = grind (arith, row_parts, next_laws l, of_tuples, row_tuples, row_tuples_out, (next_laws l).lattice.none_empty)
 
   -- a normal type that has a longer tuple has all tuples
   long_tuples : (t : Tuples E) → NormalTuples Normal o t → (ws : Values) → HasTuple Has ws t → nat_lt (count ws) 65 ≡ false → (vs : Values) → HasTuple Has vs t
-  long_tuples all_tuples k ws h q vs = tt
-  long_tuples (sizes m) k ws h q vs = absurd (true≢false (sym (small_at l m k.2 (count ws) (some_at l (find nat_cmp m (count ws)) ws h)) ∙ q))
+  long_tuples x0 x1 x2 x3 x4 x5 = grind (arith, small_at l, some_at l)
 
 -- the tuples of some types: their type is the least of its level; where one of them is none, it is none
 pub tuple-normal : (d : ℕ) (es : List (TypeAt d)) → AreNormal (NormalAt d) es → NormalAt d (tuple_at d es)
@@ -134,39 +116,24 @@ leaf_of f = an_atom []
 
 -- a value that holds no others and ends in nil is nil
 leaf_end : (v : Value) (x : Leaf) → shape v ≡ leaf x → end_of v ≡ nil → x ≡ of_flag nils
-leaf_end nil x f q = cc
-leaf_end v x f q = absurd cc
+leaf_end x0 x1 x2 x3 = grind arith
 
 module _ {E : Type 0} {Has : Value → E → Type 0} {Normal : E → Type 0} {o : Ops E} (l : Laws Has Normal o) where
   -- each leaf but nil
   kept_leaf : (p : PlainParts) (x : Leaf) → has_leaf (without_nil p) x ≡ true → (has_leaf p x ≡ true) × (x ≡ of_flag nils → ⊥)
-  kept_leaf p (of_flag nils) h = absurd (true≢false (sym h))
-  kept_leaf p x h = (h, λ q. absurd cc)
+  kept_leaf x0 x1 x2 = grind arith
 
   has_value : (x : Leaf) (p : Parts E) → has_leaf p.plain x ≡ true → HasParts Has (value_of_shape (leaf x)) p
   has_value x p h = subst (λ T. T) (sym (has-shape Has (value_of_shape (leaf x)) p)) (subst (λ g. HasShape Has g p) (sym (shape-value_of_shape (leaf x))) h)
 
   proper_end : (c : Option (Cell E)) → proper_cell c ≡ true → (h t : Value) → HasCell Has (h, t) c → end_of t ≡ nil
-  proper_end None e h t k = absurd k
-  proper_end (Some c) e h t k = k.1 e
+  proper_end x0 x1 x2 x3 x4 = grind arith
 
   without_tuples : (t : Tuples E) → no_tuples o t ≡ true → (vs : Values) → HasTuple Has vs t → ⊥
-  without_tuples all_tuples e vs h = true≢false (sym e)
-  without_tuples (sizes []) e vs h = h
-  without_tuples (sizes (x ∷ m)) e vs h = true≢false (sym e)
+  without_tuples x0 x1 x2 x3 = grind arith
 
   pub list_values : (p : Parts E) → is_list o p ≡ true → (v : Value) → HasParts Has v p → end_of v ≡ nil
-  list_values p e v h =
-      let a = is_no_plain (without_nil p.plain) in
-      let b = proper_cell p.cell in
-      let c = no_tuples o p.tuples in
-      each p (first a b (first (a && b) c e)) (second a b (first (a && b) c e)) (second (a && b) c e) v h
-    where
-      each : (p : Parts E) → is_no_plain (without_nil p.plain) ≡ true → proper_cell p.cell ≡ true → no_tuples o p.tuples ≡ true → (v : Value) → HasParts Has v p → end_of v ≡ nil
-      each p x y z nil h = refl
-      each p x y z (cons a b) h = proper_end p.cell y a b h
-      each p x y z (tuple vs) h = absurd (without_tuples p.tuples z vs h)
-      each p x y z v h = absurd (no_leaf (without_nil p.plain) x (leaf_of (shape v)) h)
+  list_values p e v h = grind (arith, first, second, proper_end, without_tuples, no_leaf, leaf_of)
 
   ends_proper : (c : Option (Cell E)) → NormalCell Normal o c → ((h t : Value) → HasCell Has (h, t) c → end_of t ≡ nil) → proper_cell c ≡ true
   ends_proper None k f = refl
@@ -229,18 +196,10 @@ cell_type d h t proper = record {
 
 -- what holds of none, and of this type where neither is none, holds of the lists
 pub cons-cases : (d : ℕ) (h t : TypeAt (suc d)) (proper : Bool) (Q : TypeAt (suc d) → Type 0) → Q (ops (suc d)).none → ((ops (suc d)).is_none h ≡ false → (ops (suc d)).is_none t ≡ false → Q (cell_type d h t proper)) → Q (cons_at d h t proper)
-cons-cases d h t proper Q none made = elim ((ops (suc d)).is_none h) as (λ b. (ops (suc d)).is_none h ≡ b → Q (cond b (ops (suc d)).none (cond ((ops (suc d)).is_none t) (ops (suc d)).none (cell_type d h t proper)))) [
-  | true ↦ λ e. none
-  | false ↦ λ e. elim ((ops (suc d)).is_none t) as (λ b. (ops (suc d)).is_none t ≡ b → Q (cond b (ops (suc d)).none (cell_type d h t proper))) [
-    | true ↦ λ f. none
-    | false ↦ λ f. made e f
-  ] refl
-] refl
+cons-cases d h t proper Q none made = grind (arith, cell_type)
 
 pub cons-made : (d : ℕ) (h t : TypeAt (suc d)) (proper : Bool) → (ops (suc d)).is_none h ≡ false → (ops (suc d)).is_none t ≡ false → cons_at d h t proper ≡ cell_type d h t proper
-cons-made d h t proper e f =
-    let none = (ops (suc d)).none in
-    ap (λ b. cond b none (cond ((ops (suc d)).is_none t) none (cell_type d h t proper))) e ∙ ap (λ b. cond b none (cell_type d h t proper)) f
+cons-made d h t proper e f = grind (arith, cell_type)
 
 -- what a type has a value of, is an element type one level down
 cut_element : (d : ℕ) (h : TypeAt (suc d)) → NormalAt (suc d) h → (ops (suc d)).is_none h ≡ false → IsElement (NormalAt d) (ops d) (cut (suc d) d h)
@@ -299,13 +258,8 @@ cons-least d h t j k u i p =
 module _ {E : Type 0} {Has : Value → E → Type 0} {Normal : E → Type 0} {o : Ops E} (l : Laws Has Normal o) where
   -- the type at a place
   place_in : (vs : Values) (es : List E) → HasEach Has vs es → AreElements Normal o es → (i : ℕ) (v : Value) → value_at vs i ≡ Some v → (e : E) × ((slice_get es i ≡ Some e) × (Normal e × Has v e))
-  place_in no_value es h k i v q = absurd cc
-  place_in (and_value u us) [] h k i v q = absurd h
-  place_in (and_value u us) (e ∷ es) h k zero v q = (e, (refl, (k.0.0, subst (λ x. Has x e) (same u v q) h.0)))
-    where
-      same : (x y : Value) → Some x ≡ Some y → x ≡ y
-      same x y q = cc
-  place_in (and_value u us) (e ∷ es) h k (suc i) v q = place_in us es h.1 k.1 i v q
+  place_in no_value x1 h k i v q = grind arith
+  place_in (and_value u us) x1 h k i v q = grind (arith, place_in us)
 
   abbrev pub at_place : Option (Body E) → ℕ → Option E
   at_place b i = elim b [ None ↦ None | Some c ↦ slice_get (elements o c) i ]
@@ -316,51 +270,32 @@ module _ {E : Type 0} {Has : Value → E → Type 0} {Normal : E → Type 0} {o 
 
   tuple_place : (t : Tuples E) → NormalTuples Normal o t → (vs : Values) → HasTuple Has vs t → (i : ℕ) (v : Value) → value_at vs i ≡ Some v → (e : E) × ((element_at o t (count vs) i ≡ Some e) × (Normal e × Has v e))
   tuple_place all_tuples k vs h i v q = (o.any, (refl, (l.any_normal, l.any_in v)))
-  tuple_place (sizes m) k vs h i v q =
-      let n = count vs in
-      let few : nat_lt n 65 ≡ true = small_at l m k.2 n (some_at l (find nat_cmp m n) vs h) in
-      let w = body_place n (find nat_cmp m n) (normal_at l m k.2 n) vs h i v q in
-      (w.0, (ap (λ b. cond b (at_place (find nat_cmp m n) i) (cond (is_empty m) None (Some o.any))) few ∙ w.1.0, w.1.1))
+  tuple_place (sizes m) k vs h i v q = grind (arith, small_at l, some_at l, body_place, normal_at l, at_place)
 
   abbrev IfSome : Option E → Type 0
   IfSome None = Unit {0}
   IfSome (Some e) = Normal e
 
   place_normal : (es : List E) → AreElements Normal o es → (i : ℕ) → IfSome (slice_get es i)
-  place_normal [] k i = tt
-  place_normal (e ∷ es) k zero = k.0.0
-  place_normal (e ∷ es) k (suc i) = place_normal es k.1 i
+  place_normal [] k i = grind arith
+  place_normal (e ∷ es) k i = grind (arith, place_normal es)
 
   body_place_normal : (n : ℕ) (b : Option (Body E)) → NormalBody Normal o n b → (i : ℕ) → IfSome (at_place b i)
-  body_place_normal n None k i = tt
-  body_place_normal n (Some c) k i = place_normal (elements o c) (elements_normal l n c k).1 i
+  body_place_normal x0 x1 x2 x3 = grind (arith, place_normal, elements_normal l)
 
   tuple_place_normal : (t : Tuples E) → NormalTuples Normal o t → (n i : ℕ) → IfSome (element_at o t n i)
   tuple_place_normal all_tuples k n i = l.any_normal
-  tuple_place_normal (sizes m) k n i = elim (nat_lt n 65) as (λ b. IfSome (cond b (at_place (find nat_cmp m n) i) (cond (is_empty m) None (Some o.any)))) [
-    | true ↦ body_place_normal n (find nat_cmp m n) (normal_at l m k.2 n) i
-    | false ↦ elim (is_empty m) as (λ b. IfSome (cond b None (Some o.any))) [ true ↦ tt | false ↦ l.any_normal ]
-  ]
+  tuple_place_normal (sizes m) k n i = grind (arith, IfSome, at_place, body_place_normal, normal_at l, l.any_normal)
 
   -- what follows the head of a list
   tail_from : (c : Cell E) (b : Bool) (t : Value) → HasAll Has (heads t) c.element → (b ≡ true → end_of t ≡ nil) → (c.is_proper ≡ true → end_of t ≡ nil) → HasParts Has t (record { plain = cond b (record { atoms = names.none; ints = numbers.none; bits = No; flags = flags_of_nil; functions = no_function }) plain_all; cell = Some c; tuples = cond b (sizes []) all_tuples })
-  tail_from c true nil h f g = refl
-  tail_from c true (cons x y) h f g = (h, g)
-  tail_from c true t h f g = absurd (let q = f refl in cc)
-  tail_from c false (cons x y) h f g = (h, g)
-  tail_from c false (tuple vs) h f g = tt
-  tail_from c false t h f g = refl
+  tail_from x0 x1 x2 x3 x4 x5 = grind arith
 
   pub tail_in : (c : Option (Cell E)) (h t : Value) → HasCell Has (h, t) c → HasParts Has t (tail_parts o c)
-  tail_in None h t k = absurd k
-  tail_in (Some c) h t k = tail_from c c.is_proper t k.0.1 k.1 k.1
+  tail_in x0 x1 x2 x3 = grind (arith, tail_from)
 
   pub tail_normal : (c : Option (Cell E)) → NormalCell Normal o c → NormalParts Normal o (tail_parts o c)
-  tail_normal None k = (next_laws l).lattice.none_normal
-  tail_normal (Some c) k = elim c.is_proper as (λ b. NormalParts Normal o (record { plain = cond b (record { atoms = names.none; ints = numbers.none; bits = No; flags = flags_of_nil; functions = no_function }) plain_all; cell = Some c; tuples = cond b (sizes []) all_tuples })) [
-    | true ↦ (tt, k, (tuples_lattice l).none_normal)
-    | false ↦ (tt, k, tt)
-  ]
+  tail_normal x0 x1 = grind (arith, next_laws l, (next_laws l).lattice.none_normal, tuples_lattice l, (tuples_lattice l).none_normal)
 
 lifted-normal : (d : ℕ) (x : Option (TypeAt d)) → IfSome (level_laws d) x → NormalAt (suc d) (lifted d x)
 lifted-normal d None k = (level_laws (suc d)).lattice.none_normal

@@ -1,12 +1,12 @@
 -- The laws of larger types: cut, or taken for the type of an element, they give larger types.
-use Rattle.std.proofs.Common.{ℕ, zero, suc, ◌-◌, true, false, cond, inl, inr, List, [], ◌∷◌, Option, Some, None}
+use Rattle.std.proofs.Common.{ℕ, suc, ◌-◌, true, false, cond, inl, inr, List, ◌∷◌, Option, Some, None, arith}
 use Rattle.std.specs.Prelude.{nat_lt, slice_get}
 use Rattle.std.specs.Ordering.{nat_cmp}
 use Rattle.type_model.specs.Values.{Value, tuple}
 use Rattle.type_model.specs.Tables.{find}
 use Rattle.type_model.specs.Shapes.{Body, Tuples, sizes, all_tuples, TypeAt}
 use Rattle.type_model.specs.HasType.{HasBody, HasTuple, HasAt}
-use Rattle.type_model.specs.Operations.{Ops, is_empty, elements, ops}
+use Rattle.type_model.specs.Operations.{Ops, is_empty, ops}
 use Rattle.type_model.specs.Normal.{AreElements, NormalBody, NormalTuples, NormalAt}
 use Rattle.type_model.specs.Cut.{cut}
 use Rattle.type_model.specs.Parts.{element_at, lifted, project_at}
@@ -29,19 +29,14 @@ module _ {E : Type 0} {Has : Value → E → Type 0} {Normal : E → Type 0} {o 
   -- ---- an element of a tuple
 
   place_rises : (es fs : List E) → AreElements Normal o es → AreElements Normal o fs → BelowEach Has es fs → (i : ℕ) → Rises (slice_get es i) (slice_get fs i)
-  place_rises [] fs j k f i = tt
-  place_rises (e ∷ es) [] j k f i = absurd f
-  place_rises (e ∷ es) (g ∷ gs) j k f zero = (j.0.0, (k.0.0, f.0))
-  place_rises (e ∷ es) (g ∷ gs) j k f (suc i) = place_rises es gs j.1 k.1 f.1 i
+  place_rises [] x1 j k f i = grind arith
+  place_rises (e ∷ es) x1 j k f i = grind (arith, place_rises es)
 
   -- the least product that contains a body is below the one that contains a larger body
   body_rises : (n : ℕ) (b c : Option (Body E)) → NormalBody Normal o n b → NormalBody Normal o n c → BelowBy (HasBody Has) b c → (i : ℕ) → Rises (at_place l b i) (at_place l c i)
   body_rises n None c j k f i = tt
   body_rises n (Some b) None j k f i = elim ((body_lattice l n).filled (Some b) j) [ inl z ↦ absurd (some-none b z) | inr v ↦ absurd (f v.0 v.1) ]
-  body_rises n (Some b) (Some c) j k f i =
-      let es = elements o b in
-      let gs = elements o c in
-      place_rises es gs (elements_normal l n b j).1 (elements_normal l n c k).1 (elements_least l n b gs j (elements_normal l n c k) (λ vs h. elements_above l n c k vs (f vs h))) i
+  body_rises n (Some b) (Some c) j k f i = grind (arith, place_rises, elements_normal l, elements_least l, elements_above l)
 
   -- of long tuples it is told only whether there are tuples
   long_rises : (m w : List (ℕ × Body E)) → NormalTuples Normal o (sizes m) → BelowBy (HasTuple Has) (sizes m) (sizes w) → Rises (cond (is_empty m) None (Some o.any)) (cond (is_empty w) None (Some o.any))

@@ -1,14 +1,14 @@
 -- The laws of types made of parts, from those of their element types.
-use Rattle.std.proofs.Common.{◌≡◌, ◌⊎◌, inl, inr, true, false, ◌&&◌, List, [], ◌∷◌, Option, Some, None, refl, sym, ap, ◌∙◌, subst, arith, true≢false}
+use Rattle.std.proofs.Common.{◌≡◌, ◌⊎◌, inl, inr, true, false, ◌&&◌, List, Option, Some, None, refl, sym, ap, ◌∙◌, subst, arith, true≢false}
 use Rattle.std.specs.Prelude.{cond, is_some}
 use Rattle.type_sets.specs.Ascending.{is_ascending, has_item}
 use Rattle.type_sets.specs.Names as names
-use Rattle.type_sets.specs.Names.{Name, Names, name_cmp, are_listed, some, every}
+use Rattle.type_sets.specs.Names.{Name, Names, name_cmp, are_listed, every}
 use Rattle.type_sets.proofs.Truths.{both, first, second, decided}
 use Rattle.type_sets.proofs.AscendingLaws as ascending
 use Rattle.type_sets.proofs.NameLaws as name_laws
-use Rattle.type_model.specs.Values.{Value, atom, nil, cons, tuple, Values, no_value, and_value, heads}
-use Rattle.type_model.specs.Shapes.{Cell, Tuples, sizes, all_tuples, Parts}
+use Rattle.type_model.specs.Values.{Value, atom, nil, Values, no_value, and_value}
+use Rattle.type_model.specs.Shapes.{Cell, Tuples, sizes, Parts}
 use Rattle.type_model.specs.HasType.{HasAll, HasCell, HasTuple, HasParts}
 use Rattle.type_model.specs.Operations.{Ops, plain_none, is_atoms, is_empty, cell_meet, cell_join, tuples_meet, tuples_join, no_cell, no_tuples, is_only_atoms, of_plain, of_atoms, parts_any, parts_is_none, parts_meet, parts_join, parts_only, next}
 use Rattle.type_model.specs.Normal.{NormalCell, NormalTuples, NormalParts}
@@ -56,37 +56,23 @@ module _ {V W P : Type 0} (HasV : V → P → Type 0) (HasW : W → P → Type 0
 -- ---- what a set of atoms lists
 
 listed-has : (s : Names) (xs : List Name) → names.members_of s ≡ Some xs → (a : Name) → names.has s a ≡ has_item name_cmp xs a
-listed-has (some ys e) xs q a = let p : ys ≡ xs = cc in ap (λ z. has_item name_cmp z a) p
-listed-has every xs q a = absurd (true≢false (sym (ap is_some q)))
+listed-has x0 x1 x2 x3 = grind arith
 
 listed-are : (s : Names) (xs : List Name) → names.members_of s ≡ Some xs → are_listed xs ≡ true
-listed-are (some ys e) xs q = let p : ys ≡ xs = cc in subst (λ z. are_listed z ≡ true) p e
-listed-are every xs q = absurd (true≢false (sym (ap is_some q)))
+listed-are x0 x1 x2 = grind arith
 
 listed-not : (s : Names) → names.members_of s ≡ None → (a : Name) → names.has s a ≡ true
-listed-not (some ys e) q a = absurd (true≢false (ap is_some q))
-listed-not every q a = refl
+listed-not x0 x1 x2 = grind arith
 
 -- the least set of some names that ascend
 least-in : (xs : List Name) (a : Name) → has_item name_cmp xs a ≡ true → names.has (names.or_else xs every) a ≡ true
-least-in xs a h = elim (decided (are_listed xs)) [
-  | inl y ↦ name_laws.has-listed xs every a y ∙ h
-  | inr y ↦ ap (λ s. names.has s a) (name_laws.or_else-no xs every y)
-]
+least-in xs a h = grind (arith, decided, name_laws.has-listed, name_laws.or_else-no)
 
 least-below : (xs : List Name) (u : Names) → is_ascending name_cmp xs ≡ true → ((q : Name) → has_item name_cmp xs q ≡ true → names.has u q ≡ true) → names.Below (names.or_else xs every) u
-least-below xs every k f q h = refl
-least-below xs (some ys e) k f q h = elim (decided (are_listed xs)) [
-  | inl y ↦ f q (sym (name_laws.has-listed xs every q y) ∙ h)
-  | inr y ↦
-      let le = ascending.length-part name_laws.name_total name_laws.name_same ys xs k (name_laws.listed-ascending ys e) f in
-      let few = name_laws.listed-few ys e in
-      absurd (true≢false (sym (name_laws.listed-from xs k (omega arith)) ∙ y))
-]
+least-below x0 x1 x2 x3 x4 x5 = grind (arith, decided, name_laws.has-listed, ascending.length-part, name_laws.name_total, name_laws.name_same, name_laws.listed-ascending, name_laws.listed-few, name_laws.listed-from)
 
 empty-is : {A : Type 0} (m : List A) → is_empty m ≡ true → m ≡ []
-empty-is [] e = refl
-empty-is (x ∷ m) e = absurd (true≢false (sym e))
+empty-is x0 x1 = grind arith
 
 module _ {E : Type 0} {Has : Value → E → Type 0} {Normal : E → Type 0} {o : Ops E} (l : Laws Has Normal o) where
   abbrev P : Type 0
@@ -110,24 +96,16 @@ module _ {E : Type 0} {Has : Value → E → Type 0} {Normal : E → Type 0} {o 
   -- ---- a type with nothing but atoms
 
   no_cell-is : (c : Option (Cell E)) → no_cell o c ≡ true → c ≡ None
-  no_cell-is None e = refl
-  no_cell-is (Some c) e = absurd (true≢false (sym e))
+  no_cell-is x0 x1 = grind arith
 
   no_tuples-is : (t : Tuples E) → no_tuples o t ≡ true → t ≡ sizes []
-  no_tuples-is (sizes m) e = ap sizes (empty-is m e)
-  no_tuples-is all_tuples e = absurd (true≢false (sym e))
+  no_tuples-is x0 x1 = grind (arith, empty-is)
 
   pub only_atoms-is : (p : P) → is_only_atoms o p ≡ true → p ≡ of_atoms o p.plain.atoms
-  only_atoms-is p e =
-      let d = first (is_atoms p.plain && no_cell o p.cell) (no_tuples o p.tuples) e in
-      let a = is_atoms-only p.plain (first (is_atoms p.plain) (no_cell o p.cell) d) in
-      let c = no_cell-is p.cell (second (is_atoms p.plain) (no_cell o p.cell) d) in
-      let t = no_tuples-is p.tuples (second (is_atoms p.plain && no_cell o p.cell) (no_tuples o p.tuples) e) in
-      λ i. record { plain = a i; cell = c i; tuples = t i }
+  only_atoms-is p e = grind (arith, first, is_atoms-only, no_cell-is, second, no_tuples-is)
 
   none-is : (p : P) → parts_is_none o p ≡ true → p ≡ of_plain o plain_none
-  none-is p e =
-      only_atoms-is p (second (names.is_none p.plain.atoms) (is_only_atoms o p) e) ∙ ap (of_atoms o) (name_laws.is_none-is p.plain.atoms (first (names.is_none p.plain.atoms) (is_only_atoms o p) e))
+  none-is p e = grind (arith, only_atoms-is, second, name_laws.is_none-is, first)
 
   -- what else there is has a shape that is no atom
   pub other_shape : (p : P) → NormalP p → is_only_atoms o p ≡ false → (x : Shape) × (HasF x p × ((a : Name) → x ≡ leaf (an_atom a) → ⊥))
@@ -154,9 +132,7 @@ module _ {E : Type 0} {Has : Value → E → Type 0} {Normal : E → Type 0} {o 
   -- ---- the forms of a type
 
   shapes_empty : (x : Shape) → HasF x (of_plain o plain_none) → ⊥
-  shapes_empty (leaf x) h = plain-none_empty x h
-  shapes_empty (pair h t) c = c
-  shapes_empty (row vs) h = h
+  shapes_empty x0 x1 = grind (arith, plain-none_empty)
 
   shapes_filled : (p : P) → NormalP p → (p ≡ of_plain o plain_none) ⊎ ((x : Shape) × HasF x p)
   shapes_filled p k = elim (decided (is_only_atoms o p)) [
@@ -183,8 +159,7 @@ module _ {E : Type 0} {Has : Value → E → Type 0} {Normal : E → Type 0} {o 
   shapes_meet_in p q j k (row vs) f h = rows.meet_in p.tuples q.tuples j.2 k.2 vs f h
 
   shapes_meet_out : (p q : P) → NormalP p → NormalP q → (x : Shape) → HasF x (parts_meet o p q) → HasF x p × HasF x q
-  shapes_meet_out p q j k (leaf x) h =
-      let h = sym (plain-meet p.plain q.plain x) ∙ h in (first (has_leaf p.plain x) (has_leaf q.plain x) h, second (has_leaf p.plain x) (has_leaf q.plain x) h)
+  shapes_meet_out p q j k (leaf x) h = grind (arith, plain-meet, first, second)
   shapes_meet_out p q j k (pair x y) h = (cells.meet_left p.cell q.cell j.1 k.1 (x, y) h, cells.meet_right p.cell q.cell j.1 k.1 (x, y) h)
   shapes_meet_out p q j k (row vs) h = (rows.meet_left p.tuples q.tuples j.2 k.2 vs h, rows.meet_right p.tuples q.tuples j.2 k.2 vs h)
 
@@ -233,9 +208,7 @@ module _ {E : Type 0} {Has : Value → E → Type 0} {Normal : E → Type 0} {o 
   all_any (and_value v vs) = (l.any_in v, all_any vs)
 
   shapes_any : (x : Shape) → HasF x (parts_any o)
-  shapes_any (leaf x) = plain-all x
-  shapes_any (pair h t) = (all_any (and_value h (heads t)), λ e. absurd (true≢false (sym e)))
-  shapes_any (row vs) = tt
+  shapes_any x0 = grind (arith, plain-all, all_any)
 
   pub any-not_none : o.is_none o.any ≡ false
   any-not_none = filled-not_none l o.any nil (l.any_in nil)
@@ -244,10 +217,7 @@ module _ {E : Type 0} {Has : Value → E → Type 0} {Normal : E → Type 0} {o 
 
   -- the values of a set of atoms
   pub atoms-out : (s : Names) (v : Value) → HasP v (of_atoms o s) → (a : Name) × ((v ≡ atom a) × (names.has s a ≡ true))
-  atoms-out s (atom a) h = (a, (refl, h))
-  atoms-out s (cons x y) h = absurd h
-  atoms-out s (tuple vs) h = absurd h
-  atoms-out s v h = absurd (true≢false (sym h))
+  atoms-out x0 x1 x2 = grind arith
 
   -- a type that lists its atoms has nothing else
   only-view : (p : P) (xs : List Name) → parts_only o p ≡ Some xs → (is_only_atoms o p ≡ true) × (names.members_of p.plain.atoms ≡ Some xs)

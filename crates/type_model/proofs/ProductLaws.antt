@@ -1,11 +1,11 @@
 -- The type of some types' tuples has only tuples: up to 64 elements exactly those of the types cut to the level of elements.
-use Rattle.std.proofs.Common.{◌≡◌, ℕ, zero, suc, Bool, true, false, ◌||◌, cond, List, [], ◌∷◌, map, length, Some, None, refl, sym, ap, ◌∙◌, subst, true≢false, arith}
-use Rattle.std.specs.Prelude.{◌↔◌, nat_lt, option_map}
+use Rattle.std.proofs.Common.{◌≡◌, ℕ, zero, suc, Bool, true, false, ◌||◌, cond, List, ◌∷◌, map, length, Some, None, refl, sym, ap, ◌∙◌, subst, true≢false, arith}
+use Rattle.std.specs.Prelude.{◌↔◌, nat_lt}
 use Rattle.std.specs.Ordering.{nat_cmp, eq_by_cmp}
 use Rattle.std.specs.Cmp.{nat_cmp_total}
 use Rattle.std.specs.FinSet.{nat_cmp-IsAntisymmetric}
 use Rattle.type_sets.specs.Ascending.{has_item}
-use Rattle.type_sets.specs.Names.{Name, name_cmp, are_listed, or_else, every}
+use Rattle.type_sets.specs.Names.{Name, name_cmp, are_listed}
 use Rattle.type_sets.proofs.NameLaws.{name_total, name_same, has-listed}
 use Rattle.type_sets.proofs.AscendingLaws.{itself}
 use Rattle.type_model.specs.Values.{Value, atom, tuple, Values, no_value, and_value, count}
@@ -46,9 +46,7 @@ module _ {F E : Type 0} {HasF : Value → F → Type 0} {NormalF : F → Type 0}
   lowered_tags b xs ts = cond b (tags (mapped (map lower) (all_hold xs ts))) (product (map lower (elements f (tags (all_hold xs ts)))))
 
   found_rest : (xs : List Name) (ts : List F) (a : Name) → has_item name_cmp xs a ≡ true → find name_cmp (mapped (map lower) (all_hold xs ts)) a ≡ Some (map lower ts)
-  found_rest xs ts a h =
-      find-mapped name_total name_same (map lower) (all_hold xs ts) a
-      ∙ ap (option_map (map lower)) (find-all_hold name_total name_same xs ts a ∙ ap (λ b. cond b (Some ts) None) h)
+  found_rest xs ts a h = grind (arith, find-mapped, name_total, name_same, find-all_hold)
 
   tags_in : (n : ℕ) (t : F) (ts : List F) (xs : List Name) → f.only t ≡ Some xs → NormalRow NormalF f n (Some (t ∷ ts)) → NormalBody NormalF f n (Some (tags (all_hold xs ts))) → (b : Bool) → e.has_tags ≡ b → (vs : Values) → HasEach HasE vs (map lower (t ∷ ts)) → HasBody HasE vs (Some (lowered_tags b xs ts))
   tags_in n t ts xs q k m true p no_value h = absurd h
@@ -105,21 +103,14 @@ module _ {F E : Type 0} {HasF : Value → F → Type 0} {NormalF : F → Type 0}
   product_tuples es = elim (has_none f es) as (λ b. (cond b (of_plain f plain_none) (record { plain = plain_none; cell = None; tuples = cond (nat_lt (length es) 65) (sizes ((length es, body_of f es) ∷ [])) all_tuples })).tuples ≡ row_tuples b (nat_lt (length es) 65) es) [ true ↦ refl | false ↦ refl ]
 
   pub product-exact : (es : List F) → AreNormal NormalF es → nat_lt (length es) 65 ≡ true → (vs : Values) → HasTuple HasE vs (tuples_lower lower f e (product_of f es).tuples) ↔ HasEach HasE vs (map lower es)
-  product-exact es k few vs =
-      let b = has_none f es in
-      let same : (product_of f es).tuples ≡ row_tuples b true es = product_tuples es ∙ ap (λ c. row_tuples b c es) few in (
-        λ h. row_out es k b refl vs (subst (λ t. HasTuple HasE vs (tuples_lower lower f e t)) same h),
-        λ h. subst (λ t. HasTuple HasE vs (tuples_lower lower f e t)) (sym same) (row_in es k b refl vs h),
-      )
+  product-exact es k few vs = grind (arith, row_tuples, product_tuples, row_out, row_in)
 
 -- ---- each level
 
 pub names_alone : (d : ℕ) → NamesAlone (HasAt d) (ops d)
 unfolding ops
 names_alone zero t xs few v h = absurd (true≢false (sym t))
-names_alone (suc d) t xs few v h =
-    let w = atoms-out (level_laws d) (or_else xs every) v h in
-    (w.0, (w.1.0, sym (has-listed xs every w.0 few) ∙ w.1.1))
+names_alone (suc d) t xs few v h = grind (arith, atoms-out, level_laws, has-listed)
 
 -- up to 64 types, their tuples are those of the types cut to the level of elements
 pub tuple-exact : (d : ℕ) (es : List (TypeAt (suc d))) → AreNormal (NormalAt (suc d)) es → nat_lt (length es) 65 ≡ true → (vs : Values) → HasAt (suc d) (tuple vs) (tuple_at (suc d) es) ↔ HasEach (HasAt d) vs (map (cut (suc d) d) es)
@@ -133,6 +124,4 @@ product_alone d es = elim (has_none (ops (suc d)) es) as (λ b. let p = cond b (
 
 -- each value of a type of tuples is a tuple
 pub tuple-only : (d : ℕ) (es : List (TypeAt (suc d))) (v : Value) → HasAt (suc d) v (tuple_at (suc d) es) → (vs : Values) × (v ≡ tuple vs)
-tuple-only d es v h =
-    let t = of_tuples (level_laws d) (tuples_lower (cut (suc d) d) (ops (suc d)) (ops d) (product_of (ops (suc d)) es).tuples) v (subst (HasAt (suc d) v) (product_alone d es) h) in
-    (t.0, t.1.0)
+tuple-only d es v h = grind (arith, of_tuples, level_laws, product_alone)

@@ -1,12 +1,12 @@
 -- The laws of ranks: a smaller type has a lower rank, so a chain of smaller and smaller types ends.
-use Rattle.std.proofs.Common.{◌≡◌, ◌≤◌, ◌<◌, ◌+◌, ◌*◌, inl, inr, ℕ, zero, suc, Bool, true, false, List, [], ◌∷◌, Option, Some, None, length, refl, sym, ap, ◌∙◌, subst, arith, true≢false}
+use Rattle.std.proofs.Common.{◌≡◌, ◌≤◌, ◌<◌, ◌+◌, ◌*◌, inl, inr, ℕ, zero, suc, Bool, true, false, List, ◌∷◌, Option, Some, None, length, refl, sym, ap, ◌∙◌, subst, arith, true≢false}
 use Rattle.std.specs.Prelude.{nat_lt, cond, is_some}
 use borrow.Author.Tests.{eqb-true, eq-eqb, ltb-true, ltb-false}
 use Rattle.std.specs.declared.cmp.Ordering.{Ordering}
 use Rattle.std.specs.Ordering.{nat_cmp, is_lt, eq_by_cmp}
 use Rattle.std.specs.Cmp.{IsTotalOrder, nat_cmp_total}
 use Rattle.std.specs.FinSet.{IsAntisymmetric, nat_cmp-IsAntisymmetric}
-use Rattle.type_sets.specs.Ascending.{is_below_all, has_item}
+use Rattle.type_sets.specs.Ascending.{has_item}
 use Rattle.type_sets.specs.Names as names
 use Rattle.type_sets.specs.Names.{Name, name_cmp}
 use Rattle.type_sets.specs.Numbers as numbers
@@ -88,10 +88,7 @@ lower-times p = record { no_higher = omega (arith, p.no_higher); less = λ e. om
 -- ---- the values that hold no others
 
 lower-test : (a b : Bool) → (a ≡ true → b ≡ true) → Lower (cond a 1 0) (cond b 1 0) a b
-lower-test true true f = lower-same refl
-lower-test true false f = absurd (true≢false (sym (f refl)))
-lower-test false true f = lower-less (omega arith)
-lower-test false false f = lower-same refl
+lower-test x0 x1 x2 = grind (arith, lower-same, lower-less)
 
 flags-lower : (k l : Flags) → ((x : Flag) → has_flag k x ≡ true → has_flag l x ≡ true) → Lower (flags_rank k) (flags_rank l) k l
 flags-lower k l f =
@@ -124,27 +121,13 @@ plain-lower p q f =
     lower-of (λ p. record { atoms = p.0.0.0.0; ints = p.0.0.0.1; bits = p.0.0.1; flags = p.0.1; functions = p.1 }) (lower-both (lower-both (lower-both (lower-both a b) c) d) e)
 
 test-most : (b : Bool) → cond b 1 0 ≤ 1
-test-most true = omega arith
-test-most false = omega arith
+test-most x0 = grind arith
 
 functions-most : (f : Functions) → functions_rank f ≤ 2
-functions-most no_function = omega arith
-functions-most (of_arity n) = omega arith
-functions-most all_functions = omega arith
+functions-most x0 = grind arith
 
 plain-most : (p : PlainParts) → plain_rank p ≤ 42
-plain-most p =
-    let a = name_heights.height-most p.atoms in
-    let b = number_heights.height-most p.ints in
-    let c = bit_heights.height-most p.bits in
-    let d = test-most p.flags.float in
-    let e = test-most p.flags.pid in
-    let f = test-most p.flags.port in
-    let g = test-most p.flags.reference in
-    let h = test-most p.flags.nil in
-    let k = test-most p.flags.map in
-    let j = functions-most p.functions in
-    omega arith
+plain-most p = grind (arith, name_heights.height-most, number_heights.height-most, bit_heights.height-most, test-most, functions-most)
 
 -- ---- tables
 
@@ -163,22 +146,11 @@ module _ {K X : Type 0} {R : K → K → Ordering} (t : IsTotalOrder R) (same : 
 
   -- behind an equal first key all is as it was
   lower-rest : (e d : K × X) (m w : Table) → is_table R (e ∷ m) ≡ true → e.0 ≡ d.0 → AllLower (e ∷ m) (d ∷ w) → AllLower m w
-  lower-rest e d m w a k f q = elim (decided (eq_by_cmp R q e.0)) [
-    | inl s ↦ subst (λ x. LowerAt g x (find R w q)) (sym (tables.find-again t same e m q a s)) tt
-    | inr s ↦
-        let there = tables.find-later t same d w q (sym (ap (eq_by_cmp R q) k) ∙ s) in
-        subst (λ y. LowerAt g (find R m q) y) there (subst (λ x. LowerAt g x (find R (d ∷ w) q)) (tables.find-later t same e m q s) (f q))
-  ]
+  lower-rest e d m w a k f q = grind (arith, decided, LowerAt g, tables.find-again t same, tables.find-later t same)
 
   -- a first key that stands behind the other's is in the other's rest, and all keys behind it
   lower-behind : (e d : K × X) (m w : Table) → is_table R (e ∷ m) ≡ true → is_lt (R d.0 e.0) ≡ true → AllLower (e ∷ m) (d ∷ w) → AllLower (e ∷ m) w
-  lower-behind e d m w a low f q = elim (decided (eq_by_cmp R q d.0)) [
-    | inl s ↦
-        let all : is_below_all R d.0 (keys (e ∷ m)) ≡ true = both (is_lt (R d.0 e.0)) (is_below_all R d.0 (keys m)) low (ascending.below_all-from_items t same d.0 (keys m) (λ p h. ascending.below-below t same d.0 e.0 p low (ascending.below_all-item t same e.0 p (keys m) (tables.table-below t same e m a) h))) in
-        let gone : find R (e ∷ m) q ≡ None = ap (find R (e ∷ m)) (ascending.is_it t same q d.0 s) ∙ tables.find-below t same (e ∷ m) d.0 all in
-        subst (λ x. LowerAt g x (find R w q)) (sym gone) tt
-    | inr s ↦ subst (λ y. LowerAt g (find R (e ∷ m) q) y) (tables.find-later t same d w q s) (f q)
-  ]
+  lower-behind e d m w a low f q = grind (arith, decided, both, ascending.below_all-from_items t same, ascending.below-below t same, ascending.below_all-item t same, tables.table-below t same, ascending.is_it t same, tables.find-below t same, LowerAt g, tables.find-later t same)
 
   -- the other table holds something at a first key, of no lower rank
   lower-first : (e : K × X) (m w : Table) → AllLower (e ∷ m) w → LowerAt g (Some e.1) (find R w e.0)
@@ -186,8 +158,7 @@ module _ {K X : Type 0} {R : K → K → Ordering} (t : IsTotalOrder R) (same : 
 
   -- so it has the key
   found : (x : X) (y : Option X) → LowerAt g (Some x) y → is_some y ≡ true
-  found x None h = absurd h
-  found x (Some y) h = refl
+  found x0 x1 x2 = grind arith
 
   -- along both tables: the first keys are equal, or the other's is one more
   table-lower : (m w : List (K × X)) → is_table R m ≡ true → is_table R w ≡ true → ((q : K) → LowerAt g (find R m q) (find R w q)) → Lower (table_rank g m) (table_rank g w) m w
@@ -211,9 +182,7 @@ module _ {K X : Type 0} {R : K → K → Ordering} (t : IsTotalOrder R) (same : 
 table-most : {K X : Type 0} (g : X → ℕ) (b n : ℕ) (m : List (K × X)) → length m ≤ n → EachEntry (λ k x. g x ≤ b) m → table_rank g m ≤ n * (1 + b)
 table-most g b n [] h f = omega arith
 table-most g b zero (e ∷ m) h f = absurd (omega (arith, h))
-table-most g b (suc n) (e ∷ m) h f =
-    let rest = table-most g b n m (omega (arith, h)) f.1 in
-    omega (arith, f.0, rest)
+table-most g b (suc n) (e ∷ m) h f = grind (arith, table-most g b n m (omega (arith, h)) f.1)
 
 -- ---- the types of one level
 
@@ -238,10 +207,7 @@ module _ {E : Type 0} {Has : Value → E → Type 0} {Normal : E → Type 0} {o 
 
   -- free ends count one more than proper ones
   lower-ends : (a b : Bool) → (b ≡ true → a ≡ true) → Lower (cond a 0 1) (cond b 0 1) a b
-  lower-ends true true f = lower-same refl
-  lower-ends true false f = lower-less (omega arith)
-  lower-ends false true f = absurd (true≢false (sym (f refl)))
-  lower-ends false false f = lower-same refl
+  lower-ends x0 x1 x2 = grind (arith, lower-same, lower-less)
 
   cell-lower : (s t : Option (Cell E)) → NormalCell Normal o s → NormalCell Normal o t → BelowBy (HasCell Has) s t → Lower (cell_rank rank_of most s) (cell_rank rank_of most t) s t
   cell-lower None None j k f = lower-same refl
@@ -265,31 +231,23 @@ module _ {E : Type 0} {Has : Value → E → Type 0} {Normal : E → Type 0} {o 
   each-lower (x ∷ xs) (y ∷ ys) j k f = lower-of (λ p. p.0 ∷ p.1) (lower-both (r.lower x y j.0.0 k.0.0 f.0) (each-lower xs ys j.1 k.1 f.1))
 
   row-lower : (n : ℕ) (s t : Option (List E)) → NormalRow Normal o n s → NormalRow Normal o n t → BelowBy (HasRow Has) s t → LowerAt of_row s t
-  row-lower n None t j k f = tt
-  row-lower n (Some es) None j k f = let w = values_of l es j.1 in f w.0 w.1
-  row-lower n (Some es) (Some fs) j k f = each-lower es fs j.1 k.1 (each-below l es fs j.1 f)
+  row-lower n None t j k f = grind arith
+  row-lower n (Some es) t j k f = grind (arith, values_of l, each-lower, each-below l)
 
   row-most : (n : ℕ) (es : List E) → length es ≤ n → AreElements Normal o es → of_row es ≤ n * most
   row-most n [] h k = omega arith
   row-most zero (e ∷ es) h k = absurd (omega (arith, h))
-  row-most (suc n) (e ∷ es) h k =
-      let first = r.bound e k.0.0 in
-      let rest = row-most n es (omega (arith, h)) k.1 in
-      omega (arith, first, rest)
+  row-most (suc n) (e ∷ es) h k = grind (arith, r.bound, row-most n es (omega (arith, h)) k.1)
 
   -- ---- tuples of one size
 
   -- no more than thirteen tags, each with types of a rank up to b
   tags-most : (n b : ℕ) (m : List (Name × List E)) → NormalTags Normal o n m → EachEntry (λ a es. of_row es ≤ b) m → of_body (tags m) ≤ 13 * (1 + b)
-  tags-most zero b m k f = absurd k
-  tags-most (suc n) b m k f =
-      let few = ltb-true (length m) 14 k.1 in
-      omega (arith, table-most of_row b 13 m (omega (arith, few)) f)
+  tags-most x0 x1 x2 x3 x4 = grind (arith, table-most, of_row)
 
   -- the types behind a tag are below those behind the first element of a product that has the tag
   lower-tag : (b : Bool) (es fs : List E) → LowerAt of_row (Some es) (cond b (Some fs) None) → of_row es ≤ of_row fs
-  lower-tag true es fs h = h.no_higher
-  lower-tag false es fs h = absurd h
+  lower-tag x0 x1 x2 x3 = grind arith
 
   -- tags are below a product by the fourteenth of its rest
   tags-product : (n : ℕ) (m : List (Name × List E)) (e : E) (es : List E) → NormalBody Normal o (suc n) (Some (tags m)) → NormalBody Normal o (suc n) (Some (product (e ∷ es))) → BelowBy (HasBody Has) (Some (tags m)) (Some (product (e ∷ es))) → of_body (tags m) < of_body (product (e ∷ es))
@@ -348,8 +306,7 @@ module _ {E : Type 0} {Has : Value → E → Type 0} {Normal : E → Type 0} {o 
       lower-of sizes (table-lower nat_cmp_total nat_cmp-IsAntisymmetric of_body m w j.0 k.0 (λ q. body-lower q (find nat_cmp m q) (find nat_cmp w q) (normal_at l m j.2 q) (normal_at l w k.2 q) (to_size l m w j.2 f q)))
 
   tuples-most : (t : Tuples E) → NormalTuples Normal o t → tuples_rank rank_of most t ≤ 1 + 8 * (1 + highest)
-  tuples-most (sizes m) k = omega (arith, sizes-most m k)
-  tuples-most all_tuples k = omega arith
+  tuples-most x0 x1 = grind (arith, sizes-most)
 
   -- ---- types of the next level
 
@@ -391,7 +348,4 @@ rank-lower d s t j k f n = ((level_ranked d).lower s t j k f).less n
 pub falls-rank : (d n : ℕ) (t : TypeAt d) → NormalAt d t → FallsAt d n t → n ≤ rank d t
 unfolding FallsAt
 falls-rank d zero t k f = omega arith
-falls-rank d (suc n) t k f =
-    let step = rank-lower d f.0 t f.1.0 k f.1.1 f.1.2 in
-    let rest = falls-rank d n f.0 f.1.0 f.1.3 in
-    omega arith
+falls-rank d (suc n) t k f = grind (arith, rank-lower, falls-rank d n f.0 f.1.0 f.1.3)

@@ -1,6 +1,6 @@
 -- The laws of products of element types, one for each place.
-use Rattle.std.specs.Prelude.{◌≡◌, ℕ, zero, suc, Bool, true, false, ◌||◌, List, [], ◌∷◌, length, Option, Some, None, refl}
-use Rattle.std.proofs.Common.{sym, ap, ◌∙◌, true≢false, subst, arith}
+use Rattle.std.specs.Prelude.{◌≡◌, ℕ, zero, suc, Bool, false, ◌||◌, List, ◌∷◌, length, Option, Some, None, refl}
+use Rattle.std.proofs.Common.{sym, ap, ◌∙◌, arith}
 use Rattle.type_model.specs.Values.{Value, Values, no_value, and_value, count}
 use Rattle.type_model.specs.Tables.{both_at, joined}
 use Rattle.type_model.specs.HasType.{HasEach, HasRow}
@@ -24,8 +24,7 @@ length-zip f zero (x ∷ xs) (y ∷ ys) e g = absurd (omega arith)
 length-zip f (suc n) (x ∷ xs) (y ∷ ys) e g = ap suc (length-zip f n xs ys (omega arith) (omega arith))
 
 pub neither : (a b : Bool) → (a || b) ≡ false → (a ≡ false) × (b ≡ false)
-neither true b h = absurd (true≢false h)
-neither false b h = (refl, h)
+neither x0 x1 x2 = grind arith
 
 module _ {E : Type 0} {Has : Value → E → Type 0} {Normal : E → Type 0} {o : Ops E} (l : Laws Has Normal o) where
   abbrev HasR : Values → Option (List E) → Type 0
@@ -39,10 +38,8 @@ module _ {E : Type 0} {Has : Value → E → Type 0} {Normal : E → Type 0} {o 
 
   -- as many values as types
   pub count_each : (vs : Values) (es : List E) → HasEach Has vs es → count vs ≡ length es
-  count_each no_value [] h = refl
-  count_each no_value (e ∷ es) h = absurd h
-  count_each (and_value v vs) [] h = absurd h
-  count_each (and_value v vs) (e ∷ es) h = ap suc (count_each vs es h.1)
+  count_each no_value x1 h = grind arith
+  count_each (and_value v vs) x1 h = grind (arith, count_each vs)
 
   pub values_of : (es : List E) → AreElements Normal o es → (vs : Values) × HasEach Has vs es
   values_of [] k = (no_value, tt)
@@ -77,11 +74,8 @@ module _ {E : Type 0} {Has : Value → E → Type 0} {Normal : E → Type 0} {o 
 
   -- a product that has values has no place without one
   pub row_filled-not_none : (vs : Values) (es : List E) → HasEach Has vs es → has_none o es ≡ false
-  row_filled-not_none no_value [] h = refl
-  row_filled-not_none no_value (e ∷ es) h = absurd h
-  row_filled-not_none (and_value v vs) [] h = absurd h
-  row_filled-not_none (and_value v vs) (e ∷ es) h =
-      subst (λ b. (b || has_none o es) ≡ false) (sym (filled-not_none l e v h.0)) (row_filled-not_none vs es h.1)
+  row_filled-not_none no_value x1 h = grind arith
+  row_filled-not_none (and_value v vs) x1 h = grind (arith, row_filled-not_none vs, filled-not_none l)
 
   -- ---- the meet
 
@@ -93,24 +87,17 @@ module _ {E : Type 0} {Has : Value → E → Type 0} {Normal : E → Type 0} {o 
       ((l.lattice.meet_normal x y j.0.0 k.0.0, p.0), meet_each_elements xs ys j.1 k.1 p.1)
 
   row_meet_normal : (n : ℕ) (es fs : List E) → Row n (Some es) → Row n (Some fs) → Row n (row_meet o es fs)
-  row_meet_normal n es fs j k =
-      elim (has_none o (zip o.meet es fs)) as (λ b. has_none o (zip o.meet es fs) ≡ b → Row n (or_none b (zip o.meet es fs))) [
-        | true ↦ λ e. tt
-        | false ↦ λ e. (length-zip o.meet n es fs j.0 k.0, meet_each_elements es fs j.1 k.1 e)
-      ] refl
+  row_meet_normal n es fs j k = grind (arith, Row, length-zip, meet_each_elements)
 
   meet_each_in : (vs : Values) (es fs : List E) → Elements es → Elements fs → HasEach Has vs es → HasEach Has vs fs → HasEach Has vs (zip o.meet es fs)
   meet_each_in no_value [] fs j k h g = tt
   meet_each_in no_value (e ∷ es) fs j k h g = absurd h
   meet_each_in (and_value v vs) [] fs j k h g = absurd h
   meet_each_in (and_value v vs) (e ∷ es) [] j k h g = absurd g
-  meet_each_in (and_value v vs) (e ∷ es) (f ∷ fs) j k h g =
-      (l.lattice.meet_in e f j.0.0 k.0.0 v h.0 g.0, meet_each_in vs es fs j.1 k.1 h.1 g.1)
+  meet_each_in (and_value v vs) (e ∷ es) (f ∷ fs) j k h g = grind (arith, l.lattice.meet_in, meet_each_in vs es fs j.1 k.1 h.1 g.1)
 
   row_meet_in : (n : ℕ) (es fs : List E) → Row n (Some es) → Row n (Some fs) → (vs : Values) → HasEach Has vs es → HasEach Has vs fs → HasR vs (row_meet o es fs)
-  row_meet_in n es fs j k vs h g =
-      let m = meet_each_in vs es fs j.1 k.1 h g in
-      subst (λ b. HasR vs (or_none b (zip o.meet es fs))) (sym (row_filled-not_none vs (zip o.meet es fs) m)) m
+  row_meet_in n es fs j k vs h g = grind (arith, meet_each_in, HasR, row_filled-not_none)
 
   meet_each_out : (vs : Values) (es fs : List E) → length es ≡ length fs → Elements es → Elements fs → HasEach Has vs (zip o.meet es fs) → HasEach Has vs es × HasEach Has vs fs
   meet_each_out vs [] [] e j k h = (h, h)
@@ -122,8 +109,7 @@ module _ {E : Type 0} {Has : Value → E → Type 0} {Normal : E → Type 0} {o 
       ((l.lattice.meet_left x y j.0.0 k.0.0 v h.0, rest.0), (l.lattice.meet_right x y j.0.0 k.0.0 v h.0, rest.1))
 
   meet_some : (b : Bool) (es : List E) (vs : Values) → HasR vs (or_none b es) → HasEach Has vs es
-  meet_some true es vs h = absurd h
-  meet_some false es vs h = h
+  meet_some x0 x1 x2 x3 = grind arith
 
   -- ---- the join
 
@@ -143,8 +129,7 @@ module _ {E : Type 0} {Has : Value → E → Type 0} {Normal : E → Type 0} {o 
   join_each_least (x ∷ xs) [] [] i j k f g = absurd f
   join_each_least (x ∷ xs) [] (z ∷ zs) i j k f g = absurd g
   join_each_least (x ∷ xs) (y ∷ ys) [] i j k f g = absurd f
-  join_each_least (x ∷ xs) (y ∷ ys) (z ∷ zs) i j k f g =
-      (l.lattice.join_least x y z i.0.0 j.0.0 k.0.0 f.0 g.0, join_each_least xs ys zs i.1 j.1 k.1 f.1 g.1)
+  join_each_least (x ∷ xs) (y ∷ ys) (z ∷ zs) i j k f g = grind (arith, l.lattice.join_least, join_each_least xs ys zs i.1 j.1 k.1 f.1 g.1)
 
   pub join_each_elements : (es fs : List E) → AreElements Normal o es → AreElements Normal o fs → AreElements Normal o (row_join o es fs)
   join_each_elements [] fs j k = tt

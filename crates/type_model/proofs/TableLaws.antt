@@ -1,8 +1,8 @@
 -- The laws of tables: what is found at a key.
-use Rattle.std.specs.Prelude.{ℕ, zero, suc, Bool, true, false, cond, ◌||◌, List, [], ◌∷◌, length, take, Option, Some, None, is_some, option_map}
-use Rattle.std.proofs.Common.{◌≡◌, ◌≤◌, refl, sym, ap, ◌∙◌, subst, arith, inl, inr, true≢false, Less, Equal, Greater}
+use Rattle.std.specs.Prelude.{ℕ, zero, suc, Bool, true, false, cond, ◌||◌, List, ◌∷◌, length, take, Option, Some, None, is_some, option_map}
+use Rattle.std.proofs.Common.{◌≡◌, ◌≤◌, refl, sym, ap, ◌∙◌, subst, arith, inl, inr, true≢false, Greater}
 use Rattle.std.specs.declared.cmp.Ordering.{Ordering}
-use Rattle.std.specs.Ordering.{is_lt, is_eq, eq_by_cmp, ordering_reverse}
+use Rattle.std.specs.Ordering.{is_eq, eq_by_cmp, ordering_reverse}
 use Rattle.std.specs.Cmp.{IsTotalOrder}
 use Rattle.std.specs.FinSet.{IsAntisymmetric}
 use Rattle.type_sets.specs.Ascending.{is_below_all, is_ascending, has_item, placed, merged}
@@ -14,28 +14,23 @@ use Rattle.type_model.specs.Operations.{met_with, is_empty}
 -- ---- what two tables hold at one key
 
 pub joined-none : {X : Type 0} (j : X → X → X) (x : Option X) → joined j x None ≡ x
-joined-none j None = refl
-joined-none j (Some x) = refl
+joined-none x0 x1 = grind arith
 
 -- the same, said by `met_with`
 pub met_with-both_at : {X Y Z : Type 0} (m : X → Y → Option Z) (x : Option X) (y : Option Y) → met_with (λ a. met_with (m a) y) x ≡ both_at m x y
-met_with-both_at m None y = refl
-met_with-both_at m (Some x) None = refl
-met_with-both_at m (Some x) (Some y) = refl
+met_with-both_at x0 x1 x2 = grind arith
 
 -- ---- what an option holds
 
 pub not_some : {X : Type 0} (x : Option X) → is_some x ≡ false → x ≡ None
-not_some None h = refl
-not_some (Some x) h = absurd (true≢false h)
+not_some x0 x1 = grind arith
 
 pub found_at : {X : Type 0} (x : Option X) → is_some x ≡ true → (y : X) × (x ≡ Some y)
-found_at None h = absurd (true≢false (sym h))
-found_at (Some y) h = (y, refl)
+found_at x0 x1 = grind arith
 
 none_or : {X : Type 0} → Option X → X → X
-none_or None y = y
 none_or (Some x) y = x
+none_or None y = y
 
 pub same_some : {X : Type 0} (x y : X) → Some x ≡ Some y → x ≡ y
 unfolding none_or
@@ -49,7 +44,7 @@ some-none x e = true≢false (ap is_some e)
 -- a first key
 key_or : {K : Type 0} → List K → K → K
 key_or [] k = k
-key_or (q ∷ qs) k = q
+key_or (x ∷ xs) k = x
 
 same_first : {K : Type 0} (k l : K) (ks ls : List K) → k ∷ ks ≡ l ∷ ls → k ≡ l
 unfolding key_or
@@ -57,21 +52,16 @@ same_first k l ks ls e = ap (λ qs. key_or qs k) e
 
 -- what is joined, by tests of a key
 joined-either : {X : Type 0} (j : X → X → X) (a : Bool) (y x : X) (z : Option X) → cond a (Some (j y x)) z ≡ joined j (cond a (Some y) z) (cond a (Some x) None)
-joined-either j true y x z = refl
-joined-either j false y x z = sym (joined-none j z)
+joined-either x0 x1 x2 x3 x4 = grind (arith, joined-none)
 
 joined-later : {X : Type 0} (j : X → X → X) (a b : Bool) (y x : X) (z w : Option X) → (a ≡ true → b ≡ false) → w ≡ joined j z (cond b (Some x) None) → cond a (Some y) w ≡ joined j (cond a (Some y) z) (cond b (Some x) None)
-joined-later j true true y x z w f e = absurd (true≢false (f refl))
-joined-later j true false y x z w f e = refl
-joined-later j false b y x z w f e = e
+joined-later x0 x1 x2 x3 x4 x5 x6 x7 x8 = grind arith
 
 joined-first : {X : Type 0} (j : X → X → X) (a : Bool) (x : X) (z : Option X) → (a ≡ true → z ≡ None) → cond a (Some x) z ≡ joined j z (cond a (Some x) None)
-joined-first j true x z f = sym (ap (λ w. joined j w (Some x)) (f refl))
-joined-first j false x z f = sym (joined-none j z)
+joined-first x0 x1 x2 x3 x4 = grind (arith, joined-none)
 
 joined-twice : {X : Type 0} (j : X → X → X) (a : Bool) (x : X) (z w : Option X) → (a ≡ true → w ≡ None) → joined j (joined j z (cond a (Some x) None)) w ≡ joined j z (cond a (Some x) w)
-joined-twice j true x z w f = ap (joined j (joined j z (Some x))) (f refl) ∙ joined-none j (joined j z (Some x))
-joined-twice j false x z w f = ap (λ u. joined j u w) (joined-none j z)
+joined-twice x0 x1 x2 x3 x4 x5 = grind (arith, joined-none)
 
 module _ {K : Type 0} {R : K → K → Ordering} (t : IsTotalOrder R) (same : IsAntisymmetric R) where
   -- ---- which keys a table has
@@ -105,21 +95,16 @@ module _ {K : Type 0} {R : K → K → Ordering} (t : IsTotalOrder R) (same : Is
   first_entry (e ∷ m) h = (e.0, (e.1, find-first e m))
 
   pub not_empty : {X : Type 0} (m : List (K × X)) (k : K) (x : X) → find R m k ≡ Some x → is_empty m ≡ false
-  not_empty [] k x h = absurd (some-none x (sym h))
-  not_empty (e ∷ m) k x h = refl
+  not_empty x0 x1 x2 x3 = grind (arith, some-none)
 
   pub find-empty : {X : Type 0} (m : List (K × X)) → is_empty m ≡ true → (q : K) → find R m q ≡ None
-  find-empty [] h q = refl
-  find-empty (e ∷ m) h q = absurd (true≢false (sym h))
+  find-empty x0 x1 x2 = grind arith
 
   -- ---- tables that hold the same are one
 
   -- and hold the same behind an equal first key
   same_rest : {X : Type 0} (e d : K × X) (m w : List (K × X)) → is_table R (e ∷ m) ≡ true → is_table R (d ∷ w) ≡ true → e.0 ≡ d.0 → (q : K) → find R (e ∷ m) q ≡ find R (d ∷ w) q → find R m q ≡ find R w q
-  same_rest e d m w a b k q f = elim (decided (eq_by_cmp R q e.0)) [
-    | inl s ↦ find-again e m q a s ∙ sym (find-again d w q b (sym (ap (eq_by_cmp R q) k) ∙ s))
-    | inr s ↦ sym (find-later e m q s) ∙ f ∙ find-later d w q (sym (ap (eq_by_cmp R q) k) ∙ s)
-  ]
+  same_rest e d m w a b k q f = grind (arith, decided, find-again, find-later)
 
   pub same_table : {X : Type 0} (m w : List (K × X)) → is_table R m ≡ true → is_table R w ≡ true → ((q : K) → find R m q ≡ find R w q) → m ≡ w
   same_table [] [] a b f = refl
@@ -136,12 +121,10 @@ module _ {K : Type 0} {R : K → K → Ordering} (t : IsTotalOrder R) (same : Is
 
   -- what one entry, if it is there, adds
   find-and_entry_other : {X : Type 0} (k : K) (x : Option X) (m : List (K × X)) (q : K) → eq_by_cmp R q k ≡ false → find R (and_entry k x m) q ≡ find R m q
-  find-and_entry_other k None m q h = refl
-  find-and_entry_other k (Some x) m q h = find-later (k, x) m q h
+  find-and_entry_other x0 x1 x2 x3 x4 = grind (arith, find-later)
 
   find-and_entry_same : {X : Type 0} (k : K) (x : Option X) (m : List (K × X)) → find R m k ≡ None → find R (and_entry k x m) k ≡ x
-  find-and_entry_same k None m h = h
-  find-and_entry_same k (Some x) m h = find-first (k, x) m
+  find-and_entry_same x0 x1 x2 x3 = grind (arith, find-first)
 
   pub find-chosen : {X Y : Type 0} (f : K → X → Option Y) (m : List (K × X)) → is_table R m ≡ true → (q : K) → find R (chosen f m) q ≡ met_with (f q) (find R m q)
   find-chosen f [] a q = refl
@@ -158,8 +141,7 @@ module _ {K : Type 0} {R : K → K → Ordering} (t : IsTotalOrder R) (same : Is
       ]
 
   has-and_entry : {X : Type 0} (k : K) (x : Option X) (m : List (K × X)) (ks : List K) (q : K) → (has_item R (keys m) q ≡ true → has_item R ks q ≡ true) → has_item R (keys (and_entry k x m)) q ≡ true → (eq_by_cmp R q k || has_item R ks q) ≡ true
-  has-and_entry k None m ks q f h = elim (eq_by_cmp R q k) as (λ b. (b || has_item R ks q) ≡ true) [ true ↦ refl | false ↦ f h ]
-  has-and_entry k (Some x) m ks q f h = elim (eq_by_cmp R q k) as (λ b. (b || has_item R (keys m) q) ≡ true → (b || has_item R ks q) ≡ true) [ true ↦ λ g. refl | false ↦ λ g. f g ] h
+  has-and_entry x0 x1 x2 x3 x4 x5 x6 = grind arith
 
   -- no other keys
   pub keys-chosen : {X Y : Type 0} (f : K → X → Option Y) (m : List (K × X)) (q : K) → has_item R (keys (chosen f m)) q ≡ true → has_item R (keys m) q ≡ true
@@ -167,17 +149,14 @@ module _ {K : Type 0} {R : K → K → Ordering} (t : IsTotalOrder R) (same : Is
   keys-chosen f (e ∷ m) q h = has-and_entry e.0 (f e.0 e.1) (chosen f m) (keys m) q (keys-chosen f m q) h
 
   table-and_entry : {X : Type 0} (k : K) (x : Option X) (m : List (K × X)) → is_below_all R k (keys m) ≡ true → is_table R m ≡ true → is_table R (and_entry k x m) ≡ true
-  table-and_entry k None m a b = b
-  table-and_entry k (Some x) m a b = both (is_below_all R k (keys m)) (is_ascending R (keys m)) a b
+  table-and_entry x0 x1 x2 x3 x4 = grind (arith, both)
 
   pub table-chosen : {X Y : Type 0} (f : K → X → Option Y) (m : List (K × X)) → is_table R m ≡ true → is_table R (chosen f m) ≡ true
   table-chosen f [] a = refl
-  table-chosen f (e ∷ m) a =
-      table-and_entry e.0 (f e.0 e.1) (chosen f m) (ascending.below_all-from_items t same e.0 (keys (chosen f m)) (λ q h. ascending.below_all-item t same e.0 q (keys m) (table-below e m a) (keys-chosen f m q h))) (table-chosen f m (table-rest e m a))
+  table-chosen f (e ∷ m) a = grind (arith, table-and_entry, ascending.below_all-from_items t same, ascending.below_all-item t same, table-below, keys-chosen, table-chosen f m (table-rest e m a), table-rest)
 
   length-and_entry : {X : Type 0} (k : K) (x : Option X) (m : List (K × X)) (n : ℕ) → length m ≤ n → length (and_entry k x m) ≤ suc n
-  length-and_entry k None m n h = omega (arith, h)
-  length-and_entry k (Some x) m n h = omega (arith, h)
+  length-and_entry x0 x1 x2 x3 x4 = grind arith
 
   pub length-chosen : {X Y : Type 0} (f : K → X → Option Y) (m : List (K × X)) → length (chosen f m) ≤ length m
   length-chosen f [] = omega arith
@@ -187,13 +166,7 @@ module _ {K : Type 0} {R : K → K → Ordering} (t : IsTotalOrder R) (same : Is
 
   pub keys-put : {X : Type 0} (j : X → X → X) (k : K) (x : X) (m : List (K × X)) → keys (put R j k x m) ≡ placed R k (keys m)
   keys-put j k x [] = refl
-  keys-put j k x (e ∷ m) =
-      let rest = keys-put j k x m in
-      elim (R k e.0) as (λ r. keys (cond (is_lt r) ((k, x) ∷ e ∷ m) (cond (is_eq r) ((e.0, j e.1 x) ∷ m) (e ∷ put R j k x m))) ≡ cond (is_lt r) (k ∷ e.0 ∷ keys m) (cond (is_eq r) (e.0 ∷ keys m) (e.0 ∷ placed R k (keys m)))) [
-        | Less ↦ refl
-        | Equal ↦ refl
-        | Greater ↦ ap (λ ks. e.0 ∷ ks) rest
-      ]
+  keys-put j k x (e ∷ m) = grind (arith, keys-put j k x m)
 
   -- a key that is equal to a lesser one is no greater one
   not_equal : (q k e : K) → R k e ≡ Greater → eq_by_cmp R q e ≡ true → eq_by_cmp R q k ≡ false
@@ -201,17 +174,7 @@ module _ {K : Type 0} {R : K → K → Ordering} (t : IsTotalOrder R) (same : Is
 
   pub find-put : {X : Type 0} (j : X → X → X) (k : K) (x : X) (m : List (K × X)) → is_table R m ≡ true → (q : K) → find R (put R j k x m) q ≡ joined j (find R m q) (cond (eq_by_cmp R q k) (Some x) None)
   find-put j k x [] a q = refl
-  find-put j k x (e ∷ m) a q =
-      let rest = find-put j k x m (table-rest e m a) q in
-      elim (R k e.0) as (λ r. R k e.0 ≡ r → find R (cond (is_lt r) ((k, x) ∷ e ∷ m) (cond (is_eq r) ((e.0, j e.1 x) ∷ m) (e ∷ put R j k x m))) q ≡ joined j (find R (e ∷ m) q) (cond (eq_by_cmp R q k) (Some x) None)) [
-        | Less ↦ λ g.
-            let here : is_lt (R k e.0) ≡ true = ap is_lt g in
-            let low : is_below_all R k (keys (e ∷ m)) ≡ true = both (is_lt (R k e.0)) (is_below_all R k (keys m)) here (ascending.below_all-from_items t same k (keys m) (λ p h. ascending.below-below t same k e.0 p here (ascending.below_all-item t same e.0 p (keys m) (table-below e m a) h))) in
-            joined-first j (eq_by_cmp R q k) x (find R (e ∷ m) q) (λ s. ap (find R (e ∷ m)) (ascending.is_it t same q k s) ∙ find-below (e ∷ m) k low)
-        | Equal ↦ λ g.
-            joined-either j (eq_by_cmp R q e.0) e.1 x (find R m q) ∙ ap (λ b. joined j (find R (e ∷ m) q) (cond b (Some x) None)) (ap (eq_by_cmp R q) (sym (same k e.0 g)))
-        | Greater ↦ λ g. joined-later j (eq_by_cmp R q e.0) (eq_by_cmp R q k) e.1 x (find R m q) (find R (put R j k x m) q) (not_equal q k e.0 g) rest
-      ] refl
+  find-put j k x (e ∷ m) a q = grind (arith, find-put j k x m (table-rest e m a) q, table-rest, both, ascending.below_all-from_items t same, ascending.below-below t same, ascending.below_all-item t same, table-below, joined-first, ascending.is_it t same, find-below, joined-either, joined-later, not_equal)
 
   pub table-put : {X : Type 0} (j : X → X → X) (k : K) (x : X) (m : List (K × X)) → is_table R m ≡ true → is_table R (put R j k x m) ≡ true
   table-put j k x m a = ap (is_ascending R) (keys-put j k x m) ∙ ascending.ascending-placed t same k (keys m) a
@@ -220,10 +183,7 @@ module _ {K : Type 0} {R : K → K → Ordering} (t : IsTotalOrder R) (same : Is
 
   pub find-united : {X : Type 0} (j : X → X → X) (m w : List (K × X)) → is_table R m ≡ true → is_table R w ≡ true → (q : K) → find R (united R j m w) q ≡ joined j (find R m q) (find R w q)
   find-united j m [] a b q = sym (joined-none j (find R m q))
-  find-united j m (e ∷ w) a b q =
-      find-united j (put R j e.0 e.1 m) w (table-put j e.0 e.1 m a) (table-rest e w b) q
-      ∙ ap (λ z. joined j z (find R w q)) (find-put j e.0 e.1 m a q)
-      ∙ joined-twice j (eq_by_cmp R q e.0) e.1 (find R m q) (find R w q) (find-again e w q b)
+  find-united j m (e ∷ w) a b q = grind (arith, find-united j (put R j e.0 e.1 m) w (table-put j e.0 e.1 m a) (table-rest e w b) q, table-put, table-rest, find-put, joined-twice, find-again)
 
   pub keys-united : {X : Type 0} (j : X → X → X) (m w : List (K × X)) → keys (united R j m w) ≡ merged R (keys m) (keys w)
   keys-united j m [] = refl
@@ -236,9 +196,7 @@ module _ {K : Type 0} {R : K → K → Ordering} (t : IsTotalOrder R) (same : Is
 
   pub find-mapped : {X Y : Type 0} (f : X → Y) (m : List (K × X)) (q : K) → find R (mapped f m) q ≡ option_map f (find R m q)
   find-mapped f [] q = refl
-  find-mapped f (e ∷ m) q =
-      let rest = find-mapped f m q in
-      elim (eq_by_cmp R q e.0) as (λ b. cond b (Some (f e.1)) (find R (mapped f m) q) ≡ option_map f (cond b (Some e.1) (find R m q))) [ true ↦ refl | false ↦ rest ]
+  find-mapped f (e ∷ m) q = grind (arith, find-mapped f m q)
 
   pub keys-mapped : {X Y : Type 0} (f : X → Y) (m : List (K × X)) → keys (mapped f m) ≡ keys m
   keys-mapped f [] = refl
@@ -252,16 +210,13 @@ module _ {K : Type 0} {R : K → K → Ordering} (t : IsTotalOrder R) (same : Is
   length-mapped f (e ∷ m) = ap suc (length-mapped f m)
 
   pub empty-mapped : {X Y : Type 0} (f : X → Y) (m : List (K × X)) → is_empty (mapped f m) ≡ is_empty m
-  empty-mapped f [] = refl
-  empty-mapped f (e ∷ m) = refl
+  empty-mapped x0 x1 = grind arith
 
   -- ---- the same held at some keys
 
   pub find-all_hold : {X : Type 0} (ks : List K) (x : X) (q : K) → find R (all_hold ks x) q ≡ cond (has_item R ks q) (Some x) None
   find-all_hold [] x q = refl
-  find-all_hold (k ∷ ks) x q =
-      let rest = find-all_hold ks x q in
-      elim (eq_by_cmp R q k) as (λ b. cond b (Some x) (find R (all_hold ks x) q) ≡ cond (b || has_item R ks q) (Some x) None) [ true ↦ refl | false ↦ rest ]
+  find-all_hold (k ∷ ks) x q = grind (arith, find-all_hold ks x q)
 
   pub keys-all_hold : {X : Type 0} (ks : List K) (x : X) → keys (all_hold ks x) ≡ ks
   keys-all_hold [] x = refl
@@ -321,12 +276,7 @@ each-take Q (x ∷ xs) (suc i) k = (k.0, each-take Q xs i k.1)
 module _ {K X : Type 0} {R : K → K → Ordering} (same : IsAntisymmetric R) (j : X → X → X) (P : K → X → Type 0) (keeps : (a : K) (x y : X) → P a x → P a y → P a (j x y)) where
   pub each-put : (a : K) (x : X) (m : List (K × X)) → P a x → EachEntry P m → EachEntry P (put R j a x m)
   each-put a x [] p q = (p, tt)
-  each-put a x (e ∷ m) p q =
-      elim (R a e.0) as (λ r. R a e.0 ≡ r → EachEntry P (cond (is_lt r) ((a, x) ∷ e ∷ m) (cond (is_eq r) ((e.0, j e.1 x) ∷ m) (e ∷ put R j a x m)))) [
-        | Less ↦ λ s. (p, q)
-        | Equal ↦ λ s. (keeps e.0 e.1 x q.0 (subst (λ z. P z x) (same a e.0 s) p), q.1)
-        | Greater ↦ λ s. (q.0, each-put a x m p q.1)
-      ] refl
+  each-put a x (e ∷ m) p q = grind (arith, each-put a x m p q.1)
 
   pub each-united : (m w : List (K × X)) → EachEntry P m → EachEntry P w → EachEntry P (united R j m w)
   each-united m [] p q = p

@@ -1,6 +1,6 @@
 -- The laws of tuples: all of them, or those of at most eight sizes, each size with a body of its own.
-use Rattle.std.proofs.Common.{◌≡◌, ◌≤◌, ◌⊎◌, inl, inr, ℕ, zero, suc, true, false, List, [], ◌∷◌, Option, Some, None, length, refl, sym, ap, ◌∙◌, subst, arith, true≢false}
-use borrow.Author.Tests.{ltb-true, ltb-false, lt-ltb}
+use Rattle.std.proofs.Common.{◌≡◌, ◌≤◌, ◌⊎◌, inl, inr, ℕ, zero, suc, true, false, List, ◌∷◌, Option, Some, None, length, refl, sym, ap, ◌∙◌, subst, arith, true≢false}
+use borrow.Author.Tests.{ltb-true, lt-ltb}
 use Rattle.std.specs.Prelude.{nat_lt, cond, is_some}
 use Rattle.std.specs.Ordering.{nat_cmp}
 use Rattle.std.specs.Cmp.{IsTotalOrder, nat_cmp_total}
@@ -70,18 +70,14 @@ module _ {E : Type 0} {Has : Value → E → Type 0} {Normal : E → Type 0} {o 
 
   -- the body of a size is normal at it
   pub normal_at : (m : Sizes) → NormalS m → (q : ℕ) → NormalB q (At m q)
-  normal_at m k q = elim (At m q) as (λ b. At m q ≡ b → NormalB q b) [
-    | None ↦ λ e. tt
-    | Some b ↦ λ e. (tables.each_at total exact (NormalSize Normal o) m k q b e).1
-  ] refl
+  normal_at m k q = grind (arith, At, NormalB, tables.each_at, total, exact)
 
   -- a size that is there is at most 64
   pub small_at : (m : Sizes) → NormalS m → (q : ℕ) → is_some (At m q) ≡ true → nat_lt q 65 ≡ true
   small_at m k q h = let x = tables.found_at (At m q) h in (tables.each_at total exact (NormalSize Normal o) m k q x.0 x.1).0
 
   pub some_at : (b : Option (Body E)) (vs : Values) → HasB vs b → is_some b ≡ true
-  some_at None vs h = absurd h
-  some_at (Some b) vs h = refl
+  some_at x0 x1 x2 = grind arith
 
   -- a tuple of the body at a size has that size, so it is among the tuples
   pub from_size : (m : Sizes) → NormalS m → (q : ℕ) (vs : Values) → HasB vs (At m q) → HasT vs (sizes m)
@@ -128,8 +124,7 @@ module _ {E : Type 0} {Has : Value → E → Type 0} {Normal : E → Type 0} {o 
   find-meet m w e q = find-chosen total exact (λ n b. met_with (body_meet o b) (At w n)) m e q ∙ met_with-both_at (body_meet o) (At m q) (At w q)
 
   normal-entry : (q : ℕ) (b : Option (Body E)) (m : Sizes) → nat_lt q 65 ≡ true → NormalB q b → NormalS m → NormalS (and_entry q b m)
-  normal-entry q None m s n k = k
-  normal-entry q (Some b) m s n k = ((s, n), k)
+  normal-entry x0 x1 x2 x3 x4 x5 = grind arith
 
   normal-meet : (m w : Sizes) → NormalS m → NormalS w → NormalS (sizes_meet o m w)
   normal-meet [] w j k = tt
@@ -189,23 +184,13 @@ module _ {E : Type 0} {Has : Value → E → Type 0} {Normal : E → Type 0} {o 
   -- ---- the join: where there are too many sizes, no sizes have all these tuples
 
   capped-normal : (m : Sizes) → is_table nat_cmp m ≡ true → NormalS m → NormalT (capped_sizes o m)
-  capped-normal m e k = elim (nat_lt (length m) 9) as (λ b. nat_lt (length m) 9 ≡ b → NormalT (cond b (sizes m) all_tuples)) [
-    | true ↦ λ i. (e, i, k)
-    | false ↦ λ i. tt
-  ] refl
+  capped-normal m e k = grind (arith, NormalT)
 
   capped-in : (m : Sizes) (vs : Values) → HasT vs (sizes m) → HasT vs (capped_sizes o m)
   capped-in m vs h = elim (nat_lt (length m) 9) as (λ b. HasT vs (cond b (sizes m) all_tuples)) [ true ↦ h | false ↦ tt ]
 
   capped-least : (m u : Sizes) → is_table nat_cmp m ≡ true → NormalS m → NormalT (sizes u) → BelowBy HasT (sizes m) (sizes u) → BelowBy HasT (capped_sizes o m) (sizes u)
-  capped-least m u e j k f vs = elim (nat_lt (length m) 9) as (λ b. nat_lt (length m) 9 ≡ b → HasT vs (cond b (sizes m) all_tuples) → HasT vs (sizes u)) [
-    | true ↦ λ i h. f vs h
-    | false ↦ λ i h.
-        let short = no_more_sizes m u e k.0 j f in
-        let more = ltb-false (length m) 9 i in
-        let less = ltb-true (length u) 9 k.1 in
-        absurd (omega arith)
-  ] refl
+  capped-least m u e j k f vs = grind (arith, HasT, no_more_sizes)
 
   tuples-join_normal : (s t : Tuples E) → NormalT s → NormalT t → NormalT (tuples_join o s t)
   tuples-join_normal all_tuples t j k = tt
@@ -213,14 +198,10 @@ module _ {E : Type 0} {Has : Value → E → Type 0} {Normal : E → Type 0} {o 
   tuples-join_normal (sizes m) (sizes w) j k = capped-normal (unite m w) (unite-table m w j.0) (normal-unite m w j.2 k.2)
 
   tuples-join_left : (s t : Tuples E) → NormalT s → NormalT t → BelowBy HasT s (tuples_join o s t)
-  tuples-join_left all_tuples t j k vs h = tt
-  tuples-join_left (sizes m) all_tuples j k vs h = tt
-  tuples-join_left (sizes m) (sizes w) j k vs h = capped-in (unite m w) vs (unite-left m w j k vs h)
+  tuples-join_left x0 x1 x2 x3 x4 x5 = grind (arith, capped-in, unite, unite-left)
 
   tuples-join_right : (s t : Tuples E) → NormalT s → NormalT t → BelowBy HasT t (tuples_join o s t)
-  tuples-join_right all_tuples t j k vs h = tt
-  tuples-join_right (sizes m) all_tuples j k vs h = tt
-  tuples-join_right (sizes m) (sizes w) j k vs h = capped-in (unite m w) vs (unite-right m w j k vs h)
+  tuples-join_right x0 x1 x2 x3 x4 x5 = grind (arith, capped-in, unite, unite-right)
 
   tuples-join_least : (s t u : Tuples E) → NormalT s → NormalT t → NormalT u → BelowBy HasT s u → BelowBy HasT t u → BelowBy HasT (tuples_join o s t) u
   tuples-join_least all_tuples t u i j k f h vs v = f vs tt

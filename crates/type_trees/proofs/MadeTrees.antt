@@ -60,7 +60,7 @@ size_value t q ss s i e f d = view_of t (record { plain = q; cell = None; tuples
 pub size_fits : (t : Node) (q : PlainParts) (ss : List (SizeOf Node)) (s : SizeOf Node) → t ≡ v.Of (record { plain = q; cell = None; tuples = Sizes ss }) → q ≡ plain_none → ss ≡ s ∷ [] → (d : ℕ) → s.size ≤ MAX_ELEMENTS → BodyFits d s.size s.body → Fits (suc d) t
 size_fits t q ss s i e f d few k =
     without_list t (record { plain = q; cell = None; tuples = Sizes ss }) i refl d (of_tuples (ops d) (sizes ((s.size, body_view d s.body) ∷ []))) (size_parts q ss s e f d)
-    (tt, tt, (refl, refl, (lt-ltb s.size 65 (omega (arith, few)), k.normal, tt))) (subst (EachSize (Fits d)) (sym f) (k.each, tt))
+    (tt, tt, (refl, refl, ((lt-ltb s.size 65 (omega (arith, few)), k.normal), tt))) (subst (EachSize (Fits d)) (sym f) (k.each, tt))
 
 list_parts : (q : PlainParts) (ss : List (SizeOf Node)) (c e : Node) (p : Bool) → q ≡ plain_none → ss ≡ [] → c ≡ e → (d : ℕ) → parts_view d (record { plain = q; cell = Some (record { element = c; is_proper = p }); tuples = Sizes ss }) ≡ of_list (ops d) (view d e) p
 list_parts q ss c e p f g h d = λ n. record { plain = f n; cell = Some (record { element = view d (h n); is_proper = p }); tuples = sizes (sizes_view d (g n)) }
