@@ -1,5 +1,5 @@
 -- The laws of the tuples of one size, a product of element types or tags.
-use Rattle.std.specs.Prelude.{◌≡◌, ℕ, zero, suc, ◌≤◌, Bool, true, false, cond, List, ◌∷◌, length, nat_lt, Option, Some, None, is_some, option_map, refl}
+use Rattle.std.specs.Prelude.{◌≡◌, ℕ, zero, suc, ◌≤◌, Bool, true, false, cond, List, [], ◌∷◌, length, nat_lt, Option, Some, None, is_some, option_map, refl}
 use Rattle.std.proofs.Common.{sym, ap, ◌∙◌, true≢false, subst, arith}
 use borrow.Author.Tests.{ltb-true, lt-ltb, ltb-false}
 use Rattle.std.specs.Ordering.{eq_by_cmp}

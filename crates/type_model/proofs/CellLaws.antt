@@ -1,5 +1,5 @@
 -- The laws of the lists of a type, told by an element type and by how they end.
-use Rattle.std.specs.Prelude.{◌≡◌, Bool, true, false, ◌||◌, Option, Some, None, refl}
+use Rattle.std.specs.Prelude.{◌≡◌, Bool, true, false, ◌||◌, Option, Some, None, refl, []}
 use Rattle.std.proofs.Common.{sym, ◌∙◌, true≢false, subst, arith}
 use Rattle.type_sets.proofs.Truths.{both, first, second, in_first, in_second, is_false}
 use Rattle.type_model.specs.Values.{Value, atom, nil, Values, no_value, and_value, heads, end_of}

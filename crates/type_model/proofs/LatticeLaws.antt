@@ -1,6 +1,6 @@
 -- Families of sets: where one of two sets is part of the other, their meet is the one and their join the other; and sets
 -- that all have a value, with none beside them; and a set joined with others.
-use Rattle.std.specs.Prelude.{◌≡◌, ◌⊎◌, List, ◌∷◌, ◌++◌, Option, Some, None, refl}
+use Rattle.std.specs.Prelude.{◌≡◌, ◌⊎◌, List, [], ◌∷◌, ◌++◌, Option, Some, None, refl}
 use Rattle.std.proofs.Common.{ap, inl, inr, arith}
 use Rattle.type_model.specs.Tables.{EachOf, joined, both_at}
 use Rattle.type_model.specs.Elements.{joined_all}

@@ -1,5 +1,5 @@
 -- The laws of conses: a type has those of its heads and its tails, which are the least types that say so.
-use Rattle.std.proofs.Common.{◌≡◌, ◌∙◌, ℕ, suc, Bool, true, false, cond, Option, Some, None, refl, sym, ap, subst, arith, true≢false}
+use Rattle.std.proofs.Common.{◌≡◌, ◌∙◌, ℕ, suc, Bool, true, false, cond, Option, Some, None, refl, sym, ap, subst, arith, true≢false, []}
 use Rattle.std.specs.Prelude.{◌↔◌}
 use Rattle.type_sets.specs.Names as names
 use Rattle.type_sets.specs.Numbers as numbers

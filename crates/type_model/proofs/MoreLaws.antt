@@ -1,5 +1,5 @@
 -- The laws of larger types: cut, or taken for the type of an element, they give larger types.
-use Rattle.std.proofs.Common.{ℕ, suc, ◌-◌, true, false, cond, inl, inr, List, ◌∷◌, Option, Some, None, arith}
+use Rattle.std.proofs.Common.{ℕ, suc, ◌-◌, true, false, cond, inl, inr, List, [], ◌∷◌, Option, Some, None, arith}
 use Rattle.std.specs.Prelude.{nat_lt, slice_get}
 use Rattle.std.specs.Ordering.{nat_cmp}
 use Rattle.type_model.specs.Values.{Value, tuple}

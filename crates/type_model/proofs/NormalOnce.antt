@@ -1,5 +1,5 @@
 -- That a type is in normal form has at most one proof.
-use Rattle.std.specs.Prelude.{◌≡◌, ℕ, zero, suc, Bool, List, ◌∷◌, Option, Some, None}
+use Rattle.std.specs.Prelude.{◌≡◌, ℕ, zero, suc, Bool, List, [], ◌∷◌, Option, Some, None}
 use Rattle.std.specs.Coded.{Coded-set, coded_bool, coded_ℕ, coded_option, coded_list, Unit-prop}
 use Rattle.type_sets.specs.Names.{Name}
 use Rattle.type_model.specs.Shapes.{Functions, no_function, of_arity, all_functions, Cell, Body, product, tags, Tuples, sizes, all_tuples, Parts, TypeAt}

@@ -1,5 +1,5 @@
 -- The laws of types made of parts, from those of their element types.
-use Rattle.std.proofs.Common.{◌≡◌, ◌⊎◌, inl, inr, true, false, ◌&&◌, List, Option, Some, None, refl, sym, ap, ◌∙◌, subst, arith, true≢false}
+use Rattle.std.proofs.Common.{◌≡◌, ◌⊎◌, inl, inr, true, false, ◌&&◌, List, [], Option, Some, None, refl, sym, ap, ◌∙◌, subst, arith, true≢false}
 use Rattle.std.specs.Prelude.{cond, is_some}
 use Rattle.type_sets.specs.Ascending.{is_ascending, has_item}
 use Rattle.type_sets.specs.Names as names

@@ -1,5 +1,5 @@
 -- The laws of products of element types, one for each place.
-use Rattle.std.specs.Prelude.{◌≡◌, ℕ, zero, suc, Bool, false, ◌||◌, List, ◌∷◌, length, Option, Some, None, refl}
+use Rattle.std.specs.Prelude.{◌≡◌, ℕ, zero, suc, Bool, false, ◌||◌, List, [], ◌∷◌, length, Option, Some, None, refl}
 use Rattle.std.proofs.Common.{sym, ap, ◌∙◌, arith}
 use Rattle.type_model.specs.Values.{Value, Values, no_value, and_value, count}
 use Rattle.type_model.specs.Tables.{both_at, joined}

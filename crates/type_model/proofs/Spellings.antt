@@ -1,5 +1,5 @@
 -- A value is told by its spelling, also where more numbers follow: no spelling is a front of another.
-use Rattle.std.proofs.Common.{◌≡◌, ℕ, ◌==◌, Bool, true, false, List, ◌∷◌, ◌++◌, length, drop, refl, sym, ap, ap₂, ◌∙◌, arith, append_assoc, true≢false}
+use Rattle.std.proofs.Common.{◌≡◌, ℕ, ◌==◌, Bool, true, false, List, [], ◌∷◌, ◌++◌, length, drop, refl, sym, ap, ap₂, ◌∙◌, arith, append_assoc, true≢false}
 use Rattle.std.specs.Prelude.{pos, negsuc}
 use Rattle.type_model.specs.Values.{Value, int, atom, bits, float, pid, port, reference, nil, cons, tuple, map, closure, external, foreign, Values, no_value, and_value, ValuePairs, no_pair, and_pair, Env, no_variable, and_variable, and_frame}
 use Rattle.type_model.specs.Canonical.{spelled_name, spelled_int, spelled_bits, spelled_locals, spelled, spelled_values, spelled_pairs, spelled_env}

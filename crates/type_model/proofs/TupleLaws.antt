@@ -1,5 +1,5 @@
 -- The laws of tuples: all of them, or those of at most eight sizes, each size with a body of its own.
-use Rattle.std.proofs.Common.{◌≡◌, ◌≤◌, ◌⊎◌, inl, inr, ℕ, zero, suc, true, false, List, ◌∷◌, Option, Some, None, length, refl, sym, ap, ◌∙◌, subst, arith, true≢false}
+use Rattle.std.proofs.Common.{◌≡◌, ◌≤◌, ◌⊎◌, inl, inr, ℕ, zero, suc, true, false, List, [], ◌∷◌, Option, Some, None, length, refl, sym, ap, ◌∙◌, subst, arith, true≢false}
 use borrow.Author.Tests.{ltb-true, lt-ltb}
 use Rattle.std.specs.Prelude.{nat_lt, cond, is_some}
 use Rattle.std.specs.Ordering.{nat_cmp}
