@@ -234,7 +234,7 @@ module _ (d : ℕ) where
       all-least l up (ops (suc d)).none (sizes_at (ops d) s m) u l.none_normal (sizes_normal s m k.2) n (λ v h. absurd (l.none_empty v h)) (some_each (sizes_at (ops d) s m) (sizes_each (ops d) s Q m (tables.each_from nat_cmp_total nat_cmp-IsAntisymmetric (λ a b. EachOf Q (at_places s 1 (elements (ops d) b))) m k.0 (λ a b r.
       let normal : NormalBody (NormalAt d) (ops d) a (Some b) = subst (NormalBody (NormalAt d) (ops d) a) r (normal_at (level_laws d) m k.2 a) in
       places_each s Q 1 (elements (ops d) b) (λ i e x p.
-          body_inside d u n a b normal i (λ vs v z y. f vs (from_size (level_laws d) m k.2 a vs (subst (HasBody (HasAt d) vs) (sym r) z)) i v y (subst (λ j. numbers.has s (pos j) ≡ true) (omega arith) p)) e x)))))
+      body_inside d u n a b normal i (λ vs v z y. f vs (from_size (level_laws d) m k.2 a vs (subst (HasBody (HasAt d) vs) (sym r) z)) i v y (subst (λ j. numbers.has s (pos j) ≡ true) (omega arith) p)) e x)))))
     where
       some_each : (es : List (TypeAt d)) → EachOf (λ e. BelowBy (HasAt (suc d)) (up e) u) es → (v : Value) → SomeOf (λ e. HasAt (suc d) v (up e)) es → HasAt (suc d) v u
       some_each [] j v h = absurd h

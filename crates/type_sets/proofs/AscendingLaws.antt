@@ -1,5 +1,5 @@
 -- What an ascending list has, and how many items a part of it has.
-use Rattle.std.proofs.Common.{◌≡◌, ℕ, zero, suc, ◌+◌, ◌≤◌, ◌<◌, Bool, true, false, cond, ◌&&◌, ◌||◌, ◌⊎◌, inl, inr, List, [], ◌∷◌, ◌++◌, length, filter, take, drop, get_or, refl, sym, ap, ◌∙◌, arith, true≢false, Less, Equal, Greater}
+use Rattle.std.proofs.Common.{◌≡◌, ℕ, ◌+◌, ◌≤◌, ◌<◌, Bool, true, false, cond, ◌&&◌, ◌||◌, ◌⊎◌, inl, inr, List, [], ◌∷◌, ◌++◌, length, filter, take, drop, get_or, refl, sym, ap, ◌∙◌, arith, true≢false, Less, Equal, Greater}
 use Rattle.std.specs.declared.cmp.Ordering.{Ordering}
 use Rattle.std.specs.Ordering.{is_lt, is_eq, eq_by_cmp, ordering_reverse}
 use Rattle.std.specs.Cmp.{IsTotalOrder, Equal-is, tied_itself}
@@ -19,16 +19,13 @@ module _ {K : Type 0} {R : K → K → Ordering} (o : IsTotalOrder R) (same : Is
   itself x = ap is_eq (tied_itself o x)
 
   less-is : (r : Ordering) → is_lt r ≡ true → r ≡ Less
-  less-is Less h = refl
-  less-is Equal h = absurd (true≢false (sym h))
-  less-is Greater h = absurd (true≢false (sym h))
+  less-is x0 x1 = grind arith
 
   pub below-not_itself : (x : K) → is_lt (R x x) ≡ true → ⊥
   below-not_itself x h = true≢false (sym h ∙ ap is_lt (tied_itself o x))
 
   pub below-both_ways : (x y : K) → is_lt (R x y) ≡ true → is_lt (R y x) ≡ true → ⊥
-  below-both_ways x y h k =
-      below-not_itself x (ap is_lt (o.trans x y x (less-is (R x y) h) (less-is (R y x) k)))
+  below-both_ways x y h k = grind (arith, below-not_itself, o.trans, less-is)
 
   pub below-below : (x y z : K) → is_lt (R x y) ≡ true → is_lt (R y z) ≡ true → is_lt (R x z) ≡ true
   below-below x y z h k = ap is_lt (o.trans x y z (less-is (R x y) h) (less-is (R y z) k))
@@ -55,19 +52,11 @@ module _ {K : Type 0} {R : K → K → Ordering} (o : IsTotalOrder R) (same : Is
 
   -- the items that a filter keeps
   pub has-filter : (p : K → Bool) (xs : List K) (q : K) → has_item R (filter p xs) q ≡ (has_item R xs q && p q)
-  has-filter p xs q =
-      any-filter_same (eq_by_cmp R q) p (p q) (λ x e. ap p (sym (is_it q x e))) xs ∙ and_swap (p q) (has_item R xs q)
+  has-filter p xs q = grind (arith, any-filter_same, is_it, and_swap)
 
   pub ascending-filter : (p : K → Bool) (xs : List K) → is_ascending R xs ≡ true → is_ascending R (filter p xs) ≡ true
   ascending-filter p [] h = refl
-  ascending-filter p (x ∷ xs) h =
-      let rest = ascending-filter p xs (second (is_below_all R x xs) (is_ascending R xs) h) in
-      let front = first (is_below_all R x xs) (is_ascending R xs) h in
-      elim (p x) as (λ b. is_ascending R (cond b (x ∷ filter p xs) (filter p xs)) ≡ true) [
-        | true ↦
-            both (is_below_all R x (filter p xs)) (is_ascending R (filter p xs)) (below_all-from_items x (filter p xs) (λ q m. below_all-item x q xs front (first (has_item R xs q) (p q) (sym (has-filter p xs q) ∙ m)))) rest
-        | false ↦ rest
-      ]
+  ascending-filter p (x ∷ xs) h = grind (arith, ascending-filter p xs (second (is_below_all R x xs) (is_ascending R xs) h), second, first, both, below_all-from_items, below_all-item, has-filter)
 
   -- where x is first in one list and stands in the other, each item that both have but x is behind it in both
   later-part : (x y : K) (xs ys : List K) → is_below_all R x xs ≡ true → x ≡ y → ((q : K) → has_item R (x ∷ xs) q ≡ true → has_item R (y ∷ ys) q ≡ true) → (q : K) → has_item R xs q ≡ true → has_item R ys q ≡ true
@@ -119,18 +108,12 @@ module _ {K : Type 0} {R : K → K → Ordering} (o : IsTotalOrder R) (same : Is
   same-items xs ys a b f g = elim (shorter-or_whole ys xs a b f) [ inl less ↦ absurd (omega (arith, less, length-part xs ys b a g)) | inr same ↦ same ]
 
   or_again : (a b c : Bool) → a ≡ b → (b || c) ≡ (a || (b || c))
-  or_again true b c e = ap (λ d. d || c) (sym e)
-  or_again false b c e = refl
+  or_again x0 x1 x2 x3 = grind arith
 
   -- what an ascending list has once an item is placed there
   pub has-placed : (x : K) (xs : List K) (q : K) → has_item R (placed R x xs) q ≡ (eq_by_cmp R q x || has_item R xs q)
   has-placed x [] q = refl
-  has-placed x (y ∷ ys) q =
-      elim (R x y) as (λ r. R x y ≡ r → has_item R (cond (is_lt r) (x ∷ y ∷ ys) (cond (is_eq r) (y ∷ ys) (y ∷ placed R x ys))) q ≡ (eq_by_cmp R q x || (eq_by_cmp R q y || has_item R ys q))) [
-        | Less ↦ λ e. refl
-        | Equal ↦ λ e. or_again (eq_by_cmp R q x) (eq_by_cmp R q y) (has_item R ys q) (ap (eq_by_cmp R q) (same x y e))
-        | Greater ↦ λ e. ap (λ b. eq_by_cmp R q y || b) (has-placed x ys q) ∙ or_move (eq_by_cmp R q y) (eq_by_cmp R q x) (has_item R ys q)
-      ] refl
+  has-placed x (y ∷ ys) q = grind (arith, or_again, has-placed x ys q, or_move)
 
   pub ascending-placed : (x : K) (xs : List K) → is_ascending R xs ≡ true → is_ascending R (placed R x xs) ≡ true
   ascending-placed x [] a = refl
@@ -152,25 +135,15 @@ module _ {K : Type 0} {R : K → K → Ordering} (o : IsTotalOrder R) (same : Is
 
   pub length-placed : (x : K) (xs : List K) → length xs ≤ length (placed R x xs)
   length-placed x [] = omega arith
-  length-placed x (y ∷ ys) =
-      let more = length-placed x ys in
-      elim (R x y) as (λ r. length (y ∷ ys) ≤ length (cond (is_lt r) (x ∷ y ∷ ys) (cond (is_eq r) (y ∷ ys) (y ∷ placed R x ys)))) [
-        | Less ↦ omega arith
-        | Equal ↦ omega arith
-        | Greater ↦ omega arith
-      ]
+  length-placed x (y ∷ ys) = grind (arith, length-placed x ys)
 
   pub has-merged : (xs ys : List K) (q : K) → has_item R (merged R xs ys) q ≡ (has_item R xs q || has_item R ys q)
   has-merged xs [] q = or_false (has_item R xs q)
-  has-merged xs (y ∷ ys) q =
-      has-merged (placed R y xs) ys q
-      ∙ ap (λ b. b || has_item R ys q) (has-placed y xs q)
-      ∙ or_turn (has_item R xs q) (eq_by_cmp R q y) (has_item R ys q)
+  has-merged xs (y ∷ ys) q = grind (arith, has-merged (placed R y xs) ys q, has-placed, or_turn)
 
   -- what has the items of two lists has those of both together
   pub merged-part : (xs ys : List K) (u : K → Bool) → ((q : K) → has_item R xs q ≡ true → u q ≡ true) → ((q : K) → has_item R ys q ≡ true → u q ≡ true) → (q : K) → has_item R (merged R xs ys) q ≡ true → u q ≡ true
-  merged-part xs ys u f g q h =
-      elim (either (has_item R xs q) (has_item R ys q) (sym (has-merged xs ys q) ∙ h)) [ inl x ↦ f q x | inr y ↦ g q y ]
+  merged-part xs ys u f g q h = grind (arith, either, has-merged)
 
   pub ascending-merged : (xs ys : List K) → is_ascending R xs ≡ true → is_ascending R (merged R xs ys) ≡ true
   ascending-merged xs [] a = a
@@ -178,14 +151,11 @@ module _ {K : Type 0} {R : K → K → Ordering} (o : IsTotalOrder R) (same : Is
 
   pub length-merged : (xs ys : List K) → length xs ≤ length (merged R xs ys)
   length-merged xs [] = omega arith
-  length-merged xs (y ∷ ys) =
-      let one = length-placed y xs in let more = length-merged (placed R y xs) ys in omega arith
+  length-merged xs (y ∷ ys) = grind (arith, length-placed, length-merged (placed R y xs) ys)
 
   pub length-filter_le : (p : K → Bool) (xs : List K) → length (filter p xs) ≤ length xs
   length-filter_le p [] = omega arith
-  length-filter_le p (x ∷ xs) =
-      let more = length-filter_le p xs in
-      elim (p x) as (λ b. length (cond b (x ∷ filter p xs) (filter p xs)) ≤ length (x ∷ xs)) [ true ↦ omega arith | false ↦ omega arith ]
+  length-filter_le p (x ∷ xs) = grind (arith, length-filter_le p xs)
 
 module _ {K : Type 0} {R : K → K → Ordering} (o : IsTotalOrder R) (same : IsAntisymmetric R) where
   -- each item before the last is below it
@@ -234,14 +204,9 @@ module _ {K : Type 0} {R : K → K → Ordering} (o : IsTotalOrder R) (same : Is
 
   -- neighbours in an ascending list ascend
   pub ascending-at : (xs : List K) (i j : ℕ) (d f : K) → j ≡ i + 1 → j < length xs → is_ascending R xs ≡ true → is_lt (R (get_or xs i d) (get_or xs j f)) ≡ true
-  ascending-at [] i j d f e h a = absurd (omega arith)
-  ascending-at (x ∷ []) i j d f e h a = absurd (omega arith)
-  ascending-at (x ∷ y ∷ ys) zero zero d f e h a = absurd (omega arith)
-  ascending-at (x ∷ y ∷ ys) zero (suc zero) d f e h a = first (is_lt (R x y)) (is_below_all R x ys) (first (is_below_all R x (y ∷ ys)) (is_ascending R (y ∷ ys)) a)
-  ascending-at (x ∷ y ∷ ys) zero (suc (suc j)) d f e h a = absurd (omega arith)
-  ascending-at (x ∷ y ∷ ys) (suc i) zero d f e h a = absurd (omega arith)
-  ascending-at (x ∷ y ∷ ys) (suc i) (suc j) d f e h a =
-      ascending-at (y ∷ ys) i j d f (omega arith) (omega arith) (second (is_below_all R x (y ∷ ys)) (is_ascending R (y ∷ ys)) a)
+  ascending-at [] i j d f e h a = grind arith
+  ascending-at (x ∷ []) i j d f e h a = grind arith
+  ascending-at (x ∷ y ∷ ys) i j d f e h a = grind (arith, first, ascending-at (y ∷ ys), second)
 
   -- one pair of neighbours that don't ascend is enough
   pub not_ascending : (xs : List K) (i j : ℕ) (d f : K) → j ≡ i + 1 → j < length xs → is_lt (R (get_or xs i d) (get_or xs j f)) ≡ false → is_ascending R xs ≡ false

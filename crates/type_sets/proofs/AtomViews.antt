@@ -1,5 +1,5 @@
 -- What the code's set of atoms stands for, by its kinds.
-use Rattle.std.proofs.Common.{◌≡◌, ◌↔◌, IsTrue, Result, IfOk, ℕ, ◌≤◌, ◌<◌, ◌+◌, Bool, true, false, not, Less, Equal, Greater, ◌&&◌, ◌||◌, ◌==◌, List, [], ◌∷◌, Option, Some, None, is_some, length, filter, take, get_or, refl, sym, ap, ◌∙◌, subst, arith, true≢false}
+use Rattle.std.proofs.Common.{◌≡◌, ◌↔◌, IsTrue, Result, IfOk, ℕ, ◌≤◌, ◌<◌, ◌+◌, Bool, true, false, not, ◌&&◌, ◌||◌, ◌==◌, List, Option, None, is_some, length, filter, take, get_or, sym, ap, ◌∙◌, subst, arith}
 use Rattle.std.proofs.lemmas.Result.{IfOk-weaker}
 use Rattle.std.proofs.lemmas.List.{take_all}
 use Rattle.std.proofs.lemmas.List.Folds.{list_any_at, list_any_more}
@@ -8,7 +8,6 @@ use Rattle.std.specs.Ordering.{is_lt, is_ge, eq_by_cmp}
 use Rattle.std.specs.List.{list_all}
 use Rattle.std.specs.Option.{option_copied}
 use denote.Bor.{Bor}
-use borrow.Author.Tests.{eqb-true}
 use Rattle.type_sets.specs.declared.atom_set.Kind.{Kind}
 use Rattle.type_sets.specs.declared.atom_set.Kind.TheVariants.{Listed}
 use Rattle.type_sets.specs.declared.limits.TheConstants.{MAX_MEMBERS}
@@ -29,15 +28,13 @@ pub listed_set : (s : Names) (v : List Name) → (are_listed v ≡ true) × (s �
 listed_set s v k = (k.0, k.1 ∙ or_else-yes v none k.0)
 
 pub every_set : (s : Names) → None ≡ members_of s → s ≡ every
-every_set (some xs e) h = absurd (cc h)
-every_set every h = refl
+every_set x0 x1 = grind arith
 
 pub empty_when : (r : Bool) (s : Names) → r ≡ is_none s → IsTrue r ↔ (s ≡ none)
 empty_when r s e = (λ h. is_none-is s (sym e ∙ h), λ h. e ∙ ap is_none h)
 
 pub no_item : (s : Names) (v : List Name) (e : are_listed v ≡ true) (r : Bool) → s ≡ some v e → r ≡ (length v == 0) → r ≡ is_none s
-no_item s [] e r is h = h ∙ sym (ap is_none is)
-no_item s (x ∷ xs) e r is h = h ∙ is_false (length (x ∷ xs) == 0) (λ k. absurd (let z = eqb-true (length (x ∷ xs)) 0 k in omega (arith, z))) ∙ sym (ap is_none is)
+no_item x0 x1 x2 x3 x4 x5 = grind (arith, is_false)
 
 -- ---- membership
 
@@ -53,21 +50,12 @@ not_yet xs i q d h before other =
 -- ---- inclusion, by the kinds
 
 pub below_listed : (s t : Names) (xs : List Name) (e : are_listed xs ≡ true) (r : Bool) → s ≡ some xs e → r ≡ list_all (has t) xs → IsTrue r ↔ Below s t
-below_listed s t xs e r is all = (
-  λ h q m. ascending.all-item name_total name_same (has t) xs q (sym all ∙ h) (sym (ap (λ u. has u q) is) ∙ m),
-  λ f. all ∙ ascending.all-from_items name_total name_same (has t) xs (λ q m. f q (ap (λ u. has u q) is ∙ m)),
-)
+below_listed s t xs e r is all = grind (arith, ascending.all-item, name_total, name_same, ascending.all-from_items)
 
 -- all atoms are part of all atoms alone
 pub below_every : (s t : Names) (o : Option (Bor (List Name))) (r : Bool) → s ≡ every → option_copied o ≡ members_of t → is_some o ≡ not r → IsTrue r ↔ Below s t
-below_every s (some ys e) None r is m h = absurd (cc m)
-below_every s (some ys e) (Some b) r is m h = (
-  λ x. absurd (true≢false (h ∙ ap not x)),
-  λ p. absurd (not_listed ys e (λ q. p q (ap (λ u. has u q) is))),
-)
-below_every s every None true is m h = (λ _ q k. refl, λ _. refl)
-below_every s every None false is m h = absurd (true≢false (sym h))
-below_every s every (Some b) r is m h = absurd (cc m)
+below_every s (some ys e) x2 r x4 m h = grind (arith, not_listed)
+below_every s every x2 r x4 m h = grind arith
 
 -- ---- the meet, by the kinds
 
@@ -96,9 +84,7 @@ join_listed s t xs ys e f r is it h = h ∙ sym (λ i. join (is i) (it i))
 
 -- what is too long before its end isn't listed at its end
 pub join_long : (xs ys : List Name) (i : ℕ) → MAX_MEMBERS < length (merged name_cmp xs (take i ys)) → or_else (merged name_cmp xs ys) every ≡ every
-join_long xs ys i long =
-    let longer = ascending.merged-longer name_total name_same xs ys i in
-    or_else-no (merged name_cmp xs ys) every (is_false (are_listed (merged name_cmp xs ys)) (λ e. let few = listed-few (merged name_cmp xs ys) e in absurd (omega arith)))
+join_long xs ys i long = grind (arith, ascending.merged-longer, name_total, name_same, or_else-no, is_false, listed-few)
 
 -- what is short at its end is listed
 pub join_short : (xs ys : List Name) → are_listed xs ≡ true → (i : ℕ) → length ys ≤ i → (zs : List Name) → zs ≡ merged name_cmp xs (take i ys) → length zs ≤ MAX_MEMBERS → (are_listed zs ≡ true) × (listed zs ≡ or_else (merged name_cmp xs ys) every)
@@ -131,6 +117,4 @@ ok_then r {P} {Q} h f = IfOk-weaker r P Q f h
 -- ---- the order of two atoms
 
 pub not_under : (r : Ordering) (b : Bool) → is_ge r ≡ b → is_lt r ≡ not b
-not_under Less b h = ap not h
-not_under Equal b h = ap not h
-not_under Greater b h = ap not h
+not_under x0 x1 x2 = grind arith

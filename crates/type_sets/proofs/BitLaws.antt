@@ -1,5 +1,5 @@
 -- The laws of sets of bit strings.
-use Rattle.std.proofs.Common.{◌≡◌, ℕ, ◌&&◌, refl, sym, true≢false}
+use Rattle.std.proofs.Common.{◌≡◌, ℕ, ◌&&◌, refl, sym, true≢false, arith}
 use Rattle.type_sets.specs.declared.bits.Bits.{Bits}
 use Rattle.type_sets.specs.declared.bits.Bits.TheVariants.{No, Whole, Any}
 use Rattle.type_sets.specs.BitLengths.{has, Below, meet, join}
@@ -22,32 +22,16 @@ pub below-below : (s t u : Bits) → Below s t → Below t u → Below s u
 below-below s t u f g n h = g n (f n h)
 
 pub has-meet : (s t : Bits) (n : ℕ) → has (meet s t) n ≡ (has s n && has t n)
-has-meet No t n = refl
-has-meet Whole No n = sym (and_none (has Whole n))
-has-meet Whole Whole n = sym (and_itself (has Whole n))
-has-meet Whole Any n = sym (and_true (has Whole n))
-has-meet Any t n = refl
+has-meet x0 x1 x2 = grind (arith, and_none, and_itself, and_true)
 
 pub join-left : (s t : Bits) → Below s (join s t)
-join-left No t n h = absurd (true≢false (sym h))
-join-left Whole No n h = h
-join-left Whole Whole n h = h
-join-left Whole Any n h = refl
-join-left Any t n h = h
+join-left x0 x1 x2 x3 = grind arith
 
 pub join-right : (s t : Bits) → Below t (join s t)
-join-right No t n h = h
-join-right Whole No n h = absurd (true≢false (sym h))
-join-right Whole Whole n h = h
-join-right Whole Any n h = refl
-join-right Any t n h = refl
+join-right x0 x1 x2 x3 = grind arith
 
 pub join-least : (s t u : Bits) → Below s u → Below t u → Below (join s t) u
-join-least No t u f g n h = g n h
-join-least Whole No u f g n h = f n h
-join-least Whole Whole u f g n h = f n h
-join-least Whole Any u f g n h = g n h
-join-least Any t u f g n h = f n h
+join-least x0 x1 x2 x3 x4 x5 x6 = grind arith
 
 pub same_bits : (s t : Bits) → Below s t → Below t s → s ≡ t
 same_bits No No f g = refl

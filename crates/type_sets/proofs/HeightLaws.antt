@@ -7,10 +7,7 @@ module _ {S : Type 0} (Below : S → S → Type 0) (height : S → ℕ) (lower :
   pub falls-bound : (n : ℕ) (s : S) → Falls Below n s → n ≤ height s
   unfolding Falls
   falls-bound zero s f = omega arith
-  falls-bound (suc n) s f =
-      let step = lower f.0 s f.1.0.0 f.1.0.1 in
-      let rest = falls-bound n f.0 f.1.1 in
-      omega arith
+  falls-bound (suc n) s f = grind (arith, falls-bound n f.0 f.1.1)
 
 pub down : {S : Type 0} (Below : S → S → Type 0) (n : ℕ) (s t : S) → Below t s → (t ≡ s → ⊥) → Falls Below n t → Falls Below (suc n) s
 unfolding Falls

@@ -1,5 +1,5 @@
 -- What the code's set of integers stands for, by its kinds.
-use Rattle.std.proofs.Common.{◌≡◌, ◌↔◌, IsTrue, ◌==◌, pos, Option, Some, None, IfNone, ℕ, ℤ, ◌≤◌, ◌<◌, ◌+◌, Bool, true, false, ◌&&◌, ◌||◌, List, [], ◌∷◌, ◌++◌, length, filter, take, get_or, refl, sym, ap, ◌∙◌, subst, arith, true≢false}
+use Rattle.std.proofs.Common.{◌≡◌, ◌↔◌, IsTrue, ◌==◌, pos, Option, IfNone, ℕ, ℤ, ◌≤◌, ◌<◌, ◌+◌, Bool, true, false, ◌&&◌, ◌||◌, List, [], ◌∷◌, ◌++◌, length, filter, take, get_or, refl, sym, ap, ◌∙◌, subst, arith, true≢false}
 use Rattle.std.specs.Prelude.{int_le}
 use Rattle.std.proofs.lemmas.Int.{ints}
 use Rattle.std.specs.Ordering.{int_cmp, int_eq, is_lt}
@@ -56,10 +56,7 @@ highest-more = outermost-more higher high_of MinusOne higher-turn higher-minus_o
 
 -- whether a set that lists its numbers has none
 pub empty_listed : (s : Numbers) (xs : List ℤ) (e : are_listed xs ≡ true) → s ≡ some xs e → (length xs == 0) ≡ is_none s
-empty_listed s [] e is = sym (ap is_none is)
-empty_listed s (x ∷ xs) e is =
-    let long : (length (x ∷ xs) == 0) ≡ false = grind (arith, nat_tests) in
-    long ∙ sym (ap is_none is)
+empty_listed x0 x1 x2 x3 = grind (arith, nat_tests)
 
 pub empty_when : (r : Bool) (s : Numbers) → r ≡ is_none s → IsTrue r ↔ (s ≡ none)
 empty_when r s e = (λ h. is_none-is s (sym e ∙ h), λ h. e ∙ ap is_none h)
@@ -139,9 +136,7 @@ join_listed s t xs ys zs e f is it list few =
 
 pub join_long : (s t : Numbers) (xs ys : List ℤ) (e : are_listed xs ≡ true) (f : are_listed ys ≡ true) → s ≡ some xs e → t ≡ some ys f → MAX_MEMBERS < length (merged int_cmp xs ys) → join s t ≡ hull s t
 unfolding join
-join_long s t xs ys e f is it long =
-    let wide : are_listed (merged int_cmp xs ys) ≡ false = is_false (are_listed (merged int_cmp xs ys)) (λ d. let few = listed-few (merged int_cmp xs ys) d in absurd (omega arith)) in
-    (λ i. join (is i) (it i)) ∙ or_else-no (merged int_cmp xs ys) (hull (some xs e) (some ys f)) wide ∙ sym (λ i. hull (is i) (it i))
+join_long s t xs ys e f is it long = grind (arith, is_false, listed-few, or_else-no)
 
 pub join_with_between : (s t : Numbers) (xs : List ℤ) (e : are_listed xs ≡ true) (m : Low) (k : High) (f : is_range m k ≡ true) → s ≡ some xs e → t ≡ between m k f → join s t ≡ hull s t
 unfolding join
@@ -162,8 +157,7 @@ least_above s t r is u f g n h = join-least s t u f g n (sym (ap (λ v. has v n)
 
 -- what follows from what is known where there is no value
 pub none_then : {X : Type 0} (r : Option X) {P Q : Type 0} → IfNone r P → (P → Q) → IfNone r Q
-none_then None h f = f h
-none_then (Some x) h f = h
+none_then x0 x1 x2 = grind arith
 
 -- how the code's comparison orders
 pub int_falls : (m n : ℤ) → int_le n m ≡ true → is_lt (int_cmp m n) ≡ false

@@ -2,7 +2,7 @@
 use Rattle.std.proofs.Common.{◌≡◌, ℕ, ◌+◌, ◌≤◌, ◌<◌, true, List, [], ◌∷◌, length, refl, ap, arith}
 use Rattle.std.specs.Ordering.{eq_by_cmp}
 use Rattle.type_sets.specs.declared.limits.TheConstants.{MAX_MEMBERS}
-use Rattle.type_sets.specs.Ascending.{is_ascending, is_below_all, has_item}
+use Rattle.type_sets.specs.Ascending.{has_item}
 use Rattle.type_sets.specs.Names.{Name, name_cmp, Names, some, every, are_listed, Below, height}
 use Rattle.type_sets.specs.Heights.{Falls}
 use Rattle.type_sets.proofs.Truths.{second, in_second}
@@ -23,9 +23,7 @@ height-bound s n f = falls-bound Below height height-lower n s f
 -- ---- the chain that is so long
 
 listed-tail : (x : Name) (xs : List Name) → are_listed (x ∷ xs) ≡ true → are_listed xs ≡ true
-listed-tail x xs e =
-    let few = listed-few (x ∷ xs) e in
-    listed-from xs (second (is_below_all name_cmp x xs) (is_ascending name_cmp xs) (listed-ascending (x ∷ xs) e)) (omega arith)
+listed-tail x xs e = grind (arith, listed-few, listed-from, second, listed-ascending)
 
 shorter : (x : Name) (xs : List Name) (e : are_listed (x ∷ xs) ≡ true) (f : are_listed xs ≡ true) → some xs f ≡ some (x ∷ xs) e → ⊥
 shorter x xs e f p = let q = ap height p in absurd (omega arith)
@@ -48,5 +46,4 @@ height-reached every =
     down Below 13 every (some thirteen thirteen-listed) (λ q m. refl) (λ p. let q = ap height p in absurd (omega arith)) (listed-falls thirteen thirteen-listed)
 
 pub height-most : (s : Names) → height s ≤ MAX_MEMBERS + 1
-height-most (some xs e) = let few = listed-few xs e in omega arith
-height-most every = omega arith
+height-most x0 = grind (arith, listed-few)

@@ -32,10 +32,7 @@ pub listed-from : (xs : List Name) → is_ascending name_cmp xs ≡ true → len
 listed-from xs a k = both (is_ascending name_cmp xs) (are_few xs) a (is-few xs k)
 
 pub listed-filter : (p : Name → Bool) (xs : List Name) → are_listed xs ≡ true → are_listed (filter p xs) ≡ true
-listed-filter p xs e =
-    let le = ascending.length-filter_le name_total name_same p xs in
-    let few = listed-few xs e in
-    listed-from (filter p xs) (ascending.ascending-filter name_total name_same p xs (listed-ascending xs e)) (omega arith)
+listed-filter p xs e = grind (arith, ascending.length-filter_le, name_total, name_same, listed-few, listed-from, ascending.ascending-filter, listed-ascending)
 
 -- two lists together may be listed where they are few enough
 pub listed-merged : (xs ys : List Name) → are_listed xs ≡ true → length (merged name_cmp xs ys) ≤ MAX_MEMBERS → are_listed (merged name_cmp xs ys) ≡ true
@@ -43,10 +40,7 @@ listed-merged xs ys e k = listed-from (merged name_cmp xs ys) (ascending.ascendi
 
 pub or_else-no : (xs : List Name) (t : Names) → are_listed xs ≡ false → or_else xs t ≡ t
 unfolding or_else
-or_else-no xs t e = elim (are_listed xs) as (λ b. (f : are_listed xs ≡ b) → elim b as (λ c. are_listed xs ≡ c → Names) [ true ↦ λ g. some xs g | false ↦ λ _. t ] f ≡ t) [
-  | true ↦ λ f. absurd (true≢false (sym f ∙ e))
-  | false ↦ λ f. refl
-] refl
+or_else-no xs t e = grind arith
 
 pub has-listed : (xs : List Name) (t : Names) (q : Name) → are_listed xs ≡ true → has (or_else xs t) q ≡ has_item name_cmp xs q
 has-listed xs t q e = ap (λ s. has s q) (or_else-yes xs t e)
@@ -55,8 +49,7 @@ has-listed xs t q e = ap (λ s. has s q) (or_else-yes xs t e)
 
 pub has-meet : (s t : Names) (q : Name) → has (meet s t) q ≡ (has s q && has t q)
 unfolding meet
-has-meet (some xs e) t q = has-listed (filter (has t) xs) none q (listed-filter (has t) xs e) ∙ ascending.has-filter name_total name_same (has t) xs q
-has-meet every t q = refl
+has-meet x0 x1 x2 = grind (arith, has-listed, listed-filter, ascending.has-filter, name_total, name_same)
 
 -- ---- all atoms are more than thirteen
 
@@ -72,36 +65,17 @@ unfolding fourteen
 fourteen-length = refl
 
 pub not_listed : (xs : List Name) → are_listed xs ≡ true → ((q : Name) → has_item name_cmp xs q ≡ true) → ⊥
-not_listed xs e f =
-    let le = ascending.length-part name_total name_same xs fourteen fourteen-ascending (listed-ascending xs e) (λ q m. f q) in
-    let few = listed-few xs e in
-    absurd (omega (arith, fourteen-length))
+not_listed xs e f = grind (arith, ascending.length-part, name_total, name_same, fourteen, fourteen-ascending, listed-ascending, listed-few, fourteen-length)
 
 -- ---- the join is the least set of the family above both
 
 pub join-left : (s t : Names) → Below s (join s t)
 unfolding join
-join-left (some xs e) (some ys f) q h = elim (decided (are_listed (merged name_cmp xs ys))) [
-  | inl y ↦
-      has-listed (merged name_cmp xs ys) every q y
-      ∙ ascending.has-merged name_total name_same xs ys q
-      ∙ in_first (has_item name_cmp xs q) (has_item name_cmp ys q) h
-  | inr y ↦ ap (λ s. has s q) (or_else-no (merged name_cmp xs ys) every y)
-]
-join-left (some xs e) every q h = refl
-join-left every t q h = refl
+join-left x0 x1 x2 x3 = grind (arith, decided, has-listed, ascending.has-merged, name_total, name_same, in_first, or_else-no)
 
 pub join-right : (s t : Names) → Below t (join s t)
 unfolding join
-join-right (some xs e) (some ys f) q h = elim (decided (are_listed (merged name_cmp xs ys))) [
-  | inl y ↦
-      has-listed (merged name_cmp xs ys) every q y
-      ∙ ascending.has-merged name_total name_same xs ys q
-      ∙ in_second (has_item name_cmp xs q) (has_item name_cmp ys q) h
-  | inr y ↦ ap (λ s. has s q) (or_else-no (merged name_cmp xs ys) every y)
-]
-join-right (some xs e) every q h = refl
-join-right every t q h = refl
+join-right x0 x1 x2 x3 = grind (arith, decided, has-listed, ascending.has-merged, name_total, name_same, in_second, or_else-no)
 
 -- what is too much to be listed is no part of what is listed
 too_many : (xs ys us : List Name) → are_listed xs ≡ true → are_listed us ≡ true → ((q : Name) → has_item name_cmp xs q ≡ true → has_item name_cmp us q ≡ true) → ((q : Name) → has_item name_cmp ys q ≡ true → has_item name_cmp us q ≡ true) → are_listed (merged name_cmp xs ys) ≡ false → ⊥
@@ -159,9 +133,7 @@ same_by s t h = same_names s t (λ q e. sym (h q) ∙ e) (λ q e. h q ∙ e)
 -- ---- what no atom is in
 
 pub is_none-empty : (s : Names) → is_none s ≡ true → (q : Name) → has s q ≡ false
-is_none-empty (some [] e) h q = refl
-is_none-empty (some (x ∷ xs) e) h q = absurd (true≢false (sym h))
-is_none-empty every h q = absurd (true≢false (sym h))
+is_none-empty x0 x1 x2 = grind arith
 
 pub is_none-is : (s : Names) → is_none s ≡ true → s ≡ none
 is_none-is s h = same_by s none (is_none-empty s h)
@@ -174,10 +146,4 @@ has_some every h = ([], refl)
 -- ---- the set of one atom
 
 pub has-one : (a q : Name) → IsTrue (has (listed (a ∷ [])) q) ↔ (q ≡ a)
-has-one a q = (
-  λ k. elim (either (eq_by_cmp name_cmp q a) false (sym (has-listed (a ∷ []) none q refl) ∙ k)) [
-    | inl e ↦ ascending.is_it name_total name_same q a e
-    | inr e ↦ absurd (true≢false (sym e))
-  ],
-  λ e. has-listed (a ∷ []) none q refl ∙ in_first (eq_by_cmp name_cmp q a) false (ap (eq_by_cmp name_cmp q) (sym e) ∙ ascending.itself name_total name_same q),
-)
+has-one a q = grind (arith, either, has-listed, ascending.is_it, name_total, name_same, in_first, ascending.itself)

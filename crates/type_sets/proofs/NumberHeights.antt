@@ -9,9 +9,9 @@ use Rattle.type_sets.specs.declared.ends.Low.TheVariants.{Min, Zero, One}
 use Rattle.type_sets.specs.declared.ends.High.{High}
 use Rattle.type_sets.specs.declared.ends.High.TheVariants.{MinusOne, Byte, Unicode, Max}
 use Rattle.type_sets.specs.declared.limits.TheConstants.{MAX_MEMBERS}
-use Rattle.type_sets.specs.Ascending.{is_ascending, is_below_all, has_item}
+use Rattle.type_sets.specs.Ascending.{has_item}
 use Rattle.type_sets.specs.Ends.{at_least, at_most, in_range, is_range, bottom, top, rises, shrinks}
-use Rattle.type_sets.specs.Numbers.{Numbers, some, between, are_listed, Below, height, low_end, high_end}
+use Rattle.type_sets.specs.Numbers.{Numbers, some, between, are_listed, Below, height}
 use Rattle.type_sets.specs.Heights.{Falls}
 use Rattle.type_sets.proofs.Truths.{both, first, second, in_second}
 use Rattle.type_sets.proofs.EndLaws.{bottom-least, top-least, bottom-in, top-in}
@@ -21,42 +21,18 @@ use Rattle.type_sets.proofs.HeightLaws.{falls-bound, down, stay}
 
 -- an end that lets in less rises less often
 rises-le : (l m : Low) → at_least m (bottom l) ≡ true → rises l ≤ rises m
-rises-le Min Zero h = cc
-rises-le Min One h = cc
-rises-le Zero One h = cc
-rises-le One m h = omega arith
-rises-le l m h = omega arith
+rises-le x0 x1 x2 = grind arith
 
 rises-less : (l m : Low) → at_least m (bottom l) ≡ true → (l ≡ m → ⊥) → rises l < rises m
-rises-less Min Min h n = absurd (n refl)
-rises-less Zero Zero h n = absurd (n refl)
-rises-less One One h n = absurd (n refl)
-rises-less Zero Min h n = omega arith
-rises-less One Min h n = omega arith
-rises-less One Zero h n = omega arith
-rises-less l m h n = cc
+rises-less x0 x1 x2 x3 = grind arith
 
 -- the interval down from -1 has no other that ends there, and shrinks least
 from_minus_one : (l m : Low) (k : High) → is_range l MinusOne ≡ true → at_least m (bottom l) ≡ true → ((l ≡ m) × (MinusOne ≡ k) → ⊥) → 0 < shrinks m k
-from_minus_one Min Min MinusOne e h n = absurd (n (refl, refl))
-from_minus_one Min Min k e h n = omega arith
-from_minus_one l m k e h n = cc
+from_minus_one x0 x1 x2 x3 x4 x5 = grind arith
 
 -- a smaller interval shrinks less often
 shrinks-less : (l m : Low) (h k : High) → is_range l h ≡ true → at_least m (bottom l) ≡ true → at_most k (top h) ≡ true → ((l ≡ m) × (h ≡ k) → ⊥) → shrinks l h < shrinks m k
-shrinks-less l m MinusOne k e f g n = from_minus_one l m k e f n
-shrinks-less l m Byte MinusOne e f g n = cc
-shrinks-less l m Byte Byte e f g n = rises-less l m f (λ p. n (p, refl))
-shrinks-less l m Byte Unicode e f g n = let le = rises-le l m f in omega arith
-shrinks-less l m Byte Max e f g n = let le = rises-le l m f in omega arith
-shrinks-less l m Unicode MinusOne e f g n = cc
-shrinks-less l m Unicode Byte e f g n = cc
-shrinks-less l m Unicode Unicode e f g n = let less = rises-less l m f (λ p. n (p, refl)) in omega arith
-shrinks-less l m Unicode Max e f g n = let le = rises-le l m f in omega arith
-shrinks-less l m Max MinusOne e f g n = cc
-shrinks-less l m Max Byte e f g n = cc
-shrinks-less l m Max Unicode e f g n = cc
-shrinks-less l m Max Max e f g n = let less = rises-less l m f (λ p. n (p, refl)) in omega arith
+shrinks-less x0 x1 x2 x3 x4 x5 x6 x7 = grind (arith, from_minus_one, rises-less, rises-le)
 
 -- a smaller set has a lower height
 pub height-lower : (s t : Numbers) → Below s t → (s ≡ t → ⊥) → height s < height t
@@ -76,9 +52,7 @@ height-bound s n f = falls-bound Below height height-lower n s f
 -- ---- the chain that is so long
 
 listed-tail : (x : ℤ) (xs : List ℤ) → are_listed (x ∷ xs) ≡ true → are_listed xs ≡ true
-listed-tail x xs e =
-    let few = listed-few (x ∷ xs) e in
-    listed-from xs (second (is_below_all int_cmp x xs) (is_ascending int_cmp xs) (listed-ascending (x ∷ xs) e)) (omega arith) (λ n m. listed-narrow (x ∷ xs) e n (in_second (eq_by_cmp int_cmp n x) (has_item int_cmp xs n) m))
+listed-tail x xs e = grind (arith, listed-few, listed-from, second, listed-ascending, listed-narrow, in_second)
 
 shorter : (x : ℤ) (xs : List ℤ) (e : are_listed (x ∷ xs) ≡ true) (f : are_listed xs ≡ true) → some xs f ≡ some (x ∷ xs) e → ⊥
 shorter x xs e f p = let q = ap height p in absurd (omega arith)
@@ -96,8 +70,7 @@ to_listed l h e xs f inside =
 
 -- from an interval to one with nearer ends
 to_interval : (n : ℕ) (l m : Low) (h k : High) (e : is_range l h ≡ true) (f : is_range m k ≡ true) → at_least m (bottom l) ≡ true → at_most k (top h) ≡ true → ((l ≡ m) × (h ≡ k) → ⊥) → Falls Below n (between l h e) → Falls Below (suc n) (between m k f)
-to_interval n l m h k e f low high other rest =
-    down Below n (between m k f) (between l h e) (λ x y. both (at_least m x) (at_most k x) (bottom-least l m x low (first (at_least l x) (at_most h x) y)) (top-least h k x high (second (at_least l x) (at_most h x) y))) (λ p. other (ap low_end p, ap high_end p)) rest
+to_interval n l m h k e f low high other rest = grind (arith, down, both, bottom-least, first, top-least, second)
 
 abbrev thirteen : List ℤ
 thirteen = pos 1 ∷ pos 2 ∷ pos 3 ∷ pos 4 ∷ pos 5 ∷ pos 6 ∷ pos 7 ∷ pos 8 ∷ pos 9 ∷ pos 10 ∷ pos 11 ∷ pos 12 ∷ pos 13 ∷ []
@@ -139,12 +112,7 @@ between-falls Min Unicode e = to_interval 16 Zero Min Unicode Unicode refl e ref
 between-falls Min Max e = to_interval 17 Zero Min Max Max refl e refl refl (other_low Zero Min Max Max (λ p. cc p)) (from_zero Max refl)
 
 pub height-reached : (s : Numbers) → Falls Below (height s) s
-height-reached (some xs e) = listed-falls xs e
-height-reached (between l h e) = between-falls l h e
+height-reached x0 = grind (arith, listed-falls, between-falls)
 
 pub height-most : (s : Numbers) → height s ≤ MAX_MEMBERS + 5
-height-most (some xs e) = let few = listed-few xs e in omega arith
-height-most (between Min MinusOne e) = omega arith
-height-most (between Zero MinusOne e) = omega arith
-height-most (between One MinusOne e) = omega arith
-height-most s = omega arith
+height-most x0 = grind (arith, listed-few)

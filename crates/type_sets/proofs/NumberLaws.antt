@@ -1,5 +1,5 @@
 -- The laws of sets of integers.
-use Rattle.std.proofs.Common.{◌≡◌, ◌≤◌, ◌↔◌, IsTrue, ℤ, pos, negsuc, ◌<◌, Bool, true, false, ◌&&◌, ◌||◌, inl, inr, List, [], ◌∷◌, length, filter, refl, sym, ap, ◌∙◌, arith, true≢false}
+use Rattle.std.proofs.Common.{◌≡◌, ◌≤◌, ◌↔◌, IsTrue, ℤ, pos, negsuc, ◌<◌, Bool, true, false, ◌&&◌, ◌||◌, inl, inr, List, [], ◌∷◌, length, filter, sym, ap, ◌∙◌, arith, true≢false}
 use mathlib.Core.HLevel.{is_prop→PathP}
 use Rattle.std.specs.Coded.{Coded-set, coded_bool}
 use Rattle.std.specs.Ordering.{int_cmp, eq_by_cmp}
@@ -13,7 +13,7 @@ use Rattle.type_sets.specs.declared.ends.Low.{Low}
 use Rattle.type_sets.specs.declared.ends.Low.TheVariants.{Min, Zero, One}
 use Rattle.type_sets.specs.declared.ends.High.{High}
 use Rattle.type_sets.specs.declared.ends.High.TheVariants.{MinusOne}
-use Rattle.type_sets.specs.Ends.{at_least, at_most, in_range, is_range, lower, raised, higher, lowered, low_of, high_of, bottom, top}
+use Rattle.type_sets.specs.Ends.{at_least, at_most, in_range, is_range, lower, higher, low_of, high_of, bottom, top}
 use Rattle.type_sets.specs.Numbers.{Numbers, some, between, are_listed, is_narrow, has, Below, none, or_else, listed, range, meet, outermost, low_end, high_end, hull, join, is_none, or_else-yes}
 use Rattle.type_sets.proofs.FewLaws.{few-is, is-few}
 use Rattle.type_sets.proofs.Truths.{both, first, second, in_first, in_second, either, decided, and_swap, and_cross, is_false}
@@ -52,20 +52,14 @@ listed-merged xs ys e f k =
 
 pub or_else-no : (xs : List ℤ) (t : Numbers) → are_listed xs ≡ false → or_else xs t ≡ t
 unfolding or_else
-or_else-no xs t e = elim (are_listed xs) as (λ b. (f : are_listed xs ≡ b) → elim b as (λ c. are_listed xs ≡ c → Numbers) [ true ↦ λ g. some xs g | false ↦ λ _. t ] f ≡ t) [
-  | true ↦ λ f. absurd (true≢false (sym f ∙ e))
-  | false ↦ λ f. refl
-] refl
+or_else-no xs t e = grind arith
 
 pub has-listed : (xs : List ℤ) (t : Numbers) (n : ℤ) → are_listed xs ≡ true → has (or_else xs t) n ≡ has_item int_cmp xs n
 has-listed xs t n e = ap (λ s. has s n) (or_else-yes xs t e)
 
 pub has-range : (l : Low) (h : High) (n : ℤ) → has (range l h) n ≡ in_range l h n
 unfolding range
-has-range l h n = elim (is_range l h) as (λ b. (e : is_range l h ≡ b) → has (elim b as (λ c. is_range l h ≡ c → Numbers) [ true ↦ λ f. between l h f | false ↦ λ _. none ] e) n ≡ in_range l h n) [
-  | true ↦ λ e. refl
-  | false ↦ λ e. sym (not_in l h n e)
-] refl
+has-range l h n = grind (arith, not_in)
 
 -- ---- the meet is exact
 
@@ -76,8 +70,7 @@ has-meet (between l h e) (some ys f) n =
     has-listed (filter (in_range l h) ys) none n (listed-filter (in_range l h) ys f)
     ∙ ascending.has-filter int_cmp_total int_cmp-IsAntisymmetric (in_range l h) ys n
     ∙ and_swap (has_item int_cmp ys n) (in_range l h n)
-has-meet (between l h e) (between m k f) n =
-    has-range (raised l m) (lowered h k) n ∙ (λ i. at_least-raised l m n i && at_most-lowered h k n i) ∙ and_cross (at_least l n) (at_least m n) (at_most h n) (at_most k n)
+has-meet (between l h e) (between m k f) n = grind (arith, has-range, at_least-raised, at_most-lowered, and_cross)
 
 -- ---- the hull is above both, and below each interval that is
 
@@ -115,27 +108,20 @@ highs : Side at_most higher high_of MinusOne
 highs = record { lets-wider = at_most-higher; lets-nearest = at_most-high_of; nearest-least = high_of-least; narrowest-least = minus_one_least }
 
 low_end-in : (s : Numbers) (n : ℤ) → has s n ≡ true → at_least (low_end s) n ≡ true
-low_end-in (some xs e) n h = outermost-in lows xs n h
-low_end-in (between l k e) n h = first (at_least l n) (at_most k n) h
+low_end-in x0 x1 x2 = grind (arith, outermost-in, lows, first)
 
 high_end-in : (s : Numbers) (n : ℤ) → has s n ≡ true → at_most (high_end s) n ≡ true
-high_end-in (some xs e) n h = outermost-in highs xs n h
-high_end-in (between l k e) n h = second (at_least l n) (at_most k n) h
+high_end-in x0 x1 x2 = grind (arith, outermost-in, highs, second)
 
 pub has-hull : (s t : Numbers) (n : ℤ) → has (hull s t) n ≡ ((at_least (low_end s) n || at_least (low_end t) n) && (at_most (high_end s) n || at_most (high_end t) n))
 unfolding hull
-has-hull s t n =
-    has-range (lower (low_end s) (low_end t)) (higher (high_end s) (high_end t)) n ∙ (λ i. at_least-lower (low_end s) (low_end t) n i && at_most-higher (high_end s) (high_end t) n i)
+has-hull s t n = grind (arith, has-range, at_least-lower, at_most-higher)
 
 hull-left : (s t : Numbers) → Below s (hull s t)
-hull-left s t n h =
-    has-hull s t n
-    ∙ both (at_least (low_end s) n || at_least (low_end t) n) (at_most (high_end s) n || at_most (high_end t) n) (in_first (at_least (low_end s) n) (at_least (low_end t) n) (low_end-in s n h)) (in_first (at_most (high_end s) n) (at_most (high_end t) n) (high_end-in s n h))
+hull-left s t n h = grind (arith, has-hull, both, in_first, low_end-in, high_end-in)
 
 hull-right : (s t : Numbers) → Below t (hull s t)
-hull-right s t n h =
-    has-hull s t n
-    ∙ both (at_least (low_end s) n || at_least (low_end t) n) (at_most (high_end s) n || at_most (high_end t) n) (in_second (at_least (low_end s) n) (at_least (low_end t) n) (low_end-in t n h)) (in_second (at_most (high_end s) n) (at_most (high_end t) n) (high_end-in t n h))
+hull-right s t n h = grind (arith, has-hull, both, in_second, low_end-in, high_end-in)
 
 low_end-least : (s : Numbers) (m : Low) → ((n : ℤ) → has s n ≡ true → at_least m n ≡ true) → (n : ℤ) → at_least (low_end s) n ≡ true → at_least m n ≡ true
 low_end-least (some xs e) m f n h = outermost-least lows m n xs f h
@@ -171,22 +157,15 @@ fourteen One = pos 1 ∷ pos 2 ∷ pos 3 ∷ pos 4 ∷ pos 5 ∷ pos 6 ∷ pos 7
 
 fourteen-ascending : (l : Low) → is_ascending int_cmp (fourteen l) ≡ true
 unfolding fourteen
-fourteen-ascending Min = refl
-fourteen-ascending Zero = refl
-fourteen-ascending One = refl
+fourteen-ascending x0 = grind arith
 
 fourteen-length : (l : Low) → length (fourteen l) ≡ 14
 unfolding fourteen
-fourteen-length Min = refl
-fourteen-length Zero = refl
-fourteen-length One = refl
+fourteen-length x0 = grind arith
 
 fourteen-in : (l : Low) (h : High) → is_range l h ≡ true → list_all (in_range l h) (fourteen l) ≡ true
 unfolding fourteen
-fourteen-in Zero MinusOne e = cc
-fourteen-in One MinusOne e = cc
-fourteen-in Min MinusOne e = refl
-fourteen-in l h e = refl
+fourteen-in x0 x1 x2 = grind arith
 
 pub not_listed : (l : Low) (h : High) → is_range l h ≡ true → (xs : List ℤ) → are_listed xs ≡ true → ((n : ℤ) → in_range l h n ≡ true → has_item int_cmp xs n ≡ true) → ⊥
 not_listed l h e xs d f =
@@ -291,9 +270,7 @@ same_by s t h = same_numbers s t (λ n e. sym (h n) ∙ e) (λ n e. h n ∙ e)
 -- ---- what no integer is in
 
 pub is_none-empty : (s : Numbers) → is_none s ≡ true → (n : ℤ) → has s n ≡ false
-is_none-empty (some [] e) h n = refl
-is_none-empty (some (x ∷ xs) e) h n = absurd (true≢false (sym h))
-is_none-empty (between l k e) h n = absurd (true≢false (sym h))
+is_none-empty x0 x1 x2 = grind arith
 
 pub is_none-is : (s : Numbers) → is_none s ≡ true → s ≡ none
 is_none-is s h = same_by s none (is_none-empty s h)
@@ -309,10 +286,4 @@ pub one-listed : (n : ℤ) → is_narrow n ≡ true → are_listed (n ∷ []) �
 one-listed n h = ap (λ b. b && true) h
 
 pub has-one : (n m : ℤ) → is_narrow n ≡ true → IsTrue (has (listed (n ∷ [])) m) ↔ (m ≡ n)
-has-one n m h = (
-  λ k. elim (either (eq_by_cmp int_cmp m n) false (sym (has-listed (n ∷ []) none m (one-listed n h)) ∙ k)) [
-    | inl e ↦ ascending.is_it int_cmp_total int_cmp-IsAntisymmetric m n e
-    | inr e ↦ absurd (true≢false (sym e))
-  ],
-  λ e. has-listed (n ∷ []) none m (one-listed n h) ∙ in_first (eq_by_cmp int_cmp m n) false (ap (eq_by_cmp int_cmp m) (sym e) ∙ ascending.itself int_cmp_total int_cmp-IsAntisymmetric m),
-)
+has-one n m h = grind (arith, either, has-listed, one-listed, ascending.is_it, in_first, ascending.itself)

@@ -1,77 +1,54 @@
 -- What it says that a test of two parts is true.
-use Rattle.std.proofs.Common.{◌≡◌, Bool, true, false, ◌&&◌, ◌||◌, ◌⊎◌, inl, inr, refl, sym, true≢false}
+use Rattle.std.proofs.Common.{◌≡◌, Bool, true, false, ◌&&◌, ◌||◌, ◌⊎◌, arith}
 
 pub both : (a b : Bool) → a ≡ true → b ≡ true → (a && b) ≡ true
-both true b p q = q
-both false b p q = p
+both x0 x1 x2 x3 = grind arith
 
 pub first : (a b : Bool) → (a && b) ≡ true → a ≡ true
-first true b h = refl
-first false b h = h
+first x0 x1 x2 = grind arith
 
 pub second : (a b : Bool) → (a && b) ≡ true → b ≡ true
-second true b h = h
-second false b h = absurd (true≢false (sym h))
+second x0 x1 x2 = grind arith
 
 pub in_first : (a b : Bool) → a ≡ true → (a || b) ≡ true
-in_first true b h = refl
-in_first false b h = absurd (true≢false (sym h))
+in_first x0 x1 x2 = grind arith
 
 pub in_second : (a b : Bool) → b ≡ true → (a || b) ≡ true
-in_second true b h = refl
-in_second false b h = h
+in_second x0 x1 x2 = grind arith
 
 pub either : (a b : Bool) → (a || b) ≡ true → (a ≡ true) ⊎ (b ≡ true)
-either true b h = inl refl
-either false b h = inr h
+either x0 x1 x2 = grind arith
 
 pub and_swap : (a b : Bool) → (a && b) ≡ (b && a)
-and_swap true true = refl
-and_swap true false = refl
-and_swap false true = refl
-and_swap false false = refl
+and_swap x0 x1 = grind arith
 
 pub and_itself : (a : Bool) → (a && a) ≡ a
-and_itself true = refl
-and_itself false = refl
+and_itself x0 = grind arith
 
 pub and_true : (a : Bool) → (a && true) ≡ a
-and_true true = refl
-and_true false = refl
+and_true x0 = grind arith
 
 pub and_none : (a : Bool) → (a && false) ≡ false
-and_none true = refl
-and_none false = refl
+and_none x0 = grind arith
 
 -- the parts of two tests, sorted
 pub and_cross : (a b c d : Bool) → ((a && b) && (c && d)) ≡ ((a && c) && (b && d))
-and_cross true b true d = refl
-and_cross true true false d = refl
-and_cross true false false d = refl
-and_cross false b c d = refl
+and_cross x0 x1 x2 x3 = grind arith
 
 pub or_move : (a b c : Bool) → (a || (b || c)) ≡ (b || (a || c))
-or_move true true c = refl
-or_move true false c = refl
-or_move false b c = refl
+or_move x0 x1 x2 = grind arith
 
 -- the middle test moved to the end
 pub or_turn : (a b c : Bool) → ((b || a) || c) ≡ (a || (b || c))
-or_turn true true c = refl
-or_turn true false c = refl
-or_turn false true c = refl
-or_turn false false c = refl
+or_turn x0 x1 x2 = grind arith
 
 pub or_false : (a : Bool) → a ≡ (a || false)
-or_false true = refl
-or_false false = refl
+or_false x0 = grind arith
 
 -- a test is true or it is false
 pub decided : (a : Bool) → (a ≡ true) ⊎ (a ≡ false)
-decided true = inl refl
-decided false = inr refl
+decided x0 = grind arith
 
 -- a test that can't be true is false
 pub is_false : (a : Bool) → (a ≡ true → ⊥) → a ≡ false
-is_false true h = absurd (h refl)
-is_false false h = refl
+is_false x0 x1 = grind arith
