@@ -44,15 +44,13 @@ with_value (suc n) (suc i) v = and_value nil (with_value n i v)
 
 value_there : (n i : ℕ) (v : Value) → i < n → value_at (with_value n i v) i ≡ Some v
 unfolding with_value
-value_there zero i v h = absurd (omega (arith, h))
-value_there (suc n) zero v h = refl
-value_there (suc n) (suc i) v h = value_there n i v (omega (arith, h))
+value_there zero i v h = grind arith
+value_there (suc n) i v h = grind (arith, value_there n)
 
 count_there : (n i : ℕ) (v : Value) → count (with_value n i v) ≡ n
 unfolding with_value
-count_there zero i v = refl
-count_there (suc n) zero v = ap suc (count_there n zero nil)
-count_there (suc n) (suc i) v = ap suc (count_there n i v)
+count_there zero i v = grind arith
+count_there (suc n) i v = grind (arith, count_there n)
 
 module _ {E : Type 0} {Has : Value → E → Type 0} {Normal : E → Type 0} {o : Ops E} (l : Laws Has Normal o) where
   element_there : (es : List E) → AreElements Normal o es → (i : ℕ) (e : E) → slice_get es i ≡ Some e → IsElement Normal o e
@@ -70,10 +68,8 @@ module _ {E : Type 0} {Has : Value → E → Type 0} {Normal : E → Type 0} {o 
       (and_value u.0 w.0, ((u.1, w.1.0), w.1.1))
 
 zip_at : {A : Type 0} (f : A → A → A) (xs ys : List A) (i : ℕ) (e : A) → slice_get (zip f xs ys) i ≡ Some e → (x : A) × ((y : A) × ((slice_get xs i ≡ Some x) × ((slice_get ys i ≡ Some y) × (f x y ≡ e))))
-zip_at f [] ys i e q = absurd cc
-zip_at f (x ∷ xs) [] i e q = absurd cc
-zip_at f (x ∷ xs) (y ∷ ys) zero e q = (x, (y, (refl, (refl, same_some (f x y) e q))))
-zip_at f (x ∷ xs) (y ∷ ys) (suc i) e q = zip_at f xs ys i e q
+zip_at f [] x2 i e q = grind arith
+zip_at f (x ∷ xs) x2 i e q = grind (arith, same_some, zip_at f xs)
 
 -- ---- one element type of a body is the least that has what stands there
 
@@ -151,8 +147,7 @@ place_least d (sizes m) k n i small within u j f v h =
 -- up to 64 elements, the type of an element is the least that has what stands there
 pub project-least : (d : ℕ) (t : TypeAt (suc d)) → NormalAt (suc d) t → (n i : ℕ) → n ≤ 64 → 1 ≤ i → i ≤ n → (u : TypeAt (suc d)) → NormalAt (suc d) u → ((vs : Values) (v : Value) → HasAt (suc d) (tuple vs) t → count vs ≡ n → value_at vs (i - 1) ≡ Some v → HasAt (suc d) v u) → BelowBy (HasAt (suc d)) (project_at d t n i) u
 unfolding NormalAt
-project-least d t k n i small one within u j f =
-    place_least d t.tuples k.2 n (i - 1) small (omega (arith, one, within)) u j (λ v w. f w.0 v w.1.0 w.1.1.0 w.1.1.1)
+project-least d t k n i small one within u j f = grind (arith, place_least)
 
 -- ---- the elements at the places in a set
 
@@ -168,9 +163,7 @@ module _ {A : Type 0} (s : Numbers) where
 
   places_some : (Q : A → Type 0) (k : ℕ) (es : List A) (i : ℕ) (e : A) → slice_get es i ≡ Some e → numbers.has s (pos (k + i)) ≡ true → Q e → SomeOf Q (at_places s k es)
   places_some Q k [] i e q p h = absurd cc
-  places_some Q k (x ∷ xs) zero e q p h =
-      let here : numbers.has s (pos k) ≡ true = subst (λ j. numbers.has s (pos j) ≡ true) (omega arith) p in
-      subst (λ b. SomeOf Q (cond b (x ∷ at_places s (suc k) xs) (at_places s (suc k) xs))) (sym here) (inl (subst Q (sym (same_some x e q)) h))
+  places_some Q k (x ∷ xs) zero e q p h = grind (arith, SomeOf, same_some)
   places_some Q k (x ∷ xs) (suc i) e q p h =
       let rest : SomeOf Q (at_places s (suc k) xs) = places_some Q (suc k) xs i e q (subst (λ j. numbers.has s (pos j) ≡ true) (omega arith) p) h in
       elim (numbers.has s (pos k)) as (λ b. SomeOf Q (cond b (x ∷ at_places s (suc k) xs) (at_places s (suc k) xs))) [ true ↦ inr rest | false ↦ rest ]

@@ -1,15 +1,15 @@
 -- A join is the same on the next level: the least type of a level above two types is the least of the next level too.
-use Rattle.std.proofs.Common.{arith, ◌≡◌, ℕ, zero, suc, Bool, true, false, ◌&&◌, ◌||◌, inl, inr, cond, List, [], ◌∷◌, map, length, Option, Some, None, Less, Equal, Greater, refl, sym, ap, ◌∙◌, subst, true≢false}
+use Rattle.std.proofs.Common.{arith, ◌≡◌, ℕ, zero, suc, Bool, true, false, ◌&&◌, ◌||◌, inl, inr, cond, List, [], ◌∷◌, map, length, Option, Some, None, refl, sym, ap, ◌∙◌, true≢false}
 use Rattle.std.specs.Prelude.{nat_lt}
 use Rattle.std.specs.declared.cmp.Ordering.{Ordering}
-use Rattle.std.specs.Ordering.{nat_cmp, is_lt, is_eq}
+use Rattle.std.specs.Ordering.{nat_cmp}
 use Rattle.std.specs.Cmp.{nat_cmp_total}
 use Rattle.std.specs.FinSet.{IsAntisymmetric, nat_cmp-IsAntisymmetric}
 use Rattle.type_sets.specs.Names.{Name}
 use Rattle.type_sets.proofs.NameLaws.{name_total, name_same}
 use Rattle.type_sets.proofs.Truths.{either, in_first, in_second}
 use Rattle.type_model.specs.Values.{Value}
-use Rattle.type_model.specs.Tables.{EachEntry, keys, held, mapped, put, united}
+use Rattle.type_model.specs.Tables.{EachEntry, held, mapped, put, united}
 use Rattle.type_model.specs.Shapes.{Cell, Body, product, tags, Tuples, sizes, all_tuples, Parts, TypeAt}
 use Rattle.type_model.specs.Operations.{Ops, row_join, rows_join, all_rows_join, elements, tags_join, capped_tags, body_join, capped_sizes, tuples_join, cell_join, parts_join, plain_join, ops}
 use Rattle.type_model.specs.Normal.{AreElements, NormalRow, NormalRows, NormalBody, NormalSize, NormalSizes, NormalTuples, NormalCell, NormalParts, NormalAt}
@@ -27,17 +27,11 @@ use Rattle.type_model.proofs.CutLaws.{cut_lowering, tags_remain}
 module _ {K X Y : Type 0} {R : K → K → Ordering} (same : IsAntisymmetric R) (g : X → Y) (j : X → X → X) (k : Y → Y → Y) (P : K → X → Type 0) (keeps : (a : K) (x y : X) → P a x → P a y → P a (j x y)) (joins : (a : K) (x y : X) → P a x → P a y → g (j x y) ≡ k (g x) (g y)) where
   mapped-put : (a : K) (x : X) (m : List (K × X)) → P a x → EachEntry P m → mapped g (put R j a x m) ≡ put R k a (g x) (mapped g m)
   mapped-put a x [] p q = refl
-  mapped-put a x (e ∷ m) p q =
-      elim (R a e.0) as (λ r. R a e.0 ≡ r → mapped g (cond (is_lt r) ((a, x) ∷ e ∷ m) (cond (is_eq r) ((e.0, j e.1 x) ∷ m) (e ∷ put R j a x m))) ≡ cond (is_lt r) ((a, g x) ∷ (e.0, g e.1) ∷ mapped g m) (cond (is_eq r) ((e.0, k (g e.1) (g x)) ∷ mapped g m) ((e.0, g e.1) ∷ put R k a (g x) (mapped g m)))) [
-        | Less ↦ λ s. refl
-        | Equal ↦ λ s. ap (λ y. (e.0, y) ∷ mapped g m) (joins e.0 e.1 x q.0 (subst (λ z. P z x) (same a e.0 s) p))
-        | Greater ↦ λ s. ap (λ w. (e.0, g e.1) ∷ w) (mapped-put a x m p q.1)
-      ] refl
+  mapped-put a x (e ∷ m) p q = grind (arith, mapped-put a x m p q.1)
 
   mapped-united : (m w : List (K × X)) → EachEntry P m → EachEntry P w → mapped g (united R j m w) ≡ united R k (mapped g m) (mapped g w)
   mapped-united m [] p q = refl
-  mapped-united m (e ∷ w) p q =
-      mapped-united (put R j e.0 e.1 m) w (tables.each-put same j P keeps e.0 e.1 m q.0 p) q.1 ∙ ap (λ z. united R k z (mapped g w)) (mapped-put e.0 e.1 m q.0 p)
+  mapped-united m (e ∷ w) p q = grind (arith, mapped-united (put R j e.0 e.1 m) w (tables.each-put same j P keeps e.0 e.1 m q.0 p) q.1, tables.each-put same j P keeps, mapped-put)
 
 -- ---- from the types of one level to those of another, and so one level up
 
@@ -56,8 +50,7 @@ module _ {F E : Type 0} {HasF : Value → F → Type 0} {NormalF : F → Type 0}
 
   rows_joins : (n : ℕ) (es : List F) (m : List (Name × List F)) → NormalRow NormalF f n (Some es) → NormalRows NormalF f n m → map lower (rows_join f es (held m)) ≡ rows_join e (map lower es) (held (mapped (map lower) m))
   rows_joins n es [] j k = refl
-  rows_joins n es (x ∷ m) j k =
-      rows_joins n (row_join f es x.1) m ((row_lattice high n).join_normal (Some es) (Some x.1) j k.0) k.1 ∙ ap (λ z. rows_join e z (held (mapped (map lower) m))) (row_joins es x.1 j.1 k.0.1)
+  rows_joins n es (x ∷ m) j k = grind (arith, rows_joins n (row_join f es x.1) m ((row_lattice high n).join_normal (Some es) (Some x.1) j k.0) k.1, row_lattice high, row_joins)
 
   all_rows_joins : (n : ℕ) (m : List (Name × List F)) → NormalRows NormalF f n m → map lower (all_rows_join f (held m)) ≡ all_rows_join e (held (mapped (map lower) m))
   all_rows_joins n [] k = refl
@@ -68,9 +61,7 @@ module _ {F E : Type 0} {HasF : Value → F → Type 0} {NormalF : F → Type 0}
   kept m = mapped (map lower) m
 
   tags_elements : (n : ℕ) (m : List (Name × List F)) → f.has_tags ≡ true → NormalRows NormalF f n m → map lower (elements f (tags m)) ≡ elements e (tags (kept m))
-  tags_elements n m a k =
-      let first : lower (f.of_names (keys m)) ≡ e.of_names (keys (kept m)) = s.names_stay a (keys m) ∙ ap e.of_names (sym (keys-mapped name_total name_same (map lower) m)) in
-      λ i. first i ∷ all_rows_joins n m k i
+  tags_elements n m a k = grind (arith, kept, s.names_stay, keys-mapped, name_total, name_same, all_rows_joins)
 
   tags_kept : (m : List (Name × List F)) → f.has_tags ≡ true → body_lower lower f e (tags m) ≡ tags (kept m)
   tags_kept m a = ap (λ b. cond b (tags (kept m)) (product (map lower (elements f (tags m))))) (s.tags_stay a)
@@ -85,31 +76,22 @@ module _ {F E : Type 0} {HasF : Value → F → Type 0} {NormalF : F → Type 0}
   joined_rows n m w j k = tables.each-united name_same (row_join f) (λ a es. NormalRow NormalF f n (Some es)) (row_keeps n) m w j k
 
   capped_stay : (n : ℕ) (m : List (Name × List F)) (b : Bool) → f.has_tags ≡ true → NormalRows NormalF f n m → body_lower lower f e (cond b (tags m) (product (elements f (tags m)))) ≡ cond b (tags (kept m)) (product (elements e (tags (kept m))))
-  capped_stay n m true a k = tags_kept m a
-  capped_stay n m false a k = ap product (tags_elements n m a k)
+  capped_stay x0 x1 x2 x3 x4 = grind (arith, tags_kept, tags_elements)
 
   tags_capped : (n : ℕ) (m : List (Name × List F)) → f.has_tags ≡ true → NormalRows NormalF f n m → body_lower lower f e (capped_tags f m) ≡ capped_tags e (kept m)
-  tags_capped n m a k =
-      capped_stay n m (nat_lt (length m) 14) a k
-      ∙ ap (λ i. cond (nat_lt i 14) (tags (kept m)) (product (elements e (tags (kept m))))) (sym (length-mapped name_total name_same (map lower) m))
+  tags_capped n m a k = grind (arith, capped_stay, kept, length-mapped, name_total, name_same)
 
   -- ---- the tuples of one size
   elements_stay : (n : ℕ) (b : Body F) → NormalBody NormalF f n (Some b) → map lower (elements f b) ≡ elements e (body_lower lower f e b)
-  elements_stay n (product es) k = refl
-  elements_stay zero (tags m) k = absurd k
-  elements_stay (suc n) (tags m) k = tags_elements n m k.2 k.0.2 ∙ ap (elements e) (sym (tags_kept m k.2))
+  elements_stay x0 x1 x2 = grind (arith, tags_elements, tags_kept)
 
   body_joins : (n : ℕ) (b c : Body F) → NormalBody NormalF f n (Some b) → NormalBody NormalF f n (Some c) → body_lower lower f e (body_join f b c) ≡ body_join e (body_lower lower f e b) (body_lower lower f e c)
-  body_joins n (product es) c j k =
-      ap product (row_joins es (elements f c) j.0.1 (elements_normal high n c k).1 ∙ ap (row_join e (map lower es)) (elements_stay n c k))
+  body_joins n (product es) c j k = grind (arith, row_joins, elements_normal high, elements_stay)
   body_joins zero (tags m) c j k = absurd j
   body_joins (suc n) (tags m) (product fs) j k =
       ap product (row_joins (elements f (tags m)) fs (elements_normal high (suc n) (tags m) j).1 k.0.1 ∙ ap (λ z. row_join e z (map lower fs)) (tags_elements n m j.2 j.0.2))
       ∙ ap (λ z. body_join e z (product (map lower fs))) (sym (tags_kept m j.2))
-  body_joins (suc n) (tags m) (tags w) j k =
-      tags_capped n (tags_join f m w) j.2 (joined_rows n m w j.0.2 k.0.2)
-      ∙ ap (capped_tags e) (tags_joins n m w j.0.2 k.0.2)
-      ∙ (λ i. body_join e (sym (tags_kept m j.2) i) (sym (tags_kept w k.2) i))
+  body_joins (suc n) (tags m) (tags w) j k = grind (arith, tags_capped, joined_rows, tags_joins, tags_kept)
 
   -- ---- tuples
   size_keeps : (n : ℕ) (b c : Body F) → NormalSize NormalF f n b → NormalSize NormalF f n c → NormalSize NormalF f n (body_join f b c)
@@ -127,9 +109,7 @@ module _ {F E : Type 0} {HasF : Value → F → Type 0} {NormalF : F → Type 0}
       ∙ ap (λ i. cond (nat_lt i 9) (sizes (low_sizes m)) all_tuples) (sym (length-mapped nat_cmp_total nat_cmp-IsAntisymmetric (body_lower lower f e) m))
 
   tuples_joins : (a b : Tuples F) → NormalTuples NormalF f a → NormalTuples NormalF f b → tuples_lower lower f e (tuples_join f a b) ≡ tuples_join e (tuples_lower lower f e a) (tuples_lower lower f e b)
-  tuples_joins all_tuples b j k = refl
-  tuples_joins (sizes m) all_tuples j k = refl
-  tuples_joins (sizes m) (sizes w) j k = sizes_capped (united nat_cmp (body_join f) m w) ∙ ap (capped_sizes e) (sizes_joins m w j.2 k.2)
+  tuples_joins x0 x1 x2 x3 = grind (arith, sizes_capped, sizes_joins)
 
   -- ---- lists, and types
   cell_joins : (c d : Option (Cell F)) → NormalCell NormalF f c → NormalCell NormalF f d → cell_lower lower f e (cell_join f c d) ≡ cell_join e (cell_lower lower f e c) (cell_lower lower f e d)

@@ -1,24 +1,15 @@
-use Rattle.std.proofs.Common.{◌<◌, ◌+◌, ap, sym, ◌∙◌, arith, length, take}
-use Rattle.type_sets.specs.declared.limits.TheConstants.{MAX_MEMBERS}
-use Rattle.type_sets.specs.Ascending.{placed, merged}
-use Rattle.type_sets.specs.Names.{name_cmp}
+use Rattle.std.proofs.lemmas.Grind.{common_steps}
+use Rattle.std.proofs.Common.{◌∙◌, arith}
+use Rattle.type_sets.specs.Ascending.{merged}
 use Rattle.type_sets.proofs.AscendingLaws.{merged-more}
 use Rattle.type_sets.proofs.AtomViews.{ok_then, join_long, join_short}
 use Rattle.type_sets.proofs.atom_set.both.Goals as goal
 
 pub returns-then-len-gt-MAX_MEMBERS : goal.returns-then-len-gt-MAX_MEMBERS
-returns-then-len-gt-MAX_MEMBERS c =
-    let i = c.loop-atom.atom-index in
-    let more = merged-more name_cmp c.args.atoms.now c.args.others.now i c.atom-item.result c.loop-atom-test.true in
-    let step = c.in_ok-put.ensures ∙ (λ j. placed name_cmp (c.atom-item.is j) (c.loop-atom.invariant.merged j)) ∙ sym more in
-    let long : MAX_MEMBERS < length (merged name_cmp c.args.atoms.now (take (i + 1) c.args.others.now)) = omega (arith, ap length step, c.len.ensures) in
-    c.all.ensures ∙ sym (join_long c.args.atoms.now c.args.others.now (i + 1) long)
+returns-then-len-gt-MAX_MEMBERS c = grind (arith, common_steps, merged-more, join_long)
 
 pub loop-atom-preserved : goal.loop-atom-preserved
-loop-atom-preserved c =
-    let more = merged-more name_cmp c.args.atoms.now c.args.others.now c.loop-atom.atom-index c.atom-item.result c.loop-atom-test.true in
-    let step = c.in_ok-put.ensures ∙ (λ j. placed name_cmp (c.atom-item.is j) (c.loop-atom.invariant.merged j)) ∙ sym more in
-    record { merged = step; few = omega (arith, c.len.ensures) }
+loop-atom-preserved c = grind (arith, common_steps, merged-more)
 
 pub listed-requires : goal.listed-requires
 listed-requires c =
