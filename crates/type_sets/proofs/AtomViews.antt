@@ -33,9 +33,6 @@ every_set x0 x1 = grind arith
 pub empty_when : (r : Bool) (s : Names) → r ≡ is_none s → IsTrue r ↔ (s ≡ none)
 empty_when r s e = (λ h. is_none-is s (sym e ∙ h), λ h. e ∙ ap is_none h)
 
-pub no_item : (s : Names) (v : List Name) (e : are_listed v ≡ true) (r : Bool) → s ≡ some v e → r ≡ (length v == 0) → r ≡ is_none s
-no_item x0 x1 x2 x3 x4 x5 = grind (arith, is_false)
-
 -- ---- membership
 
 pub found_at : (xs : List Name) (i : ℕ) (q d : Name) → i < length xs → q ≡ get_or xs i d → has_item name_cmp xs q ≡ true

@@ -34,11 +34,6 @@ between_kind k l h s view kept is =
     let e : is_range l h ≡ true = subst IsKept is kept in
     (e, sym view ∙ ap numbers_of is ∙ range-yes l h e)
 
--- the test of a slice, the other way round
-pub any-turned : (xs : List ℤ) (n : ℤ) → list_any (λ x. int_eq x n) xs ≡ has_item int_cmp xs n
-any-turned [] n = refl
-any-turned (x ∷ xs) n = λ i. (eq_by_cmp_equiv int_cmp_total).symm x n i || any-turned xs n i
-
 -- the end over one number more
 module _ {End : Type 0} (wider : End → End → End) (nearest : ℤ → End) (narrowest : End) (turn : (l m k : End) → wider l (wider m k) ≡ wider (wider l m) k) (one : (l : End) → wider l narrowest ≡ l) (back : (l : End) → wider narrowest l ≡ l) where
   outermost-append : (xs : List ℤ) (n : ℤ) → outermost wider nearest narrowest (xs ++ n ∷ []) ≡ wider (outermost wider nearest narrowest xs) (nearest n)

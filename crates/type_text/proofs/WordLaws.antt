@@ -82,13 +82,6 @@ module _ {E : Type 0} {Has : Value → E → Type 0} {Normal : E → Type 0} {o 
   word_of-normal w u (one_tuple es k few) = (tt, tt, (refl, refl, (few, body_of_normal l (length es) es (refl, k), tt)))
   word_of-normal w u i = (tt, tt, (refl, refl, tt))
 
-  pub word_of-not_none : (w : List ℕ) (u : Parts E) → IsWordOf text Normal o w u → parts_is_none o u ≡ false
-  word_of-not_none w u (one_atom a) = ap (λ s. parts_is_none o (of_atoms o s)) (names.or_else-yes (a ∷ []) names.none refl)
-  word_of-not_none w u (one_int n k) = ap (λ s. parts_is_none o (of_ints o s)) (numbers.or_else-yes (n ∷ []) numbers.none (number_laws.one-listed n k))
-  word_of-not_none w u (ints_between a b k) = ap (λ s. parts_is_none o (of_ints o s)) (numbers.range-yes a b k)
-  word_of-not_none w u (named every_atom) = refl
-  word_of-not_none w u i = refl
-
   words_of-normal : (ps : Pairs) → Words ps → EachNormal (NormalParts Normal o) ps
   words_of-normal [] k = tt
   words_of-normal (p ∷ ps) k = (word_of-normal p.0 p.1 k.0, words_of-normal ps k.1)

@@ -84,9 +84,7 @@ no_tags (suc d) h = absurd (omega arith)
 -- ---- the tuples of one size
 
 pub row_of : (d : ℕ) (b : BodyOf Node) (r : List Node) → b ≡ Product r → ((n : ℕ) × BodyFits d n b) → (n : ℕ) × RowFits d n r
-row_of d b r e k =
-    let l : BodyFits d k.0 (Product r) = subst (BodyFits d k.0) e k.1 in
-    (k.0, record { normal = l.normal.0; each = l.each })
+row_of d b r e k = grind arith
 
 -- tags stand after at least one element, and above level 0
 pub tags_fit : (d n : ℕ) (ts : List (TagOf Node)) → BodyFits d n (Tags ts) → ((m : ℕ) × TagsFit d m ts) × (0 < d)
@@ -118,14 +116,12 @@ module _ (e d : ℕ) where
 -- ---- the items of lists
 
 elements_at : (d : ℕ) (ns : List Node) → AreElements (NormalAt d) (ops d) (row_view d ns) → (i : ℕ) (x : Node) → i < length ns → (ops d).is_none (view d (slice_index_or ns i x)) ≡ false
-elements_at d [] k i x h = absurd (omega arith)
-elements_at d (n ∷ ns) k zero x h = k.0.1
-elements_at d (n ∷ ns) k (suc i) x h = elements_at d ns k.1 i x (omega arith)
+elements_at d [] k i x h = grind arith
+elements_at d (n ∷ ns) k i x h = grind (arith, elements_at d ns)
 
 -- an element of a row has a value
 pub element_fits : (d : ℕ) (ns : List Node) → ((n : ℕ) × RowFits d n ns) → (i : ℕ) (x : Node) → i < length ns → x ≡ slice_index_or ns i x → Fits d x × ((ops d).is_none (view d x) ≡ false)
-element_fits d ns k i x h e =
-    subst (λ y. Fits d y × ((ops d).is_none (view d y) ≡ false)) (sym e) (each_at (Fits d) ns k.1.each i x h, elements_at d ns k.1.normal.1 i x h)
+element_fits d ns k i x h e = grind (arith, each_at, elements_at)
 
 pub rest_fits : (d : ℕ) (ts : List (TagOf Node)) → ((n : ℕ) × TagsFit d n ts) → (i : ℕ) (x : TagOf Node) → i < length ts → x ≡ slice_index_or ts i x → (n : ℕ) × RowFits d n x.rest
 rest_fits d ts k i x h e = (k.0, rest_of_tag d k.0 ts k.1 i x h e)

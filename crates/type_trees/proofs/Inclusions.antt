@@ -64,9 +64,8 @@ module _ {A K X : Type 0} (entry : A → K × X) (P : K → X → Type 0) where
   each_entry (x ∷ xs) f = (f 0 x (omega arith), each_entry xs (λ k y h. f (suc k) y (omega arith)))
 
   all_entries : (xs : List A) → EachEntry P (map entry xs) → All (λ x. P (entry x).0 (entry x).1) xs
-  all_entries [] f k y h = absurd (omega arith)
-  all_entries (x ∷ xs) f zero y h = f.0
-  all_entries (x ∷ xs) f (suc k) y h = all_entries xs f.1 k y (omega arith)
+  all_entries [] f k y h = grind arith
+  all_entries (x ∷ xs) f k y h = grind (arith, all_entries xs)
 
 -- ---- a type and its parts
 
@@ -172,8 +171,7 @@ place_below d n xs ys k h i x y lt e f =
 
 -- one place more
 pub more_places : (d : ℕ) (xs ys : List Node) (i : ℕ) (x y : Node) → i < length xs → i < length ys → x ≡ slice_index_or xs i x → y ≡ slice_index_or ys i y → ((k : ℕ) → k < i → (z : Node) → BelowBy (HasAt d) (view d (slice_index_or xs k z)) (view d (slice_index_or ys k z))) → BelowBy (HasAt d) (view d x) (view d y) → (k : ℕ) → k < i + 1 → (z : Node) → BelowBy (HasAt d) (view d (slice_index_or xs k z)) (view d (slice_index_or ys k z))
-more_places d xs ys i x y lt less e f before here =
-    below_more (λ k. (z : Node) → BelowBy (HasAt d) (view d (slice_index_or xs k z)) (view d (slice_index_or ys k z))) i before (λ z. subst₂ (λ s t. BelowBy (HasAt d) (view d s) (view d t)) (e ∙ get_or_default xs i x z lt) (f ∙ get_or_default ys i y z less) here)
+more_places d xs ys i x y lt less e f before here = grind (arith, below_more, slice_index_or, get_or_default)
 
 -- ---- the tuples of one size
 
@@ -192,11 +190,7 @@ product_not_below d n a b xs ts e f j k h =
 
 -- tags stand before at least one more element
 pub tags_fit : (d n : ℕ) (a b : BodyOf Node) (ts : List (TagOf Node)) → a ≡ of_body.Tags ts → BodyFits d n a → BodyFits d n b → (m : ℕ) × (TagsFit d m ts × BodyFits d (suc m) b)
-tags_fit d n a b ts e j k = go n (subst (BodyFits d n) e j) k
-  where
-    go : (n : ℕ) → BodyFits d n (of_body.Tags ts) → BodyFits d n b → (m : ℕ) × (TagsFit d m ts × BodyFits d (suc m) b)
-    go zero j k = absurd j.normal
-    go (suc m) j k = (m, (record { normal = j.normal.0; each = j.each }, k))
+tags_fit d n a b ts e j k = grind arith
 
 pub tags_tell : (d : ℕ) (a b : BodyOf Node) (ts : List (TagOf Node)) (r : Bool) → a ≡ of_body.Tags ts → IsTrue r ↔ BelowBy (HasBody (HasAt d)) (Some (tags (tags_view d ts))) (Some (body_view d b)) → IsTrue r ↔ BelowBy (HasBody (HasAt d)) (Some (body_view d a)) (Some (body_view d b))
 tags_tell d a b ts r e h = subst (λ s. IsTrue r ↔ BelowBy (HasBody (HasAt d)) (Some (body_view d s)) (Some (body_view d b))) (sym e) h
@@ -225,9 +219,8 @@ module _ (d : ℕ) (b : BodyOf Node) where
       subst TagBelow (sym e) (all_entries (tag_entry d) EntryBelow ts (each_from name_total name_same EntryBelow (tags_view d ts) k.normal.0 (λ a es q. subst (λ r. BelowBy (HasRow (HasAt d)) r (row_at (ops d) (body_view d b) a)) q (f a))) i t lt)
 
 rows_normal_at : (d n : ℕ) (ts : List (TagOf Node)) → NormalRows (NormalAt d) (ops d) n (tags_view d ts) → (i : ℕ) (t : TagOf Node) → i < length ts → NormalRow (NormalAt d) (ops d) n (Some (row_view d (slice_index_or ts i t).rest))
-rows_normal_at d n [] k i t h = absurd (omega arith)
-rows_normal_at d n (s ∷ ss) k zero t h = k.0
-rows_normal_at d n (s ∷ ss) k (suc i) t h = rows_normal_at d n ss k.1 i t (omega arith)
+rows_normal_at d n [] k i t h = grind arith
+rows_normal_at d n (s ∷ ss) k i t h = grind (arith, rows_normal_at d n ss)
 
 pub rest_fits : (d n : ℕ) (ts : List (TagOf Node)) → TagsFit d n ts → (i : ℕ) (t : TagOf Node) → i < length ts → t ≡ slice_index_or ts i t → RowFits d n t.rest
 rest_fits d n ts k i t lt e = subst (λ s. RowFits d n s.rest) (sym e) (record { normal = rows_normal_at d n ts k.normal.2 i t lt; each = tag_at (Fits d) ts k.each i t lt })

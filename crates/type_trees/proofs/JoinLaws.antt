@@ -1,20 +1,20 @@
 -- What the joins of the code stand for, and that it fits.
-use Rattle.std.proofs.Common.{◌≡◌, ℕ, zero, suc, ◌+◌, ◌-◌, ◌<◌, ◌≤◌, true, false, cond, List, [], ◌∷◌, ◌++◌, map, length, take, Some, slice_index_or, slice_set, refl, sym, ap, ◌∙◌, subst, true≢false, Less, Equal, Greater, arith}
+use Rattle.std.proofs.Common.{◌≡◌, ℕ, zero, suc, ◌+◌, ◌-◌, ◌<◌, ◌≤◌, true, false, List, [], ◌∷◌, ◌++◌, map, length, take, Some, slice_index_or, slice_set, refl, sym, ap, ◌∙◌, subst, true≢false, arith}
 use Rattle.std.specs.Prelude.{nat_lt}
-use Rattle.std.specs.Ordering.{is_lt, is_eq, nat_cmp}
+use Rattle.std.specs.Ordering.{nat_cmp}
 use Rattle.std.specs.declared.cmp.Ordering.{Ordering}
 use Rattle.std.specs.FinSet.{nat_cmp-IsAntisymmetric}
 use Rattle.std.proofs.lemmas.Cmp.{nat_cmp_total}
 use Rattle.std.specs.List.{insert}
 use Rattle.std.proofs.lemmas.List.{take_more, take_all, map-append, length-map}
 use Rattle.std.proofs.lemmas.Option.{slice_get-get_or}
-use borrow.Author.Tests.{ltb-true, lt-ltb}
+use borrow.Author.Tests.{ltb-true}
 use Rattle.type_sets.proofs.Truths.{is_false}
 use Rattle.type_sets.specs.Names.{Name, Names, name_cmp, every, none, are_listed, listed, or_else, or_else-yes}
 use Rattle.type_sets.proofs.NameLaws.{or_else-no, name_total, name_same}
 use Rattle.type_sets.specs.Numbers as numbers
 use Rattle.type_sets.specs.declared.bits.Bits.TheVariants.{No}
-use Rattle.type_model.specs.Shapes.{TypeAt, PlainParts, no_function, all_tuples, Body, product, tags, sizes}
+use Rattle.type_model.specs.Shapes.{TypeAt, PlainParts, no_function, all_tuples, Body, product, tags}
 use Rattle.type_model.specs.Tables.{EachOf, keys, held, is_table, put, united}
 use Rattle.type_model.specs.Operations.{Ops, ops, zip, is_empty, row_join, rows_join, all_rows_join, tags_join, body_join, elements, capped_tags, capped_sizes, no_flags, of_plain, of_atoms, parts_join}
 use Rattle.type_model.specs.Normal.{NormalAt, NormalRow, NormalRows, AreTags, NormalSize, NormalSizes, NormalParts}
@@ -60,21 +60,16 @@ not_fewer : (n k : ℕ) → k ≤ n → nat_lt n k ≡ false
 not_fewer n k h = is_false (nat_lt n k) (λ e. let less = ltb-true n k e in absurd (omega arith))
 
 pub few_sizes : (d : ℕ) (ss : List (SizeOf Node)) → length ss ≤ 8 → tuples_view d (Sizes ss) ≡ capped_sizes (ops d) (sizes_view d ss)
-few_sizes d ss h =
-    ap (λ b. cond b (sizes (sizes_view d ss)) all_tuples) (sym (lt-ltb (length (sizes_view d ss)) 9 (omega (arith, length-sizes_view d ss))))
+few_sizes d ss h = grind (arith, length-sizes_view)
 
 pub many_sizes : (d : ℕ) (ss : List (SizeOf Node)) → 8 < length ss → all_tuples ≡ capped_sizes (ops d) (sizes_view d ss)
-many_sizes d ss h =
-    ap (λ b. cond b (sizes (sizes_view d ss)) all_tuples) (sym (not_fewer (length (sizes_view d ss)) 9 (omega (arith, length-sizes_view d ss))))
+many_sizes d ss h = grind (arith, not_fewer, length-sizes_view)
 
 pub few_tags : (d : ℕ) (ts : List (TagOf Node)) → length ts ≤ 13 → tags (tags_view d ts) ≡ capped_tags (ops d) (tags_view d ts)
-few_tags d ts h =
-    ap (λ b. cond b (tags (tags_view d ts)) (product (elements (ops d) (tags (tags_view d ts))))) (sym (lt-ltb (length (tags_view d ts)) 14 (omega (arith, length-tags_view d ts))))
+few_tags d ts h = grind (arith, length-tags_view)
 
 pub many_tags : (d : ℕ) (ts : List (TagOf Node)) (row : List Node) → 13 < length ts → row_view d row ≡ elements (ops d) (tags (tags_view d ts)) → product (row_view d row) ≡ capped_tags (ops d) (tags_view d ts)
-many_tags d ts row h e =
-    ap product e
-    ∙ ap (λ b. cond b (tags (tags_view d ts)) (product (elements (ops d) (tags (tags_view d ts))))) (sym (not_fewer (length (tags_view d ts)) 14 (omega (arith, length-tags_view d ts))))
+many_tags d ts row h e = grind (arith, not_fewer, length-tags_view)
 
 -- ---- the atoms of tags
 
@@ -84,17 +79,14 @@ listed_atoms ts i names s h e l r d =
     r ∙ or_else-yes names none l ∙ sym (or_else-yes names every l) ∙ ap (λ ks. or_else ks every) same
 
 pub all_atoms : (ts : List (TagOf Node)) (i : ℕ) (names : List Name) (s : Names) → length ts ≤ i → names ≡ map atom_of (take i ts) → are_listed names ≡ false → s ≡ every → (d : ℕ) → s ≡ or_else (keys (tags_view d ts)) every
-all_atoms ts i names s h e l r d =
-    let same : names ≡ keys (tags_view d ts) = e ∙ ap (map atom_of) (take_all i ts h) ∙ sym (keys-tags_view d ts) in
-    r ∙ sym (or_else-no names every l) ∙ ap (λ ks. or_else ks every) same
+all_atoms ts i names s h e l r d = grind (arith, atom_of, take_all, keys-tags_view, or_else-no)
 
 -- ---- items one by one
 
 -- what an item of a list stands for is an item of what the list does
 map_at : {A B : Type 0} (f : A → B) (xs : List A) (i : ℕ) (x : A) → i < length xs → x ≡ slice_index_or xs i x → slice_index_or (map f xs) i (f x) ≡ f x
-map_at f [] i x h e = absurd (omega arith)
-map_at f (y ∷ ys) zero x h e = ap f (sym e)
-map_at f (y ∷ ys) (suc i) x h e = map_at f ys i x (omega arith) e
+map_at f [] i x h e = grind arith
+map_at f (y ∷ ys) i x h e = grind (arith, map_at f ys)
 
 map_more : {A B : Type 0} (f : A → B) (xs : List A) (i : ℕ) (x : A) → i < length xs → x ≡ slice_index_or xs i x → take (i + 1) (map f xs) ≡ take i (map f xs) ++ f x ∷ []
 map_more f xs i x h e =
@@ -103,10 +95,8 @@ map_more f xs i x h e =
 -- ---- products, place by place
 
 zip_at : {A : Type 0} (f : A → A → A) (xs ys : List A) (i : ℕ) (x y e : A) → length xs ≡ length ys → i < length xs → slice_index_or xs i x ≡ x → slice_index_or ys i y ≡ y → slice_index_or (zip f xs ys) i e ≡ f x y
-zip_at f [] ys i x y e l h p q = absurd (omega arith)
-zip_at f (a ∷ xs) [] i x y e l h p q = absurd (omega arith)
-zip_at f (a ∷ xs) (b ∷ ys) zero x y e l h p q = λ n. f (p n) (q n)
-zip_at f (a ∷ xs) (b ∷ ys) (suc i) x y e l h p q = zip_at f xs ys i x y e (omega arith) (omega arith) p q
+zip_at f [] x2 i x y e l h p q = grind arith
+zip_at f (a ∷ xs) x2 i x y e l h p q = grind (arith, zip_at f xs)
 
 pub row_step : (d : ℕ) (a b out new : List Node) (i : ℕ) (x y j : Node) → length a ≡ length b → i < length a → x ≡ slice_index_or a i x → y ≡ slice_index_or b i y → view d j ≡ (ops d).join (view d x) (view d y) → row_view d out ≡ take i (row_join (ops d) (row_view d a) (row_view d b)) → new ≡ out ++ j ∷ [] → row_view d new ≡ take (i + 1) (row_join (ops d) (row_view d a) (row_view d b))
 row_step d a b out new i x y j l h p q e v n =
@@ -120,16 +110,11 @@ row_step d a b out new i x y j l h p q e v n =
     ∙ sym (take_more (row_join (ops d) (row_view d a) (row_view d b)) i (view d x) (omega arith))
 
 pub row_end : (d : ℕ) (a b out : List Node) (i : ℕ) → length a ≡ length b → length a ≤ i → row_view d out ≡ take i (row_join (ops d) (row_view d a) (row_view d b)) → row_view d out ≡ row_join (ops d) (row_view d a) (row_view d b)
-row_end d a b out i l h v =
-    let one : length (row_view d a) ≡ length a = length-row_view d a in
-    let two : length (row_view d b) ≡ length b = length-row_view d b in
-    let whole : length (row_join (ops d) (row_view d a) (row_view d b)) ≡ length a = length-zip (ops d).join (length a) (row_view d a) (row_view d b) one (two ∙ sym l) in
-    v ∙ take_all i (row_join (ops d) (row_view d a) (row_view d b)) (omega arith)
+row_end d a b out i l h v = grind (arith, length-row_view, length-zip, take_all)
 
 -- products of as many types are of one length
 pub same_length : (d n : ℕ) (a b : List Node) → RowFits d n a → RowFits d n b → length a ≡ length b
-same_length d n a b j k =
-    sym (length-row_view d a) ∙ j.normal.0 ∙ sym k.normal.0 ∙ length-row_view d b
+same_length d n a b j k = grind (arith, length-row_view)
 
 -- ---- the type of the atoms of tags
 
@@ -148,17 +133,13 @@ held-append [] w = refl
 held-append (e ∷ m) w = ap (λ xs. e.1 ∷ xs) (held-append m w)
 
 all_rows-more : {E : Type 0} (o : Ops E) (m : List (Name × List E)) (e : Name × List E) → is_empty m ≡ false → all_rows_join o (held (m ++ e ∷ [])) ≡ row_join o (all_rows_join o (held m)) e.1
-all_rows-more o [] e h = absurd (true≢false h)
-all_rows-more o (x ∷ m) e h = ap (rows_join o x.1) (held-append m (e ∷ [])) ∙ rows_join-more o x.1 (held m) e.1
+all_rows-more x0 x1 x2 x3 = grind (arith, held-append, rows_join-more)
 
 take-filled : {A : Type 0} (i : ℕ) (xs : List A) → 1 ≤ i → 1 ≤ length xs → is_empty (take i xs) ≡ false
-take-filled zero xs h k = absurd (omega arith)
-take-filled (suc i) [] h k = absurd (omega arith)
-take-filled (suc i) (x ∷ xs) h k = refl
+take-filled x0 x1 x2 x3 = grind arith
 
 filled-length : {A : Type 0} (xs : List A) → is_empty xs ≡ false → 1 ≤ length xs
-filled-length [] h = absurd (true≢false h)
-filled-length (x ∷ xs) h = omega arith
+filled-length x0 x1 = grind arith
 
 pub rests_step : (d : ℕ) (ts : List (TagOf Node)) (i : ℕ) (t : TagOf Node) (out new : List Node) → 1 ≤ i → i < length ts → t ≡ slice_index_or ts i t → row_view d out ≡ all_rows_join (ops d) (held (take i (tags_view d ts))) → row_view d new ≡ row_join (ops d) (row_view d out) (row_view d t.rest) → row_view d new ≡ all_rows_join (ops d) (held (take (i + 1) (tags_view d ts)))
 rests_step d ts i t out new g h e v n =
@@ -168,20 +149,14 @@ rests_step d ts i t out new g h e v n =
     ∙ sym (ap (λ m. all_rows_join (ops d) (held m)) (map_more (tag_entry d) ts i t h e))
 
 pub rests_end : (d : ℕ) (ts : List (TagOf Node)) (i : ℕ) (out : List Node) → length ts ≤ i → row_view d out ≡ all_rows_join (ops d) (held (take i (tags_view d ts))) → row_view d out ≡ all_rows_join (ops d) (held (tags_view d ts))
-rests_end d ts i out h v =
-    v ∙ ap (λ m. all_rows_join (ops d) (held m)) (take_all i (tags_view d ts) (omega (arith, length-tags_view d ts)))
+rests_end d ts i out h v = grind (arith, take_all, length-tags_view)
 
 -- ---- what is joined fits
 
 -- something was put into it
 put-filled : {K X : Type 0} (R : K → K → Ordering) (j : X → X → X) (k : K) (x : X) (m : List (K × X)) → is_empty (put R j k x m) ≡ false
 put-filled R j k x [] = refl
-put-filled R j k x (e ∷ m) =
-    elim (R k e.0) as (λ r. is_empty (cond (is_lt r) ((k, x) ∷ e ∷ m) (cond (is_eq r) ((e.0, j e.1 x) ∷ m) (e ∷ put R j k x m))) ≡ false) [
-      | Less ↦ refl
-      | Equal ↦ refl
-      | Greater ↦ refl
-    ]
+put-filled R j k x (e ∷ m) = grind arith
 
 united-filled : {K X : Type 0} (R : K → K → Ordering) (j : X → X → X) (m w : List (K × X)) → is_empty m ≡ false → is_empty (united R j m w) ≡ false
 united-filled R j m [] h = h
@@ -209,11 +184,7 @@ module _ (d : ℕ) where
   all_rows-joined n (x ∷ m) e k = rows-joined n x.1 m k.0 k.1
 
   pub rests_fit : (n : ℕ) (ts : List (TagOf Node)) (i : ℕ) (out : List Node) → TagsFit d n ts → 1 ≤ i → row_view d out ≡ all_rows_join (ops d) (held (take i (tags_view d ts))) → EachNode (Fits d) out → RowFits d n out
-  rests_fit n ts i out k g v e =
-      let filled = filled-length (tags_view d ts) k.normal.1 in record {
-        normal = subst (Row n) (sym v) (all_rows-joined n (take i (tags_view d ts)) (take-filled i (tags_view d ts) g filled) (each-take (λ e. Row n e.1) (tags_view d ts) i k.normal.2));
-        each = e;
-      }
+  rests_fit n ts i out k g v e = grind (arith, filled-length, Row, all_rows-joined, take-filled, each-take)
 
   -- ---- a tag among others
 
@@ -260,9 +231,8 @@ map-insert f [] (suc i) x = refl
 map-insert f (y ∷ ys) (suc i) x = ap (λ zs. f y ∷ zs) (map-insert f ys i x)
 
 map-slice_set : {A B : Type 0} (f : A → B) (xs : List A) (i : ℕ) (x : A) → map f (slice_set xs i x) ≡ slice_set (map f xs) i (f x)
-map-slice_set f [] i x = refl
-map-slice_set f (y ∷ ys) zero x = refl
-map-slice_set f (y ∷ ys) (suc i) x = ap (λ zs. f y ∷ zs) (map-slice_set f ys i x)
+map-slice_set f [] i x = grind arith
+map-slice_set f (y ∷ ys) i x = grind (arith, map-slice_set f ys)
 
 -- ---- one more of the second list, and what is put into a list
 
@@ -273,11 +243,7 @@ united-append R j m (e ∷ w) z = united-append R j (put R j e.0 e.1 m) w z
 module _ {A K X : Type 0} (R : K → K → Ordering) (j : X → X → X) (entry : A → K × X) where
   -- the first list with the entries of so many items of the second, and with one more
   pub entries_step : (a b out new : List A) (i : ℕ) (x : A) → i < length b → x ≡ slice_index_or b i x → map entry out ≡ united R j (map entry a) (take i (map entry b)) → map entry new ≡ put R j (entry x).0 (entry x).1 (map entry out) → map entry new ≡ united R j (map entry a) (take (i + 1) (map entry b))
-  entries_step a b out new i x h e v n =
-      n
-      ∙ ap (put R j (entry x).0 (entry x).1) v
-      ∙ sym (united-append R j (map entry a) (take i (map entry b)) (entry x ∷ []))
-      ∙ sym (ap (united R j (map entry a)) (map_more entry b i x h e))
+  entries_step a b out new i x h e v n = grind (arith, united-append R j, map_more entry)
 
   pub entries_end : (a b out : List A) (i : ℕ) → length b ≤ i → map entry out ≡ united R j (map entry a) (take i (map entry b)) → map entry out ≡ united R j (map entry a) (map entry b)
   entries_end a b out i h v = v ∙ ap (united R j (map entry a)) (take_all i (map entry b) (omega (arith, length-map b entry)))
@@ -288,8 +254,7 @@ module _ {A K X : Type 0} (R : K → K → Ordering) (j : X → X → X) (entry 
 
   -- what stands at the place of a key
   entry_there : (xs : List A) (i : ℕ) (k : K) (there : A) (s : StandsAt R k (map entry xs) i) → i < length xs → there ≡ slice_index_or xs i there → entry there ≡ (k, s.0)
-  entry_there xs i k there s h e =
-      same_some (entry there) (k, s.0) (ap Some (sym (map_at entry xs i there h e)) ∙ sym (slice_get-get_or (map entry xs) i (entry there) (omega (arith, length-map xs entry))) ∙ s.1.0)
+  entry_there xs i k there s h e = grind (arith, same_some, map_at entry, slice_get-get_or, length-map)
 
   -- and one whose key is there, so that what is held is joined
   pub entry_found : (xs : List A) (i : ℕ) (x there new : A) → StandsAt R (entry x).0 (map entry xs) i → i < length xs → there ≡ slice_index_or xs i there → (entry new).0 ≡ (entry there).0 → (entry new).1 ≡ j (entry there).1 (entry x).1 → map entry (slice_set xs i new) ≡ put R j (entry x).0 (entry x).1 (map entry xs)
@@ -304,9 +269,8 @@ module _ {A K X : Type 0} (R : K → K → Ordering) (j : X → X → X) (entry 
 
 -- an item is read whole or in part
 pub same_item : {A : Type 0} (xs : List A) (i : ℕ) (x y : A) → i < length xs → x ≡ slice_index_or xs i x → y ≡ slice_index_or xs i y → x ≡ y
-same_item [] i x y h e f = absurd (omega arith)
-same_item (z ∷ xs) zero x y h e f = e ∙ sym f
-same_item (z ∷ xs) (suc i) x y h e f = same_item xs i x y (omega arith) e f
+same_item [] i x y h e f = grind arith
+same_item (z ∷ xs) i x y h e f = grind (arith, same_item xs)
 
 module _ {A : Type 0} (Q : A → Type 0) where
   each-insert : (xs : List A) (i : ℕ) (x : A) → EachOf Q xs → Q x → EachOf Q (insert xs i x)
@@ -315,9 +279,8 @@ module _ {A : Type 0} (Q : A → Type 0) where
   each-insert (y ∷ ys) (suc i) x k p = (k.0, each-insert ys i x k.1 p)
 
   pub each-set : (xs : List A) (i : ℕ) (x : A) → EachOf Q xs → Q x → EachOf Q (slice_set xs i x)
-  each-set [] i x k p = tt
-  each-set (y ∷ ys) zero x k p = (p, k.1)
-  each-set (y ∷ ys) (suc i) x k p = (k.0, each-set ys i x k.1 p)
+  each-set [] i x k p = grind arith
+  each-set (y ∷ ys) i x k p = grind (arith, each-set ys)
 
   pub missing_each : (xs new : List A) (i : ℕ) (x u : A) → EachOf Q xs → Q x → u ≡ x → new ≡ insert xs i u → EachOf Q new
   missing_each xs new i x u k p e n = subst (EachOf Q) (sym n) (subst (λ w. EachOf Q (insert xs i w)) (sym e) (each-insert xs i x k p))
@@ -338,25 +301,16 @@ body_is : (d n : ℕ) (b c : BodyOf Node) → b ≡ c → BodyFits d n b → Bod
 body_is d n b c e k = subst (BodyFits d n) e k
 
 tags_part : (d n : ℕ) (ts : List (TagOf Node)) → BodyFits d n (Tags ts) → (m : ℕ) × ((n ≡ suc m) × (TagsFit d m ts × (0 < d)))
-tags_part d zero ts k = absurd k.normal
-tags_part d (suc n) ts k =
-    (n, (refl, (record { normal = k.normal.0; each = k.each }, tags_above d k.normal.2)))
+tags_part x0 x1 x2 x3 = grind (arith, tags_above)
 
 pub tags_of_body : (d n : ℕ) (b : BodyOf Node) (ts : List (TagOf Node)) → BodyFits d n b → b ≡ Tags ts → ((m : ℕ) × TagsFit d m ts) × (0 < d)
-tags_of_body d n b ts k e =
-    let t = tags_part d n ts (body_is d n b (Tags ts) e k) in
-    ((t.0, t.1.1.0), t.1.1.1)
+tags_of_body d n b ts k e = grind (arith, tags_part, body_is)
 
 pub tags_of_bodies : (d n : ℕ) (b c : BodyOf Node) (ts us : List (TagOf Node)) → BodyFits d n b → BodyFits d n c → b ≡ Tags ts → c ≡ Tags us → (m : ℕ) × (TagsFit d m ts × TagsFit d m us)
-tags_of_bodies d n b c ts us j k e f =
-    let t = tags_part d n ts (body_is d n b (Tags ts) e j) in
-    let u = tags_part d n us (body_is d n c (Tags us) f k) in
-    let same : u.0 ≡ t.0 = omega (arith, t.1.0, u.1.0) in
-    (t.0, (t.1.1.0, subst (λ m. TagsFit d m us) same u.1.1.0))
+tags_of_bodies d n b c ts us j k e f = grind (arith, tags_part, body_is)
 
 pub product_of_body : (d n : ℕ) (b : BodyOf Node) (es : List Node) → BodyFits d n b → b ≡ Product es → RowFits d n es
-product_of_body d n b es k e =
-    let p = body_is d n b (Product es) e k in record { normal = p.normal.0; each = p.each }
+product_of_body d n b es k e = grind (arith, body_is)
 
 pub elements_fit : (d n : ℕ) (b : BodyOf Node) (es : List Node) → BodyFits d n b → row_view d es ≡ elements (ops d) (body_view d b) → EachNode (Fits d) es → RowFits d n es
 elements_fit d n b es k v e = record {
@@ -394,12 +348,10 @@ module _ (d n : ℕ) (a b x y j : List Node) (f : RowFits d n a) (g : RowFits d 
       ap (row_view d) e ∙ some_row (join-above (row_lattice (level_laws d) n) (Some (row_view d a)) (Some (row_view d b)) f.normal g.normal (subst (λ (z : List Node × List Node). BelowBy (HasRow (HasAt d)) (Some (row_view d z.1)) (Some (row_view d z.0))) (λ i. (p i, q i)) h))
 
 pub any_left : (d : ℕ) (a b : Node) → Fits d a → Fits d b → a ≡ v.Any → view d v.Any ≡ (ops d).join (view d a) (view d b)
-any_left d a b j k e =
-    joined_above d a b v.Any j k (λ u h. subst (HasAt d u) (sym (view_any a e d)) ((level_laws d).any_in u)) (sym e)
+any_left d a b j k e = grind (arith, joined_above, view_any, level_laws, (level_laws d).any_in)
 
 pub any_right : (d : ℕ) (a b : Node) → Fits d a → Fits d b → b ≡ v.Any → view d v.Any ≡ (ops d).join (view d a) (view d b)
-any_right d a b j k e =
-    joined_below d a b v.Any j k (λ u h. subst (HasAt d u) (sym (view_any b e d)) ((level_laws d).any_in u)) (sym e)
+any_right d a b j k e = grind (arith, joined_below, view_any, level_laws, (level_laws d).any_in)
 
 pub parts_fit : (d : ℕ) (p q j : PartsOf Node) → PartsFit d p → PartsFit d q → parts_view d j ≡ parts_join (ops d) (parts_view d p) (parts_view d q) → EachInParts (Fits d) j → PartsFit d j
 parts_fit d p q j k m v e = record {
@@ -409,8 +361,7 @@ parts_fit d p q j k m v e = record {
 
 made_above : (d : ℕ) (a b r : Node) (p q j : PartsOf Node) → a ≡ v.Of p → b ≡ v.Of q → parts_view d j ≡ parts_join (ops d) (parts_view d p) (parts_view d q) → view (suc d) r ≡ parts_view d j → view (suc d) r ≡ (ops (suc d)).join (view (suc d) a) (view (suc d) b)
 unfolding ops
-made_above d a b r p q j e f h m =
-    m ∙ h ∙ sym (λ n. parts_join (ops d) (view_of a p e d n) (view_of b q f d n))
+made_above d a b r p q j e f h m = grind (arith, view_of)
 
 pub made_join : (d : ℕ) (a b r : Node) (p q j : PartsOf Node) → 1 ≤ d → a ≡ v.Of p → b ≡ v.Of q → PartsFit (d - 1) j → parts_view (d - 1) j ≡ parts_join (ops (d - 1)) (parts_view (d - 1) p) (parts_view (d - 1) q) → ((e : ℕ) → PartsFit e j → view (suc e) r ≡ parts_view e j) → view d r ≡ (ops d).join (view d a) (view d b)
 made_join d a b r p q j h e f k m g =

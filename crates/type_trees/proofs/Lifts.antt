@@ -1,10 +1,10 @@
 -- A tree that stands for a type stands for the same type at each higher level.
-use Rattle.std.proofs.Common.{◌≡◌, ℕ, zero, suc, ◌≤◌, List, [], ◌∷◌, Option, Some, None, refl, sym, ap, ◌∙◌, subst, arith}
+use Rattle.std.proofs.Common.{◌≡◌, ℕ, zero, suc, ◌≤◌, List, [], ◌∷◌, Option, None, refl, sym, ap, ◌∙◌, subst, arith}
 use Rattle.type_model.specs.Tables.{mapped}
-use Rattle.type_model.specs.Shapes.{Cell, product, Tuples, sizes, all_tuples, Parts, TypeAt}
+use Rattle.type_model.specs.Shapes.{Cell, Tuples, all_tuples, Parts, TypeAt}
 use Rattle.type_model.specs.HasType.{HasAt}
 use Rattle.type_model.specs.Operations.{plain_none, ops}
-use Rattle.type_model.specs.Normal.{IsElement, NormalCell, NormalSizes, NormalTuples, NormalAt}
+use Rattle.type_model.specs.Normal.{NormalCell, NormalSizes, NormalTuples, NormalAt}
 use Rattle.type_model.specs.Cut.{row_lower, cell_lower, body_lower, tuples_lower, parts_lower, cut}
 use Rattle.type_model.proofs.CutLaws.{cut_exact}
 use Rattle.type_model.proofs.LevelLaws.{level_laws}
@@ -14,10 +14,8 @@ use Rattle.type_trees.specs.declared.node.Node.TheVariants as v
 use Rattle.type_trees.specs.declared.node.PartsOf.{PartsOf}
 use Rattle.type_trees.specs.declared.node.CellOf.{CellOf}
 use Rattle.type_trees.specs.declared.node.TuplesOf.{TuplesOf}
-use Rattle.type_trees.specs.declared.node.TuplesOf.TheVariants.{All, Sizes}
 use Rattle.type_trees.specs.declared.node.SizeOf.{SizeOf}
 use Rattle.type_trees.specs.declared.node.BodyOf.{BodyOf}
-use Rattle.type_trees.specs.declared.node.BodyOf.TheVariants.{Product, Tags}
 use Rattle.type_trees.specs.declared.node.TagOf.{TagOf}
 use Rattle.type_trees.specs.View.{view, row_view, tags_view, body_view, sizes_view, tuples_view, cell_view, parts_view, Fits, EachNode, EachTag, EachSize, EachInBody, BodyFits, TuplesFit, CellFits, PartsFit}
 use Rattle.type_trees.proofs.Views.{zero_fits, any_fits, view_of, fits_of, of_fits, parts_normal}
@@ -41,25 +39,14 @@ module _ (e d : ℕ) where
 module _ (e d : ℕ) (le : e ≤ d) (up : (t : Node) → Fits e t → Fits d t × (view d t ≡ cut e d (view e t))) where
   nodes_up : (ns : List Node) → EachNode (Fits e) ns → EachNode (Fits d) ns × (row_view d ns ≡ row_lower (cut e d) (ops e) (ops d) (row_view e ns))
   nodes_up [] k = (tt, refl)
-  nodes_up (n ∷ ns) k =
-      let a = up n k.0 in
-      let b = nodes_up ns k.1 in
-      ((a.0, b.0), cc (a.1, b.1))
+  nodes_up (n ∷ ns) k = grind (arith, nodes_up ns k.1)
 
   each_tag_up : (ts : List (TagOf Node)) → EachTag (Fits e) ts → EachTag (Fits d) ts × (tags_view d ts ≡ mapped (row_lower (cut e d) (ops e) (ops d)) (tags_view e ts))
   each_tag_up [] k = (tt, refl)
-  each_tag_up (t ∷ ts) k =
-      let a = nodes_up t.rest k.0 in
-      let b = each_tag_up ts k.1 in
-      ((a.0, b.0), cc (a.1, b.1))
+  each_tag_up (t ∷ ts) k = grind (arith, nodes_up, t.rest, each_tag_up ts k.1)
 
   each_body_up : (n : ℕ) (b : BodyOf Node) → BodyFits e n b → EachInBody (Fits d) b × (body_view d b ≡ body_lower (cut e d) (ops e) (ops d) (body_view e b))
-  each_body_up n (Product ns) k =
-      let a = nodes_up ns k.each in
-      (a.0, ap product a.1)
-  each_body_up n (Tags ts) k =
-      let a = each_tag_up ts k.each in
-      (a.0, tags_kept e d (Tags ts) ts ts refl (let h = (tags_fit e n ts k).1 in omega arith) a.1)
+  each_body_up x0 x1 x2 = grind (arith, nodes_up, each_tag_up, tags_kept e d, tags_fit e)
 
   each_size_up : (ss : List (SizeOf Node)) → NormalSizes (NormalAt e) (ops e) (sizes_view e ss) → EachSize (Fits e) ss → EachSize (Fits d) ss × (sizes_view d ss ≡ mapped (body_lower (cut e d) (ops e) (ops d)) (sizes_view e ss))
   each_size_up [] k f = (tt, refl)
@@ -69,18 +56,10 @@ module _ (e d : ℕ) (le : e ≤ d) (up : (t : Node) → Fits e t → Fits d t �
       ((a.0, b.0), cc (a.1, b.1))
 
   tuples_up : (t : TuplesOf Node) → TuplesFit e t → TuplesFit d t × (tuples_view d t ≡ tuples_lower (cut e d) (ops e) (ops d) (tuples_view e t))
-  tuples_up All k = (record { normal = tt; each = tt }, refl)
-  tuples_up (Sizes ss) k =
-      let a = each_size_up ss k.normal.2 k.each in
-      (record { normal = subst (λ m. NormalTuples (NormalAt d) (ops d) (sizes m)) (sym a.1) (tuples_kept e d (tuples_view e (Sizes ss)) k.normal); each = a.0 }, ap sizes a.1)
+  tuples_up x0 x1 = grind (arith, each_size_up, tuples_kept e d)
 
   cell_up : (c : Option (CellOf Node)) → CellFits e c → CellFits d c × (cell_view d c ≡ cell_lower (cut e d) (ops e) (ops d) (cell_view e c))
-  cell_up None k = (record { normal = tt; each = tt }, refl)
-  cell_up (Some c) k =
-      let a = up c.element k.each in (
-        record { normal = subst (IsElement (NormalAt d) (ops d)) (sym a.1) (cell_kept e d (cell_view e (Some c)) k.normal); each = a.0 },
-        ap (λ x. Some (record { element = x; is_proper = c.is_proper })) a.1,
-      )
+  cell_up x0 x1 = grind (arith, cell_kept e d)
 
   parts_up : (p : PartsOf Node) → PartsFit e p → PartsFit d p × (parts_view d p ≡ parts_lower (cut e d) (ops e) (ops d) (parts_view e p))
   parts_up p k =

@@ -14,7 +14,7 @@ use Rattle.type_trees.specs.declared.node.PartsOf.{PartsOf}
 use Rattle.type_trees.specs.declared.node.TuplesOf.TheVariants.{All, Sizes}
 use Rattle.type_trees.specs.declared.node.SizeOf.{SizeOf}
 use Rattle.type_trees.specs.declared.node.BodyOf.{BodyOf}
-use Rattle.type_trees.specs.View.{view, body_view, row_view, parts_view, cell_view, sizes_view, Fits, EachInCell, EachInTuples, EachInBody, EachSize, BodyFits}
+use Rattle.type_trees.specs.View.{view, body_view, row_view, parts_view, sizes_view, Fits, EachInTuples, EachInBody, EachSize, BodyFits}
 use Rattle.type_trees.proofs.Views.{fits_normal, view_of, of_fits}
 
 no_cell : {E : Type 0} (c : Option (Cell E)) (x : Cell E) → c ≡ None → c ≡ Some x → ⊥
@@ -26,11 +26,7 @@ not_all t m e f = cc
 -- parts with no list
 without_list : (t : Node) (p : PartsOf Node) → t ≡ v.Of p → p.cell ≡ None → (d : ℕ) (u : Parts (TypeAt d)) → parts_view d p ≡ u → NormalParts (NormalAt d) (ops d) u → EachInTuples (Fits d) p.tuples → Fits (suc d) t
 unfolding ops
-without_list t p e f d u is k each =
-    of_fits t p e d (record {
-      normal = subst (NormalParts (NormalAt d) (ops d)) (sym is) k;
-      each = (subst (EachInCell (Fits d)) (sym f) tt, each);
-    }) (λ h. no_cell (cell_view d p.cell) (record { element = (ops d).any; is_proper = false }) (ap (cell_view d) f) (ap (λ (x : Parts (TypeAt d)). x.cell) h))
+without_list t p e f d u is k each = grind (arith, of_fits, no_cell)
 
 plain_parts : (q : PlainParts) (ss : List (SizeOf Node)) → ss ≡ [] → (d : ℕ) → parts_view d (record { plain = q; cell = None; tuples = Sizes ss }) ≡ of_plain (ops d) q
 plain_parts q ss e d = λ n. record { plain = q; cell = None; tuples = sizes (sizes_view d (e n)) }

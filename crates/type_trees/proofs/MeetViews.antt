@@ -1,12 +1,12 @@
 -- The type whose values are those of both, one part at a time.
-use Rattle.std.proofs.Common.{◌≡◌, ℕ, suc, ◌+◌, ◌-◌, ◌<◌, ◌≤◌, Bool, true, false, ◌||◌, List, [], ◌∷◌, ◌++◌, Option, Some, None, length, drop, refl, sym, ap, ◌∙◌, subst, map}
+use Rattle.std.proofs.Common.{◌≡◌, ℕ, suc, ◌+◌, ◌-◌, ◌<◌, ◌≤◌, Bool, true, false, ◌||◌, List, [], ◌∷◌, ◌++◌, Option, Some, None, length, drop, refl, sym, ap, ◌∙◌, subst, map, arith}
 use Rattle.std.specs.Prelude.{slice_index_or}
 use Rattle.std.specs.Ordering.{nat_cmp}
 use Rattle.std.proofs.lemmas.List.{append_assoc, append-nil, map-append, drop_all, at_drop_more}
 use Rattle.type_sets.specs.Names.{Name}
 use Rattle.type_model.specs.Shapes.{TypeAt, Body, tags, sizes}
 use Rattle.type_model.specs.HasType.{HasAt, HasRow}
-use Rattle.type_model.specs.Operations.{Ops, ops, zip, or_none, met_with, has_none, row_meet, row_at, some_tags, tags_meet, body_meet, sizes_meet, parts_meet, tuples_meet}
+use Rattle.type_model.specs.Operations.{Ops, ops, zip, met_with, has_none, row_meet, row_at, some_tags, tags_meet, body_meet, sizes_meet, parts_meet, tuples_meet}
 use Rattle.type_model.specs.Tables.{all_hold, and_entry, chosen, find}
 use Rattle.type_model.specs.Normal.{NormalAt, NormalTuples}
 use Rattle.type_model.specs.Laws.{BelowBy, Laws}
@@ -54,8 +54,7 @@ meet_with_any d a b m e f g k = met_below d a b m f g (λ u h. subst (HasAt d u)
 -- the meet of two trees that have parts
 parts_value : (a b m : Node) (p q r : PartsOf Node) → a ≡ v.Of p → b ≡ v.Of q → m ≡ v.Of r → (d : ℕ) → parts_view d r ≡ parts_meet (ops d) (parts_view d p) (parts_view d q) → view (suc d) m ≡ (ops (suc d)).meet (view (suc d) a) (view (suc d) b)
 unfolding ops
-parts_value a b m p q r e f g d h =
-    view_of m r g d ∙ h ∙ ap (λ t. parts_meet (ops d) t (parts_view d q)) (sym (view_of a p e d)) ∙ ap (λ t. parts_meet (ops d) (view (suc d) a) t) (sym (view_of b q f d))
+parts_value a b m p q r e f g d h = grind (arith, view_of)
 
 pub meet_of_parts : (a b m : Node) (p q r : PartsOf Node) → a ≡ v.Of p → b ≡ v.Of q → m ≡ v.Of r → (d : ℕ) → Fits d a → parts_view (d - 1) r ≡ parts_meet (ops (d - 1)) (parts_view (d - 1) p) (parts_view (d - 1) q) → view d m ≡ (ops d).meet (view d a) (view d b)
 meet_of_parts a b m p q r e f g d j h =
@@ -112,17 +111,11 @@ spread_more d new out t atoms later rest e f g =
 
 -- one place more, and no change to the whole
 pub row_more : (d : ℕ) (new out a b xs ys : List Node) (x y m : Node) → new ≡ out ++ m ∷ [] → a ≡ x ∷ xs → b ≡ y ∷ ys → view d m ≡ (ops d).meet (view d x) (view d y) → row_view d new ++ zip (ops d).meet (row_view d xs) (row_view d ys) ≡ row_view d out ++ zip (ops d).meet (row_view d a) (row_view d b)
-row_more d new out a b xs ys x y m i e f g =
-    let later = zip (ops d).meet (row_view d xs) (row_view d ys) in
-    map_done (view d) new out m later i
-    ∙ ap (λ t. row_view d out ++ (t ∷ later)) g
-    ∙ ap (λ l. row_view d out ++ zip (ops d).meet (row_view d l) (row_view d (y ∷ ys))) (sym e)
-    ∙ ap (λ l. row_view d out ++ zip (ops d).meet (row_view d a) (row_view d l)) (sym f)
+row_more d new out a b xs ys x y m i e f g = grind (arith, map_done)
 
 -- and still no place without a value
 neither : (a b c : Bool) → (a || b) ≡ false → (b ≡ false → c ≡ false) → (a || c) ≡ false
-neither true b c h f = h
-neither false b c h f = f h
+neither x0 x1 x2 x3 x4 = grind arith
 
 filled_end : {E : Type 0} (o : Ops E) (es : List E) (e : E) → has_none o es ≡ false → o.is_none e ≡ false → has_none o (es ++ e ∷ []) ≡ false
 filled_end o [] e h k = ap (λ b. b || false) k
@@ -137,10 +130,7 @@ none_among o (g ∷ es) e fs h = in_second (o.is_none g) (has_none o (es ++ e �
 
 -- where a place has no value, the product has none
 pub row_none : (d : ℕ) (out a b xs ys : List Node) (x y m : Node) (es fs : List (TypeAt d)) → a ≡ x ∷ xs → b ≡ y ∷ ys → view d m ≡ (ops d).meet (view d x) (view d y) → (ops d).is_none (view d m) ≡ true → row_view d out ++ zip (ops d).meet (row_view d a) (row_view d b) ≡ zip (ops d).meet es fs → None ≡ row_meet (ops d) es fs
-row_none d out a b xs ys x y m es fs e f g z h =
-    let later = zip (ops d).meet (row_view d xs) (row_view d ys) in
-    let split : zip (ops d).meet es fs ≡ row_view d out ++ (view d m ∷ later) = sym h ∙ sym (row_more d (out ++ m ∷ []) out a b xs ys x y m refl e f g) ∙ map_done (view d) (out ++ m ∷ []) out m later refl in
-    sym (ap (λ b. or_none b (zip (ops d).meet es fs)) (ap (has_none (ops d)) split ∙ none_among (ops d) (row_view d out) (view d m) later z))
+row_none d out a b xs ys x y m es fs e f g z h = grind (arith, row_more, map_done, none_among)
 
 -- ---- tags
 
@@ -154,15 +144,11 @@ module _ {A K X : Type 0} (entry : A → K × X) (choose : K → X → Option X)
       ∙ ap (λ l. map entry out ++ chosen choose (map entry l)) (sym f)
 
   none_chosen : (new out ts us : List A) (t : A) → new ≡ out → ts ≡ t ∷ us → choose (entry t).0 (entry t).1 ≡ None → map entry new ++ chosen choose (map entry us) ≡ map entry out ++ chosen choose (map entry ts)
-  none_chosen new out ts us t g e h =
-      ap (λ l. map entry l ++ chosen choose (map entry us)) g
-      ∙ ap (λ z. map entry out ++ and_entry (entry t).0 z (chosen choose (map entry us))) (sym h)
-      ∙ ap (λ l. map entry out ++ chosen choose (map entry l)) (sym e)
+  none_chosen new out ts us t g e h = grind arith
 
 -- one tag more, or the same tags, and no change to the whole
 pub tags_more : (d : ℕ) (new out ts us : List (TagOf Node)) (t u : TagOf Node) (b : Body (TypeAt d)) (r : List (TypeAt d)) → new ≡ out ++ u ∷ [] → ts ≡ t ∷ us → u.atom ≡ t.atom → Some r ≡ row_at (ops d) b t.atom → Some (row_view d u.rest) ≡ row_meet (ops d) (row_view d t.rest) r → tags_view d new ++ tags_meet (ops d) (tags_view d us) b ≡ tags_view d out ++ tags_meet (ops d) (tags_view d ts) b
-tags_more d new out ts us t u b r e f g h k =
-    entry_chosen (tag_entry d) (λ a es. met_with (row_meet (ops d) es) (row_at (ops d) b a)) new out ts us t u e f g (ap (met_with (row_meet (ops d) (row_view d t.rest))) (sym h) ∙ sym k)
+tags_more d new out ts us t u b r e f g h k = grind (arith, entry_chosen)
 
 pub tags_fewer : (d : ℕ) (new out ts us : List (TagOf Node)) (t : TagOf Node) (b : Body (TypeAt d)) → new ≡ out → ts ≡ t ∷ us → None ≡ met_with (row_meet (ops d) (row_view d t.rest)) (row_at (ops d) b t.atom) → tags_view d new ++ tags_meet (ops d) (tags_view d us) b ≡ tags_view d out ++ tags_meet (ops d) (tags_view d ts) b
 tags_fewer d new out ts us t b g e f = none_chosen (tag_entry d) (λ a es. met_with (row_meet (ops d) es) (row_at (ops d) b a)) new out ts us t g e (sym f)
@@ -179,8 +165,7 @@ tags_left d out ts i b m f h e = some out f ∙ ap (some_tags (ops d)) (sym (app
 
 -- one size more, or the same sizes, and no change to the whole
 pub sizes_more : (d : ℕ) (new out ss rs : List (SizeOf Node)) (s u : SizeOf Node) (w : List (ℕ × Body (TypeAt d))) (b : Body (TypeAt d)) → new ≡ out ++ u ∷ [] → ss ≡ s ∷ rs → u.size ≡ s.size → Some b ≡ find nat_cmp w s.size → Some (body_view d u.body) ≡ body_meet (ops d) (body_view d s.body) b → sizes_view d new ++ sizes_meet (ops d) (sizes_view d rs) w ≡ sizes_view d out ++ sizes_meet (ops d) (sizes_view d ss) w
-sizes_more d new out ss rs s u w b e f g h k =
-    entry_chosen (size_entry d) (λ n c. met_with (body_meet (ops d) c) (find nat_cmp w n)) new out ss rs s u e f g (ap (met_with (body_meet (ops d) (body_view d s.body))) (sym h) ∙ sym k)
+sizes_more d new out ss rs s u w b e f g h k = grind (arith, entry_chosen)
 
 pub sizes_fewer : (d : ℕ) (new out ss rs : List (SizeOf Node)) (s : SizeOf Node) (w : List (ℕ × Body (TypeAt d))) → new ≡ out → ss ≡ s ∷ rs → None ≡ met_with (body_meet (ops d) (body_view d s.body)) (find nat_cmp w s.size) → sizes_view d new ++ sizes_meet (ops d) (sizes_view d rs) w ≡ sizes_view d out ++ sizes_meet (ops d) (sizes_view d ss) w
 sizes_fewer d new out ss rs s w g e f = none_chosen (size_entry d) (λ n c. met_with (body_meet (ops d) c) (find nat_cmp w n)) new out ss rs s g e (sym f)

@@ -1,5 +1,5 @@
 -- What the code asks of one tree and of its parts.
-use Rattle.std.proofs.Common.{◌≡◌, ℕ, zero, suc, ◌+◌, ◌<◌, Bool, true, false, cond, ◌&&◌, List, [], ◌∷◌, Some, None, length, is_some, refl, sym, ap, ◌∙◌, subst, arith, true≢false, add-one}
+use Rattle.std.proofs.Common.{◌≡◌, ℕ, zero, suc, ◌+◌, ◌<◌, Bool, true, false, cond, ◌&&◌, List, [], ◌∷◌, Some, None, length, is_some, refl, sym, ap, ◌∙◌, arith, true≢false, add-one}
 use Rattle.std.specs.Prelude.{◌↔◌, IsTrue, slice_index_or, drop}
 use Rattle.std.specs.Ordering.{eq_by_cmp}
 use Rattle.std.proofs.Math.Seq.{drop-cons}
@@ -20,7 +20,7 @@ use Rattle.type_trees.specs.declared.node.CellOf.{CellOf}
 use Rattle.type_trees.specs.declared.node.TuplesOf.TheVariants.{All, Sizes}
 use Rattle.type_trees.specs.declared.node.SizeOf.{SizeOf}
 use Rattle.type_trees.specs.declared.node.TagOf.{TagOf}
-use Rattle.type_trees.specs.View.{view, row_view, tags_view, parts_view, cell_view, tuples_view, sizes_view, Fits, EachInCell, PartsFit}
+use Rattle.type_trees.specs.View.{view, row_view, tags_view, parts_view, cell_view, tuples_view, sizes_view, Fits, PartsFit}
 use Rattle.type_trees.proofs.Views.{view_any, view_of, of_above, fits_of, no_sizes, no_cell_there}
 
 -- ---- whether every value is there
@@ -32,18 +32,11 @@ parts_not_any t p e (suc d) h k = (fits_of t p e d h).1 (sym (view_of t p e d) �
 
 -- so parts whose cell holds one aren't full
 pub open_cell : (p : PartsOf Node) (c : CellOf Node) (q : PartsOf Node) → p.cell ≡ Some c → c.element ≡ v.Of q → (d : ℕ) → PartsFit d p → parts_view d p ≡ parts_any (ops d) → ⊥
-open_cell p c q e f d k g =
-    let here : EachInCell (Fits d) (Some c) = subst (EachInCell (Fits d)) e k.each.0 in
-    parts_not_any c.element q f d here (ap (λ x. x.element) (same_some (record { element = view d c.element; is_proper = c.is_proper }) (record { element = (ops d).any; is_proper = false }) (sym (ap (cell_view d) e) ∙ ap (λ x. x.cell) g)))
+open_cell p c q e f d k g = grind (arith, parts_not_any, same_some)
 
 -- parts that are all full are every value
 pub full_parts : (p : PartsOf Node) (c : CellOf Node) → p.plain ≡ plain_all → p.cell ≡ Some c → c.is_proper ≡ false → c.element ≡ v.Any → p.tuples ≡ All → (d : ℕ) → parts_view d p ≡ parts_any (ops d)
-full_parts p c a e b f g d =
-    λ i. record {
-      plain = a i;
-      cell = (ap (cell_view d) e ∙ (λ j. Some (record { element = view_any c.element f d j; is_proper = b j }))) i;
-      tuples = tuples_view d (g i);
-    }
+full_parts p c a e b f g d = grind (arith, view_any)
 
 pub any_is_full : (d : ℕ) → (ops (suc d)).any ≡ parts_any (ops d)
 unfolding ops
@@ -52,8 +45,7 @@ any_is_full d = refl
 -- ---- the atoms of a tree
 
 pub any_has_atom : (t : Node) → t ≡ v.Any → (a : Name) (d : ℕ) → true ≡ (ops d).has_atom (view d t) a
-any_has_atom t e a d =
-    sym (ap (λ x. (ops d).has_atom x a) (view_any t e d) ∙ (level_laws d).naming.atom_in (ops d).any a ((level_laws d).any_in (atom a)))
+any_has_atom t e a d = grind (arith, view_any, level_laws, (level_laws d).naming.atom_in, (level_laws d).any_in)
 
 pub of_has_atom : (t : Node) (p : PartsOf Node) → t ≡ v.Of p → (a : Name) (b : Bool) → b ≡ names.has p.plain.atoms a → (d : ℕ) → Fits d t → b ≡ (ops d).has_atom (view d t) a
 unfolding ops
@@ -76,9 +68,7 @@ of_not_only t p e f zero h = let k = of_above t p e zero h in absurd (omega arit
 of_not_only t p e f (suc d) h = sym (ap (ops (suc d)).only (view_of t p e d) ∙ ap (λ b. cond b (names.members_of p.plain.atoms) None) (f d))
 
 atoms_only : (a b c : Bool) → a ≡ true → b ≡ true → c ≡ ((a && b) && c)
-atoms_only true true c e f = refl
-atoms_only true false c e f = absurd (true≢false (sym f))
-atoms_only false b c e f = absurd (true≢false (sym e))
+atoms_only x0 x1 x2 x3 x4 = grind arith
 
 -- there is nothing plain but atoms and no list, so it turns on the tuples
 pub only_atoms_then : (p : PartsOf Node) (ss : List (SizeOf Node)) (b : Bool) → is_atoms p.plain ≡ true → is_some p.cell ≡ false → p.tuples ≡ Sizes ss → IsTrue b ↔ (ss ≡ []) → (d : ℕ) → b ≡ is_only_atoms (ops d) (parts_view d p)

@@ -1,5 +1,5 @@
 -- What it says of a plain part that a test of the code is true.
-use Rattle.std.proofs.Common.{◌≡◌, ◌↔◌, IsTrue, ℕ, ◌==◌, Bool, true, false, ◌&&◌, not, Bor, List, Option, Some, None, is_some, inl, inr, refl, sym, ap, ◌∙◌, subst, true≢false}
+use Rattle.std.proofs.Common.{◌≡◌, ◌↔◌, IsTrue, ℕ, ◌==◌, Bool, true, false, ◌&&◌, not, Bor, List, Option, Some, is_some, inl, inr, refl, sym, ap, ◌∙◌, true≢false, arith}
 use Rattle.std.specs.Cmp.{booleans_Decides}
 use Rattle.std.specs.Option.{option_copied, option_eq}
 use Rattle.std.proofs.Math.Bool.{beq}
@@ -11,11 +11,11 @@ use Rattle.type_sets.specs.Numbers as numbers
 use Rattle.type_sets.specs.Numbers.{Numbers}
 use Rattle.type_sets.specs.BitLengths as bit_lengths
 use Rattle.type_sets.specs.declared.ends.Low.{Low}
-use Rattle.type_sets.specs.declared.ends.Low.TheVariants.{Min, Zero, One}
+use Rattle.type_sets.specs.declared.ends.Low.TheVariants.{Min}
 use Rattle.type_sets.specs.declared.ends.High.{High}
-use Rattle.type_sets.specs.declared.ends.High.TheVariants.{MinusOne, Byte, Unicode, Max}
+use Rattle.type_sets.specs.declared.ends.High.TheVariants.{Max}
 use Rattle.type_sets.specs.declared.bits.Bits.{Bits}
-use Rattle.type_sets.specs.declared.bits.Bits.TheVariants.{No, Whole, Any}
+use Rattle.type_sets.specs.declared.bits.Bits.TheVariants.{Any}
 use Rattle.type_sets.specs.contracts.ends.LowPartialEq.TheImpl as low
 use Rattle.type_sets.specs.contracts.ends.HighPartialEq.TheImpl as high
 use Rattle.type_sets.specs.contracts.bits.BitsPartialEq.TheImpl as bits
@@ -76,9 +76,7 @@ pub arity-no_function : (f g : Functions) (m : ℕ) → f ≡ of_arity m → g �
 arity-no_function f g m d e = (λ h. absurd (true≢false (sym h)), λ h. sym (ap (λ x. has_arity x m) e) ∙ h m (ap (λ x. has_arity x m) d ∙ eq-eqb m m refl))
 
 pub functions_all : (f : FunSet) (b : Bool) → b ≡ (fun_eq.ghosts).eq f fun.Every → IsTrue b ↔ (functions_of f ≡ all_functions)
-functions_all fun.Nothing b e = (λ h. absurd (true≢false (sym h ∙ e)), λ h. cc)
-functions_all (fun.OfArity n) b e = (λ h. absurd (true≢false (sym h ∙ e)), λ h. cc)
-functions_all fun.Every b e = (λ h. refl, λ h. e)
+functions_all x0 x1 x2 = grind arith
 
 every_below : (f g : Functions) → f ≡ all_functions → (g ≡ all_functions) ↔ FunctionsBelow f g
 every_below f g d = (λ h n i. ap (λ x. has_arity x n) h, λ h. sym (same_functions f g h (λ n i. ap (λ x. has_arity x n) d)) ∙ d)
@@ -102,32 +100,22 @@ abbrev pub PartsBelow : PlainParts → PlainParts → Type 0
 PartsBelow p q = AndFlagsBelow p q × FunctionsBelow p.functions q.functions
 
 parts-below : (p q : PlainParts) → PartsBelow p q → PlainBelow p q
-parts-below p q h (an_int n) = h.0.0.0.1 n
-parts-below p q h (an_atom a) = h.0.0.0.0 a
-parts-below p q h (some_bits n) = h.0.0.1 n
-parts-below p q h (of_flag k) = h.0.1 k
-parts-below p q h (a_function n) = h.1 n
+parts-below x0 x1 x2 x3 = grind arith
 
 below-parts : (p q : PlainParts) → PlainBelow p q → PartsBelow p q
 below-parts p q k = ((((λ a. k (an_atom a), λ n. k (an_int n)), λ n. k (some_bits n)), λ x. k (of_flag x)), λ n. k (a_function n))
 
 -- what holds of the parts that are kept holds of what they stand for
 pub plain_below : (p q s t : PlainParts) (b : Bool) → p ≡ s → q ≡ t → IsTrue b ↔ PartsBelow p q → IsTrue b ↔ PlainBelow s t
-plain_below p q s t b d e h =
-    Decides-like b (λ k. subst (PlainBelow s) e (subst (λ x. PlainBelow x q) d (parts-below p q k))) (λ k. below-parts p q (subst (λ x. PlainBelow x q) (sym d) (subst (PlainBelow s) (sym e) k))) h
+plain_below p q s t b d e h = grind (arith, Decides-like, parts-below, below-parts)
 
 -- ---- every value
 
 low_is : (l : Low) → IsTrue ((low.ghosts).eq l Min) ↔ (l ≡ Min)
-low_is Min = (λ h. refl, λ e. refl)
-low_is Zero = (λ h. absurd (true≢false (sym h)), λ e. ap (λ x. (low.ghosts).eq x Min) e)
-low_is One = (λ h. absurd (true≢false (sym h)), λ e. ap (λ x. (low.ghosts).eq x Min) e)
+low_is x0 = grind arith
 
 high_is : (h : High) → IsTrue ((high.ghosts).eq h Max) ↔ (h ≡ Max)
-high_is MinusOne = (λ h. absurd (true≢false (sym h)), λ e. ap (λ x. (high.ghosts).eq x Max) e)
-high_is Byte = (λ h. absurd (true≢false (sym h)), λ e. ap (λ x. (high.ghosts).eq x Max) e)
-high_is Unicode = (λ h. absurd (true≢false (sym h)), λ e. ap (λ x. (high.ghosts).eq x Max) e)
-high_is Max = (λ h. refl, λ e. refl)
+high_is x0 = grind arith
 
 abbrev ends_test : Option (Low × High) → Bool
 ends_test e = option_eq (λ x y. (low.ghosts).eq x.0 y.0 && (high.ghosts).eq x.1 y.1) e (Some (Min, Max))
@@ -138,17 +126,10 @@ ints_all (numbers.between l h k) e b f g =
     Decides-like b (λ x. between-same l Min h Max k refl x.0 x.1) (λ x. (ap numbers.low_end x, ap numbers.high_end x)) (Decides-at b ((low.ghosts).eq l Min && (high.ghosts).eq h Max) (g ∙ ap ends_test f) (Decides-and _ _ (low_is l) (high_is h)))
 
 pub atoms_all : (s : Names) (m : Option (Bor (List Name))) (b : Bool) → option_copied m ≡ names.members_of s → is_some m ≡ not b → IsTrue b ↔ (s ≡ every)
-atoms_all (some xs k) None b e f = absurd (some-none xs (sym e))
-atoms_all (some xs k) (Some m) true e f = absurd (true≢false f)
-atoms_all (some xs k) (Some m) false e f = (λ h. absurd (true≢false (sym h)), λ h. absurd (some-none xs (ap names.members_of h)))
-atoms_all every None true e f = (λ h. refl, λ h. refl)
-atoms_all every None false e f = absurd (true≢false (sym f))
-atoms_all every (Some m) b e f = absurd (some-none m.now e)
+atoms_all x0 x1 x2 x3 x4 = grind (arith, some-none)
 
 pub bits_all : (s : Bits) (b : Bool) → b ≡ (bits.ghosts).eq s Any → IsTrue b ↔ (s ≡ Any)
-bits_all No b e = (λ h. absurd (true≢false (sym h ∙ e)), λ h. e ∙ ap (λ x. (bits.ghosts).eq x Any) h)
-bits_all Whole b e = (λ h. absurd (true≢false (sym h ∙ e)), λ h. e ∙ ap (λ x. (bits.ghosts).eq x Any) h)
-bits_all Any b e = (λ h. refl, λ h. e)
+bits_all x0 x1 x2 = grind arith
 
 abbrev pub AtomsAndIntsAll : PlainParts → Type 0
 AtomsAndIntsAll p = (p.atoms ≡ every) × (p.ints ≡ numbers.all)
@@ -163,5 +144,4 @@ abbrev pub PartsAll : PlainParts → Type 0
 PartsAll p = AndFlagsAll p × (p.functions ≡ all_functions)
 
 pub plain_is_all : (p s : PlainParts) (b : Bool) → p ≡ s → IsTrue b ↔ PartsAll p → IsTrue b ↔ (s ≡ plain_all)
-plain_is_all p s b d h =
-    Decides-like b (λ k. sym d ∙ (λ i. record { atoms = k.0.0.0.0 i; ints = k.0.0.0.1 i; bits = k.0.0.1 i; flags = k.0.1 i; functions = k.1 i })) (λ e. ((((ap (λ x. x.atoms) (d ∙ e), ap (λ x. x.ints) (d ∙ e)), ap (λ x. x.bits) (d ∙ e)), ap (λ x. x.flags) (d ∙ e)), ap (λ x. x.functions) (d ∙ e))) h
+plain_is_all p s b d h = grind (arith, Decides-like)

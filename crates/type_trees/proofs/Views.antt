@@ -1,5 +1,5 @@
 -- What the trees of the code stand for, one level at a time.
-use Rattle.std.proofs.Common.{◌≡◌, ℕ, zero, suc, ◌-◌, ◌<◌, ◌≤◌, Bool, true, false, List, [], ◌∷◌, ◌++◌, Option, Some, None, is_some, refl, sym, ap, ◌∙◌, subst, true≢false, arith}
+use Rattle.std.proofs.Common.{◌≡◌, ℕ, zero, suc, ◌-◌, ◌<◌, ◌≤◌, Bool, true, false, List, [], ◌∷◌, ◌++◌, Option, is_some, refl, sym, ap, ◌∙◌, subst, true≢false, arith}
 use Rattle.std.specs.Prelude.{◌↔◌, IsTrue, slice_index_or, length}
 use Rattle.type_model.specs.Tables.{EachOf}
 use Rattle.type_model.specs.Shapes.{TypeAt}
@@ -15,7 +15,7 @@ use Rattle.type_trees.specs.declared.node.PartsOf.{PartsOf}
 use Rattle.type_trees.specs.declared.node.CellOf.{CellOf}
 use Rattle.type_trees.specs.declared.node.SizeOf.{SizeOf}
 use Rattle.type_trees.specs.declared.node.TagOf.{TagOf}
-use Rattle.type_trees.specs.View.{view, is_any, layer, parts_view, cell_view, sizes_view, Fits, IsLayer, EachNode, EachTag, EachSize, EachInBody, PartsFit}
+use Rattle.type_trees.specs.View.{view, is_any, layer, parts_view, cell_view, sizes_view, Fits, EachNode, EachTag, EachSize, EachInBody, PartsFit}
 
 -- ---- the two forms of a tree
 
@@ -47,8 +47,7 @@ view_of t p e d = ap (λ n. layer (ops (suc d)).any (view d) n) (out_of t p e)
 
 pub any_fits : (t : Node) → t ≡ v.Any → (d : ℕ) → Fits d t
 unfolding Fits
-any_fits t e zero = ap is_any (out_any t e)
-any_fits t e (suc d) = subst (λ n. IsLayer (NormalAt (suc d)) (ops (suc d)).any (view d) (Fits d) n) (sym (out_any t e)) tt
+any_fits x0 x1 x2 = grind (arith, out_any)
 
 pub zero_fits : (t : Node) → Fits zero t → t ≡ v.Any
 unfolding Fits
@@ -57,8 +56,7 @@ zero_fits t h = any_is t h
 -- parts never stand at level 0
 pub of_above : (t : Node) (p : PartsOf Node) → t ≡ v.Of p → (d : ℕ) → Fits d t → 1 ≤ d
 unfolding Fits
-of_above t p e zero h = absurd (true≢false (sym h ∙ ap is_any (out_of t p e)))
-of_above t p e (suc d) h = omega arith
+of_above x0 x1 x2 x3 x4 = grind (arith, out_of)
 
 pub normal_parts : (d : ℕ) (t : TypeAt (suc d)) → NormalAt (suc d) t → NormalParts (NormalAt d) (ops d) t
 unfolding NormalAt
@@ -71,14 +69,11 @@ parts_normal d t k = k
 -- what is kept of parts: they stand for a type, and it isn't every value
 pub fits_of : (t : Node) (p : PartsOf Node) → t ≡ v.Of p → (d : ℕ) → Fits (suc d) t → PartsFit d p × (parts_view d p ≡ (ops (suc d)).any → ⊥)
 unfolding Fits
-fits_of t p e d h =
-    let k : IsLayer (NormalAt (suc d)) (ops (suc d)).any (view d) (Fits d) (Node-F.Of p) = subst (λ n. IsLayer (NormalAt (suc d)) (ops (suc d)).any (view d) (Fits d) n) (out_of t p e) h in
-    (record { normal = normal_parts d (parts_view d p) k.0.0; each = k.0.1 }, k.1)
+fits_of t p e d h = grind (arith, out_of, normal_parts)
 
 pub of_fits : (t : Node) (p : PartsOf Node) → t ≡ v.Of p → (d : ℕ) → PartsFit d p → (parts_view d p ≡ (ops (suc d)).any → ⊥) → Fits (suc d) t
 unfolding Fits
-of_fits t p e d k f =
-    subst (λ n. IsLayer (NormalAt (suc d)) (ops (suc d)).any (view d) (Fits d) n) (sym (out_of t p e)) ((parts_normal d (parts_view d p) k.normal, k.each), f)
+of_fits t p e d k f = grind (arith, out_of, parts_normal)
 
 one_less : (d : ℕ) → d ≡ suc d - 1
 one_less d = omega arith
@@ -95,19 +90,14 @@ below_fits t p e (suc d) h = subst (λ n. PartsFit n p) (one_less d) (fits_of t 
 pub fits_normal : (d : ℕ) (t : Node) → Fits d t → NormalAt d (view d t)
 unfolding Fits view NormalAt ops
 fits_normal zero t h = tt
-fits_normal (suc d) t h = go (out-Node t) h
-  where
-    go : (y : Node-F Node) → IsLayer (NormalAt (suc d)) (ops (suc d)).any (view d) (Fits d) y → NormalAt (suc d) (layer (ops (suc d)).any (view d) y)
-    go Node-F.Any h = (level_laws (suc d)).any_normal
-    go (Node-F.Of p) h = h.0.0
+fits_normal (suc d) t h = grind (arith, level_laws, (level_laws (suc d)).any_normal)
 
 -- ---- the items of lists
 
 module _ {A : Type 0} (Q : A → Type 0) where
   pub each_at : (xs : List A) → EachOf Q xs → (i : ℕ) (x : A) → i < length xs → Q (slice_index_or xs i x)
-  each_at [] k i x h = absurd (omega arith)
-  each_at (y ∷ ys) k zero x h = k.0
-  each_at (y ∷ ys) k (suc i) x h = each_at ys k.1 i x (omega arith)
+  each_at [] k i x h = grind arith
+  each_at (y ∷ ys) k i x h = grind (arith, each_at ys)
 
   -- one item more at the end
   pub each_push : (xs : List A) (x : A) → EachOf Q xs → Q x → EachOf Q (xs ++ x ∷ [])
@@ -134,11 +124,8 @@ of_has t p r e f zero h = absurd (let k = of_above t p e zero h in omega arith)
 of_has t p r e f (suc d) h = f d ∙ sym (ap (ops (suc d)).is_none (view_of t p e d))
 
 pub no_sizes : (d : ℕ) (ss : List (SizeOf Node)) (b : Bool) → IsTrue b ↔ (ss ≡ []) → b ≡ is_empty (sizes_view d ss)
-no_sizes d [] true h = refl
-no_sizes d [] false h = h.1 refl
-no_sizes d (s ∷ ss) true h = absurd (let e = h.0 refl in cc)
-no_sizes d (s ∷ ss) false h = refl
+no_sizes d [] x2 h = grind arith
+no_sizes d (s ∷ ss) x2 h = grind arith
 
 pub no_cell_there : (d : ℕ) (c : Option (CellOf Node)) → is_some c ≡ false → no_cell (ops d) (cell_view d c) ≡ true
-no_cell_there d None h = refl
-no_cell_there d (Some c) h = absurd (true≢false h)
+no_cell_there x0 x1 x2 = grind arith
