@@ -25,11 +25,11 @@ atom_same : (a b : Name) → atom a ≡ atom b → a ≡ b
 atom_same a b e = cc
 
 some_row : {E : Type 0} (Has : Value → E → Type 0) (vs : Values) (r : Option (List E)) → HasRow Has vs r → is_some r ≡ true
-some_row x0 x1 x2 x3 = grind arith
+some_row Has vs r h = grind arith
 
 -- a first element is one of the tags
 first_tag : {E : Type 0} (Has : Value → E → Type 0) (v : Value) (vs : Values) (m : List (Name × List E)) → HasTag Has (and_value v vs) m → (a : Name) × ((v ≡ atom a) × (has_item name_cmp (keys m) a ≡ true))
-first_tag x0 x1 x2 x3 x4 = grind (arith, tables.find-key, name_total, name_same, some_row)
+first_tag Has v vs m h = grind (arith, tables.find-key, name_total, name_same, some_row)
 
 tags-listed : {E : Type 0} (Normal : E → Type 0) (o : Ops E) (n : ℕ) (m : List (Name × List E)) → NormalTags Normal o (suc n) m → are_listed (keys m) ≡ true
 tags-listed Normal o n m k = both (is_ascending name_cmp (keys m)) (nat_lt (length (keys m)) 14) k.0.0 (ap (λ i. nat_lt i 14) (tables.length-keys name_total name_same m) ∙ k.1)
@@ -79,13 +79,13 @@ module _ {E : Type 0} {Has : Value → E → Type 0} {Normal : E → Type 0} {o 
   -- ---- what a product has where its values begin with an atom
 
   cond_in : (b : Bool) (es : List E) (vs : Values) → b ≡ true → HasEach Has vs es → HasR vs (cond b (Some es) None)
-  cond_in x0 x1 x2 x3 x4 = grind arith
+  cond_in b es vs h k = grind arith
 
   cond_out : (b : Bool) (es : List E) (vs : Values) → HasR vs (cond b (Some es) None) → (b ≡ true) × HasEach Has vs es
-  cond_out x0 x1 x2 x3 = grind arith
+  cond_out b es vs h = grind arith
 
   cond_normal : (n : ℕ) (b : Bool) (es : List E) → RowOf n (Some es) → RowOf n (cond b (Some es) None)
-  cond_normal x0 x1 x2 x3 = grind arith
+  cond_normal n b es h = grind arith
 
   -- ---- tags
 
@@ -100,7 +100,7 @@ module _ {E : Type 0} {Has : Value → E → Type 0} {Normal : E → Type 0} {o 
 
   -- what a tuple of some tags begins with
   pub tagged : (vs : Values) (m : List (Name × List E)) → HasTag Has vs m → (a : Name) × ((ws : Values) × ((vs ≡ and_value (atom a) ws) × HasRow Has ws (find name_cmp m a)))
-  tagged x0 x1 x2 = grind arith
+  tagged vs m h = grind arith
 
   key_in : (m : Rows) (a : Name) (es : List E) → at m a ≡ Some es → has_item name_cmp (keys m) a ≡ true
   key_in m a es e = sym (tables.find-key name_total name_same m a) ∙ ap is_some e
@@ -115,10 +115,10 @@ module _ {E : Type 0} {Has : Value → E → Type 0} {Normal : E → Type 0} {o 
   -- ---- the rest of the tuples of a body that begin with an atom
 
   pub row_at_in : (b : Body E) (a : Name) (vs : Values) → HasBody Has (and_value (atom a) vs) (Some b) → HasRow Has vs (row_at o b a)
-  row_at_in x0 x1 x2 x3 = grind (arith, cond_in, l.naming.atom_in)
+  row_at_in b a vs h = grind (arith, cond_in, l.naming.atom_in)
 
   pub row_at_out : (b : Body E) (a : Name) (vs : Values) → HasRow Has vs (row_at o b a) → HasBody Has (and_value (atom a) vs) (Some b)
-  row_at_out x0 x1 x2 x3 = grind (arith, cond_out, l.naming.atom_out)
+  row_at_out b a vs h = grind (arith, cond_out, l.naming.atom_out)
 
   pub row_at_normal : (n : ℕ) (b : Body E) (a : Name) → NormalBody Normal o (suc n) (Some b) → NormalRow Normal o n (row_at o b a)
   row_at_normal n (product []) a k = tt
@@ -135,7 +135,7 @@ module _ {E : Type 0} {Has : Value → E → Type 0} {Normal : E → Type 0} {o 
   -- ---- how many values there are
 
   count_row : (n : ℕ) (vs : Values) (r : Option (List E)) → RowOf n r → HasR vs r → count vs ≡ n
-  count_row x0 x1 x2 x3 x4 = grind (arith, count_each l)
+  count_row n vs r h k = grind (arith, count_each l)
 
   pub count_body : (n : ℕ) (vs : Values) (b : Option (Body E)) → NormalBody Normal o n b → HasBody Has vs b → count vs ≡ n
   count_body n vs None k h = absurd h
@@ -225,10 +225,10 @@ module _ {E : Type 0} {Has : Value → E → Type 0} {Normal : E → Type 0} {o 
   some_body r = option_map (body_of o) r
 
   some_body_in : (r : Option (List E)) (vs : Values) → HasR vs r → HasB vs (some_body r)
-  some_body_in x0 x1 x2 = grind (arith, body_of_in)
+  some_body_in r vs h = grind (arith, body_of_in)
 
   some_body_out : (r : Option (List E)) (vs : Values) → HasB vs (some_body r) → HasR vs r
-  some_body_out x0 x1 x2 = grind (arith, body_of_out)
+  some_body_out r vs h = grind (arith, body_of_out)
 
   some_body_normal : (n : ℕ) (r : Option (List E)) → RowOf n r → BodyOf n (some_body r)
   some_body_normal n None k = tt
@@ -332,7 +332,7 @@ module _ {E : Type 0} {Has : Value → E → Type 0} {Normal : E → Type 0} {o 
   all_rows_above n (e ∷ m) k a vs h = grind (arith, HasR, at, rows_join_first, rows_join_above)
 
   all_rows_least : (n : ℕ) (m : Rows) (gs : List E) → is_empty m ≡ false → NormalRows Normal o n m → RowOf n (Some gs) → EachEntry (λ a fs. BelowBy HasR (Some fs) (Some gs)) m → BelowBy HasR (Some (all_rows_join o (held m))) (Some gs)
-  all_rows_least x0 x1 x2 x3 x4 x5 x6 = grind (arith, rows_join_least)
+  all_rows_least n m gs h k f g = grind (arith, rows_join_least)
 
   tags_elements_normal : (n : ℕ) (m : Rows) → Tags n m → RowOf (suc n) (Some (elements o (tags m)))
   tags_elements_normal n m k =
@@ -375,7 +375,7 @@ module _ {E : Type 0} {Has : Value → E → Type 0} {Normal : E → Type 0} {o 
   elements_above (suc n) (tags m) k vs h = tags_elements_above n m k.0 vs h
 
   pub elements_least : (n : ℕ) (b : Body E) (gs : List E) → NormalBody Normal o n (Some b) → NormalRow Normal o n (Some gs) → BelowBy (HasBody Has) (Some b) (Some (product gs)) → BelowEach Has (elements o b) gs
-  elements_least x0 x1 x2 x3 x4 x5 = grind (arith, each-below l, tags_elements_least)
+  elements_least n b gs h k f = grind (arith, each-below l, tags_elements_least)
 
   -- ---- the join of two bodies of which one is a product
 
@@ -456,10 +456,10 @@ module _ {E : Type 0} {Has : Value → E → Type 0} {Normal : E → Type 0} {o 
   capped b m = cond b (tags m) (product (elements o (tags m)))
 
   capped_above : (n : ℕ) (b : Bool) (m : Rows) → Tags n m → BelowBy HasB (Some (tags m)) (Some (capped b m))
-  capped_above x0 x1 x2 x3 x4 x5 = grind (arith, tags_elements_above)
+  capped_above n b m h k f = grind (arith, tags_elements_above)
 
   capped_normal : (n : ℕ) (b : Bool) (m : Rows) → nat_lt (length m) 14 ≡ b → Tags n m → o.has_tags ≡ true → BodyOf (suc n) (Some (capped b m))
-  capped_normal x0 x1 x2 x3 x4 x5 = grind (arith, tags_elements_normal, many_only)
+  capped_normal n b m h k f = grind (arith, tags_elements_normal, many_only)
 
   -- each tag of what is below some tags is one of them
   tags_within : (n : ℕ) (m w : Rows) → Tags n m → ((a : Name) → BelowBy HasR (at m a) (at w a)) → (q : Name) → is_some (at m q) ≡ true → is_some (at w q) ≡ true

@@ -160,27 +160,27 @@ module _ {E : Type 0} {Has : Value → E → Type 0} (alike : AreAlike Has) wher
   all_alike (and_value v vs) e = (λ h. ((alike v e).0 h.0, (all_alike vs e).0 h.1), λ h. ((alike v e).1 h.0, (all_alike vs e).1 h.1))
 
   each_alike : (vs : Values) (es : List E) → HasEach Has (bare_values vs) es ↔ HasEach Has vs es
-  each_alike no_value x1 = grind arith
-  each_alike (and_value v vs) x1 = grind (arith, each_alike vs)
+  each_alike no_value es = grind arith
+  each_alike (and_value v vs) es = grind (arith, each_alike vs)
 
   row_alike : (vs : Values) (es : Option (List E)) → HasRow Has (bare_values vs) es ↔ HasRow Has vs es
-  row_alike x0 x1 = grind (arith, each_alike)
+  row_alike vs es = grind (arith, each_alike)
 
   cell_alike : (h t : Value) (c : Option (Cell E)) → HasCell Has (bare h, bare t) c ↔ HasCell Has (h, t) c
   cell_alike h t None = (λ i. i, λ i. i)
   cell_alike h t (Some c) = grind (arith, bare, heads-bare, all_alike, end-bare)
 
   tag_alike : (vs : Values) (m : List (Name × List E)) → HasTag Has (bare_values vs) m ↔ HasTag Has vs m
-  tag_alike x0 x1 = grind (arith, row_alike)
+  tag_alike vs m = grind (arith, row_alike)
 
   body_alike : (vs : Values) (b : Option (Body E)) → HasBody Has (bare_values vs) b ↔ HasBody Has vs b
-  body_alike x0 x1 = grind (arith, each_alike, tag_alike)
+  body_alike vs b = grind (arith, each_alike, tag_alike)
 
   tuple_alike : (vs : Values) (t : Tuples E) → HasTuple Has (bare_values vs) t ↔ HasTuple Has vs t
-  tuple_alike x0 x1 = grind (arith, bare_values, count-bare, body_alike)
+  tuple_alike vs t = grind (arith, bare_values, count-bare, body_alike)
 
   parts_alike : AreAlike (HasParts Has)
-  parts_alike x0 x1 = grind (arith, cell_alike, tuple_alike)
+  parts_alike h k = grind (arith, cell_alike, tuple_alike)
 
 level_alike : (d : ℕ) → AreAlike (HasAt d)
 level_alike zero v t = (λ h. h, λ h. h)

@@ -92,7 +92,7 @@ module _ {E : Type 0} {Has : Value → E → Type 0} {Normal : E → Type 0} {o 
       ends false b w f g e = g e
 
   meet_some : (b : Bool) (c : Cell E) (p : Value × Value) → HasC p (or_none b c) → HasC p (Some c)
-  meet_some x0 x1 x2 x3 = grind arith
+  meet_some b c p h = grind arith
 
   cell_meet_out : (s t : Cell E) → NormalC (Some s) → NormalC (Some t) → (p : Value × Value) → HasC p (cell_meet o (Some s) (Some t)) → HasC p (Some s) × HasC p (Some t)
   cell_meet_out s t j k p h =

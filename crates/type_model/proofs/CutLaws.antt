@@ -24,7 +24,7 @@ use Rattle.type_model.proofs.LevelLaws.{level_laws}
 
 -- a test that can't be false is true
 pub is_true : (b : Bool) → (b ≡ false → ⊥) → b ≡ true
-is_true x0 x1 = grind arith
+is_true b h = grind arith
 
 -- ---- from the types of one level to those of another, and so one level up
 
@@ -67,14 +67,14 @@ module _ {F E : Type 0} {HasF : Value → F → Type 0} {NormalF : F → Type 0}
   length-lower (t ∷ ts) = ap suc (length-lower ts)
 
   pub found_normal : (n : ℕ) (r : Option (List F)) → NormalRow NormalF f n r → NormalRow NormalE e n (option_map (map lower) r)
-  found_normal x0 x1 x2 = grind (arith, length-lower, row_normal)
+  found_normal n r h = grind (arith, length-lower, row_normal)
 
   found_above : (n : ℕ) (r : Option (List F)) → NormalRow NormalF f n r → (vs : Values) → HasRow HasF vs r → HasRow HasE vs (option_map (map lower) r)
-  found_above x0 x1 x2 x3 x4 = grind (arith, row_above)
+  found_above n r h vs k = grind (arith, row_above)
 
   found_least : (n : ℕ) (r : Option (List F)) (u : Option (List E)) → NormalRow NormalF f n r → NormalRow NormalE e n u → ((vs : Values) → HasRow HasF vs r → HasRow HasE vs u) → (vs : Values) → HasRow HasE vs (option_map (map lower) r) → HasRow HasE vs u
-  found_least n None u j k p x6 h = grind arith
-  found_least n (Some es) u j k p x6 h = grind (arith, values_of high, row_least)
+  found_least n None u j k p vs h = grind arith
+  found_least n (Some es) u j k p vs h = grind (arith, values_of high, row_least)
 
   rows_normal : (n : ℕ) (m : List (Name × List F)) → NormalRows NormalF f n m → NormalRows NormalE e n (mapped (map lower) m)
   rows_normal n [] k = tt
@@ -82,11 +82,11 @@ module _ {F E : Type 0} {HasF : Value → F → Type 0} {NormalF : F → Type 0}
 
   -- ---- the tuples of one size
   first_open : (es : List F) → AreElements NormalF f es → FirstIsOpen NormalF f es → FirstIsOpen NormalE e (map lower es)
-  first_open x0 x1 x2 = grind (arith, only_above high low, s.above)
+  first_open es h k = grind (arith, only_above high low, s.above)
 
   -- where there are no tags, no element type is a set of few atoms
   all_open : e.has_tags ≡ false → (gs : List E) → FirstIsOpen NormalE e gs
-  all_open x0 x1 = grind (arith, low.naming.only_tags)
+  all_open h gs = grind (arith, low.naming.only_tags)
 
   -- tags stay tags, or become a product
   abbrev lowered_tags : Bool → List (Name × List F) → Body E
@@ -106,7 +106,7 @@ module _ {F E : Type 0} {HasF : Value → F → Type 0} {NormalF : F → Type 0}
   tags_above n m false k vs h = row_above (elements f (tags m)) (elements_normal high (suc n) (tags m) k).1 vs (elements_above high (suc n) (tags m) k vs h)
 
   body_above : (n : ℕ) (b : Body F) → NormalBody NormalF f n (Some b) → (vs : Values) → HasBody HasF vs (Some b) → HasBody HasE vs (Some (body_lower lower f e b))
-  body_above x0 x1 x2 x3 x4 = grind (arith, row_above, tags_above)
+  body_above n b h vs k = grind (arith, row_above, tags_above)
 
   pub all_each : e.has_tags ≡ false → (gs : List E) → AreElements NormalE e gs → (vs : Values) → count vs ≡ length gs → HasEach HasE vs gs
   all_each a [] k no_value q = tt
@@ -124,12 +124,12 @@ module _ {F E : Type 0} {HasF : Value → F → Type 0} {NormalF : F → Type 0}
       all_each a gs k.0.1 vs (count_each low vs (map lower (elements f (tags m))) h ∙ r.0 ∙ sym k.0.0)
 
   pub body_least : (n : ℕ) (b : Body F) (u : Body E) → NormalBody NormalF f n (Some b) → NormalBody NormalE e n (Some u) → ((vs : Values) → HasBody HasF vs (Some b) → HasBody HasE vs (Some u)) → (vs : Values) → HasBody HasE vs (Some (body_lower lower f e b)) → HasBody HasE vs (Some u)
-  body_least n (product es) u j k p x6 h = grind (arith, row_least, not_in_tags high low)
-  body_least n (tags m) u j k p x6 h = grind (arith, tags_least)
+  body_least n (product es) u j k p vs h = grind (arith, row_least, not_in_tags high low)
+  body_least n (tags m) u j k p vs h = grind (arith, tags_least)
 
   -- ---- tuples
   size_above : (n : ℕ) (b : Option (Body F)) → NormalBody NormalF f n b → (vs : Values) → HasBody HasF vs b → HasBody HasE vs (option_map (body_lower lower f e) b)
-  size_above x0 x1 x2 x3 x4 = grind (arith, body_above)
+  size_above n b h vs k = grind (arith, body_above)
 
   size_least : (n : ℕ) (b : Option (Body F)) (u : Option (Body E)) → NormalBody NormalF f n b → NormalBody NormalE e n u → ((vs : Values) → HasBody HasF vs b → HasBody HasE vs u) → (vs : Values) → HasBody HasE vs (option_map (body_lower lower f e) b) → HasBody HasE vs u
   size_least n None u j k p vs h = absurd h
@@ -168,7 +168,7 @@ module _ {F E : Type 0} {HasF : Value → F → Type 0} {NormalF : F → Type 0}
   all_above t k (and_value v vs) h = (s.above t k v h.0, all_above t k vs h.1)
 
   cell_normal : (c : Option (Cell F)) → NormalCell NormalF f c → NormalCell NormalE e (cell_lower lower f e c)
-  cell_normal x0 x1 = grind (arith, element_normal)
+  cell_normal c h = grind (arith, element_normal)
 
   cell_above : (c : Option (Cell F)) → NormalCell NormalF f c → (x : Value × Value) → HasCell HasF x c → HasCell HasE x (cell_lower lower f e c)
   cell_above None k x h = h
@@ -185,7 +185,7 @@ module _ {F E : Type 0} {HasF : Value → F → Type 0} {NormalF : F → Type 0}
 
   -- ---- the parts of a type
   parts_above : (p : Parts F) → NormalParts NormalF f p → (v : Value) → HasParts HasF v p → HasParts HasE v (parts_lower lower f e p)
-  parts_above x0 x1 x2 x3 = grind (arith, cell_above, tuples_above)
+  parts_above p h v k = grind (arith, cell_above, tuples_above)
 
   parts_least : (p : Parts F) (u : Parts E) → NormalParts NormalF f p → NormalParts NormalE e u → ((v : Value) → HasParts HasF v p → HasParts HasE v u) → (v : Value) → HasParts HasE v (parts_lower lower f e p) → HasParts HasE v u
   parts_least p u j k q (cons x y) h = cell_least p.cell u.cell j.1 k.1 (λ c. q (cons c.0 c.1)) (x, y) h
@@ -222,7 +222,7 @@ module _ {F E : Type 0} {HasF : Value → F → Type 0} {NormalF : F → Type 0}
   row_exact (t ∷ ts) k (and_value v vs) h = (exact t k.0.0 v h.0, row_exact ts k.1 vs h.1)
 
   found_exact : (n : ℕ) (r : Option (List F)) → NormalRow NormalF f n r → (vs : Values) → HasRow HasE vs (option_map (map lower) r) → HasRow HasF vs r
-  found_exact x0 x1 x2 x3 x4 = grind (arith, row_exact)
+  found_exact n r h vs k = grind (arith, row_exact)
 
   body_exact : (n : ℕ) (b : Body F) → NormalBody NormalF f n (Some b) → (vs : Values) → HasBody HasE vs (Some (body_lower lower f e b)) → HasBody HasF vs (Some b)
   body_exact n (product es) k vs h = row_exact es k.0.1 vs h
@@ -233,7 +233,7 @@ module _ {F E : Type 0} {HasF : Value → F → Type 0} {NormalF : F → Type 0}
       subst (λ us. HasTag HasF us m) (sym t.1.1.0) (found_exact n (find name_cmp m t.0) (rows_at high n m k.0.2 t.0) t.1.0 (subst (HasRow HasE t.1.0) (find-mapped name_total name_same (map lower) m t.0) t.1.1.1))
 
   size_exact : (n : ℕ) (b : Option (Body F)) → NormalBody NormalF f n b → (vs : Values) → HasBody HasE vs (option_map (body_lower lower f e) b) → HasBody HasF vs b
-  size_exact x0 x1 x2 x3 x4 = grind (arith, body_exact)
+  size_exact n b h vs k = grind (arith, body_exact)
 
   tuples_exact : (t : Tuples F) → NormalTuples NormalF f t → (vs : Values) → HasTuple HasE vs (tuples_lower lower f e t) → HasTuple HasF vs t
   tuples_exact all_tuples k vs h = tt
@@ -249,7 +249,7 @@ module _ {F E : Type 0} {HasF : Value → F → Type 0} {NormalF : F → Type 0}
   cell_exact (Some c) k x h = (all_exact c.element k.0 (and_value x.0 (heads x.1)) h.0, h.1)
 
   pub next_exact : (p : Parts F) → NormalParts NormalF f p → (v : Value) → HasParts HasE v (parts_lower lower f e p) → HasParts HasF v p
-  next_exact x0 x1 x2 x3 = grind (arith, cell_exact, tuples_exact)
+  next_exact p h v k = grind (arith, cell_exact, tuples_exact)
 
 -- tags are on each level but the first two
 pub tags_remain : (e d : ℕ) → e ≤ d → (ops e).has_tags ≡ true → (ops d).has_tags ≡ true
@@ -259,7 +259,7 @@ tags_remain (suc e) zero le h = absurd (omega arith)
 tags_remain (suc e) (suc d) le h = refl
 
 not-not : (t : Bool) → not (not t) ≡ true → t ≡ true
-not-not x0 x1 = grind arith
+not-not t h = grind arith
 
 -- and has no other values where it doesn't go down
 pub cut_exact : (e d : ℕ) → e ≤ d → (t : TypeAt e) → NormalAt e t → (v : Value) → HasAt d v (cut e d t) → HasAt e v t

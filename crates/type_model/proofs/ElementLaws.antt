@@ -68,8 +68,8 @@ module _ {E : Type 0} {Has : Value → E → Type 0} {Normal : E → Type 0} {o 
       (and_value u.0 w.0, ((u.1, w.1.0), w.1.1))
 
 zip_at : {A : Type 0} (f : A → A → A) (xs ys : List A) (i : ℕ) (e : A) → slice_get (zip f xs ys) i ≡ Some e → (x : A) × ((y : A) × ((slice_get xs i ≡ Some x) × ((slice_get ys i ≡ Some y) × (f x y ≡ e))))
-zip_at f [] x2 i e q = grind arith
-zip_at f (x ∷ xs) x2 i e q = grind (arith, same_some, zip_at f xs)
+zip_at f [] ys i e q = grind arith
+zip_at f (x ∷ xs) ys i e q = grind (arith, same_some, zip_at f xs)
 
 -- ---- one element type of a body is the least that has what stands there
 

@@ -54,10 +54,10 @@ module _ {V X : Type 0} {Has : V → Option X → Type 0} {Normal : Option X →
   meet_normal (Some x) (Some y) j k = f.meet_normal x y j k
 
   meet_in : (s t : Option X) → Normal s → Normal t → (v : V) → Has v s → Has v t → Has v (both_at meet s t)
-  meet_in x0 x1 x2 x3 x4 x5 x6 = grind (arith, f.meet_in)
+  meet_in s t h k v g p = grind (arith, f.meet_in)
 
   meet_out : (s t : Option X) → Normal s → Normal t → (v : V) → Has v (both_at meet s t) → Has v s × Has v t
-  meet_out x0 x1 x2 x3 x4 x5 = grind (arith, f.none_empty, f.meet_out)
+  meet_out s t h k v g = grind (arith, f.none_empty, f.meet_out)
 
   join_normal : (s t : Option X) → Normal s → Normal t → Normal (joined join s t)
   join_normal None t j k = k
@@ -65,10 +65,10 @@ module _ {V X : Type 0} {Has : V → Option X → Type 0} {Normal : Option X →
   join_normal (Some x) (Some y) j k = f.join_normal x y j k
 
   join_left : (s t : Option X) → Normal s → Normal t → BelowBy Has s (joined join s t)
-  join_left x0 x1 x2 x3 x4 x5 = grind (arith, f.none_empty, f.join_left)
+  join_left s t h k g p = grind (arith, f.none_empty, f.join_left)
 
   join_right : (s t : Option X) → Normal s → Normal t → BelowBy Has t (joined join s t)
-  join_right x0 x1 x2 x3 x4 x5 = grind (arith, f.none_empty, f.join_right)
+  join_right s t h k g p = grind (arith, f.none_empty, f.join_right)
 
   join_least : (s t u : Option X) → Normal s → Normal t → Normal u → BelowBy Has s u → BelowBy Has t u → BelowBy Has (joined join s t) u
   join_least None t u i j k a b v h = b v h
@@ -105,16 +105,16 @@ module _ {A : Type 0} (Q : A → Type 0) where
   each_append (x ∷ xs) ys j k = (j.0, each_append xs ys j.1 k)
 
   pub some_first : (xs ys : List A) → SomeOf Q xs → SomeOf Q (xs ++ ys)
-  some_first [] x1 h = grind arith
-  some_first (x ∷ xs) x1 h = grind (arith, some_first xs)
+  some_first [] ys h = grind arith
+  some_first (x ∷ xs) ys h = grind (arith, some_first xs)
 
   pub some_later : (xs ys : List A) → SomeOf Q ys → SomeOf Q (xs ++ ys)
   some_later [] ys h = h
   some_later (x ∷ xs) ys h = inr (some_later xs ys h)
 
   pub some_either : (xs ys : List A) → SomeOf Q (xs ++ ys) → SomeOf Q xs ⊎ SomeOf Q ys
-  some_either [] x1 h = grind arith
-  some_either (x ∷ xs) x1 h = grind (arith, some_either xs)
+  some_either [] ys h = grind arith
+  some_either (x ∷ xs) ys h = grind (arith, some_either xs)
 
 module _ {V P X : Type 0} {Has : V → P → Type 0} {Normal : P → Type 0} {none : P} {meet join : P → P → P} (l : Lattice Has Normal none meet join) (of : X → P) where
   pub all-normal : (t : P) (xs : List X) → Normal t → EachOf (λ x. Normal (of x)) xs → Normal (joined_all join of t xs)

@@ -40,10 +40,10 @@ base_lattice = record {
 }
 
 base-none_is : (t : Bool) → not t ≡ true → t ≡ false
-base-none_is x0 x1 = grind arith
+base-none_is t h = grind arith
 
 base-full : (t : Bool) → not t ≡ false → t ≡ true
-base-full x0 x1 = grind arith
+base-full t h = grind arith
 
 none-not_some : (xs : List Name) → None ≡ Some xs → ⊥
 none-not_some xs e = true≢false (sym (ap is_some e))

@@ -76,14 +76,14 @@ module _ {F E : Type 0} {HasF : Value → F → Type 0} {NormalF : F → Type 0}
   joined_rows n m w j k = tables.each-united name_same (row_join f) (λ a es. NormalRow NormalF f n (Some es)) (row_keeps n) m w j k
 
   capped_stay : (n : ℕ) (m : List (Name × List F)) (b : Bool) → f.has_tags ≡ true → NormalRows NormalF f n m → body_lower lower f e (cond b (tags m) (product (elements f (tags m)))) ≡ cond b (tags (kept m)) (product (elements e (tags (kept m))))
-  capped_stay x0 x1 x2 x3 x4 = grind (arith, tags_kept, tags_elements)
+  capped_stay n m b h k = grind (arith, tags_kept, tags_elements)
 
   tags_capped : (n : ℕ) (m : List (Name × List F)) → f.has_tags ≡ true → NormalRows NormalF f n m → body_lower lower f e (capped_tags f m) ≡ capped_tags e (kept m)
   tags_capped n m a k = grind (arith, capped_stay, kept, length-mapped, name_total, name_same)
 
   -- ---- the tuples of one size
   elements_stay : (n : ℕ) (b : Body F) → NormalBody NormalF f n (Some b) → map lower (elements f b) ≡ elements e (body_lower lower f e b)
-  elements_stay x0 x1 x2 = grind (arith, tags_elements, tags_kept)
+  elements_stay n b h = grind (arith, tags_elements, tags_kept)
 
   body_joins : (n : ℕ) (b c : Body F) → NormalBody NormalF f n (Some b) → NormalBody NormalF f n (Some c) → body_lower lower f e (body_join f b c) ≡ body_join e (body_lower lower f e b) (body_lower lower f e c)
   body_joins n (product es) c j k = grind (arith, row_joins, elements_normal high, elements_stay)
@@ -109,7 +109,7 @@ module _ {F E : Type 0} {HasF : Value → F → Type 0} {NormalF : F → Type 0}
       ∙ ap (λ i. cond (nat_lt i 9) (sizes (low_sizes m)) all_tuples) (sym (length-mapped nat_cmp_total nat_cmp-IsAntisymmetric (body_lower lower f e) m))
 
   tuples_joins : (a b : Tuples F) → NormalTuples NormalF f a → NormalTuples NormalF f b → tuples_lower lower f e (tuples_join f a b) ≡ tuples_join e (tuples_lower lower f e a) (tuples_lower lower f e b)
-  tuples_joins x0 x1 x2 x3 = grind (arith, sizes_capped, sizes_joins)
+  tuples_joins a b h k = grind (arith, sizes_capped, sizes_joins)
 
   -- ---- lists, and types
   cell_joins : (c d : Option (Cell F)) → NormalCell NormalF f c → NormalCell NormalF f d → cell_lower lower f e (cell_join f c d) ≡ cell_join e (cell_lower lower f e c) (cell_lower lower f e d)

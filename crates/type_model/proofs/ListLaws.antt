@@ -23,7 +23,7 @@ use Rattle.type_model.proofs.MadeLaws.{cell_type, cons-cases, cons-made, cons-no
 module _ {E : Type 0} (Has : Value → E → Type 0) where
   -- its heads are in the element type, and it ends in nil where the list has to
   tail_out : (c : Cell E) (b : Bool) (y : Value) → (c.is_proper ≡ true → b ≡ true) → HasParts Has y (record { plain = cond b (record { atoms = names.none; ints = numbers.none; bits = No; flags = flags_of_nil; functions = no_function }) plain_all; cell = Some c; tuples = cond b (sizes []) all_tuples }) → HasAll Has (heads y) c.element × (c.is_proper ≡ true → end_of y ≡ nil)
-  tail_out x0 x1 x2 x3 x4 = grind arith
+  tail_out c b y h k = grind arith
 
 -- ---- heads and tails of a type
 
@@ -63,7 +63,7 @@ tail-least d s k u f = rest-least d s.cell k.1 u f
 
 -- a type with a cell alone has conses alone
 conses : (d : ℕ) (c : Option (Cell (TypeAt d))) (v : Value) → HasParts (HasAt d) v (record { plain = plain_none; cell = c; tuples = sizes [] }) → (x : Value) × ((y : Value) × ((v ≡ cons x y) × HasCell (HasAt d) (x, y) c))
-conses x0 x1 x2 x3 = grind (arith, plain-none_empty)
+conses d c v h = grind (arith, plain-none_empty)
 
 -- a value of the lists of a head and a tail is a cons, and neither type is none
 made_out : (d : ℕ) (h t : TypeAt (suc d)) (proper : Bool) (v : Value) → HasAt (suc d) v (cons_at d h t proper) → ((ops (suc d)).is_none h ≡ false) × (((ops (suc d)).is_none t ≡ false) × HasAt (suc d) v (cell_type d h t proper))

@@ -48,14 +48,14 @@ module _ {E : Type 0} {Has : Value → E → Type 0} {Normal : E → Type 0} {o 
   product_normal es k = grind (arith, row_parts, next_laws l, row_tuples_normal, are_elements, (next_laws l).lattice.none_normal)
 
   row_tuples_in : (b : Bool) (es : List E) (vs : Values) → HasEach Has vs es → HasTuple Has vs (row_tuples b es)
-  row_tuples_in x0 x1 x2 x3 = grind (arith, count_each l, itself, body_of_in l)
+  row_tuples_in b es vs h = grind (arith, count_each l, itself, body_of_in l)
 
   pub product_in : (es : List E) (vs : Values) → HasEach Has vs es → HasParts Has (tuple vs) (product_of o es)
   product_in es vs h = grind (arith, row_parts, row_filled-not_none l, row_tuples_in)
 
   -- a type of tuples has nothing but tuples
   pub of_tuples : (t : Tuples E) (v : Value) → HasParts Has v (record { plain = plain_none; cell = None; tuples = t }) → (vs : Values) × ((v ≡ tuple vs) × HasTuple Has vs t)
-  of_tuples x0 x1 x2 = grind arith
+  of_tuples t v h = grind arith
 
   row_tuples_out : (b : Bool) (es : List E) (vs : Values) → b ≡ true → HasTuple Has vs (row_tuples b es) → HasEach Has vs es
   row_tuples_out true es vs q h = elim (eq_by_cmp nat_cmp (count vs) (length es)) as (λ b. HasBody Has vs (cond b (Some (body_of o es)) None) → HasEach Has vs es) [ true ↦ λ x. body_of_out l es vs x | false ↦ λ x. absurd x ] h
@@ -67,7 +67,7 @@ module _ {E : Type 0} {Has : Value → E → Type 0} {Normal : E → Type 0} {o 
 
   -- a normal type that has a longer tuple has all tuples
   long_tuples : (t : Tuples E) → NormalTuples Normal o t → (ws : Values) → HasTuple Has ws t → nat_lt (count ws) 65 ≡ false → (vs : Values) → HasTuple Has vs t
-  long_tuples x0 x1 x2 x3 x4 x5 = grind (arith, small_at l, some_at l)
+  long_tuples t h ws k f vs = grind (arith, small_at l, some_at l)
 
 -- the tuples of some types: their type is the least of its level; where one of them is none, it is none
 pub tuple-normal : (d : ℕ) (es : List (TypeAt d)) → AreNormal (NormalAt d) es → NormalAt d (tuple_at d es)
@@ -116,21 +116,21 @@ leaf_of f = an_atom []
 
 -- a value that holds no others and ends in nil is nil
 leaf_end : (v : Value) (x : Leaf) → shape v ≡ leaf x → end_of v ≡ nil → x ≡ of_flag nils
-leaf_end x0 x1 x2 x3 = grind arith
+leaf_end v x h k = grind arith
 
 module _ {E : Type 0} {Has : Value → E → Type 0} {Normal : E → Type 0} {o : Ops E} (l : Laws Has Normal o) where
   -- each leaf but nil
   kept_leaf : (p : PlainParts) (x : Leaf) → has_leaf (without_nil p) x ≡ true → (has_leaf p x ≡ true) × (x ≡ of_flag nils → ⊥)
-  kept_leaf x0 x1 x2 = grind arith
+  kept_leaf p x h = grind arith
 
   has_value : (x : Leaf) (p : Parts E) → has_leaf p.plain x ≡ true → HasParts Has (value_of_shape (leaf x)) p
   has_value x p h = subst (λ T. T) (sym (has-shape Has (value_of_shape (leaf x)) p)) (subst (λ g. HasShape Has g p) (sym (shape-value_of_shape (leaf x))) h)
 
   proper_end : (c : Option (Cell E)) → proper_cell c ≡ true → (h t : Value) → HasCell Has (h, t) c → end_of t ≡ nil
-  proper_end x0 x1 x2 x3 x4 = grind arith
+  proper_end c k h t f = grind arith
 
   without_tuples : (t : Tuples E) → no_tuples o t ≡ true → (vs : Values) → HasTuple Has vs t → ⊥
-  without_tuples x0 x1 x2 x3 = grind arith
+  without_tuples t h vs k = grind arith
 
   pub list_values : (p : Parts E) → is_list o p ≡ true → (v : Value) → HasParts Has v p → end_of v ≡ nil
   list_values p e v h = grind (arith, first, second, proper_end, without_tuples, no_leaf, leaf_of)
@@ -258,8 +258,8 @@ cons-least d h t j k u i p =
 module _ {E : Type 0} {Has : Value → E → Type 0} {Normal : E → Type 0} {o : Ops E} (l : Laws Has Normal o) where
   -- the type at a place
   place_in : (vs : Values) (es : List E) → HasEach Has vs es → AreElements Normal o es → (i : ℕ) (v : Value) → value_at vs i ≡ Some v → (e : E) × ((slice_get es i ≡ Some e) × (Normal e × Has v e))
-  place_in no_value x1 h k i v q = grind arith
-  place_in (and_value u us) x1 h k i v q = grind (arith, place_in us)
+  place_in no_value es h k i v q = grind arith
+  place_in (and_value u us) es h k i v q = grind (arith, place_in us)
 
   abbrev pub at_place : Option (Body E) → ℕ → Option E
   at_place b i = elim b [ None ↦ None | Some c ↦ slice_get (elements o c) i ]
@@ -281,7 +281,7 @@ module _ {E : Type 0} {Has : Value → E → Type 0} {Normal : E → Type 0} {o 
   place_normal (e ∷ es) k i = grind (arith, place_normal es)
 
   body_place_normal : (n : ℕ) (b : Option (Body E)) → NormalBody Normal o n b → (i : ℕ) → IfSome (at_place b i)
-  body_place_normal x0 x1 x2 x3 = grind (arith, place_normal, elements_normal l)
+  body_place_normal n b h i = grind (arith, place_normal, elements_normal l)
 
   tuple_place_normal : (t : Tuples E) → NormalTuples Normal o t → (n i : ℕ) → IfSome (element_at o t n i)
   tuple_place_normal all_tuples k n i = l.any_normal
@@ -289,13 +289,13 @@ module _ {E : Type 0} {Has : Value → E → Type 0} {Normal : E → Type 0} {o 
 
   -- what follows the head of a list
   tail_from : (c : Cell E) (b : Bool) (t : Value) → HasAll Has (heads t) c.element → (b ≡ true → end_of t ≡ nil) → (c.is_proper ≡ true → end_of t ≡ nil) → HasParts Has t (record { plain = cond b (record { atoms = names.none; ints = numbers.none; bits = No; flags = flags_of_nil; functions = no_function }) plain_all; cell = Some c; tuples = cond b (sizes []) all_tuples })
-  tail_from x0 x1 x2 x3 x4 x5 = grind arith
+  tail_from c b t h k f = grind arith
 
   pub tail_in : (c : Option (Cell E)) (h t : Value) → HasCell Has (h, t) c → HasParts Has t (tail_parts o c)
-  tail_in x0 x1 x2 x3 = grind (arith, tail_from)
+  tail_in c h t k = grind (arith, tail_from)
 
   pub tail_normal : (c : Option (Cell E)) → NormalCell Normal o c → NormalParts Normal o (tail_parts o c)
-  tail_normal x0 x1 = grind (arith, next_laws l, (next_laws l).lattice.none_normal, tuples_lattice l, (tuples_lattice l).none_normal)
+  tail_normal c h = grind (arith, next_laws l, (next_laws l).lattice.none_normal, tuples_lattice l, (tuples_lattice l).none_normal)
 
 lifted-normal : (d : ℕ) (x : Option (TypeAt d)) → IfSome (level_laws d) x → NormalAt (suc d) (lifted d x)
 lifted-normal d None k = (level_laws (suc d)).lattice.none_normal

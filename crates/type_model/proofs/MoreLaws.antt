@@ -29,8 +29,8 @@ module _ {E : Type 0} {Has : Value → E → Type 0} {Normal : E → Type 0} {o 
   -- ---- an element of a tuple
 
   place_rises : (es fs : List E) → AreElements Normal o es → AreElements Normal o fs → BelowEach Has es fs → (i : ℕ) → Rises (slice_get es i) (slice_get fs i)
-  place_rises [] x1 j k f i = grind arith
-  place_rises (e ∷ es) x1 j k f i = grind (arith, place_rises es)
+  place_rises [] fs j k f i = grind arith
+  place_rises (e ∷ es) fs j k f i = grind (arith, place_rises es)
 
   -- the least product that contains a body is below the one that contains a larger body
   body_rises : (n : ℕ) (b c : Option (Body E)) → NormalBody Normal o n b → NormalBody Normal o n c → BelowBy (HasBody Has) b c → (i : ℕ) → Rises (at_place l b i) (at_place l c i)

@@ -56,23 +56,23 @@ module _ {V W P : Type 0} (HasV : V → P → Type 0) (HasW : W → P → Type 0
 -- ---- what a set of atoms lists
 
 listed-has : (s : Names) (xs : List Name) → names.members_of s ≡ Some xs → (a : Name) → names.has s a ≡ has_item name_cmp xs a
-listed-has x0 x1 x2 x3 = grind arith
+listed-has s xs h a = grind arith
 
 listed-are : (s : Names) (xs : List Name) → names.members_of s ≡ Some xs → are_listed xs ≡ true
-listed-are x0 x1 x2 = grind arith
+listed-are s xs h = grind arith
 
 listed-not : (s : Names) → names.members_of s ≡ None → (a : Name) → names.has s a ≡ true
-listed-not x0 x1 x2 = grind arith
+listed-not s h a = grind arith
 
 -- the least set of some names that ascend
 least-in : (xs : List Name) (a : Name) → has_item name_cmp xs a ≡ true → names.has (names.or_else xs every) a ≡ true
 least-in xs a h = grind (arith, decided, name_laws.has-listed, name_laws.or_else-no)
 
 least-below : (xs : List Name) (u : Names) → is_ascending name_cmp xs ≡ true → ((q : Name) → has_item name_cmp xs q ≡ true → names.has u q ≡ true) → names.Below (names.or_else xs every) u
-least-below x0 x1 x2 x3 x4 x5 = grind (arith, decided, name_laws.has-listed, ascending.length-part, name_laws.name_total, name_laws.name_same, name_laws.listed-ascending, name_laws.listed-few, name_laws.listed-from)
+least-below xs u h k f g = grind (arith, decided, name_laws.has-listed, ascending.length-part, name_laws.name_total, name_laws.name_same, name_laws.listed-ascending, name_laws.listed-few, name_laws.listed-from)
 
 empty-is : {A : Type 0} (m : List A) → is_empty m ≡ true → m ≡ []
-empty-is x0 x1 = grind arith
+empty-is m h = grind arith
 
 module _ {E : Type 0} {Has : Value → E → Type 0} {Normal : E → Type 0} {o : Ops E} (l : Laws Has Normal o) where
   abbrev P : Type 0
@@ -96,10 +96,10 @@ module _ {E : Type 0} {Has : Value → E → Type 0} {Normal : E → Type 0} {o 
   -- ---- a type with nothing but atoms
 
   no_cell-is : (c : Option (Cell E)) → no_cell o c ≡ true → c ≡ None
-  no_cell-is x0 x1 = grind arith
+  no_cell-is c h = grind arith
 
   no_tuples-is : (t : Tuples E) → no_tuples o t ≡ true → t ≡ sizes []
-  no_tuples-is x0 x1 = grind (arith, empty-is)
+  no_tuples-is t h = grind (arith, empty-is)
 
   pub only_atoms-is : (p : P) → is_only_atoms o p ≡ true → p ≡ of_atoms o p.plain.atoms
   only_atoms-is p e = grind (arith, first, is_atoms-only, no_cell-is, second, no_tuples-is)
@@ -132,7 +132,7 @@ module _ {E : Type 0} {Has : Value → E → Type 0} {Normal : E → Type 0} {o 
   -- ---- the forms of a type
 
   shapes_empty : (x : Shape) → HasF x (of_plain o plain_none) → ⊥
-  shapes_empty x0 x1 = grind (arith, plain-none_empty)
+  shapes_empty x h = grind (arith, plain-none_empty)
 
   shapes_filled : (p : P) → NormalP p → (p ≡ of_plain o plain_none) ⊎ ((x : Shape) × HasF x p)
   shapes_filled p k = elim (decided (is_only_atoms o p)) [
@@ -208,7 +208,7 @@ module _ {E : Type 0} {Has : Value → E → Type 0} {Normal : E → Type 0} {o 
   all_any (and_value v vs) = (l.any_in v, all_any vs)
 
   shapes_any : (x : Shape) → HasF x (parts_any o)
-  shapes_any x0 = grind (arith, plain-all, all_any)
+  shapes_any x = grind (arith, plain-all, all_any)
 
   pub any-not_none : o.is_none o.any ≡ false
   any-not_none = filled-not_none l o.any nil (l.any_in nil)
@@ -217,7 +217,7 @@ module _ {E : Type 0} {Has : Value → E → Type 0} {Normal : E → Type 0} {o 
 
   -- the values of a set of atoms
   pub atoms-out : (s : Names) (v : Value) → HasP v (of_atoms o s) → (a : Name) × ((v ≡ atom a) × (names.has s a ≡ true))
-  atoms-out x0 x1 x2 = grind arith
+  atoms-out s v h = grind arith
 
   -- a type that lists its atoms has nothing else
   only-view : (p : P) (xs : List Name) → parts_only o p ≡ Some xs → (is_only_atoms o p ≡ true) × (names.members_of p.plain.atoms ≡ Some xs)

@@ -20,35 +20,35 @@ use Rattle.type_model.specs.ValueShapes.{PlainBelow, Leaf, an_int, an_atom, some
 
 -- tests that are true together are equal
 pub same_test : (a b : Bool) → (a ≡ true → b ≡ true) → (b ≡ true → a ≡ true) → a ≡ b
-same_test x0 x1 x2 x3 = grind arith
+same_test a b h k = grind arith
 
 -- ---- flags
 
 pub has_flag-meet : (k l : Flags) (x : Flag) → has_flag (flags_meet k l) x ≡ (has_flag k x && has_flag l x)
-has_flag-meet x0 x1 x2 = grind arith
+has_flag-meet k l x = grind arith
 
 pub has_flag-join : (k l : Flags) (x : Flag) → has_flag (flags_join k l) x ≡ (has_flag k x || has_flag l x)
-has_flag-join x0 x1 x2 = grind arith
+has_flag-join k l x = grind arith
 
 pub all_flags-has : (x : Flag) → has_flag all_flags x ≡ true
-all_flags-has x0 = grind arith
+all_flags-has x = grind arith
 
 pub no_flags-has : (x : Flag) → has_flag no_flags x ≡ false
-no_flags-has x0 = grind arith
+no_flags-has x = grind arith
 
 pub same_flags : (k l : Flags) → ((x : Flag) → has_flag k x ≡ has_flag l x) → k ≡ l
 same_flags k l f = λ i. record { float = f floats i; pid = f pids i; port = f ports i; reference = f references i; nil = f nils i; map = f maps i }
 
 -- none of six tests
 either_flag : (a b c d e f : Bool) → not (a || b || c || d || e || f) ≡ true → (a ≡ false) × (b ≡ false) × (c ≡ false) × (d ≡ false) × (e ≡ false) × (f ≡ false)
-either_flag x0 x1 x2 x3 x4 x5 x6 = grind arith
+either_flag a b c d e f h = grind arith
 
 pub no_flag-is : (k : Flags) → is_no_flag k ≡ true → k ≡ no_flags
 no_flag-is k h = grind (arith, either_flag)
 
 -- one of six
 some_of : (k : Flags) (a b c d e f : Bool) → k.float ≡ a → k.pid ≡ b → k.port ≡ c → k.reference ≡ d → k.nil ≡ e → k.map ≡ f → not (a || b || c || d || e || f) ≡ false → (x : Flag) × (has_flag k x ≡ true)
-some_of x0 x1 x2 x3 x4 x5 x6 x7 x8 x9 x10 x11 x12 x13 = grind arith
+some_of k a b c d e f h g p q r s u = grind arith
 
 pub some_flag : (k : Flags) → is_no_flag k ≡ false → (x : Flag) × (has_flag k x ≡ true)
 some_flag k h = some_of k k.float k.pid k.port k.reference k.nil k.map refl refl refl refl refl refl h
@@ -60,20 +60,20 @@ not_both : (m k n : ℕ) → (m == k) ≡ false → (m == n && k == n) ≡ false
 not_both m k n s = is_false (m == n && k == n) (λ h. true≢false (sym (eq-eqb m k (eqb-true m n (first (m == n) (k == n) h) ∙ sym (eqb-true k n (second (m == n) (k == n) h)))) ∙ s))
 
 pub has_arity-meet : (f g : Functions) (n : ℕ) → has_arity (functions_meet f g) n ≡ (has_arity f n && has_arity g n)
-has_arity-meet x0 x1 x2 = grind (arith, and_none, and_itself, not_both, and_true)
+has_arity-meet f g n = grind (arith, and_none, and_itself, not_both, and_true)
 
 pub functions_join-left : (f g : Functions) (n : ℕ) → has_arity f n ≡ true → has_arity (functions_join f g) n ≡ true
-functions_join-left x0 x1 x2 x3 = grind arith
+functions_join-left f g n h = grind arith
 
 pub functions_join-right : (f g : Functions) (n : ℕ) → has_arity g n ≡ true → has_arity (functions_join f g) n ≡ true
-functions_join-right x0 x1 x2 x3 = grind arith
+functions_join-right f g n h = grind arith
 
 -- a set with two arities has all
 two_arities : (u : Functions) (m k n : ℕ) → (m == k) ≡ false → has_arity u m ≡ true → has_arity u k ≡ true → has_arity u n ≡ true
-two_arities x0 x1 x2 x3 x4 x5 x6 = grind arith
+two_arities u m k n h f g = grind arith
 
 pub functions_join-least : (f g u : Functions) → ((n : ℕ) → has_arity f n ≡ true → has_arity u n ≡ true) → ((n : ℕ) → has_arity g n ≡ true → has_arity u n ≡ true) → (n : ℕ) → has_arity (functions_join f g) n ≡ true → has_arity u n ≡ true
-functions_join-least x0 x1 x2 x3 x4 x5 x6 = grind (arith, two_arities)
+functions_join-least f g u h k n p = grind (arith, two_arities)
 
 -- nor to all
 not_every : (m : ℕ) → ((n : ℕ) → (m == n) ≡ true) → ⊥
@@ -91,7 +91,7 @@ same_functions all_functions (of_arity k) a b = absurd (not_every k (λ n. a n r
 same_functions all_functions all_functions a b = refl
 
 pub no_function-is : (f : Functions) → is_no_function f ≡ true → f ≡ no_function
-no_function-is x0 x1 = grind arith
+no_function-is f h = grind arith
 
 pub some_arity : (f : Functions) → is_no_function f ≡ false → (n : ℕ) × (has_arity f n ≡ true)
 some_arity no_function h = absurd (true≢false h)
@@ -100,29 +100,29 @@ some_arity all_functions h = (0, refl)
 
 -- arities stay below 2^32
 pub functions-normal_meet : (f g : Functions) → NormalFunctions f → NormalFunctions g → NormalFunctions (functions_meet f g)
-functions-normal_meet x0 x1 x2 x3 = grind arith
+functions-normal_meet f g h k = grind arith
 
 pub functions-normal_join : (f g : Functions) → NormalFunctions f → NormalFunctions g → NormalFunctions (functions_join f g)
-functions-normal_join x0 x1 x2 x3 = grind arith
+functions-normal_join f g h k = grind arith
 
 -- ---- bits
 
 pub no_bits-is : (s : Bits) → is_no_bits s ≡ true → s ≡ No
-no_bits-is x0 x1 = grind arith
+no_bits-is s h = grind arith
 
 pub some_length : (s : Bits) → is_no_bits s ≡ false → (n : ℕ) × (bit_lengths.has s n ≡ true)
-some_length x0 x1 = grind arith
+some_length s h = grind arith
 
 -- ---- all of them
 
 pub plain-meet : (p q : PlainParts) (x : Leaf) → has_leaf (plain_meet p q) x ≡ (has_leaf p x && has_leaf q x)
-plain-meet x0 x1 x2 = grind (arith, number_laws.has-meet, name_laws.has-meet, bit_laws.has-meet, has_flag-meet, has_arity-meet)
+plain-meet p q x = grind (arith, number_laws.has-meet, name_laws.has-meet, bit_laws.has-meet, has_flag-meet, has_arity-meet)
 
 pub plain-join-left : (p q : PlainParts) → PlainBelow p (plain_join p q)
-plain-join-left x0 x1 x2 x3 = grind (arith, number_laws.join-left, name_laws.join-left, bit_laws.join-left, has_flag-join, in_first, functions_join-left)
+plain-join-left p q h k = grind (arith, number_laws.join-left, name_laws.join-left, bit_laws.join-left, has_flag-join, in_first, functions_join-left)
 
 pub plain-join-right : (p q : PlainParts) → PlainBelow q (plain_join p q)
-plain-join-right x0 x1 x2 x3 = grind (arith, number_laws.join-right, name_laws.join-right, bit_laws.join-right, has_flag-join, in_second, functions_join-right)
+plain-join-right p q h k = grind (arith, number_laws.join-right, name_laws.join-right, bit_laws.join-right, has_flag-join, in_second, functions_join-right)
 
 pub plain-join-least : (p q u : PlainParts) → PlainBelow p u → PlainBelow q u → PlainBelow (plain_join p q) u
 plain-join-least p q u f g (an_int n) h = number_laws.join-least p.ints q.ints u.ints (λ m. f (an_int m)) (λ m. g (an_int m)) n h
@@ -142,10 +142,10 @@ plain-same p q f g =
     λ i. record { atoms = a i; ints = b i; bits = c i; flags = d i; functions = e i }
 
 pub plain-all : (x : Leaf) → has_leaf plain_all x ≡ true
-plain-all x0 = grind (arith, all_flags-has)
+plain-all x = grind (arith, all_flags-has)
 
 pub plain-none_empty : (x : Leaf) → has_leaf plain_none x ≡ true → ⊥
-plain-none_empty x0 x1 = grind (arith, no_flags-has)
+plain-none_empty x h = grind (arith, no_flags-has)
 
 -- ---- atoms and nothing else
 

@@ -88,7 +88,7 @@ lower-times p = record { no_higher = omega (arith, p.no_higher); less = λ e. om
 -- ---- the values that hold no others
 
 lower-test : (a b : Bool) → (a ≡ true → b ≡ true) → Lower (cond a 1 0) (cond b 1 0) a b
-lower-test x0 x1 x2 = grind (arith, lower-same, lower-less)
+lower-test a b h = grind (arith, lower-same, lower-less)
 
 flags-lower : (k l : Flags) → ((x : Flag) → has_flag k x ≡ true → has_flag l x ≡ true) → Lower (flags_rank k) (flags_rank l) k l
 flags-lower k l f =
@@ -121,10 +121,10 @@ plain-lower p q f =
     lower-of (λ p. record { atoms = p.0.0.0.0; ints = p.0.0.0.1; bits = p.0.0.1; flags = p.0.1; functions = p.1 }) (lower-both (lower-both (lower-both (lower-both a b) c) d) e)
 
 test-most : (b : Bool) → cond b 1 0 ≤ 1
-test-most x0 = grind arith
+test-most b = grind arith
 
 functions-most : (f : Functions) → functions_rank f ≤ 2
-functions-most x0 = grind arith
+functions-most f = grind arith
 
 plain-most : (p : PlainParts) → plain_rank p ≤ 42
 plain-most p = grind (arith, name_heights.height-most, number_heights.height-most, bit_heights.height-most, test-most, functions-most)
@@ -158,7 +158,7 @@ module _ {K X : Type 0} {R : K → K → Ordering} (t : IsTotalOrder R) (same : 
 
   -- so it has the key
   found : (x : X) (y : Option X) → LowerAt g (Some x) y → is_some y ≡ true
-  found x0 x1 x2 = grind arith
+  found x y h = grind arith
 
   -- along both tables: the first keys are equal, or the other's is one more
   table-lower : (m w : List (K × X)) → is_table R m ≡ true → is_table R w ≡ true → ((q : K) → LowerAt g (find R m q) (find R w q)) → Lower (table_rank g m) (table_rank g w) m w
@@ -207,7 +207,7 @@ module _ {E : Type 0} {Has : Value → E → Type 0} {Normal : E → Type 0} {o 
 
   -- free ends count one more than proper ones
   lower-ends : (a b : Bool) → (b ≡ true → a ≡ true) → Lower (cond a 0 1) (cond b 0 1) a b
-  lower-ends x0 x1 x2 = grind (arith, lower-same, lower-less)
+  lower-ends a b h = grind (arith, lower-same, lower-less)
 
   cell-lower : (s t : Option (Cell E)) → NormalCell Normal o s → NormalCell Normal o t → BelowBy (HasCell Has) s t → Lower (cell_rank rank_of most s) (cell_rank rank_of most t) s t
   cell-lower None None j k f = lower-same refl
@@ -243,11 +243,11 @@ module _ {E : Type 0} {Has : Value → E → Type 0} {Normal : E → Type 0} {o 
 
   -- no more than thirteen tags, each with types of a rank up to b
   tags-most : (n b : ℕ) (m : List (Name × List E)) → NormalTags Normal o n m → EachEntry (λ a es. of_row es ≤ b) m → of_body (tags m) ≤ 13 * (1 + b)
-  tags-most x0 x1 x2 x3 x4 = grind (arith, table-most, of_row)
+  tags-most n b m h k = grind (arith, table-most, of_row)
 
   -- the types behind a tag are below those behind the first element of a product that has the tag
   lower-tag : (b : Bool) (es fs : List E) → LowerAt of_row (Some es) (cond b (Some fs) None) → of_row es ≤ of_row fs
-  lower-tag x0 x1 x2 x3 = grind arith
+  lower-tag b es fs h = grind arith
 
   -- tags are below a product by the fourteenth of its rest
   tags-product : (n : ℕ) (m : List (Name × List E)) (e : E) (es : List E) → NormalBody Normal o (suc n) (Some (tags m)) → NormalBody Normal o (suc n) (Some (product (e ∷ es))) → BelowBy (HasBody Has) (Some (tags m)) (Some (product (e ∷ es))) → of_body (tags m) < of_body (product (e ∷ es))
@@ -306,7 +306,7 @@ module _ {E : Type 0} {Has : Value → E → Type 0} {Normal : E → Type 0} {o 
       lower-of sizes (table-lower nat_cmp_total nat_cmp-IsAntisymmetric of_body m w j.0 k.0 (λ q. body-lower q (find nat_cmp m q) (find nat_cmp w q) (normal_at l m j.2 q) (normal_at l w k.2 q) (to_size l m w j.2 f q)))
 
   tuples-most : (t : Tuples E) → NormalTuples Normal o t → tuples_rank rank_of most t ≤ 1 + 8 * (1 + highest)
-  tuples-most x0 x1 = grind (arith, sizes-most)
+  tuples-most t h = grind (arith, sizes-most)
 
   -- ---- types of the next level
 

@@ -24,7 +24,7 @@ length-zip f zero (x ∷ xs) (y ∷ ys) e g = absurd (omega arith)
 length-zip f (suc n) (x ∷ xs) (y ∷ ys) e g = ap suc (length-zip f n xs ys (omega arith) (omega arith))
 
 pub neither : (a b : Bool) → (a || b) ≡ false → (a ≡ false) × (b ≡ false)
-neither x0 x1 x2 = grind arith
+neither a b h = grind arith
 
 module _ {E : Type 0} {Has : Value → E → Type 0} {Normal : E → Type 0} {o : Ops E} (l : Laws Has Normal o) where
   abbrev HasR : Values → Option (List E) → Type 0
@@ -38,8 +38,8 @@ module _ {E : Type 0} {Has : Value → E → Type 0} {Normal : E → Type 0} {o 
 
   -- as many values as types
   pub count_each : (vs : Values) (es : List E) → HasEach Has vs es → count vs ≡ length es
-  count_each no_value x1 h = grind arith
-  count_each (and_value v vs) x1 h = grind (arith, count_each vs)
+  count_each no_value es h = grind arith
+  count_each (and_value v vs) es h = grind (arith, count_each vs)
 
   pub values_of : (es : List E) → AreElements Normal o es → (vs : Values) × HasEach Has vs es
   values_of [] k = (no_value, tt)
@@ -74,8 +74,8 @@ module _ {E : Type 0} {Has : Value → E → Type 0} {Normal : E → Type 0} {o 
 
   -- a product that has values has no place without one
   pub row_filled-not_none : (vs : Values) (es : List E) → HasEach Has vs es → has_none o es ≡ false
-  row_filled-not_none no_value x1 h = grind arith
-  row_filled-not_none (and_value v vs) x1 h = grind (arith, row_filled-not_none vs, filled-not_none l)
+  row_filled-not_none no_value es h = grind arith
+  row_filled-not_none (and_value v vs) es h = grind (arith, row_filled-not_none vs, filled-not_none l)
 
   -- ---- the meet
 
@@ -109,7 +109,7 @@ module _ {E : Type 0} {Has : Value → E → Type 0} {Normal : E → Type 0} {o 
       ((l.lattice.meet_left x y j.0.0 k.0.0 v h.0, rest.0), (l.lattice.meet_right x y j.0.0 k.0.0 v h.0, rest.1))
 
   meet_some : (b : Bool) (es : List E) (vs : Values) → HasR vs (or_none b es) → HasEach Has vs es
-  meet_some x0 x1 x2 x3 = grind arith
+  meet_some b es vs h = grind arith
 
   -- ---- the join
 

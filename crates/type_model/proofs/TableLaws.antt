@@ -8,25 +8,25 @@ use Rattle.std.specs.FinSet.{IsAntisymmetric}
 use Rattle.type_sets.specs.Ascending.{is_below_all, is_ascending, has_item, placed, merged}
 use Rattle.type_sets.proofs.Truths.{both, first, second, decided, is_false}
 use Rattle.type_sets.proofs.AscendingLaws as ascending
-use Rattle.type_model.specs.Tables.{keys, held, mapped, all_hold, and_entry, chosen, EachOf, EachEntry, joined, both_at, is_table, find, put, united}
+use Rattle.type_model.specs.Tables.{keys, mapped, all_hold, and_entry, chosen, EachOf, EachEntry, joined, both_at, is_table, find, put, united}
 use Rattle.type_model.specs.Operations.{met_with, is_empty}
 
 -- ---- what two tables hold at one key
 
 pub joined-none : {X : Type 0} (j : X → X → X) (x : Option X) → joined j x None ≡ x
-joined-none x0 x1 = grind arith
+joined-none j x = grind arith
 
 -- the same, said by `met_with`
 pub met_with-both_at : {X Y Z : Type 0} (m : X → Y → Option Z) (x : Option X) (y : Option Y) → met_with (λ a. met_with (m a) y) x ≡ both_at m x y
-met_with-both_at x0 x1 x2 = grind arith
+met_with-both_at m x y = grind arith
 
 -- ---- what an option holds
 
 pub not_some : {X : Type 0} (x : Option X) → is_some x ≡ false → x ≡ None
-not_some x0 x1 = grind arith
+not_some x h = grind arith
 
 pub found_at : {X : Type 0} (x : Option X) → is_some x ≡ true → (y : X) × (x ≡ Some y)
-found_at x0 x1 = grind arith
+found_at x h = grind arith
 
 none_or : {X : Type 0} → Option X → X → X
 none_or (Some x) y = x
@@ -52,16 +52,16 @@ same_first k l ks ls e = ap (λ qs. key_or qs k) e
 
 -- what is joined, by tests of a key
 joined-either : {X : Type 0} (j : X → X → X) (a : Bool) (y x : X) (z : Option X) → cond a (Some (j y x)) z ≡ joined j (cond a (Some y) z) (cond a (Some x) None)
-joined-either x0 x1 x2 x3 x4 = grind (arith, joined-none)
+joined-either j a y x z = grind (arith, joined-none)
 
 joined-later : {X : Type 0} (j : X → X → X) (a b : Bool) (y x : X) (z w : Option X) → (a ≡ true → b ≡ false) → w ≡ joined j z (cond b (Some x) None) → cond a (Some y) w ≡ joined j (cond a (Some y) z) (cond b (Some x) None)
-joined-later x0 x1 x2 x3 x4 x5 x6 x7 x8 = grind arith
+joined-later j a b y x z w h k = grind arith
 
 joined-first : {X : Type 0} (j : X → X → X) (a : Bool) (x : X) (z : Option X) → (a ≡ true → z ≡ None) → cond a (Some x) z ≡ joined j z (cond a (Some x) None)
-joined-first x0 x1 x2 x3 x4 = grind (arith, joined-none)
+joined-first j a x z h = grind (arith, joined-none)
 
 joined-twice : {X : Type 0} (j : X → X → X) (a : Bool) (x : X) (z w : Option X) → (a ≡ true → w ≡ None) → joined j (joined j z (cond a (Some x) None)) w ≡ joined j z (cond a (Some x) w)
-joined-twice x0 x1 x2 x3 x4 x5 = grind (arith, joined-none)
+joined-twice j a x z w h = grind (arith, joined-none)
 
 module _ {K : Type 0} {R : K → K → Ordering} (t : IsTotalOrder R) (same : IsAntisymmetric R) where
   -- ---- which keys a table has
@@ -95,10 +95,10 @@ module _ {K : Type 0} {R : K → K → Ordering} (t : IsTotalOrder R) (same : Is
   first_entry (e ∷ m) h = (e.0, (e.1, find-first e m))
 
   pub not_empty : {X : Type 0} (m : List (K × X)) (k : K) (x : X) → find R m k ≡ Some x → is_empty m ≡ false
-  not_empty x0 x1 x2 x3 = grind (arith, some-none)
+  not_empty m k x h = grind (arith, some-none)
 
   pub find-empty : {X : Type 0} (m : List (K × X)) → is_empty m ≡ true → (q : K) → find R m q ≡ None
-  find-empty x0 x1 x2 = grind arith
+  find-empty m h q = grind arith
 
   -- ---- tables that hold the same are one
 
@@ -121,10 +121,10 @@ module _ {K : Type 0} {R : K → K → Ordering} (t : IsTotalOrder R) (same : Is
 
   -- what one entry, if it is there, adds
   find-and_entry_other : {X : Type 0} (k : K) (x : Option X) (m : List (K × X)) (q : K) → eq_by_cmp R q k ≡ false → find R (and_entry k x m) q ≡ find R m q
-  find-and_entry_other x0 x1 x2 x3 x4 = grind (arith, find-later)
+  find-and_entry_other k x m q h = grind (arith, find-later)
 
   find-and_entry_same : {X : Type 0} (k : K) (x : Option X) (m : List (K × X)) → find R m k ≡ None → find R (and_entry k x m) k ≡ x
-  find-and_entry_same x0 x1 x2 x3 = grind (arith, find-first)
+  find-and_entry_same k x m h = grind (arith, find-first)
 
   pub find-chosen : {X Y : Type 0} (f : K → X → Option Y) (m : List (K × X)) → is_table R m ≡ true → (q : K) → find R (chosen f m) q ≡ met_with (f q) (find R m q)
   find-chosen f [] a q = refl
@@ -141,7 +141,7 @@ module _ {K : Type 0} {R : K → K → Ordering} (t : IsTotalOrder R) (same : Is
       ]
 
   has-and_entry : {X : Type 0} (k : K) (x : Option X) (m : List (K × X)) (ks : List K) (q : K) → (has_item R (keys m) q ≡ true → has_item R ks q ≡ true) → has_item R (keys (and_entry k x m)) q ≡ true → (eq_by_cmp R q k || has_item R ks q) ≡ true
-  has-and_entry x0 x1 x2 x3 x4 x5 x6 = grind arith
+  has-and_entry k x m ks q h f = grind arith
 
   -- no other keys
   pub keys-chosen : {X Y : Type 0} (f : K → X → Option Y) (m : List (K × X)) (q : K) → has_item R (keys (chosen f m)) q ≡ true → has_item R (keys m) q ≡ true
@@ -149,14 +149,14 @@ module _ {K : Type 0} {R : K → K → Ordering} (t : IsTotalOrder R) (same : Is
   keys-chosen f (e ∷ m) q h = has-and_entry e.0 (f e.0 e.1) (chosen f m) (keys m) q (keys-chosen f m q) h
 
   table-and_entry : {X : Type 0} (k : K) (x : Option X) (m : List (K × X)) → is_below_all R k (keys m) ≡ true → is_table R m ≡ true → is_table R (and_entry k x m) ≡ true
-  table-and_entry x0 x1 x2 x3 x4 = grind (arith, both)
+  table-and_entry k x m h f = grind (arith, both)
 
   pub table-chosen : {X Y : Type 0} (f : K → X → Option Y) (m : List (K × X)) → is_table R m ≡ true → is_table R (chosen f m) ≡ true
   table-chosen f [] a = refl
   table-chosen f (e ∷ m) a = grind (arith, table-and_entry, ascending.below_all-from_items t same, ascending.below_all-item t same, table-below, keys-chosen, table-chosen f m (table-rest e m a), table-rest)
 
   length-and_entry : {X : Type 0} (k : K) (x : Option X) (m : List (K × X)) (n : ℕ) → length m ≤ n → length (and_entry k x m) ≤ suc n
-  length-and_entry x0 x1 x2 x3 x4 = grind arith
+  length-and_entry k x m n h = grind arith
 
   pub length-chosen : {X Y : Type 0} (f : K → X → Option Y) (m : List (K × X)) → length (chosen f m) ≤ length m
   length-chosen f [] = omega arith
@@ -207,7 +207,7 @@ module _ {K : Type 0} {R : K → K → Ordering} (t : IsTotalOrder R) (same : Is
   length-mapped f (e ∷ m) = ap suc (length-mapped f m)
 
   pub empty-mapped : {X Y : Type 0} (f : X → Y) (m : List (K × X)) → is_empty (mapped f m) ≡ is_empty m
-  empty-mapped x0 x1 = grind arith
+  empty-mapped f m = grind arith
 
   -- ---- the same held at some keys
 

@@ -77,7 +77,7 @@ module _ {E : Type 0} {Has : Value → E → Type 0} {Normal : E → Type 0} {o 
   small_at m k q h = let x = tables.found_at (At m q) h in (tables.each_at total exact (NormalSize Normal o) m k q x.0 x.1).0
 
   pub some_at : (b : Option (Body E)) (vs : Values) → HasB vs b → is_some b ≡ true
-  some_at x0 x1 x2 = grind arith
+  some_at b vs h = grind arith
 
   -- a tuple of the body at a size has that size, so it is among the tuples
   pub from_size : (m : Sizes) → NormalS m → (q : ℕ) (vs : Values) → HasB vs (At m q) → HasT vs (sizes m)
@@ -124,7 +124,7 @@ module _ {E : Type 0} {Has : Value → E → Type 0} {Normal : E → Type 0} {o 
   find-meet m w e q = find-chosen total exact (λ n b. met_with (body_meet o b) (At w n)) m e q ∙ met_with-both_at (body_meet o) (At m q) (At w q)
 
   normal-entry : (q : ℕ) (b : Option (Body E)) (m : Sizes) → nat_lt q 65 ≡ true → NormalB q b → NormalS m → NormalS (and_entry q b m)
-  normal-entry x0 x1 x2 x3 x4 x5 = grind arith
+  normal-entry q b m h k f = grind arith
 
   normal-meet : (m w : Sizes) → NormalS m → NormalS w → NormalS (sizes_meet o m w)
   normal-meet [] w j k = tt
@@ -198,10 +198,10 @@ module _ {E : Type 0} {Has : Value → E → Type 0} {Normal : E → Type 0} {o 
   tuples-join_normal (sizes m) (sizes w) j k = capped-normal (unite m w) (unite-table m w j.0) (normal-unite m w j.2 k.2)
 
   tuples-join_left : (s t : Tuples E) → NormalT s → NormalT t → BelowBy HasT s (tuples_join o s t)
-  tuples-join_left x0 x1 x2 x3 x4 x5 = grind (arith, capped-in, unite, unite-left)
+  tuples-join_left s t h k f g = grind (arith, capped-in, unite, unite-left)
 
   tuples-join_right : (s t : Tuples E) → NormalT s → NormalT t → BelowBy HasT t (tuples_join o s t)
-  tuples-join_right x0 x1 x2 x3 x4 x5 = grind (arith, capped-in, unite, unite-right)
+  tuples-join_right s t h k f g = grind (arith, capped-in, unite, unite-right)
 
   tuples-join_least : (s t u : Tuples E) → NormalT s → NormalT t → NormalT u → BelowBy HasT s u → BelowBy HasT t u → BelowBy HasT (tuples_join o s t) u
   tuples-join_least all_tuples t u i j k f h vs v = f vs tt

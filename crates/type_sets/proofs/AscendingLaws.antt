@@ -19,7 +19,7 @@ module _ {K : Type 0} {R : K → K → Ordering} (o : IsTotalOrder R) (same : Is
   itself x = ap is_eq (tied_itself o x)
 
   less-is : (r : Ordering) → is_lt r ≡ true → r ≡ Less
-  less-is x0 x1 = grind arith
+  less-is r h = grind arith
 
   pub below-not_itself : (x : K) → is_lt (R x x) ≡ true → ⊥
   below-not_itself x h = true≢false (sym h ∙ ap is_lt (tied_itself o x))
@@ -108,7 +108,7 @@ module _ {K : Type 0} {R : K → K → Ordering} (o : IsTotalOrder R) (same : Is
   same-items xs ys a b f g = elim (shorter-or_whole ys xs a b f) [ inl less ↦ absurd (omega (arith, less, length-part xs ys b a g)) | inr same ↦ same ]
 
   or_again : (a b c : Bool) → a ≡ b → (b || c) ≡ (a || (b || c))
-  or_again x0 x1 x2 x3 = grind arith
+  or_again a b c h = grind arith
 
   -- what an ascending list has once an item is placed there
   pub has-placed : (x : K) (xs : List K) (q : K) → has_item R (placed R x xs) q ≡ (eq_by_cmp R q x || has_item R xs q)

@@ -1,5 +1,5 @@
 -- What the code's set of atoms stands for, by its kinds.
-use Rattle.std.proofs.Common.{◌≡◌, ◌↔◌, IsTrue, Result, IfOk, ℕ, ◌≤◌, ◌<◌, ◌+◌, Bool, true, false, not, ◌&&◌, ◌||◌, ◌==◌, List, Option, None, is_some, length, filter, take, get_or, sym, ap, ◌∙◌, subst, arith}
+use Rattle.std.proofs.Common.{◌≡◌, ◌↔◌, IsTrue, Result, IfOk, ℕ, ◌≤◌, ◌<◌, ◌+◌, Bool, true, false, not, ◌&&◌, ◌||◌, List, Option, None, is_some, length, filter, take, get_or, sym, ap, ◌∙◌, subst, arith}
 use Rattle.std.proofs.lemmas.Result.{IfOk-weaker}
 use Rattle.std.proofs.lemmas.List.{take_all}
 use Rattle.std.proofs.lemmas.List.Folds.{list_any_at, list_any_more}
@@ -28,7 +28,7 @@ pub listed_set : (s : Names) (v : List Name) → (are_listed v ≡ true) × (s �
 listed_set s v k = (k.0, k.1 ∙ or_else-yes v none k.0)
 
 pub every_set : (s : Names) → None ≡ members_of s → s ≡ every
-every_set x0 x1 = grind arith
+every_set s h = grind arith
 
 pub empty_when : (r : Bool) (s : Names) → r ≡ is_none s → IsTrue r ↔ (s ≡ none)
 empty_when r s e = (λ h. is_none-is s (sym e ∙ h), λ h. e ∙ ap is_none h)
@@ -51,8 +51,8 @@ below_listed s t xs e r is all = grind (arith, ascending.all-item, name_total, n
 
 -- all atoms are part of all atoms alone
 pub below_every : (s t : Names) (o : Option (Bor (List Name))) (r : Bool) → s ≡ every → option_copied o ≡ members_of t → is_some o ≡ not r → IsTrue r ↔ Below s t
-below_every s (some ys e) x2 r x4 m h = grind (arith, not_listed)
-below_every s every x2 r x4 m h = grind arith
+below_every s (some ys e) o r k m h = grind (arith, not_listed)
+below_every s every o r k m h = grind arith
 
 -- ---- the meet, by the kinds
 
@@ -114,4 +114,4 @@ ok_then r {P} {Q} h f = IfOk-weaker r P Q f h
 -- ---- the order of two atoms
 
 pub not_under : (r : Ordering) (b : Bool) → is_ge r ≡ b → is_lt r ≡ not b
-not_under x0 x1 x2 = grind arith
+not_under r b h = grind arith

@@ -26,7 +26,7 @@ whole-falls : Falls Below 1 Whole
 whole-falls = down Below 0 Whole No (λ n h. absurd (true≢false (sym h))) (λ p. let q = ap height p in absurd (omega arith)) (stay Below No)
 
 pub height-reached : (s : Bits) → Falls Below (height s) s
-height-reached x0 = grind (arith, stay, whole-falls, down)
+height-reached s = grind (arith, stay, whole-falls, down)
 
 pub height-most : (s : Bits) → height s ≤ 2
-height-most x0 = grind arith
+height-most s = grind arith

@@ -22,16 +22,16 @@ pub below-below : (s t u : Bits) → Below s t → Below t u → Below s u
 below-below s t u f g n h = g n (f n h)
 
 pub has-meet : (s t : Bits) (n : ℕ) → has (meet s t) n ≡ (has s n && has t n)
-has-meet x0 x1 x2 = grind (arith, and_none, and_itself, and_true)
+has-meet s t n = grind (arith, and_none, and_itself, and_true)
 
 pub join-left : (s t : Bits) → Below s (join s t)
-join-left x0 x1 x2 x3 = grind arith
+join-left s t h k = grind arith
 
 pub join-right : (s t : Bits) → Below t (join s t)
-join-right x0 x1 x2 x3 = grind arith
+join-right s t h k = grind arith
 
 pub join-least : (s t u : Bits) → Below s u → Below t u → Below (join s t) u
-join-least x0 x1 x2 x3 x4 x5 x6 = grind arith
+join-least s t u h k f g = grind arith
 
 pub same_bits : (s t : Bits) → Below s t → Below t s → s ≡ t
 same_bits No No f g = refl

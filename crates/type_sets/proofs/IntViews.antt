@@ -1,10 +1,10 @@
 -- What the code's set of integers stands for, by its kinds.
-use Rattle.std.proofs.Common.{◌≡◌, ◌↔◌, IsTrue, ◌==◌, pos, Option, IfNone, ℕ, ℤ, ◌≤◌, ◌<◌, ◌+◌, Bool, true, false, ◌&&◌, ◌||◌, List, [], ◌∷◌, ◌++◌, length, filter, take, get_or, refl, sym, ap, ◌∙◌, subst, arith, true≢false}
+use Rattle.std.proofs.Common.{◌≡◌, ◌↔◌, IsTrue, ◌==◌, pos, Option, IfNone, ℕ, ℤ, ◌≤◌, ◌<◌, ◌+◌, Bool, true, false, ◌&&◌, List, [], ◌∷◌, ◌++◌, length, filter, take, get_or, refl, sym, ap, ◌∙◌, subst, arith, true≢false}
 use Rattle.std.specs.Prelude.{int_le}
 use Rattle.std.proofs.lemmas.Int.{ints}
-use Rattle.std.specs.Ordering.{int_cmp, int_eq, is_lt}
-use Rattle.std.specs.Cmp.{int_cmp_total, eq_by_cmp_equiv}
-use Rattle.std.specs.List.{list_any, list_all}
+use Rattle.std.specs.Ordering.{int_cmp, is_lt}
+use Rattle.std.specs.Cmp.{int_cmp_total}
+use Rattle.std.specs.List.{list_all}
 use Rattle.type_sets.specs.declared.int_set.Kind.{Kind}
 use Rattle.type_sets.specs.declared.int_set.Kind.TheVariants.{Listed, Between}
 use Rattle.type_sets.specs.declared.limits.TheConstants.{MAX_MEMBERS}
@@ -51,7 +51,7 @@ highest-more = outermost-more higher high_of MinusOne higher-turn higher-minus_o
 
 -- whether a set that lists its numbers has none
 pub empty_listed : (s : Numbers) (xs : List ℤ) (e : are_listed xs ≡ true) → s ≡ some xs e → (length xs == 0) ≡ is_none s
-empty_listed x0 x1 x2 x3 = grind (arith, nat_tests)
+empty_listed s xs e h = grind (arith, nat_tests)
 
 pub empty_when : (r : Bool) (s : Numbers) → r ≡ is_none s → IsTrue r ↔ (s ≡ none)
 empty_when r s e = (λ h. is_none-is s (sym e ∙ h), λ h. e ∙ ap is_none h)
@@ -152,7 +152,7 @@ least_above s t r is u f g n h = join-least s t u f g n (sym (ap (λ v. has v n)
 
 -- what follows from what is known where there is no value
 pub none_then : {X : Type 0} (r : Option X) {P Q : Type 0} → IfNone r P → (P → Q) → IfNone r Q
-none_then x0 x1 x2 = grind arith
+none_then r h k = grind arith
 
 -- how the code's comparison orders
 pub int_falls : (m n : ℤ) → int_le n m ≡ true → is_lt (int_cmp m n) ≡ false

@@ -46,4 +46,4 @@ height-reached every =
     down Below 13 every (some thirteen thirteen-listed) (λ q m. refl) (λ p. let q = ap height p in absurd (omega arith)) (listed-falls thirteen thirteen-listed)
 
 pub height-most : (s : Names) → height s ≤ MAX_MEMBERS + 1
-height-most x0 = grind (arith, listed-few)
+height-most s = grind (arith, listed-few)

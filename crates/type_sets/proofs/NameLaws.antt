@@ -49,7 +49,7 @@ has-listed xs t q e = ap (λ s. has s q) (or_else-yes xs t e)
 
 pub has-meet : (s t : Names) (q : Name) → has (meet s t) q ≡ (has s q && has t q)
 unfolding meet
-has-meet x0 x1 x2 = grind (arith, has-listed, listed-filter, ascending.has-filter, name_total, name_same)
+has-meet s t q = grind (arith, has-listed, listed-filter, ascending.has-filter, name_total, name_same)
 
 -- ---- all atoms are more than thirteen
 
@@ -71,11 +71,11 @@ not_listed xs e f = grind (arith, ascending.length-part, name_total, name_same, 
 
 pub join-left : (s t : Names) → Below s (join s t)
 unfolding join
-join-left x0 x1 x2 x3 = grind (arith, decided, has-listed, ascending.has-merged, name_total, name_same, in_first, or_else-no)
+join-left s t h k = grind (arith, decided, has-listed, ascending.has-merged, name_total, name_same, in_first, or_else-no)
 
 pub join-right : (s t : Names) → Below t (join s t)
 unfolding join
-join-right x0 x1 x2 x3 = grind (arith, decided, has-listed, ascending.has-merged, name_total, name_same, in_second, or_else-no)
+join-right s t h k = grind (arith, decided, has-listed, ascending.has-merged, name_total, name_same, in_second, or_else-no)
 
 -- what is too much to be listed is no part of what is listed
 too_many : (xs ys us : List Name) → are_listed xs ≡ true → are_listed us ≡ true → ((q : Name) → has_item name_cmp xs q ≡ true → has_item name_cmp us q ≡ true) → ((q : Name) → has_item name_cmp ys q ≡ true → has_item name_cmp us q ≡ true) → are_listed (merged name_cmp xs ys) ≡ false → ⊥
@@ -133,7 +133,7 @@ same_by s t h = same_names s t (λ q e. sym (h q) ∙ e) (λ q e. h q ∙ e)
 -- ---- what no atom is in
 
 pub is_none-empty : (s : Names) → is_none s ≡ true → (q : Name) → has s q ≡ false
-is_none-empty x0 x1 x2 = grind arith
+is_none-empty s h q = grind arith
 
 pub is_none-is : (s : Names) → is_none s ≡ true → s ≡ none
 is_none-is s h = same_by s none (is_none-empty s h)

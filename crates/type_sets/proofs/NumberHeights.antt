@@ -21,18 +21,18 @@ use Rattle.type_sets.proofs.HeightLaws.{falls-bound, down, stay}
 
 -- an end that lets in less rises less often
 rises-le : (l m : Low) → at_least m (bottom l) ≡ true → rises l ≤ rises m
-rises-le x0 x1 x2 = grind arith
+rises-le l m h = grind arith
 
 rises-less : (l m : Low) → at_least m (bottom l) ≡ true → (l ≡ m → ⊥) → rises l < rises m
-rises-less x0 x1 x2 x3 = grind arith
+rises-less l m h k = grind arith
 
 -- the interval down from -1 has no other that ends there, and shrinks least
 from_minus_one : (l m : Low) (k : High) → is_range l MinusOne ≡ true → at_least m (bottom l) ≡ true → ((l ≡ m) × (MinusOne ≡ k) → ⊥) → 0 < shrinks m k
-from_minus_one x0 x1 x2 x3 x4 x5 = grind arith
+from_minus_one l m k h f g = grind arith
 
 -- a smaller interval shrinks less often
 shrinks-less : (l m : Low) (h k : High) → is_range l h ≡ true → at_least m (bottom l) ≡ true → at_most k (top h) ≡ true → ((l ≡ m) × (h ≡ k) → ⊥) → shrinks l h < shrinks m k
-shrinks-less x0 x1 x2 x3 x4 x5 x6 x7 = grind (arith, from_minus_one, rises-less, rises-le)
+shrinks-less l m h k f g p q = grind (arith, from_minus_one, rises-less, rises-le)
 
 -- a smaller set has a lower height
 pub height-lower : (s t : Numbers) → Below s t → (s ≡ t → ⊥) → height s < height t
@@ -112,7 +112,7 @@ between-falls Min Unicode e = to_interval 16 Zero Min Unicode Unicode refl e ref
 between-falls Min Max e = to_interval 17 Zero Min Max Max refl e refl refl (other_low Zero Min Max Max (λ p. cc p)) (from_zero Max refl)
 
 pub height-reached : (s : Numbers) → Falls Below (height s) s
-height-reached x0 = grind (arith, listed-falls, between-falls)
+height-reached s = grind (arith, listed-falls, between-falls)
 
 pub height-most : (s : Numbers) → height s ≤ MAX_MEMBERS + 5
-height-most x0 = grind (arith, listed-few)
+height-most s = grind (arith, listed-few)

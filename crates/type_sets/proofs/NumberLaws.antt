@@ -108,10 +108,10 @@ highs : Side at_most higher high_of MinusOne
 highs = record { lets-wider = at_most-higher; lets-nearest = at_most-high_of; nearest-least = high_of-least; narrowest-least = minus_one_least }
 
 low_end-in : (s : Numbers) (n : ℤ) → has s n ≡ true → at_least (low_end s) n ≡ true
-low_end-in x0 x1 x2 = grind (arith, outermost-in, lows, first)
+low_end-in s n h = grind (arith, outermost-in, lows, first)
 
 high_end-in : (s : Numbers) (n : ℤ) → has s n ≡ true → at_most (high_end s) n ≡ true
-high_end-in x0 x1 x2 = grind (arith, outermost-in, highs, second)
+high_end-in s n h = grind (arith, outermost-in, highs, second)
 
 pub has-hull : (s t : Numbers) (n : ℤ) → has (hull s t) n ≡ ((at_least (low_end s) n || at_least (low_end t) n) && (at_most (high_end s) n || at_most (high_end t) n))
 unfolding hull
@@ -157,15 +157,15 @@ fourteen One = pos 1 ∷ pos 2 ∷ pos 3 ∷ pos 4 ∷ pos 5 ∷ pos 6 ∷ pos 7
 
 fourteen-ascending : (l : Low) → is_ascending int_cmp (fourteen l) ≡ true
 unfolding fourteen
-fourteen-ascending x0 = grind arith
+fourteen-ascending l = grind arith
 
 fourteen-length : (l : Low) → length (fourteen l) ≡ 14
 unfolding fourteen
-fourteen-length x0 = grind arith
+fourteen-length l = grind arith
 
 fourteen-in : (l : Low) (h : High) → is_range l h ≡ true → list_all (in_range l h) (fourteen l) ≡ true
 unfolding fourteen
-fourteen-in x0 x1 x2 = grind arith
+fourteen-in l h k = grind arith
 
 pub not_listed : (l : Low) (h : High) → is_range l h ≡ true → (xs : List ℤ) → are_listed xs ≡ true → ((n : ℤ) → in_range l h n ≡ true → has_item int_cmp xs n ≡ true) → ⊥
 not_listed l h e xs d f =
@@ -270,7 +270,7 @@ same_by s t h = same_numbers s t (λ n e. sym (h n) ∙ e) (λ n e. h n ∙ e)
 -- ---- what no integer is in
 
 pub is_none-empty : (s : Numbers) → is_none s ≡ true → (n : ℤ) → has s n ≡ false
-is_none-empty x0 x1 x2 = grind arith
+is_none-empty s h n = grind arith
 
 pub is_none-is : (s : Numbers) → is_none s ≡ true → s ≡ none
 is_none-is s h = same_by s none (is_none-empty s h)
