@@ -9,10 +9,7 @@ use Rattle.type_lattice.proofs.TypeLaws.{below_through, below_both, rank-falls}
 pub falls-rank : (n : ℕ) (t : Type4) → Falls n t → n ≤ rank t
 unfolding heights.Falls
 falls-rank zero t f = omega arith
-falls-rank (suc n) t f =
-    let less = rank-falls f.0 t f.1.0.0 f.1.0.1 in
-    let rest = falls-rank n f.0 f.1.1 in
-    omega (arith, less, rest)
+falls-rank (suc n) t f = grind (arith, rank-falls, falls-rank n f.0 f.1.1)
 
 -- from a larger type as often
 pub falls-above : (n : ℕ) (s t : Type4) → Below s t → Falls n s → Falls n t

@@ -1,5 +1,5 @@
 -- Equality and inclusion of types are functions.
-use Rattle.std.proofs.Common.{◌≡◌, Bool, true, false, refl, sym, ◌∙◌, subst, true≢false}
+use Rattle.std.proofs.Common.{◌≡◌, Bool, true, false, sym, ◌∙◌, subst, true≢false, arith}
 use Rattle.std.specs.Prelude.{◌↔◌, IsTrue}
 use Rattle.type_lattice.specs.Types.{Type4, HasType, Below, meet}
 use Rattle.type_lattice.specs.Inclusion.{is_same, same-equal, leq}
@@ -14,9 +14,7 @@ leq-below s t = (
 )
 
 one_truth : (a b : Bool) → (a ≡ true → b ≡ true) → (b ≡ true → a ≡ true) → a ≡ b
-one_truth true b f g = sym (f refl)
-one_truth false true f g = g refl
-one_truth false false f g = refl
+one_truth a b h k = grind arith
 
 -- what answers to inclusion is this function, and to inclusion both ways equality
 pub is_leq : (s t : Type4) (r : Bool) → IsTrue r ↔ Below s t → r ≡ leq s t

@@ -28,9 +28,8 @@ item_there (y ∷ ys) zero h = (y, refl)
 item_there (y ∷ ys) (suc i) h = item_there ys i (omega (arith, h))
 
 drop_at : {A : Type 0} (xs : List A) (i : ℕ) (x : A) → i < length xs → x ≡ slice_index_or xs i x → drop i xs ≡ x ∷ drop (suc i) xs
-drop_at [] i x h e = absurd (omega (arith, h))
-drop_at (y ∷ ys) zero x h e = ap (λ z. z ∷ ys) (sym e)
-drop_at (y ∷ ys) (suc i) x h e = drop_at ys i x (omega (arith, h)) e
+drop_at [] i x h e = grind arith
+drop_at (y ∷ ys) i x h e = grind (arith, drop_at ys)
 
 drop_all : {A : Type 0} (xs : List A) (i : ℕ) → length xs ≤ i → drop i xs ≡ []
 drop_all [] zero h = refl
@@ -49,13 +48,10 @@ next_left s row i x t e = ap (λ xs. with_elements 3 (view 4 t) (at_places s (su
 
 -- a place in the set is joined
 left_next : (s : Numbers) (row : List Node) (i : ℕ) (x t n : Node) → drop i row ≡ x ∷ drop (suc i) row → numbers.has s (pos (suc i)) ≡ true → view 4 n ≡ (ops 4).join (view 4 t) (cut 3 4 (view 3 x)) → Left s row (suc i) n ≡ Left s row i t
-left_next s row i x t n there h e =
-    let rest = at_places s (suc (suc i)) (row_view 3 (drop (suc i) row)) in
-    ap (λ u. with_elements 3 u rest) e ∙ ap (λ b. with_elements 3 (view 4 t) (cond b (view 3 x ∷ rest) rest)) (sym h) ∙ sym (next_left s row i x t there)
+left_next s row i x t n there h e = grind (arith, next_left)
 
 pub left_joined : (s : Numbers) (row : List Node) (i j : ℕ) (x t n : Node) → i < length row → x ≡ slice_index_or row i x → j ≡ suc i → numbers.has s (pos j) ≡ true → view 4 n ≡ (ops 4).join (view 4 t) (cut 3 4 (view 3 x)) → Left s row j n ≡ Left s row i t
-left_joined s row i j x t n below there q h e =
-    subst (λ k. numbers.has s (pos k) ≡ true → Left s row k n ≡ Left s row i t) (sym q) (λ p. left_next s row i x t n (drop_at row i x below there) p e) h
+left_joined s row i j x t n below there q h e = grind (arith, Left, left_next, drop_at)
 
 -- another is passed by
 pub left_passed : (s : Numbers) (row : List Node) (i j : ℕ) (t : Node) → i < length row → j ≡ suc i → numbers.has s (pos j) ≡ false → Left s row j t ≡ Left s row i t
@@ -78,13 +74,7 @@ with-append d t [] fs = refl
 with-append d t (e ∷ es) fs = with-append d ((ops (suc d)).join t (cut d (suc d) e)) es fs
 
 pub sizes_joined : (s : Numbers) (ss : List (SizeOf Node)) (i j : ℕ) (x : SizeOf Node) (t n : Node) → j ≡ suc i → i < length ss → x ≡ slice_index_or ss i x → view 4 n ≡ with_elements 3 (view 4 t) (at_places s 1 (elements (ops 3) (body_view 3 x.body))) → SizesLeft s ss j n ≡ SizesLeft s ss i t
-sizes_joined s ss i j x t n q h e f =
-    let rest = sizes_at (ops 3) s (sizes_view 3 (drop (suc i) ss)) in
-    let here = at_places s 1 (elements (ops 3) (body_view 3 x.body)) in
-    ap (λ k. SizesLeft s ss k n) q
-    ∙ ap (λ u. with_elements 3 u rest) f
-    ∙ sym (with-append 3 (view 4 t) here rest)
-    ∙ ap (λ xs. with_elements 3 (view 4 t) (sizes_at (ops 3) s (sizes_view 3 xs))) (sym (drop_at ss i x h e))
+sizes_joined s ss i j x t n q h e f = grind (arith, SizesLeft, with-append, drop_at)
 
 pub no_sizes_left : (s : Numbers) (ss : List (SizeOf Node)) (i : ℕ) (t : Node) → length ss ≤ i → SizesLeft s ss i t ≡ view 4 t
 no_sizes_left s ss i t h = ap (λ xs. with_elements 3 (view 4 t) (sizes_at (ops 3) s (sizes_view 3 xs))) (drop_all ss i h)

@@ -1,5 +1,5 @@
 -- Which values the types of one kind of values have.
-use Rattle.std.proofs.Common.{◌≡◌, [], ℕ, ◌<◌, ◌^◌, None, refl, sym, ap, ◌∙◌, arith}
+use Rattle.std.proofs.Common.{◌≡◌, [], ℕ, ◌<◌, ◌^◌, None, sym, ap, ◌∙◌, arith}
 use Rattle.std.specs.Prelude.{◌↔◌}
 use Rattle.type_sets.specs.Names as names
 use Rattle.type_sets.specs.Names.{Names}
@@ -47,8 +47,7 @@ ints_type s t p e f = same_type t (of_ints s) (f ∙ ap (λ q. alone (record { a
 
 plain_kind_type : (k : Kind) → (k ≡ kind.AnyTuple → ⊥) → alone (plain_of_kind k) ≡ (of_kind k).ty
 unfolding of_kind
-plain_kind_type kind.AnyTuple f = absurd (f refl)
-plain_kind_type k f = refl
+plain_kind_type k h = grind arith
 
 pub kind_type : (k : Kind) (t : Type4) (p : PlainParts) → (k ≡ kind.AnyTuple → ⊥) → p ≡ plain_of_kind k → t.ty ≡ alone p → t ≡ of_kind k
 kind_type k t p n e f = same_type t (of_kind k) (f ∙ ap alone e ∙ plain_kind_type k n)
@@ -70,9 +69,7 @@ ints-only s v = ints_only s v
 -- an arity is a number of 32 bits
 pub kind-only : (k : Kind) → ((n : ℕ) → k ≡ kind.FunOf n → n < 2 ^ 32) → (v : Value) → HasType v (of_kind k) ↔ IsKind k v
 unfolding HasType of_kind
-kind-only (kind.FunOf n) f v = let k = f n refl in (λ h. grind arith, λ h. grind arith)
-kind-only kind.AnyTuple f v = tuples_only v
-kind-only k f v = (λ h. grind arith, λ h. grind arith)
+kind-only k h v = grind (arith, tuples_only)
 
 pub no_arity : (k : Kind) → k ≡ kind.AnyTuple → (n : ℕ) → k ≡ kind.FunOf n → n < 2 ^ 32
 no_arity k e n f = absurd (let g = sym e ∙ f in cc)

@@ -1,14 +1,13 @@
 -- What the makers of types make.
-use Rattle.std.proofs.Common.{◌≡◌, ℕ, zero, suc, ◌+◌, ◌<◌, ◌≤◌, Bool, true, false, ◌&&◌, ◌||◌, List, [], ◌∷◌, ◌++◌, map, length, take, get_or, Option, Some, None, refl, sym, ap, ◌∙◌, subst, true≢false, arith}
-use Rattle.std.specs.Prelude.{◌↔◌, IsTrue, cond, nat_lt, slice_index_or, slice_get}
-use borrow.Author.Tests.{lt-ltb}
+use Rattle.std.proofs.Common.{◌≡◌, ℕ, zero, suc, ◌+◌, ◌<◌, ◌≤◌, Bool, true, false, ◌&&◌, ◌||◌, List, [], ◌∷◌, ◌++◌, map, length, take, get_or, Option, Some, None, refl, sym, ap, ◌∙◌, subst, arith}
+use Rattle.std.specs.Prelude.{◌↔◌, IsTrue, cond, slice_index_or, slice_get}
 use Rattle.std.proofs.lemmas.List.{take_more, take_all, map-append, length-map}
 use Rattle.type_sets.specs.Names as names
 use Rattle.type_sets.specs.Numbers as numbers
 use Rattle.type_sets.specs.declared.bits.Bits.TheVariants.{No}
 use Rattle.type_model.specs.Shapes.{no_function, PlainParts, Body, TypeAt, sizes, all_tuples}
-use Rattle.type_model.specs.Operations.{Ops, ops, has_none, body_of, elements, of_plain, of_tuples, plain_none, plain_all, is_no_plain, is_empty, no_tuples}
-use Rattle.type_model.specs.Normal.{AreElements, NormalParts, NormalAt}
+use Rattle.type_model.specs.Operations.{Ops, ops, has_none, body_of, elements, of_tuples, plain_all, is_no_plain, is_empty, no_tuples}
+use Rattle.type_model.specs.Normal.{AreElements, NormalAt}
 use Rattle.type_model.specs.Parts.{AreNormal, product_of, without_nil, proper_cell, is_list, element_with, flags_of_nil, tail_parts}
 use Rattle.type_model.proofs.LevelLaws.{level_laws}
 use Rattle.type_model.proofs.BodyLaws.{elements_normal}
@@ -54,19 +53,13 @@ module _ {E : Type 0} (o : Ops E) where
 -- ---- lists
 
 last_fails : (a b c : Bool) → c ≡ false → false ≡ (a && b && c)
-last_fails true true c h = sym h
-last_fails true false c h = refl
-last_fails false b c h = refl
+last_fails a b c h = grind arith
 
 middle_fails : (a b c : Bool) → b ≡ false → false ≡ (a && b && c)
-middle_fails true true c h = absurd (true≢false h)
-middle_fails true false c h = refl
-middle_fails false b c h = refl
+middle_fails a b c h = grind arith
 
 first_decides : (a b c : Bool) → b ≡ true → c ≡ true → a ≡ (a && b && c)
-first_decides true true c h k = sym k
-first_decides true false c h k = absurd (true≢false (sym h))
-first_decides false b c h k = refl
+first_decides a b c h k = grind arith
 
 -- not each value is a proper list
 pub any_lists : (t : Node) → t ≡ v.Any → (d : ℕ) → false ≡ is_list (ops d) (view (suc d) t)
@@ -90,10 +83,8 @@ pub all_there : (d : ℕ) (t : TuplesOf Node) → t ≡ All → no_tuples (ops d
 all_there d t e = ap (λ x. no_tuples (ops d) (tuples_view d x)) e
 
 sizes_there : (d : ℕ) (ss : List (SizeOf Node)) (b : Bool) → IsTrue b ↔ (ss ≡ []) → is_empty (sizes_view d ss) ≡ b
-sizes_there d [] true h = refl
-sizes_there d [] false h = sym (h.1 refl)
-sizes_there d (s ∷ ss) true h = absurd (let e = h.0 refl in cc)
-sizes_there d (s ∷ ss) false h = refl
+sizes_there d [] b h = grind arith
+sizes_there d (s ∷ ss) b h = grind arith
 
 pub tuples_there : (d : ℕ) (t : TuplesOf Node) (ss : List (SizeOf Node)) (b : Bool) → t ≡ Sizes ss → IsTrue b ↔ (ss ≡ []) → no_tuples (ops d) (tuples_view d t) ≡ b
 tuples_there d t ss b e h = ap (λ x. no_tuples (ops d) (tuples_view d x)) e ∙ sizes_there d ss b h
@@ -133,9 +124,8 @@ cell_fits d t p c x e f g h = subst (λ y. Fits d y) (sym g) (subst (λ y. EachI
 
 -- what stands at a place stands for the type there
 place_of : {A B : Type 0} (f : A → B) (xs : List A) (i : ℕ) (x : A) → i < length xs → x ≡ slice_index_or xs i x → Some (f x) ≡ slice_get (map f xs) i
-place_of f [] i x h e = absurd (omega arith)
-place_of f (y ∷ xs) zero x h e = ap (λ z. Some (f z)) e
-place_of f (y ∷ xs) (suc i) x h e = place_of f xs i x (omega arith) e
+place_of f [] i x h e = grind arith
+place_of f (y ∷ xs) i x h e = grind (arith, place_of f xs)
 
 -- a row of the types of a body's elements has a type at each place
 pub place_there : (d : ℕ) (b : BodyOf Node) (ns : List Node) (i : ℕ) → ((n : ℕ) × (BodyFits d n b × (i < n))) → row_view d ns ≡ elements (ops d) (body_view d b) → i < length ns
@@ -156,10 +146,7 @@ module _ (d : ℕ) (c : CellOf Node) (p : PlainParts) (x : Node) (ts : TuplesOf 
   tail_view e f g = λ n. record { plain = e n; cell = Some (record { element = view d (f n); is_proper = c.is_proper }); tuples = g n }
 
   pub tail_fits : p ≡ cond c.is_proper (record { atoms = names.none; ints = numbers.none; bits = No; flags = flags_of_nil; functions = no_function }) plain_all → x ≡ c.element → tuples_view d ts ≡ cond c.is_proper (sizes []) all_tuples → EachInTuples (Fits d) ts → CellFits d (Some c) → PartsFit d made_tail
-  tail_fits e f g h k = record {
-    normal = subst (λ t. NormalParts (NormalAt d) (ops d) t) (sym (tail_view e f g)) (tail_normal (level_laws d) (cell_view d (Some c)) k.normal);
-    each = (subst (λ y. Fits d y) (sym f) k.each, h);
-  }
+  tail_fits e f g h k = grind (arith, tail_view, tail_normal, level_laws d)
 
 -- ---- products
 
@@ -184,11 +171,7 @@ row_view-all d f xs i ns h k = k ∙ ap (map f) (take_all i xs h)
 
 -- the tuples of some types, of which none is none, as those of one size
 pub product_type : (d : ℕ) (es : List (TypeAt d)) (n : ℕ) (b : Body (TypeAt d)) (t : TypeAt (suc d)) → n ≡ length es → b ≡ body_of (ops d) es → length es < 65 → has_none (ops d) es ≡ false → t ≡ of_tuples (ops d) (sizes ((n, b) ∷ [])) → t ≡ product_of (ops d) es
-product_type d es n b t e f small k g =
-    g
-    ∙ (λ i. of_tuples (ops d) (sizes ((e i, f i) ∷ [])))
-    ∙ ap (λ c. of_tuples (ops d) (cond c (sizes ((length es, body_of (ops d) es) ∷ [])) all_tuples)) (sym (lt-ltb (length es) 65 small))
-    ∙ ap (λ c. cond c (of_plain (ops d) plain_none) (of_tuples (ops d) (cond (nat_lt (length es) 65) (sizes ((length es, body_of (ops d) es) ∷ [])) all_tuples))) (sym k)
+product_type d es n b t e f small k g = grind arith
 
 -- the body of a row that stands for them
 pub product_row : {A : Type 0} (d : ℕ) (f : A → TypeAt d) (xs : List A) (row : List Node) (n : ℕ) (b : BodyOf Node) → n ≡ length xs → row_view d row ≡ map f xs → AreNormal (NormalAt d) (map f xs) → has_none (ops d) (map f xs) ≡ false → body_view d b ≡ body_of (ops d) (row_view d row) → EachInBody (Fits d) b → BodyFits d n b

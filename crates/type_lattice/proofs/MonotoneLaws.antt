@@ -1,5 +1,5 @@
 -- Each operation on types is monotone: of larger types it gives a larger type.
-use Rattle.std.proofs.Common.{ℕ, Bool, true, false, List, [], ◌∷◌, sym, subst}
+use Rattle.std.proofs.Common.{ℕ, Bool, true, false, List, [], ◌∷◌, sym, subst, arith}
 use Rattle.type_model.specs.Values.{cons as cons_value, Values, no_value, and_value, heads}
 use Rattle.type_model.specs.HasType.{HasAll}
 use Rattle.type_model.specs.Cut as levels
@@ -68,5 +68,4 @@ free_more h t i u f g v m =
     subst (λ z. HasType z (cons i u false)) (sym w.1.1) ((cons-free_ends i u x y).1 more_heads)
 
 pub cons-more : (h t i u : Type4) (proper : Bool) → Below h i → Below t u → Below (cons h t proper) (cons i u proper)
-cons-more h t i u true f g = proper_more h t i u f g
-cons-more h t i u false f g = free_more h t i u f g
+cons-more h t i u proper k f = grind (arith, proper_more, free_more)

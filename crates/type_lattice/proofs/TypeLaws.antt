@@ -1,5 +1,5 @@
 -- The laws of the types of level 4, with what is said of their operations.
-use Rattle.std.proofs.Common.{◌≡◌, ℕ, ◌-◌, ◌≤◌, ◌<◌, Bool, true, List, [], ◌∷◌, map, Some, refl, sym, ap, ◌∙◌, subst, inl, inr}
+use Rattle.std.proofs.Common.{◌≡◌, ℕ, ◌-◌, ◌≤◌, ◌<◌, Bool, true, List, map, Some, refl, sym, ap, ◌∙◌, subst, inl, inr, arith}
 use Rattle.std.specs.Prelude.{◌↔◌, IsTrue}
 use Rattle.type_model.specs.Values.{Value, Values, no_value, and_value, count, cons as cons_value, tuple as tuple_value}
 use Rattle.type_model.specs.HasType.{HasAt, HasEach}
@@ -71,9 +71,7 @@ cut-level d t = (levels.cut 4 d t.ty, ((cut_lowering 4 d).normal t.ty t.normal, 
 
 pub cut-above : (d : ℕ) (t : Type4) → Below t (cut d t)
 unfolding HasType cut
-cut-above d t v h =
-    let low = levels.cut 4 d t.ty in
-    (cut_lowering d 4).above low ((cut_lowering 4 d).normal t.ty t.normal) v ((cut_lowering 4 d).above t.ty t.normal v h)
+cut-above d t v h = grind (arith, cut_lowering, (cut_lowering d 4).above, (cut_lowering 4 d).normal, (cut_lowering 4 d).above)
 
 pub cut-least : (d : ℕ) → d ≤ 4 → (t u : Type4) → IsOfLevel d u → Below t u → Below (cut d t) u
 unfolding HasType cut
@@ -88,17 +86,13 @@ cut-least d k t u w f v h =
 
 each_type : (vs : Values) (ts : List Type4) → HasTypes vs ts → HasEach (HasAt 4) vs (map (λ t. t.ty) ts)
 unfolding HasType
-each_type no_value [] h = h
-each_type no_value (t ∷ ts) h = h
-each_type (and_value v vs) [] h = h
-each_type (and_value v vs) (t ∷ ts) h = (h.0, each_type vs ts h.1)
+each_type no_value ts h = grind arith
+each_type (and_value v vs) ts h = grind (arith, each_type vs)
 
 type_each : (vs : Values) (ts : List Type4) → HasEach (HasAt 4) vs (map (λ t. t.ty) ts) → HasTypes vs ts
 unfolding HasType
-type_each no_value [] h = h
-type_each no_value (t ∷ ts) h = h
-type_each (and_value v vs) [] h = h
-type_each (and_value v vs) (t ∷ ts) h = (h.0, type_each vs ts h.1)
+type_each no_value ts h = grind arith
+type_each (and_value v vs) ts h = grind (arith, type_each vs)
 
 pub tuple-has : (ts : List Type4) (vs : Values) → HasTypes vs ts → HasType (tuple_value vs) (tuple ts)
 unfolding HasType tuple

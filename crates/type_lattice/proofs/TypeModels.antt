@@ -1,5 +1,5 @@
 -- Types of the code against their model.
-use Rattle.std.proofs.Common.{◌≡◌, ℕ, zero, suc, ◌-◌, ◌≤◌, ◌<◌, Bool, true, false, ◌&&◌, cond, List, [], ◌∷◌, map, length, nat_cmp, Option, Some, None, inl, inr, refl, sym, ap, ◌∙◌, subst, arith}
+use Rattle.std.proofs.Common.{◌≡◌, ℕ, ◌-◌, ◌≤◌, ◌<◌, Bool, true, false, ◌&&◌, cond, List, [], ◌∷◌, map, length, nat_cmp, Option, Some, None, refl, sym, ap, ◌∙◌, subst, arith}
 use Rattle.std.specs.Prelude.{◌↔◌, ◌⊎◌, IsTrue, not, nat_lt, slice_get}
 use Rattle.std.proofs.lemmas.Bool.{lt-ltb, le-ltb}
 use Rattle.std.proofs.lemmas.List.{length-map}
@@ -23,7 +23,7 @@ use Rattle.type_trees.specs.declared.node.TuplesOf.TheVariants.{Sizes}
 use Rattle.type_trees.specs.declared.node.SizeOf.{SizeOf}
 use Rattle.type_trees.specs.declared.node.BodyOf.{BodyOf}
 use Rattle.type_lattice.specs.declared.kinds.Ends.{Ends}
-use Rattle.type_lattice.specs.declared.kinds.Ends.TheVariants.{Proper, Free}
+use Rattle.type_lattice.specs.declared.kinds.Ends.TheVariants.{Proper}
 use Rattle.type_lattice.specs.contracts.kinds.EndsPartialEq.TheImpl as ends
 use Rattle.type_lattice.specs.Kinds.{asks_proper}
 use Rattle.type_lattice.specs.Types.{Type4, same_type, HasType, Below, none, any, is_none, meet, join, cut, elem, tail, project, tuple, cons, every_tuple}
@@ -67,8 +67,7 @@ below_types s t a b r e f h =
 -- level 0 is for types that have a value
 pub cut_filled : (d : ℕ) (t : Type4) (n : Node) → view 4 n ≡ t.ty → (d ≡ 0 → is_none t ≡ false) → (1 ≤ d) ⊎ ((ops 4).is_none (view 4 n) ≡ false)
 unfolding is_none
-cut_filled zero t n e f = inr (ap (ops 4).is_none e ∙ f refl)
-cut_filled (suc d) t n e f = inl (omega arith)
+cut_filled d t n h k = grind arith
 
 -- and none is none at each level
 pub cut_none : (d : ℕ) (t r : Type4) → d ≡ 0 → is_none t ≡ true → r ≡ none → r ≡ cut d t
@@ -173,8 +172,7 @@ project_any t r n i e f = project_all t r n i (any_tuples t e) f
 
 -- over 64 there is no size
 wide : (m : List (ℕ × Body (TypeAt 3))) (n i : ℕ) → 64 < n → element_at (ops 3) (sizes m) n i ≡ cond (is_empty m) None (Some (ops 3).any)
-wide m n i k =
-    ap (λ b. cond b (elim (find nat_cmp m n) [ None ↦ None | Some b ↦ slice_get (elements (ops 3) b) i ]) (cond (is_empty m) None (Some (ops 3).any))) (le-ltb n 65 (omega (arith, k)))
+wide m n i k = grind (arith, nat_cmp, le-ltb)
 
 pub project_wide_none : (t r : Type4) (n i : ℕ) (ss : List (SizeOf Node)) → t.ty.tuples ≡ sizes (sizes_view 3 ss) → 64 < n → ss ≡ [] → r ≡ none → r ≡ project t n i
 project_wide_none t r n i ss e k f g =
@@ -190,9 +188,7 @@ project_wide_any t r n i ss e k f g =
 
 -- and else it is looked up
 narrow : (m : List (ℕ × Body (TypeAt 3))) (n i : ℕ) (b : Option (Body (TypeAt 3))) → n ≤ 64 → b ≡ find nat_cmp m n → element_at (ops 3) (sizes m) n i ≡ elim b [ None ↦ None | Some b ↦ slice_get (elements (ops 3) b) i ]
-narrow m n i b k e =
-    ap (λ x. cond x (elim (find nat_cmp m n) [ None ↦ None | Some b ↦ slice_get (elements (ops 3) b) i ]) (cond (is_empty m) None (Some (ops 3).any))) (lt-ltb n 65 (omega (arith, k)))
-    ∙ ap (λ x. elim x [ None ↦ None | Some b ↦ slice_get (elements (ops 3) b) i ]) (sym e)
+narrow m n i b k e = grind (arith, nat_cmp, lt-ltb)
 
 pub project_missing : (t r : Type4) (n i : ℕ) (ss : List (SizeOf Node)) → t.ty.tuples ≡ sizes (sizes_view 3 ss) → n ≤ 64 → None ≡ find nat_cmp (sizes_view 3 ss) n → r ≡ none → r ≡ project t n i
 project_missing t r n i ss e k f g =
@@ -214,10 +210,7 @@ only_tuples t = record { plain = plain_none; cell = None; tuples = t }
 
 -- the product, where it is told whether a type is none and whether there are few
 product_is : (es : List (TypeAt 4)) (b c : Bool) → b ≡ has_none (ops 4) es → nat_lt (length es) 65 ≡ c → product_of (ops 4) es ≡ cond b (only_tuples (sizes [])) (only_tuples (cond c (sizes ((length es, body_of (ops 4) es) ∷ [])) all_tuples))
-product_is es b c e f =
-    let few = sizes ((length es, body_of (ops 4) es) ∷ []) in
-    ap (λ x. cond x (only_tuples (sizes [])) (only_tuples (cond (nat_lt (length es) 65) few all_tuples))) (sym e)
-    ∙ ap (λ x. cond b (only_tuples (sizes [])) (only_tuples (cond x few all_tuples))) f
+product_is es b c e f = grind (arith, only_tuples)
 
 none_cut : none.ty ≡ levels.cut 5 4 (only_tuples (sizes []))
 unfolding none levels.cut ops
@@ -259,8 +252,7 @@ cons_filled h t proper e f = cons-made 3 h.ty t.ty proper e f
 
 -- the element type that the code makes
 element_is : (h t : Type4) (a b l n : Node) → view 4 a ≡ h.ty → view 4 b ≡ t.ty → view 3 l ≡ levels.cut 4 3 (view 4 a) → view 3 n ≡ element_with (ops 3) (view 3 l) (view 4 b).cell → view 3 n ≡ element_with (ops 3) (levels.cut 4 3 h.ty) t.ty.cell
-element_is h t a b l n e f g k =
-    k ∙ ap (λ x. element_with (ops 3) x (view 4 b).cell) (g ∙ ap (levels.cut 4 3) e) ∙ ap (λ x. element_with (ops 3) (levels.cut 4 3 h.ty) x.cell) f
+element_is h t a b l n e f g k = grind arith
 
 -- it has a value
 pub element_filled : (h t : Type4) (a b l n : Node) → view 4 a ≡ h.ty → view 4 b ≡ t.ty → is_none h ≡ false → is_none t ≡ false → view 3 l ≡ levels.cut 4 3 (view 4 a) → view 3 n ≡ element_with (ops 3) (view 3 l) (view 4 b).cell → (ops 3).is_none (view 3 n) ≡ false
@@ -278,8 +270,7 @@ cons_type h t r proper is_proper a b l n x e f p q g k m y z =
 -- ---- the ends that one asks for
 
 asks : (e : Ends) (b : Bool) → b ≡ (ends.ghosts).eq e Proper → asks_proper e ≡ b
-asks Proper b f = sym f
-asks Free b f = sym f
+asks e b h = grind arith
 
 pub proper_asked : (e : Ends) (b r l : Bool) → b ≡ (ends.ghosts).eq e Proper → b ≡ true → r ≡ l → r ≡ (asks_proper e && l)
 proper_asked e b r l f g h = h ∙ ap (λ x. x && l) (sym (asks e b f ∙ g))

@@ -149,11 +149,8 @@ module _ {E : Type 0} {Has : Value → E → Type 0} {Normal : E → Type 0} {o 
       let y = kept_leaf p.plain w.0 w.1 in
       y.1 (leaf_end (value_of_shape (leaf w.0)) w.0 (shape-value_of_shape (leaf w.0)) (f (value_of_shape (leaf w.0)) (has_value w.0 p y.0)))) in
       let y : b ≡ true = ends_proper p.cell k.1 (λ h t z. f (cons h t) z) in
-      let z : c ≡ true = elim ((tuples_lattice l).filled p.tuples k.2) [ inl q ↦ ap (no_tuples o) q | inr w ↦ absurd (not_nil w.0 (f (tuple w.0) w.1)) ] in
+      let z : c ≡ true = elim ((tuples_lattice l).filled p.tuples k.2) [ inl q ↦ ap (no_tuples o) q | inr w ↦ cc (f (tuple w.0) w.1) ] in
       both (a && b) c (both a b x y) z
-    where
-      not_nil : (vs : Values) → tuple vs ≡ nil → ⊥
-      not_nil vs q = cc
 
 -- the test says just whether each value of a normal type ends in nil
 pub is_list-lists : (d : ℕ) (t : TypeAt (suc d)) → is_list (ops d) t ≡ true → (v : Value) → HasAt (suc d) v t → end_of v ≡ nil

@@ -110,24 +110,15 @@ module _ {E : Type 0} {Has : Value → E → Type 0} {Normal : E → Type 0} {o 
   -- what else there is has a shape that is no atom
   pub other_shape : (p : P) → NormalP p → is_only_atoms o p ≡ false → (x : Shape) × (HasF x p × ((a : Name) → x ≡ leaf (an_atom a) → ⊥))
   other_shape p k e = elim (decided (is_atoms p.plain)) [
-    | inr n ↦ let w = is_atoms-other p.plain n in (leaf w.0, (w.1.0, λ a q. w.1.1 a (leaf_same w.0 (an_atom a) q)))
+    | inr n ↦ let w = is_atoms-other p.plain n in (leaf w.0, (w.1.0, λ a q. w.1.1 a cc))
     | inl y ↦ elim (cells.filled p.cell k.1) [
-      | inr c ↦ (pair c.0.0 c.0.1, (c.1, λ a q. pair_other c.0.0 c.0.1 (an_atom a) q))
+      | inr c ↦ (pair c.0.0 c.0.1, (c.1, λ a q. cc))
       | inl c ↦ elim (rows.filled p.tuples k.2) [
-        | inr t ↦ (row t.0, (t.1, λ a q. row_other t.0 (an_atom a) q))
+        | inr t ↦ (row t.0, (t.1, λ a q. cc))
         | inl t ↦ absurd (true≢false (sym (both (is_atoms p.plain && no_cell o p.cell) (no_tuples o p.tuples) (both (is_atoms p.plain) (no_cell o p.cell) y (ap (no_cell o) c)) (ap (no_tuples o) t)) ∙ e))
       ]
     ]
   ]
-    where
-      leaf_same : (x y : Leaf) → leaf x ≡ leaf y → x ≡ y
-      leaf_same x y q = cc
-
-      pair_other : (h t : Value) (y : Leaf) → pair h t ≡ leaf y → ⊥
-      pair_other h t y q = cc
-
-      row_other : (vs : Values) (y : Leaf) → row vs ≡ leaf y → ⊥
-      row_other vs y q = cc
 
   -- ---- the forms of a type
 

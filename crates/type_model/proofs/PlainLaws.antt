@@ -165,18 +165,11 @@ is_atoms-other p h = elim (decided (numbers.is_none p.ints)) [
       | inr m ↦ let n = some_flag p.flags m in (of_flag n.0, (n.1, λ a e. cc))
       | inl m ↦ elim (decided (is_no_function p.functions)) [
         | inr o ↦ let n = some_arity p.functions o in (a_function n.0, (n.1, λ a e. cc))
-        | inl o ↦ absurd (true≢false (sym (all_four k l m o) ∙ h))
+        | inl o ↦ grind arith
       ]
     ]
   ]
-] where
-  all_four : numbers.is_none p.ints ≡ true → is_no_bits p.bits ≡ true → is_no_flag p.flags ≡ true → is_no_function p.functions ≡ true → is_atoms p ≡ true
-  all_four k l m o =
-      let x = numbers.is_none p.ints in
-      let y = is_no_bits p.bits in
-      let z = is_no_flag p.flags in
-      let w = is_no_function p.functions in
-      both (x && y && z) w (both (x && y) z (both x y k l) m) o
+]
 
 -- ---- nothing at all
 

@@ -28,27 +28,16 @@ not_some x h = grind arith
 pub found_at : {X : Type 0} (x : Option X) → is_some x ≡ true → (y : X) × (x ≡ Some y)
 found_at x h = grind arith
 
-none_or : {X : Type 0} → Option X → X → X
-none_or (Some x) y = x
-none_or None y = y
-
 pub same_some : {X : Type 0} (x y : X) → Some x ≡ Some y → x ≡ y
-unfolding none_or
-same_some x y e = ap (λ o. none_or o x) e
+same_some x y e = cc
 
 pub some-none : {X : Type 0} (x : X) → Some x ≡ None → ⊥
 some-none x e = true≢false (ap is_some e)
 
 -- ---- help for what follows
 
--- a first key
-key_or : {K : Type 0} → List K → K → K
-key_or [] k = k
-key_or (x ∷ xs) k = x
-
 same_first : {K : Type 0} (k l : K) (ks ls : List K) → k ∷ ks ≡ l ∷ ls → k ≡ l
-unfolding key_or
-same_first k l ks ls e = ap (λ qs. key_or qs k) e
+same_first k l ks ls e = cc
 
 -- what is joined, by tests of a key
 joined-either : {X : Type 0} (j : X → X → X) (a : Bool) (y x : X) (z : Option X) → cond a (Some (j y x)) z ≡ joined j (cond a (Some y) z) (cond a (Some x) None)

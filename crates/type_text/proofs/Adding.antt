@@ -1,5 +1,5 @@
 -- Words behind words.
-use Rattle.std.proofs.Common.{◌≡◌, ℕ, ◌+◌, ◌<◌, Bool, true, false, ◌||◌, List, [], ◌∷◌, ◌++◌, length, take, drop, refl, sym, ap, ◌∙◌, subst, append_assoc}
+use Rattle.std.proofs.Common.{◌≡◌, ℕ, ◌+◌, ◌<◌, Bool, ◌||◌, List, [], ◌∷◌, ◌++◌, length, take, drop, refl, sym, ap, ◌∙◌, subst, append_assoc, arith}
 use Rattle.std.specs.Prelude.{slice_index_or}
 use Rattle.std.proofs.lemmas.List.{take_more, take-append-drop, append-nil}
 use Rattle.std.proofs.Math.Seq.{take-append_seam}
@@ -13,39 +13,23 @@ after-append s [] vs = refl
 after-append s (w ∷ ws) vs = rw (after-append s ws vs) (simp append_assoc)
 
 row_text-append : (s : List ℕ) (b : Bool) (ws vs : List (List ℕ)) → row_text s b (ws ++ vs) ≡ row_text s b ws ++ row_text s (b || has_words ws) vs
-row_text-append s true ws vs = after-append s ws vs
-row_text-append s false [] vs = refl
-row_text-append s false (w ∷ ws) vs = rw (after-append s ws vs) (simp append_assoc)
+row_text-append s b ws vs = grind (arith, after-append, append_assoc)
 
 has_words-append : (b : Bool) (ws vs : List (List ℕ)) → ((b || has_words ws) || has_words vs) ≡ (b || has_words (ws ++ vs))
-has_words-append true ws vs = refl
-has_words-append false [] vs = refl
-has_words-append false (w ∷ ws) vs = refl
+has_words-append b ws vs = grind arith
 
 row_text-one : (s : List ℕ) (b : Bool) (w : List ℕ) → row_text s b ([] ∷ []) ++ w ≡ row_text s b (w ∷ [])
-row_text-one s true w = simp (append_assoc, append-nil)
-row_text-one s false w = sym (append-nil w)
+row_text-one s b w = grind (arith, append_assoc, append-nil)
 
 -- ---- what is added
 
 -- words, and then more
 pub both : {s : List ℕ} {ws vs : List (List ℕ)} {a b c : Bool} {o p q : List ℕ} → Adds s ws a b o p → Adds s vs b c p q → Adds s (ws ++ vs) a c o q
-both {s = s} {ws = ws} {vs = vs} {a = a} {b = b} {o = o} k l = record {
-  text =
-      l.text
-      ∙ ap (λ t. t ++ row_text s b vs) k.text
-      ∙ append_assoc o (row_text s a ws) (row_text s b vs)
-      ∙ ap (λ t. o ++ (row_text s a ws ++ row_text s t vs)) k.some
-      ∙ ap (λ t. o ++ t) (sym (row_text-append s a ws vs));
-  some = l.some ∙ ap (λ t. t || has_words vs) k.some ∙ has_words-append a ws vs;
-}
+both {s = s} {ws = ws} {vs = vs} {a = a} {b = b} {o = o} k l = grind (arith, append_assoc, row_text-append, has_words-append)
 
 -- a separator, and then a word
 pub one_word : {s : List ℕ} {a b : Bool} {o p : List ℕ} → Adds s ([] ∷ []) a b o p → (w q : List ℕ) → q ≡ p ++ w → Adds s (w ∷ []) a b o q
-one_word {s = s} {a = a} {o = o} k w q e = record {
-  text = e ∙ ap (λ t. t ++ w) k.text ∙ append_assoc o (row_text s a ([] ∷ [])) w ∙ ap (λ t. o ++ t) (row_text-one s a w);
-  some = k.some;
-}
+one_word {s = s} {a = a} {o = o} k w q e = grind (arith, append_assoc, row_text-one)
 
 -- The words of one more item of a list.
 pub one_more :

@@ -17,8 +17,7 @@ use Rattle.type_text.specs.Words.{WordStop, TypeStop}
 
 -- what may follow a type may follow a number
 pub word_stop : (rest : List ℕ) → TypeStop rest → WordStop rest
-word_stop [] h = tt
-word_stop (b ∷ bs) h = grind (arith, nat_tests)
+word_stop rest h = grind (arith, nat_tests)
 
 -- ---- words
 
@@ -75,8 +74,7 @@ atom_ends bytes left atom rest so_far reads = by so_far.more so_far.all so_far.t
 
 -- what may follow a number begins with no digit
 pub no_digits : (rest : List ℕ) → WordStop rest → prefix_len is_digit rest ≡ 0
-no_digits [] stops = refl
-no_digits (b ∷ bs) stops = rw stops refl
+no_digits rest h = grind arith
 
 pub number_is_there : (n : ℕ) (text rest : List ℕ) → n < 2 ^ 127 → text ≡ decimal n ++ rest → WordStop text → ⊥
 number_is_there n text rest narrow is stops =

@@ -1,5 +1,5 @@
 -- The text of a type, from that of its parts.
-use Rattle.std.proofs.Common.{◌≡◌, ℕ, zero, suc, ◌-◌, Bool, true, false, cond, ◌&&◌, List, [], ◌∷◌, ◌++◌, Option, Some, None, map, codes, refl, sym, ap, ◌∙◌, true≢false, arith, append_assoc}
+use Rattle.std.proofs.Common.{◌≡◌, ℕ, zero, suc, ◌-◌, Bool, true, false, cond, ◌&&◌, List, [], ◌∷◌, ◌++◌, Option, Some, map, codes, refl, sym, ap, ◌∙◌, true≢false, arith, append_assoc}
 use Rattle.std.specs.Coded.{Coded-set, coded_bool}
 use Rattle.type_kinds.specs.Quoted.{quoted}
 use Rattle.type_sets.specs.Names as names
@@ -9,18 +9,18 @@ use Rattle.type_sets.specs.Numbers.{Numbers}
 use Rattle.type_sets.specs.declared.ends.Low.TheVariants as low
 use Rattle.type_sets.specs.declared.ends.High.TheVariants as high
 use Rattle.type_sets.specs.declared.bits.Bits.{Bits}
-use Rattle.type_sets.specs.declared.bits.Bits.TheVariants.{No, Whole, Any}
+use Rattle.type_sets.specs.declared.bits.Bits.TheVariants.{Any}
 use Rattle.type_sets.proofs.Truths.{first, second, is_false}
-use Rattle.type_model.specs.Shapes.{Functions, no_function, of_arity, all_functions, PlainParts, Cell, Tuples, sizes, all_tuples, TypeAt}
+use Rattle.type_model.specs.Shapes.{Functions, all_functions, PlainParts, Cell, Tuples, all_tuples, TypeAt}
 use Rattle.type_model.specs.Operations.{ops, plain_all}
 use Rattle.type_trees.specs.declared.node.Node.{Node}
 use Rattle.type_trees.specs.declared.node.Node.TheVariants as v
 use Rattle.type_trees.specs.declared.node.PartsOf.{PartsOf}
 use Rattle.type_trees.specs.declared.node.SizeOf.{SizeOf}
 use Rattle.type_trees.specs.declared.node.TagOf.{TagOf}
-use Rattle.type_trees.specs.View.{view, row_view, tags_view, body_view, sizes_view, parts_view, Fits, EachInParts}
+use Rattle.type_trees.specs.View.{view, row_view, tags_view, sizes_view, parts_view, Fits, EachInParts}
 use Rattle.type_trees.proofs.Views.{view_any, view_of, of_above, fits_of, below_fits}
-use Rattle.type_text.specs.Texts.{separated, tuple_word, body_words, tag_words, size_words, parts_words, is_all_atoms, is_all_ints, is_all_bits, is_all_functions, is_all_plain, is_any_cell, is_every_tuple, is_any, text_at}
+use Rattle.type_text.specs.Texts.{separated, tuple_word, tag_words, size_words, parts_words, is_all_atoms, is_all_ints, is_all_bits, is_all_functions, is_all_plain, is_any_cell, is_every_tuple, is_any, text_at}
 
 -- ---- one level of a tree
 
@@ -31,8 +31,7 @@ each_below t p e d h = (below_fits t p e d h).each
 -- ---- whether all parts are full
 
 atoms_all : (s : Names) → is_all_atoms s ≡ true → s ≡ names.every
-atoms_all (names.some xs e) h = absurd (true≢false (sym h))
-atoms_all names.every h = refl
+atoms_all s h = grind arith
 
 ints_all : (s : Numbers) → is_all_ints s ≡ true → s ≡ numbers.all
 ints_all (numbers.some xs e) h = absurd (true≢false (sym h))
@@ -40,51 +39,22 @@ ints_all (numbers.between low.Min high.Max e) h = ap (numbers.between low.Min hi
 ints_all (numbers.between l k e) h = absurd (true≢false (sym h))
 
 bits_all : (b : Bits) → is_all_bits b ≡ true → b ≡ Any
-bits_all No h = absurd (true≢false (sym h))
-bits_all Whole h = absurd (true≢false (sym h))
-bits_all Any h = refl
+bits_all b h = grind arith
 
 functions_all : (f : Functions) → is_all_functions f ≡ true → f ≡ all_functions
-functions_all no_function h = absurd (true≢false (sym h))
-functions_all (of_arity n) h = absurd (true≢false (sym h))
-functions_all all_functions h = refl
+functions_all f h = grind arith
 
 plain_is_all : (p : PlainParts) → is_all_plain p ≡ true → p ≡ plain_all
-plain_is_all p h =
-    let nils = first _ p.flags.map h in
-    let references = first _ p.flags.nil nils in
-    let ports = first _ p.flags.reference references in
-    let pids = first _ p.flags.port ports in
-    let floats = first _ p.flags.pid pids in
-    let functions = first _ p.flags.float floats in
-    let bits = first _ (is_all_functions p.functions) functions in
-    let ints = first _ (is_all_bits p.bits) bits in
-    λ i. record {
-      atoms = atoms_all p.atoms (first (is_all_atoms p.atoms) (is_all_ints p.ints) ints) i;
-      ints = ints_all p.ints (second (is_all_atoms p.atoms) (is_all_ints p.ints) ints) i;
-      bits = bits_all p.bits (second _ (is_all_bits p.bits) bits) i;
-      flags = record {
-        float = second _ p.flags.float floats i;
-        pid = second _ p.flags.pid pids i;
-        port = second _ p.flags.port ports i;
-        reference = second _ p.flags.reference references i;
-        nil = second _ p.flags.nil nils i;
-        map = second _ p.flags.map h i;
-      };
-      functions = functions_all p.functions (second _ (is_all_functions p.functions) functions) i;
-    }
+plain_is_all p h = grind (arith, first, atoms_all, ints_all, second, bits_all, functions_all)
 
 tuples_all : {E : Type 0} (t : Tuples E) → is_every_tuple t ≡ true → t ≡ all_tuples
-tuples_all (sizes m) h = absurd (true≢false (sym h))
-tuples_all all_tuples h = refl
+tuples_all t h = grind arith
 
 open_cell : (b c : Bool) → cond b false c ≡ true → (b ≡ false) × (c ≡ true)
-open_cell true c h = absurd (true≢false (sym h))
-open_cell false c h = (refl, h)
+open_cell b c h = grind arith
 
 cell_all : {E : Type 0} (full : E → Bool) (any : E) → ((e : E) → full e ≡ true → e ≡ any) → (c : Option (Cell E)) → is_any_cell full c ≡ true → c ≡ Some (record { element = any; is_proper = false })
-cell_all full any f None h = absurd (true≢false (sym h))
-cell_all full any f (Some c) h = λ i. Some (record { element = f c.element (open_cell c.is_proper (full c.element) h).1 i; is_proper = (open_cell c.is_proper (full c.element) h).0 i })
+cell_all full any h c k = grind (arith, open_cell)
 
 -- where they are, the type is every value
 pub any_is_all : (d : ℕ) (t : TypeAt d) → is_any d t ≡ true → t ≡ (ops d).any
@@ -108,9 +78,7 @@ all_is_any (suc d) = ap (λ b. b && true) (all_is_any d)
 any_text : (d : ℕ) → text_at d (ops d).any ≡ codes "any()"
 unfolding ops
 any_text zero = refl
-any_text (suc d) =
-    let t = (ops (suc d)).any in
-    ap (λ b. cond b (codes "any()") (cond ((ops (suc d)).is_none t) (codes "none()") (separated (codes " | ") (parts_words (text_at d) t)))) (all_is_any (suc d))
+any_text (suc d) = grind (arith, all_is_any)
 
 pub text_of_any : (t : Node) → t ≡ v.Any → (d : ℕ) → text_at d (view d t) ≡ codes "any()"
 text_of_any t e d = ap (text_at d) (view_any t e d) ∙ any_text d
@@ -120,10 +88,7 @@ not_all t p e d h = is_false (is_any (suc d) (parts_view d p)) (λ k. (fits_of t
 
 -- what a tree of parts turns on, where some part has a value
 text_of_parts : (t : Node) (p : PartsOf Node) → t ≡ v.Of p → (d : ℕ) → Fits (suc d) t → text_at (suc d) (view (suc d) t) ≡ cond ((ops (suc d)).is_none (view (suc d) t)) (codes "none()") (separated (codes " | ") (parts_words (text_at d) (parts_view d p)))
-text_of_parts t p e d h =
-    ap (text_at (suc d)) (view_of t p e d)
-    ∙ ap (λ b. cond b (codes "any()") (cond ((ops (suc d)).is_none (parts_view d p)) (codes "none()") (separated (codes " | ") (parts_words (text_at d) (parts_view d p))))) (not_all t p e d h)
-    ∙ ap (λ x. cond ((ops (suc d)).is_none x) (codes "none()") (separated (codes " | ") (parts_words (text_at d) (parts_view d p)))) (sym (view_of t p e d))
+text_of_parts t p e d h = grind (arith, view_of, not_all)
 
 pub text_of_none : (t : Node) (p : PartsOf Node) → t ≡ v.Of p → (d : ℕ) → Fits d t → true ≡ (ops d).is_none (view d t) → text_at d (view d t) ≡ codes "none()"
 text_of_none t p e zero h k = let f = of_above t p e zero h in absurd (omega arith)
@@ -158,6 +123,4 @@ tags_words-append d (t ∷ ts) us = ap (λ ws. tuple_word (quoted t.atom ∷ row
 
 pub sizes_words-append : (d : ℕ) (ss us : List (SizeOf Node)) → sizes_words d (ss ++ us) ≡ sizes_words d ss ++ sizes_words d us
 sizes_words-append d [] us = refl
-sizes_words-append d (s ∷ ss) us =
-    let here = body_words (text_at d) (body_view d s.body) in
-    ap (λ ws. here ++ ws) (sizes_words-append d ss us) ∙ sym (append_assoc here (sizes_words d ss) (sizes_words d us))
+sizes_words-append d (s ∷ ss) us = grind (arith, sizes_words-append d ss us, append_assoc, sizes_words)

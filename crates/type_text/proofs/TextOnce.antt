@@ -146,10 +146,7 @@ module _ (d : ℕ) (once : Once d) where
 -- ---- each level
 
 base_once : Once 0
-base_once true true r q j k f g x = (refl, ap (drop 5) x)
-base_once false false r q j k f g x = (refl, ap (drop 6) x)
-base_once true false r q j k f g x = let m = at_any 0 false k (codes "any()" ++ r) q r x refl in absurd (true≢false (sym m.0))
-base_once false true r q j k f g x = let m = at_any 0 false j (codes "none()" ++ r) r q refl x in absurd (true≢false (sym m.0))
+base_once h k f g p q e r s = grind (arith, at_any)
 
 level_once : (d : ℕ) → Once d
 level_once zero = base_once

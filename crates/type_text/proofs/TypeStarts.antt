@@ -1,26 +1,23 @@
 -- How the text of a type begins, for a reader that tells `any()`, `none()` and words apart by that.
-use Rattle.std.proofs.Common.{◌≡◌, inl, inr, ℕ, zero, suc, true, false, cond, List, ◌++◌, drop, refl, sym, ap, ◌∙◌, append_assoc, true≢false}
+use Rattle.std.proofs.Common.{◌≡◌, inl, inr, ℕ, zero, suc, true, false, cond, List, ◌++◌, refl, ap, ◌∙◌, append_assoc, arith}
 use Rattle.std.specs.Prelude.{codes}
 use Rattle.type_sets.proofs.Truths.{decided}
 use Rattle.type_model.specs.Shapes.{TypeAt}
 use Rattle.type_model.specs.Operations.{ops}
 use Rattle.type_model.specs.Normal.{NormalAt}
 use Rattle.type_text.specs.Starts.{Lacks}
-use Rattle.type_text.specs.Texts.{after, separated, parts_words, is_any, text_at}
+use Rattle.type_text.specs.Texts.{after, is_any, text_at}
 use Rattle.type_text.specs.WordTypes.{spelled, WordsOf}
 use Rattle.type_text.proofs.WordLaws.{words_of}
 use Rattle.type_text.proofs.WordStarts.{begins, not_any, not_none, not_closed}
 
 pub text_any : (d : ℕ) (t : TypeAt d) → is_any d t ≡ true → text_at d t ≡ codes "any()"
 text_any zero t e = ap (λ b. cond b (codes "any()") (codes "none()")) e
-text_any (suc d) t e =
-    ap (λ b. cond b (codes "any()") (cond ((ops (suc d)).is_none t) (codes "none()") (separated (codes " | ") (parts_words (text_at d) t)))) e
+text_any (suc d) t e = grind arith
 
 pub text_none : (d : ℕ) (t : TypeAt d) → is_any d t ≡ false → (ops d).is_none t ≡ true → text_at d t ≡ codes "none()"
 text_none zero t k e = ap (λ b. cond b (codes "any()") (codes "none()")) k
-text_none (suc d) t k e =
-    let words = separated (codes " | ") (parts_words (text_at d) t) in
-    ap (λ b. cond b (codes "any()") (cond ((ops (suc d)).is_none t) (codes "none()") words)) k ∙ ap (λ b. cond b (codes "none()") words) e
+text_none (suc d) t k e = grind arith
 
 -- the text begins with a word
 record IsWords (text : List ℕ) : Type 0 where
@@ -59,18 +56,10 @@ ways (suc d) t k = elim (decided (is_any (suc d) t)) [
 -- ---- what a text that begins with a type is, by its start
 
 pub at_any : (d : ℕ) (t : TypeAt d) → NormalAt d t → (now rest more : List ℕ) → now ≡ text_at d t ++ rest → now ≡ codes "any()" ++ more → (is_any d t ≡ true) × (more ≡ rest)
-at_any d t k now rest more a b = elim (ways d t k) [
-  | as_any x e ↦ (x, ap (drop 5) (sym b ∙ a ∙ ap (λ s. s ++ rest) e))
-  | as_none x e ↦ absurd (true≢false (ap (begins (codes "any()")) (sym b ∙ a ∙ ap (λ s. s ++ rest) e)))
-  | as_words w ↦ absurd (w.any rest more (sym a ∙ b))
-]
+at_any d t k now rest more a b = grind (arith, ways, as_any, as_none, begins, as_words)
 
 pub at_none : (d : ℕ) (t : TypeAt d) → NormalAt d t → (now rest more : List ℕ) → now ≡ text_at d t ++ rest → now ≡ codes "none()" ++ more → ((ops d).is_none t ≡ true) × (more ≡ rest)
-at_none d t k now rest more a b = elim (ways d t k) [
-  | as_any x e ↦ absurd (true≢false (ap (begins (codes "none()")) (sym b ∙ a ∙ ap (λ s. s ++ rest) e)))
-  | as_none x e ↦ (x, ap (drop 6) (sym b ∙ a ∙ ap (λ s. s ++ rest) e))
-  | as_words w ↦ absurd (w.none rest more (sym a ∙ b))
-]
+at_none d t k now rest more a b = grind (arith, ways, as_any, begins, as_none, as_words)
 
 -- neither: there are words, and the level is above 0
 pub at_words : (d : ℕ) (t : TypeAt (suc d)) → NormalAt (suc d) t → (now rest : List ℕ) → now ≡ text_at (suc d) t ++ rest → Lacks now (codes "any()") → Lacks now (codes "none()") → WordsOf d t
@@ -88,8 +77,4 @@ not_at_zero false now rest a any none = none rest a
 
 -- no type begins with what ends a tuple
 pub not_at_end : (d : ℕ) (t : TypeAt d) → NormalAt d t → (now rest : List ℕ) → now ≡ text_at d t ++ rest → Lacks now (codes "}")
-not_at_end d t k now rest a more b = elim (ways d t k) [
-  | as_any x e ↦ true≢false (ap (begins (codes "}")) (sym b ∙ a ∙ ap (λ s. s ++ rest) e))
-  | as_none x e ↦ true≢false (ap (begins (codes "}")) (sym b ∙ a ∙ ap (λ s. s ++ rest) e))
-  | as_words w ↦ w.closed rest more (sym a ∙ b)
-]
+not_at_end d t k now rest a more b = grind (arith, ways, as_any, begins, as_none, as_words)

@@ -1,5 +1,5 @@
 -- A text that is the text of a type and of nothing else.
-use Rattle.std.proofs.Common.{◌≡◌, ℕ, true, false, List, [], ◌++◌, Option, Some, None, refl, sym, ap, ◌∙◌, subst}
+use Rattle.std.proofs.Common.{◌≡◌, ℕ, false, List, [], ◌++◌, Option, Some, None, refl, sym, ap, ◌∙◌, subst, arith}
 use Rattle.std.specs.Prelude.{codes, MatchOption}
 use Rattle.std.proofs.lemmas.List.{append-nil}
 use Rattle.type_model.specs.Shapes.{TypeAt}
@@ -27,10 +27,7 @@ not_any = refl
 
 pub some_read : (text : List ℕ) (t : Type4) → ((more : List ℕ) → text ≡ codes "none()" ++ more → ⊥) → text ≡ text_of t → is_none t ≡ false
 unfolding is_none
-some_read text t e g = elim ((ops 4).is_none t.ty) as (λ b. (ops 4).is_none t.ty ≡ b → b ≡ false) [
-  | true ↦ λ k. absurd (e [] (nothing_left text t g ∙ ap (λ s. s ++ []) (text_none 4 t.ty (ap (is_any 4) ((level_laws 4).none-is_none t.ty k) ∙ not_any) k)))
-  | false ↦ λ k. refl
-] refl
+some_read text t e g = grind (arith, nothing_left, text_none, level_laws, not_any, (level_laws 4).none-is_none)
 
 -- what is said of an answer that isn't None
 pub nothing : {A : Type 0} (r : Option A) (P : A → Type 0) → r ≡ None → MatchOption r ⊥ P → ⊥

@@ -1,5 +1,5 @@
 -- The words of a type stand for types, and the join of these is the type. A type is judged by the forms of its values.
-use Rattle.std.proofs.Common.{◌≡◌, ◌⊎◌, inl, inr, ℕ, zero, suc, ℤ, Bool, true, false, cond, ◌&&◌, List, [], ◌∷◌, ◌++◌, length, map, Option, Some, None, refl, sym, ap, ◌∙◌, subst, true≢false}
+use Rattle.std.proofs.Common.{◌≡◌, ◌⊎◌, inl, inr, ℕ, zero, suc, ℤ, Bool, true, false, cond, ◌&&◌, List, [], ◌∷◌, ◌++◌, length, map, Option, Some, None, refl, sym, ap, ◌∙◌, subst, true≢false, arith, rules}
 use Rattle.std.specs.Prelude.{codes, nat_lt}
 use Rattle.std.specs.Fmt.{decimal, signed_decimal}
 use Rattle.std.proofs.lemmas.List.{append-nil}
@@ -25,7 +25,7 @@ use Rattle.type_model.specs.Shapes.{Flag, floats, pids, ports, references, nils,
 use Rattle.type_model.specs.HasType.{has_flag, HasEach, HasRow, HasTag, HasBody, HasTuple}
 use Rattle.type_model.specs.Operations.{Ops, no_flags, plain_none, body_of, of_plain, of_atoms, parts_is_none, parts_join, ops}
 use Rattle.type_model.specs.Normal.{NormalFunctions, IsElement, AreElements, NormalCell, NormalRow, NormalRows, NormalBody, NormalSizes, NormalTuples, NormalParts, NormalAt}
-use Rattle.type_model.specs.Laws.{BelowBy, Lattice, Laws}
+use Rattle.type_model.specs.Laws.{Laws}
 use Rattle.type_model.specs.ValueShapes.{Leaf, has_leaf, an_int, an_atom, some_bits, of_flag, a_function, Shape, leaf, pair, row, HasShape}
 use Rattle.type_model.proofs.LatticeLaws.{SomeOf, some_first, some_later, some_either, all-is}
 use Rattle.type_model.proofs.PlainLaws.{no_flags-has, plain-none_empty}
@@ -36,7 +36,7 @@ use Rattle.type_model.proofs.TableLaws as tables
 use Rattle.type_model.proofs.PartsLaws.{shape_lattice}
 use Rattle.type_model.proofs.LevelLaws.{level_laws}
 use Rattle.type_text.specs.Texts.{separated, word_if, atom_words, range_word, int_words, bits_words, function_words, plain_words, cell_words, tuple_word, tag_words, body_words, size_words, tuples_words, parts_words, is_any, text_at}
-use Rattle.type_text.specs.WordTypes.{of_ints, of_bits, of_flags, of_functions, of_cell, of_row, IsWordOf, named, one_atom, every_atom, one_int, ints_between, every_float, whole_bits, every_bits, every_pid, every_port, every_reference, every_map, every_function, one_arity, empty_list, proper_list, any_list, every_tuple, one_tuple, IsWord, AreWordsOf, spelled, joined_with, WordsOf}
+use Rattle.type_text.specs.WordTypes.{of_ints, of_bits, of_flags, of_functions, of_cell, of_row, IsWordOf, named, one_atom, every_atom, one_int, ints_between, every_float, whole_bits, every_bits, every_pid, every_port, every_reference, every_map, every_function, one_arity, empty_list, proper_list, any_list, every_tuple, one_tuple, AreWordsOf, spelled, joined_with, WordsOf}
 use Rattle.type_model.specs.Operations.{of_list, of_tuples}
 
 -- ---- words with their types
@@ -126,11 +126,7 @@ module _ {E : Type 0} {Has : Value → E → Type 0} {Normal : E → Type 0} {o 
   IsAtom s f = (q : Name) × ((f ≡ leaf (an_atom q)) × (s q ≡ true))
 
   atom-out : (s : Names) (f : Shape) → HasF f (of_atoms o s) → IsAtom (names.has s) f
-  atom-out s (leaf (an_atom a)) h = (a, (refl, h))
-  atom-out s (leaf (of_flag k)) h = absurd (true≢false (sym h ∙ no_flags-has k))
-  atom-out s (leaf x) h = absurd (true≢false (sym h))
-  atom-out s (pair x y) h = absurd h
-  atom-out s (row vs) h = absurd h
+  atom-out s f h = grind (arith, no_flags-has)
 
   atom-in : (s : Names) (f : Shape) → IsAtom (names.has s) f → HasF f (of_atoms o s)
   atom-in s f h = subst (λ g. HasF g (of_atoms o s)) (sym h.1.0) h.1.1
@@ -168,11 +164,7 @@ module _ {E : Type 0} {Has : Value → E → Type 0} {Normal : E → Type 0} {o 
   IsInt s f = (n : ℤ) × ((f ≡ leaf (an_int n)) × (s n ≡ true))
 
   int-out : (s : Numbers) (f : Shape) → HasF f (of_ints o s) → IsInt (numbers.has s) f
-  int-out s (leaf (an_int n)) h = (n, (refl, h))
-  int-out s (leaf (of_flag k)) h = absurd (true≢false (sym h ∙ no_flags-has k))
-  int-out s (leaf x) h = absurd (true≢false (sym h))
-  int-out s (pair x y) h = absurd h
-  int-out s (row vs) h = absurd h
+  int-out s f h = grind (arith, no_flags-has)
 
   int-in : (s : Numbers) (f : Shape) → IsInt (numbers.has s) f → HasF f (of_ints o s)
   int-in s f h = subst (λ g. HasF g (of_ints o s)) (sym h.1.0) h.1.1
@@ -236,8 +228,7 @@ module _ {E : Type 0} {Has : Value → E → Type 0} {Normal : E → Type 0} {o 
   flag_is_word nils = named empty_list
 
   no_flag_left : (k : Flag) → only k false ≡ no_flags
-  no_flag_left floats = refl
-  no_flag_left k = refl
+  no_flag_left k = grind arith
 
   flag_spelled : (k : Flag) (b : Bool) → Spelled (word_if b (flag_word k)) (λ f. HasF f (of_flags o (only k b)))
   flag_spelled k true = one (flag_word k) (of_flags o (only k true)) (flag_is_word k)
@@ -347,9 +338,7 @@ module _ {E : Type 0} {Has : Value → E → Type 0} {Normal : E → Type 0} {o 
   IsRow F f = (vs : Values) × ((f ≡ row vs) × F vs)
 
   row-out : (t : Tuples E) (f : Shape) → HasF f (of_tuples o t) → IsRow (λ vs. HasTuple Has vs t) f
-  row-out t (leaf x) h = absurd (plain-none_empty x h)
-  row-out t (pair x y) h = absurd h
-  row-out t (row vs) h = (vs, (refl, h))
+  row-out t f h = grind (arith, plain-none_empty)
 
   row-in : (t : Tuples E) (f : Shape) → IsRow (λ vs. HasTuple Has vs t) f → HasF f (of_tuples o t)
   row-in t f h = subst (λ g. HasF g (of_tuples o t)) (sym h.1.0) h.1.1
@@ -359,15 +348,10 @@ module _ {E : Type 0} {Has : Value → E → Type 0} {Normal : E → Type 0} {o 
 
   -- the tuples of a row have as many elements
   of_row-in : (es : List E) (vs : Values) → HasEach Has vs es → HasTuple Has vs (sizes ((length es, body_of o es) ∷ []))
-  of_row-in es vs h =
-      subst (λ b. HasBody Has vs (cond b (Some (body_of o es)) None)) (sym (same_size (count vs) (length es) (count_each l vs es h))) (body_of_in l es vs h)
+  of_row-in es vs h = grind (arith, same_size, count_each l, body_of_in l)
 
   of_row-out : (es : List E) (vs : Values) → HasTuple Has vs (sizes ((length es, body_of o es) ∷ [])) → HasEach Has vs es
-  of_row-out es vs h =
-      elim (eq_by_cmp nat_cmp (count vs) (length es)) as (λ b. HasBody Has vs (cond b (Some (body_of o es)) None) → HasEach Has vs es) [
-        | true ↦ λ x. body_of_out l es vs x
-        | false ↦ λ x. absurd x
-      ] h
+  of_row-out es vs h = search (rules, body_of_out l)
 
   row_spelled : (es : List E) → AreElements Normal o es → nat_lt (length es) 65 ≡ true → Spelled (tuple_word (map text es) ∷ []) (IsRow (λ vs. HasEach Has vs es))
   row_spelled es k few =
@@ -386,8 +370,7 @@ module _ {E : Type 0} {Has : Value → E → Type 0} {Normal : E → Type 0} {o 
       ])
 
   named-element : (a : Name) → IsElement Normal o (o.of_names (a ∷ []))
-  named-element a =
-      (l.naming.names_normal (a ∷ []), filled-not_none l (o.of_names (a ∷ [])) (atom a) (named-in a a (ascending.itself name_laws.name_total name_laws.name_same a)))
+  named-element a = grind (arith, l.naming.names_normal, filled-not_none l, named-in a a, ascending.itself, name_laws.name_total, name_laws.name_same a)
 
   -- a tag is the row of its atom and the types after it
   tag_spelled : (n : ℕ) (a : Name) (es : List E) → o.has_tags ≡ true → NormalRow Normal o n (Some es) → nat_lt (suc n) 65 ≡ true → Spelled (tuple_word (quoted a ∷ map text es) ∷ []) (IsRow (λ vs. HasEach Has vs (o.of_names (a ∷ []) ∷ es)))
@@ -471,20 +454,10 @@ module _ {E : Type 0} {Has : Value → E → Type 0} {Normal : E → Type 0} {o 
   InOnePart t f = (HasF f (of_plain o t.plain) ⊎ HasF f (of_cell o t.cell)) ⊎ HasF f (of_tuples o t.tuples)
 
   parts-into : (t : Parts E) (f : Shape) → HasF f t → InOnePart t f
-  parts-into t (leaf x) h = inl (inl h)
-  parts-into t (pair x y) h = inl (inr h)
-  parts-into t (row vs) h = inr h
+  parts-into t f h = grind arith
 
   parts-out : (t : Parts E) (f : Shape) → InOnePart t f → HasF f t
-  parts-out t (leaf x) (inl (inl h)) = h
-  parts-out t (leaf x) (inl (inr h)) = absurd (plain-none_empty x h)
-  parts-out t (leaf x) (inr h) = absurd (plain-none_empty x h)
-  parts-out t (pair x y) (inl (inl h)) = absurd h
-  parts-out t (pair x y) (inl (inr h)) = h
-  parts-out t (pair x y) (inr h) = absurd h
-  parts-out t (row vs) (inl (inl h)) = absurd h
-  parts-out t (row vs) (inl (inr h)) = absurd h
-  parts-out t (row vs) (inr h) = h
+  parts-out t f h = grind (arith, plain-none_empty)
 
   parts_spelled : (t : Parts E) → NormalParts Normal o t → Spelled (parts_words text t) (λ f. HasF f t)
   parts_spelled t k = changed (λ f. HasF f t) (append (append (plain_spelled t.plain k.0) (cell_spelled t.cell k.1)) (tuples_spelled t.tuples k.2)) (parts-out t) (parts-into t)
@@ -500,10 +473,7 @@ module _ {E : Type 0} {Has : Value → E → Type 0} {Normal : E → Type 0} {o 
     pub together : joined_with (parts_join o) first later ≡ t
 
   written_from : (t : Parts E) → NormalParts Normal o t → parts_is_none o t ≡ false → (ps : Pairs) → Words ps → spelled ps ≡ parts_words text t → ((f : Shape) → SomeHas HasF f ps → HasF f t) → ((f : Shape) → HasF f t → SomeHas HasF f ps) → Written t
-  written_from t k some [] words same out into = elim ((shape_lattice l).filled t k) [
-    | inl e ↦ absurd (true≢false (sym (ap (parts_is_none o) e) ∙ some))
-    | inr w ↦ absurd (into w.0 w.1)
-  ]
+  written_from t k some [] words same out into = search (rules, shape_lattice l, (shape_lattice l).filled)
   written_from t k some (p ∷ ps) words same out into = record {
     word = p.0;
     first = p.1;
@@ -529,9 +499,7 @@ one_name (suc d) t a =
 
 -- what is neither any nor none is written as its words
 pub text-words : (d : ℕ) (t : TypeAt (suc d)) → is_any (suc d) t ≡ false → (ops (suc d)).is_none t ≡ false → text_at (suc d) t ≡ separated (codes " | ") (parts_words (text_at d) t)
-text-words d t part some =
-    let words = separated (codes " | ") (parts_words (text_at d) t) in
-    ap (λ b. cond b (codes "any()") (cond ((ops (suc d)).is_none t) (codes "none()") words)) part ∙ ap (λ b. cond b (codes "none()") words) some
+text-words d t part some = grind arith
 
 -- and the types of the words join to it
 pub words_of : (d : ℕ) (t : TypeAt (suc d)) → NormalAt (suc d) t → is_any (suc d) t ≡ false → (ops (suc d)).is_none t ≡ false → WordsOf d t

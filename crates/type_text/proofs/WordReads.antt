@@ -41,8 +41,7 @@ pub found_as : (d : ℕ) (t u : TypeAt d) (rest : List ℕ) (o : Option (Node ×
 found_as d t u rest o e m = subst (λ x. Found d x rest o) e m
 
 pub found_at : (d : ℕ) (f : (e : ℕ) → TypeAt (suc e)) (rest : List ℕ) (o : Option (Node × Bor (List ℕ))) → MatchOption o ⊥ (λ p. ((e : ℕ) → view (suc e) p.0 ≡ f e) × (p.1.now ≡ rest)) → Found (suc d) (f d) rest o
-found_at d f rest None m = m
-found_at d f rest (Some p) m = (m.0 d, m.1)
+found_at d f rest o h = grind arith
 
 -- ---- the functions of one arity
 
@@ -144,10 +143,7 @@ elements_stop d [] rest = refl
 elements_stop d (e ∷ es) rest = refl
 
 pub no_comma : (rest next : List ℕ) → 125 ∷ rest ≡ 44 ∷ next → ⊥
-no_comma rest next e = omega (arith, first_is 125 44 rest next e)
-  where
-    first_is : (a b : ℕ) (x y : List ℕ) → a ∷ x ≡ b ∷ y → a ≡ b
-    first_is a b x y e = cc
+no_comma rest next e = grind arith
 
 -- where an element type comes first
 next_of : (d : ℕ) (row : List Node) (t : TypeAt d) (es whole : List (TypeAt d)) (next rest : List ℕ) → IsElement (NormalAt d) (ops d) t → AreElements (NormalAt d) (ops d) es → next ≡ (text_at d t ++ after (codes ",") (map (text_at d) es)) ++ (codes "}" ++ rest) → row_view d row ++ (t ∷ es) ≡ whole → NextElement d row next whole rest
@@ -247,8 +243,7 @@ words_read e now first left o any word more t rest k some stop text =
 -- ---- one word
 
 pub quote_there : (now : List ℕ) (o : Option (Bor (List ℕ))) → is_some o ≡ true → IfSome o (λ left. now ≡ codes "'" ++ left.now) → (more : List ℕ) × (now ≡ codes "'" ++ more)
-quote_there now None e h = absurd (true≢false (sym e))
-quote_there now (Some x) e h = (x.now, h)
+quote_there now o h k = grind arith
 
 pub no_quote : (now : List ℕ) (o : Option (Bor (List ℕ))) → is_some o ≡ false → ((rest : List ℕ) → now ≡ codes "'" ++ rest → IsSomeAnd o (λ left. left.now ≡ rest)) → Lacks now (codes "'")
 no_quote now None e h = h

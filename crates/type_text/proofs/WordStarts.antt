@@ -1,11 +1,11 @@
 -- How the words of types begin, for a reader that tells them apart by that. Each lemma takes a text that is a word with a rest
 -- behind it, and that begins with one of the starts that the reader looks for. It says which word it is, and what stands behind
 -- the start. The last one says that each word has one of these starts.
-use Rattle.std.proofs.Common.{◌≡◌, ◌⊎◌, inl, inr, ℕ, suc, ◌≤◌, ◌<◌, ◌^◌, ℤ, pos, negsuc, Bool, true, false, ◌&&◌, List, [], ◌∷◌, ◌++◌, length, drop, map, refl, sym, ap, ◌∙◌, subst, arith, append_assoc, true≢false}
-use Rattle.std.specs.Prelude.{codes, nat_lt, nat_le, ◌==◌}
+use Rattle.std.proofs.Common.{◌≡◌, ◌⊎◌, inl, inr, ℕ, suc, ◌≤◌, ◌<◌, ◌^◌, ℤ, pos, negsuc, Bool, true, false, ◌&&◌, List, [], ◌∷◌, ◌++◌, length, drop, map, refl, sym, ap, ◌∙◌, arith, append_assoc, true≢false}
+use Rattle.std.specs.Prelude.{codes, nat_lt, ◌==◌}
 use Rattle.std.specs.Fmt.{decimal, signed_decimal}
 use Rattle.std.specs.Str.Parse.{AllDigits}
-use borrow.Author.Tests.{ltb-true, le-leb, eqb-true, eq-eqb}
+use borrow.Author.Tests.{ltb-true, eqb-true, eq-eqb}
 use Rattle.type_sets.proofs.Truths.{both, first, is_false, in_first, in_second}
 use Rattle.std.proofs.lemmas.Fmt.{decimal_is_IsNumeral_wide}
 use Rattle.std.proofs.lemmas.Str.Parse.{digit_from_value}
@@ -19,14 +19,13 @@ use Rattle.type_sets.specs.declared.ends.Low.{Low}
 use Rattle.type_sets.specs.declared.ends.Low.TheVariants.{Min}
 use Rattle.type_sets.specs.declared.ends.High.{High}
 use Rattle.type_sets.specs.declared.ends.High.TheVariants.{Max}
-use Rattle.type_sets.specs.declared.bits.Bits.TheVariants.{Whole, Any}
-use Rattle.type_model.specs.Shapes.{of_arity, all_functions, all_tuples, Parts}
+use Rattle.type_model.specs.Shapes.{of_arity, Parts}
 use Rattle.type_model.specs.Operations.{Ops, of_atoms}
 use Rattle.type_model.specs.Normal.{IsElement, AreElements}
-use Rattle.type_text.specs.Starts.{is_number, begins_number, Lacks}
+use Rattle.type_text.specs.Starts.{is_number, Lacks}
 use Rattle.type_text.specs.Texts.{separated, low_text, high_text, range_word}
-use Rattle.type_text.specs.WordTypes.{float_flag, pid_flag, port_flag, reference_flag, map_flag, nil_flag, of_ints, of_bits, of_flags, of_functions, of_row, Named, every_atom, every_float, whole_bits, every_bits, every_pid, every_port, every_reference, every_map, every_function, empty_list, every_tuple, name_of, type_named, IsWordOf, one_atom, named, one_int, ints_between, one_arity, proper_list, any_list, one_tuple}
-use Rattle.type_model.specs.Operations.{of_list, of_tuples}
+use Rattle.type_text.specs.WordTypes.{of_ints, of_functions, of_row, Named, every_atom, every_float, whole_bits, every_bits, every_pid, every_port, every_reference, every_map, every_function, empty_list, every_tuple, name_of, type_named, IsWordOf, one_atom, named, one_int, ints_between, one_arity, proper_list, any_list, one_tuple}
+use Rattle.type_model.specs.Operations.{of_list}
 
 -- a minus or a digit
 abbrev pub IsNumberStart : ℕ → Type 0
@@ -57,15 +56,10 @@ first_same b c more rest e = cc
 
 -- what begins as a number does begins with a minus or a digit
 pub number-start : (n : ℤ) → is_narrow n ≡ true → (rest : List ℕ) (b : ℕ) (more : List ℕ) → signed_decimal n ++ rest ≡ b ∷ more → IsNumberStart b
-number-start n k rest b more e =
-    let s = signed-start n k in
-    subst IsNumberStart (first_same s.0 b (s.1.0 ++ rest) more (sym (ap (λ t. t ++ rest) s.1.1.0) ∙ e)) s.1.1.1
+number-start n k rest b more e = grind (arith, signed-start, IsNumberStart, first_same)
 
 no_number : (n : ℤ) → is_narrow n ≡ true → (rest : List ℕ) (b : ℕ) (more : List ℕ) → signed_decimal n ++ rest ≡ b ∷ more → 57 < b → ⊥
-no_number n k rest b more e high = elim (number-start n k rest b more e) [
-  | inl x ↦ absurd (omega (arith, x))
-  | inr x ↦ absurd (omega (arith, x.1))
-]
+no_number n k rest b more e high = grind (arith, number-start)
 
 -- ---- intervals
 
@@ -78,8 +72,7 @@ range-start l h = (range_tail l h, refl)
 
 -- a text that begins as a number does
 pub is_number-true : (b : ℕ) → IsNumberStart b → is_number b ≡ true
-is_number-true b (inl e) = in_first (b == 45) (nat_le 48 b && nat_le b 57) (eq-eqb b 45 e)
-is_number-true b (inr h) = in_second (b == 45) (nat_le 48 b && nat_le b 57) (both (nat_le 48 b) (nat_le b 57) (le-leb 48 b h.0) (le-leb b 57 h.1))
+is_number-true b h = grind (arith, in_first, in_second, both)
 
 -- what begins so, and what stands behind
 begins-itself : (p t : List ℕ) → begins p (p ++ t) ≡ true
@@ -96,19 +89,14 @@ named-start every_atom = (97, (codes "tom()", (refl, refl)))
 named-start k = (_, (_, (refl, refl)))
 
 no_range : (k : Named) (t : List ℕ) → begins (name_of k) (codes "integer(" ++ t) ≡ false
-no_range every_atom t = refl
-no_range k t = refl
+no_range k t = grind arith
 
 -- so no number begins with a name, nor a digit with a closing bracket
 first_begins : (b c : ℕ) (p t : List ℕ) → begins (b ∷ p) (c ∷ t) ≡ true → b ≡ c
 first_begins b c p t h = eqb-true b c (first (b == c) (begins p t) h)
 
 no_name : (k : Named) (n : ℤ) → is_narrow n ≡ true → (rest : List ℕ) → begins (name_of k) (signed_decimal n ++ rest) ≡ true → ⊥
-no_name k n j rest h =
-    let s = signed-start n j in
-    let m = named-start k in
-    let same = first_begins m.0 s.0 m.1.0 (s.1.0 ++ rest) ((λ i. begins (sym m.1.1.0 i) (sym s.1.1.0 i ++ rest)) ∙ h) in
-    true≢false (sym (is_number-true s.0 s.1.1.1) ∙ ap is_number (sym same) ∙ m.1.1.1)
+no_name k n j rest h = grind (arith, signed-start, named-start, first_begins, begins, is_number-true)
 
 no_arity : (n : ℕ) → nat_lt n (2 ^ 32) ≡ true → (rest : List ℕ) → begins (codes ")") (decimal n ++ rest) ≡ true → ⊥
 no_arity n k rest h =
@@ -152,78 +140,42 @@ module _ {E : Type 0} {text : E → List ℕ} {Normal : E → Type 0} {o : Ops E
 
   -- one atom
   pub at_quote : (w : List ℕ) (u : Parts E) → IsWordOf text Normal o w u → (now rest more : List ℕ) → now ≡ w ++ rest → now ≡ codes "'" ++ more → (a : Name) × ((now ≡ quoted a ++ rest) × (u ≡ of_atoms o (names.listed (a ∷ []))))
-  at_quote w u (one_atom x) now rest more a b = (x, (a, refl))
-  at_quote w u (one_int n k) now rest more a b = elim (number-start n k rest 39 more (sym a ∙ b)) [ inl x ↦ absurd (omega (arith, x)) | inr x ↦ absurd (omega (arith, x.0)) ]
-  at_quote w u (ints_between l h k) now rest more a b = absurd (true≢false (ap (begins (codes "'")) (sym b ∙ a ∙ ap (λ t. t ++ rest) (range-start l h).1)))
-  at_quote w u (named every_atom) now rest more a b = absurd (true≢false (ap (begins (codes "'")) (sym b ∙ a)))
-  at_quote w u i now rest more a b = absurd (true≢false (ap (begins (codes "'")) (sym b ∙ a)))
+  at_quote w u h now rest more k f = grind (arith, number-start, begins, range-start)
 
   -- one integer
   pub at_number : (w : List ℕ) (u : Parts E) → IsWordOf text Normal o w u → (now rest : List ℕ) (b : ℕ) (more : List ℕ) → now ≡ w ++ rest → now ≡ b ∷ more → IsNumberStart b → (n : ℤ) × ((is_narrow n ≡ true) × ((now ≡ signed_decimal n ++ rest) × (u ≡ of_ints o (numbers.listed (n ∷ [])))))
-  at_number w u (one_int n k) now rest b more a e s = (n, (k, (a, refl)))
-  at_number w u (ints_between l h k) now rest b more a e s = absurd (true≢false (sym (is_number-true b s) ∙ ap begins_number (sym e ∙ a ∙ ap (λ t. t ++ rest) (range-start l h).1)))
-  at_number w u (named every_atom) now rest b more a e s = absurd (true≢false (sym (is_number-true b s) ∙ ap begins_number (sym e ∙ a)))
-  at_number w u i now rest b more a e s = absurd (true≢false (sym (is_number-true b s) ∙ ap begins_number (sym e ∙ a)))
+  at_number w u h now rest b more k f g = grind (arith, is_number-true, range-start)
 
   -- an interval, where the text is not `integer()`
   pub at_range : (w : List ℕ) (u : Parts E) → IsWordOf text Normal o w u → (now rest more : List ℕ) → now ≡ w ++ rest → now ≡ codes "integer(" ++ more → Lacks now (codes "integer()") → (l : Low) × ((h : High) × ((is_range l h ≡ true) × ((more ≡ low_text l ++ codes ".." ++ high_text h ++ codes ")" ++ rest) × (u ≡ of_ints o (numbers.range l h)))))
-  at_range w u (ints_between Min Max k) now rest more a b not = absurd (not rest a)
-  at_range w u (ints_between l h k) now rest more a b not = (l, (h, (k, (ap (drop 8) (sym b ∙ a), refl))))
-  at_range w u (one_int n k) now rest more a b not = absurd (no_number n k rest 105 (codes "nteger(" ++ more) (sym a ∙ b) (omega arith))
-  at_range w u (named every_atom) now rest more a b not = absurd (true≢false (ap (begins (codes "integer(")) (sym b ∙ a)))
-  at_range w u i now rest more a b not = absurd (true≢false (ap (begins (codes "integer(")) (sym b ∙ a)))
+  at_range w u h now rest more k f g = grind (arith, no_number, begins)
 
   -- the functions of one arity, where the text is not `fun()`
   pub at_arity : (w : List ℕ) (u : Parts E) → IsWordOf text Normal o w u → (now rest more : List ℕ) → now ≡ w ++ rest → now ≡ codes "fun(" ++ more → Lacks now (codes "fun()") → (n : ℕ) × ((nat_lt n (2 ^ 32) ≡ true) × ((more ≡ decimal n ++ (codes ")" ++ rest)) × (u ≡ of_functions o (of_arity n))))
-  at_arity w u (named every_function) now rest more a b not = absurd (not rest a)
-  at_arity w u (one_arity n k) now rest more a b not = (n, (k, (ap (drop 4) (sym b ∙ a) ∙ append_assoc (decimal n) (codes ")") rest, refl)))
-  at_arity w u (one_int n k) now rest more a b not = absurd (no_number n k rest 102 (codes "un(" ++ more) (sym a ∙ b) (omega arith))
-  at_arity w u (ints_between l h k) now rest more a b not = absurd (true≢false (ap (begins (codes "fun(")) (sym b ∙ a ∙ ap (λ t. t ++ rest) (range-start l h).1)))
-  at_arity w u i now rest more a b not = absurd (true≢false (ap (begins (codes "fun(")) (sym b ∙ a)))
+  at_arity w u h now rest more k f g = grind (arith, append_assoc, no_number, begins, range-start)
 
   -- lists with proper ends
   pub at_proper_list : (w : List ℕ) (u : Parts E) → IsWordOf text Normal o w u → (now rest more : List ℕ) → now ≡ w ++ rest → now ≡ codes "cons(" ++ more → (e : E) × (IsElement Normal o e × ((more ≡ text e ++ (codes ")" ++ rest)) × (u ≡ of_list o e true)))
-  at_proper_list w u (proper_list e k) now rest more a b = (e, (k, (ap (drop 5) (sym b ∙ a) ∙ append_assoc (text e) (codes ")") rest, refl)))
-  at_proper_list w u (one_int n k) now rest more a b = absurd (no_number n k rest 99 (codes "ons(" ++ more) (sym a ∙ b) (omega arith))
-  at_proper_list w u (ints_between l h k) now rest more a b = absurd (true≢false (ap (begins (codes "cons(")) (sym b ∙ a ∙ ap (λ t. t ++ rest) (range-start l h).1)))
-  at_proper_list w u (named every_atom) now rest more a b = absurd (true≢false (ap (begins (codes "cons(")) (sym b ∙ a)))
-  at_proper_list w u i now rest more a b = absurd (true≢false (ap (begins (codes "cons(")) (sym b ∙ a)))
+  at_proper_list w u h now rest more k f = grind (arith, append_assoc, no_number, begins, range-start)
 
   -- lists with any ends
   pub at_any_list : (w : List ℕ) (u : Parts E) → IsWordOf text Normal o w u → (now rest more : List ℕ) → now ≡ w ++ rest → now ≡ codes "cons_any(" ++ more → (e : E) × (IsElement Normal o e × ((more ≡ text e ++ (codes ")" ++ rest)) × (u ≡ of_list o e false)))
-  at_any_list w u (any_list e k) now rest more a b = (e, (k, (ap (drop 9) (sym b ∙ a) ∙ append_assoc (text e) (codes ")") rest, refl)))
-  at_any_list w u (one_int n k) now rest more a b = absurd (no_number n k rest 99 (codes "ons_any(" ++ more) (sym a ∙ b) (omega arith))
-  at_any_list w u (ints_between l h k) now rest more a b = absurd (true≢false (ap (begins (codes "cons_any(")) (sym b ∙ a ∙ ap (λ t. t ++ rest) (range-start l h).1)))
-  at_any_list w u (named every_atom) now rest more a b = absurd (true≢false (ap (begins (codes "cons_any(")) (sym b ∙ a)))
-  at_any_list w u i now rest more a b = absurd (true≢false (ap (begins (codes "cons_any(")) (sym b ∙ a)))
+  at_any_list w u h now rest more k f = grind (arith, append_assoc, no_number, begins, range-start)
 
   -- the tuples of some element types
   pub at_tuple : (w : List ℕ) (u : Parts E) → IsWordOf text Normal o w u → (now rest more : List ℕ) → now ≡ w ++ rest → now ≡ codes "{" ++ more → (es : List E) × (AreElements Normal o es × ((nat_lt (length es) 65 ≡ true) × ((more ≡ separated (codes ",") (map text es) ++ (codes "}" ++ rest)) × (u ≡ of_row o es))))
-  at_tuple w u (one_tuple es k few) now rest more a b = (es, (k, (few, (ap (drop 1) (sym b ∙ a) ∙ append_assoc (separated (codes ",") (map text es)) (codes "}") rest, refl))))
-  at_tuple w u (one_int n k) now rest more a b = absurd (no_number n k rest 123 more (sym a ∙ b) (omega arith))
-  at_tuple w u (ints_between l h k) now rest more a b = absurd (true≢false (ap (begins (codes "{")) (sym b ∙ a ∙ ap (λ t. t ++ rest) (range-start l h).1)))
-  at_tuple w u (named every_atom) now rest more a b = absurd (true≢false (ap (begins (codes "{")) (sym b ∙ a)))
-  at_tuple w u i now rest more a b = absurd (true≢false (ap (begins (codes "{")) (sym b ∙ a)))
+  at_tuple w u h now rest more k f = grind (arith, append_assoc, no_number, begins, range-start)
 
   -- ---- no word begins as a type that has none, or as what ends a tuple
 
   pub not_any : (w : List ℕ) (u : Parts E) → IsWordOf text Normal o w u → (now rest : List ℕ) → now ≡ w ++ rest → Lacks now (codes "any()")
-  not_any w u (one_int n k) now rest a more b = absurd (no_number n k rest 97 (codes "ny()" ++ more) (sym a ∙ b) (omega arith))
-  not_any w u (ints_between l h k) now rest a more b = absurd (true≢false (ap (begins (codes "any()")) (sym b ∙ a ∙ ap (λ t. t ++ rest) (range-start l h).1)))
-  not_any w u (named every_atom) now rest a more b = absurd (true≢false (ap (begins (codes "any()")) (sym b ∙ a)))
-  not_any w u i now rest a more b = absurd (true≢false (ap (begins (codes "any()")) (sym b ∙ a)))
+  not_any w u h now rest k f g = grind (arith, no_number, begins, range-start)
 
   pub not_none : (w : List ℕ) (u : Parts E) → IsWordOf text Normal o w u → (now rest : List ℕ) → now ≡ w ++ rest → Lacks now (codes "none()")
-  not_none w u (one_int n k) now rest a more b = absurd (no_number n k rest 110 (codes "one()" ++ more) (sym a ∙ b) (omega arith))
-  not_none w u (ints_between l h k) now rest a more b = absurd (true≢false (ap (begins (codes "none()")) (sym b ∙ a ∙ ap (λ t. t ++ rest) (range-start l h).1)))
-  not_none w u (named every_atom) now rest a more b = absurd (true≢false (ap (begins (codes "none()")) (sym b ∙ a)))
-  not_none w u i now rest a more b = absurd (true≢false (ap (begins (codes "none()")) (sym b ∙ a)))
+  not_none w u h now rest k f g = grind (arith, no_number, begins, range-start)
 
   pub not_closed : (w : List ℕ) (u : Parts E) → IsWordOf text Normal o w u → (now rest : List ℕ) → now ≡ w ++ rest → Lacks now (codes "}")
-  not_closed w u (one_int n k) now rest a more b = absurd (no_number n k rest 125 more (sym a ∙ b) (omega arith))
-  not_closed w u (ints_between l h k) now rest a more b = absurd (true≢false (ap (begins (codes "}")) (sym b ∙ a ∙ ap (λ t. t ++ rest) (range-start l h).1)))
-  not_closed w u (named every_atom) now rest a more b = absurd (true≢false (ap (begins (codes "}")) (sym b ∙ a)))
-  not_closed w u i now rest a more b = absurd (true≢false (ap (begins (codes "}")) (sym b ∙ a)))
+  not_closed w u h now rest k f g = grind (arith, no_number, begins, range-start)
 
 -- ---- each word begins in one of these ways
 
