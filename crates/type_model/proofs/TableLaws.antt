@@ -8,7 +8,7 @@ use Rattle.std.specs.FinSet.{IsAntisymmetric}
 use Rattle.type_sets.specs.Ascending.{is_below_all, is_ascending, has_item, placed, merged}
 use Rattle.type_sets.proofs.Truths.{both, first, second, decided, is_false}
 use Rattle.type_sets.proofs.AscendingLaws as ascending
-use Rattle.type_model.specs.Tables.{keys, mapped, all_hold, and_entry, chosen, EachOf, EachEntry, joined, both_at, is_table, find, put, united}
+use Rattle.type_model.specs.Tables.{keys, held, mapped, all_hold, and_entry, chosen, EachOf, EachEntry, joined, both_at, is_table, find, put, united}
 use Rattle.type_model.specs.Operations.{met_with, is_empty}
 
 -- ---- what two tables hold at one key
@@ -191,6 +191,9 @@ module _ {K : Type 0} {R : K → K → Ordering} (t : IsTotalOrder R) (same : Is
   keys-mapped f [] = refl
   keys-mapped f (e ∷ m) = ap (λ ks. e.0 ∷ ks) (keys-mapped f m)
 
+  pub table-mapped : {X Y : Type 0} (f : X → Y) (m : List (K × X)) → is_table R m ≡ true → is_table R (mapped f m) ≡ true
+  table-mapped f m a = ap (is_ascending R) (keys-mapped f m) ∙ a
+
   pub length-mapped : {X Y : Type 0} (f : X → Y) (m : List (K × X)) → length (mapped f m) ≡ length m
   length-mapped f [] = refl
   length-mapped f (e ∷ m) = ap suc (length-mapped f m)
@@ -220,6 +223,10 @@ module _ {K : Type 0} {R : K → K → Ordering} (t : IsTotalOrder R) (same : Is
   pub length-keys : {X : Type 0} (m : List (K × X)) → length (keys m) ≡ length m
   length-keys [] = refl
   length-keys (e ∷ m) = ap suc (length-keys m)
+
+  pub length-held : {X : Type 0} (m : List (K × X)) → length (held m) ≡ length m
+  length-held [] = refl
+  length-held (e ∷ m) = ap suc (length-held m)
 
   -- a table all of whose keys another has, has no more entries
   pub length-within : {X Y : Type 0} (m : List (K × X)) (w : List (K × Y)) → is_table R m ≡ true → is_table R w ≡ true → ((q : K) → is_some (find R m q) ≡ true → is_some (find R w q) ≡ true) → length m ≤ length w

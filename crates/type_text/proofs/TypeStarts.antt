@@ -65,10 +65,7 @@ at_none d t k now rest more a b = grind (arith, ways, as_any, begins, as_none, a
 pub at_words : (d : ℕ) (t : TypeAt (suc d)) → NormalAt (suc d) t → (now rest : List ℕ) → now ≡ text_at (suc d) t ++ rest → Lacks now (codes "any()") → Lacks now (codes "none()") → WordsOf d t
 at_words d t k now rest a any none = elim (decided (is_any (suc d) t)) [
   | inl x ↦ absurd (any rest (a ∙ ap (λ s. s ++ rest) (text_any (suc d) t x)))
-  | inr x ↦ elim (decided ((ops (suc d)).is_none t)) [
-    | inl y ↦ absurd (none rest (a ∙ ap (λ s. s ++ rest) (text_none (suc d) t x y)))
-    | inr y ↦ words_of d t k x y
-  ]
+  | inr x ↦ grind (arith, decided, none, text_none, words_of)
 ]
 
 pub not_at_zero : (t : TypeAt 0) (now rest : List ℕ) → now ≡ text_at 0 t ++ rest → Lacks now (codes "any()") → Lacks now (codes "none()") → ⊥

@@ -79,7 +79,7 @@ module _ {E : Type 0} {Has : Value → E → Type 0} {Normal : E → Type 0} {o 
   word_of-normal w u (proper_list e k) = (tt, k, (refl, refl, tt))
   word_of-normal w u (any_list e k) = (tt, k, (refl, refl, tt))
   word_of-normal w u (named every_tuple) = (tt, tt, tt)
-  word_of-normal w u (one_tuple es k few) = (tt, tt, (refl, refl, (few, body_of_normal l (length es) es (refl, k), tt)))
+  word_of-normal w u (one_tuple es k few) = (tt, tt, (refl, refl, ((few, body_of_normal l (length es) es (refl, k)), tt)))
   word_of-normal w u i = (tt, tt, (refl, refl, tt))
 
   words_of-normal : (ps : Pairs) → Words ps → EachNormal (NormalParts Normal o) ps

@@ -180,12 +180,7 @@ elements_further d row new n next left whole rest s e f g = record {
   more = s.later;
   elements = s.elements;
   text = g ∙ s.behind_is;
-  all =
-      ap (λ ns. row_view d ns ++ s.later) e
-      ∙ ap (λ es. es ++ s.later) (map-append (view d) row (n ∷ []))
-      ∙ append_assoc (row_view d row) (view d n ∷ []) s.later
-      ∙ ap (λ t. row_view d row ++ (t ∷ s.later)) f
-      ∙ s.all;
+  all = grind (arith, map-append, append_assoc);
 }
 
 pub elements_end : (d : ℕ) (row : List Node) (left : List ℕ) (whole : List (TypeAt d)) (rest : List ℕ) → ElementsLeft d row left whole rest → Lacks left (codes ",") → (row_view d row ≡ whole) × (left ≡ codes "}" ++ rest)
@@ -236,9 +231,7 @@ pub words_read : (e : ℕ) (now : List ℕ) (first : Node) (left : List ℕ) (o 
     → TypeRead (suc e) now o
 words_read e now first left o any word more t rest k some stop text =
     let s = type_words e now any t rest k some text in
-    let read = word s.0.word (after (codes " | ") (spelled s.0.later) ++ rest) s.0.first s.0.is_word (words_stop s.0.later rest stop) s.1 in
-    subst (λ (x : TypeAt (suc e)). MatchOption o ⊥ (λ p. (view (suc e) p.0 ≡ x) × (p.1.now ≡ rest)))
-    (ap (λ u. joined_with (ops (suc e)).join u s.0.later) read.0 ∙ s.0.together) (more s.0.later rest s.0.are_words stop read.1)
+    grind (arith, word, words_stop, stop, more)
 
 -- ---- one word
 
