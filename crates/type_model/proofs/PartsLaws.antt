@@ -13,7 +13,7 @@ use Rattle.type_model.specs.HasType.{HasAll, HasCell, HasTuple, HasParts}
 use Rattle.type_model.specs.Operations.{Ops, plain_none, is_atoms, is_empty, cell_meet, cell_join, tuples_meet, tuples_join, no_cell, no_tuples, is_only_atoms, of_plain, of_atoms, parts_any, parts_is_none, parts_meet, parts_join, parts_only, next}
 use Rattle.type_model.specs.Normal.{NormalCell, NormalTuples, NormalParts}
 use Rattle.type_model.specs.Laws.{BelowBy, Lattice, Naming, Laws}
-use Rattle.type_model.specs.ValueShapes.{Leaf, an_atom, has_leaf, Shape, leaf, pair, row, shape, value_of_shape, shape-value_of_shape, HasShape, has-shape}
+use Rattle.type_model.specs.ValueShapes.{an_atom, has_leaf, Shape, leaf, pair, row, shape, value_of_shape, shape-value_of_shape, HasShape, has-shape}
 use Rattle.type_model.proofs.PlainLaws.{plain-meet, plain-join-left, plain-join-right, plain-join-least, plain-same, plain-none_empty, plain-all, is_atoms-only, is_atoms-other, functions-normal_meet, functions-normal_join}
 use Rattle.type_model.proofs.CellLaws.{filled-not_none, cell_lattice}
 use Rattle.type_model.proofs.TupleLaws.{tuples_lattice}

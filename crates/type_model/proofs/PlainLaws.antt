@@ -8,7 +8,7 @@ use Rattle.type_sets.specs.Numbers as numbers
 use Rattle.type_sets.specs.BitLengths as bit_lengths
 use Rattle.type_sets.specs.declared.bits.Bits.{Bits}
 use Rattle.type_sets.specs.declared.bits.Bits.TheVariants.{No}
-use Rattle.type_sets.proofs.Truths.{both, first, second, in_first, in_second, either, and_itself, and_true, and_none, decided, is_false}
+use Rattle.type_sets.proofs.Truths.{first, second, in_first, in_second, either, and_itself, and_true, and_none, decided, is_false}
 use Rattle.type_sets.proofs.NameLaws as name_laws
 use Rattle.type_sets.proofs.NumberLaws as number_laws
 use Rattle.type_sets.proofs.BitLaws as bit_laws

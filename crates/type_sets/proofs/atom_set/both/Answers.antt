@@ -1,6 +1,5 @@
 use Rattle.std.proofs.lemmas.Grind.{common_steps}
 use Rattle.std.proofs.Common.{◌∙◌, arith}
-use Rattle.type_sets.specs.Ascending.{merged}
 use Rattle.type_sets.proofs.AscendingLaws.{merged-more}
 use Rattle.type_sets.proofs.AtomViews.{ok_then, join_long, join_short}
 use Rattle.type_sets.proofs.atom_set.both.Goals as goal
