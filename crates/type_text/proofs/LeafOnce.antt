@@ -5,7 +5,7 @@ use Rattle.std.specs.Prelude.{codes}
 use Rattle.std.specs.Fmt.{decimal, signed_decimal}
 use borrow.Author.Tests.{ltb-true}
 use Rattle.type_kinds.proofs.DigitLaws.{number_in_front}
-use Rattle.type_kinds.specs.Quoted.{escaped, all_escaped, quoted}
+use Rattle.type_kinds.specs.Quoted.{all_escaped, quoted}
 use Rattle.type_sets.specs.Numbers.{is_narrow}
 use Rattle.type_sets.specs.declared.ends.Low.{Low}
 use Rattle.type_sets.specs.declared.ends.High.{High}
@@ -14,12 +14,6 @@ use Rattle.type_text.specs.Texts.{low_text, high_text}
 use Rattle.type_text.proofs.LeafLaws.{number_no_minus}
 
 -- ---- atoms
-
-byte_once : (b c : ℕ) (r q : List ℕ) → escaped b ++ r ≡ escaped c ++ q → (b ≡ c) × (r ≡ q)
-byte_once b c r q e = grind arith
-
-no_quote : (b : ℕ) (r q : List ℕ) → 39 ∷ r ≡ escaped b ++ q → ⊥
-no_quote b r q e = grind arith
 
 bytes_once : (a b r q : List ℕ) → all_escaped a ++ 39 ∷ r ≡ all_escaped b ++ 39 ∷ q → (a ≡ b) × (r ≡ q)
 bytes_once [] [] r q e = (refl, ap (drop 1) e)
@@ -42,12 +36,6 @@ signed_once (negsuc m) (pos n) r q j k f g e = absurd (number_no_minus n (decima
 signed_once (negsuc m) (negsuc n) r q j k f g e = grind (arith, decimal_once)
 
 -- ---- the ends of an interval
-
-low_once : (l m : Low) (r q : List ℕ) → low_text l ++ r ≡ low_text m ++ q → (l ≡ m) × (r ≡ q)
-low_once l m r q e = grind arith
-
-high_once : (h k : High) (r q : List ℕ) → high_text h ++ r ≡ high_text k ++ q → (h ≡ k) × (r ≡ q)
-high_once h k r q e = grind arith
 
 pub ends_once : (l m : Low) (h k : High) (r q : List ℕ) → low_text l ++ codes ".." ++ high_text h ++ codes ")" ++ r ≡ low_text m ++ codes ".." ++ high_text k ++ codes ")" ++ q → (l ≡ m) × ((h ≡ k) × (r ≡ q))
 ends_once l m h k r q e = grind arith

@@ -19,7 +19,7 @@ use Rattle.type_sets.proofs.Truths.{either, in_first, in_second}
 use Rattle.type_sets.proofs.AscendingLaws as ascending
 use Rattle.type_sets.proofs.NameLaws as name_laws
 use Rattle.type_sets.proofs.NumberLaws as number_laws
-use Rattle.type_model.specs.Values.{Value, atom, Values, no_value, and_value}
+use Rattle.type_model.specs.Values.{Value, atom, Values}
 use Rattle.type_model.specs.Tables.{EachOf, is_table}
 use Rattle.type_model.specs.Shapes.{Flag, floats, pids, ports, references, nils, maps, Flags, Functions, no_function, of_arity, all_functions, PlainParts, Cell, Body, product, tags, Tuples, sizes, all_tuples, Parts, TypeAt}
 use Rattle.type_model.specs.HasType.{HasAt, has_flag, HasEach, HasTag, HasBody, HasTuple}
@@ -264,9 +264,6 @@ module _ {E : Type 0} {Has : Value → E → Type 0} {Normal : E → Type 0} {o 
   row-in : (t : Tuples E) (f : Shape) → IsRow (λ vs. HasTuple Has vs t) f → HasF f (of_tuples o t)
   row-in t f h = subst (λ g. HasF g (of_tuples o t)) (sym h.1.0) h.1.1
 
-  same_size : (m n : ℕ) → m ≡ n → eq_by_cmp nat_cmp m n ≡ true
-  same_size m n e = ap (eq_by_cmp nat_cmp m) (sym e) ∙ ascending.itself nat_cmp_total nat_cmp-IsAntisymmetric m
-
   -- the tuples of a row have as many elements
   of_row-in : (es : List E) (vs : Values) → HasEach Has vs es → HasTuple Has vs (sizes ((length es, body_of o es) ∷ []))
   of_row-in es vs h = grind (arith, count_each l, body_of_in l)
@@ -282,9 +279,6 @@ module _ {E : Type 0} {Has : Value → E → Type 0} {Normal : E → Type 0} {o 
   named-in : (a b : Name) → eq_by_cmp name_cmp b a ≡ true → Has (atom b) (o.of_names (a ∷ []))
   named-in a b e = l.naming.names_in (a ∷ []) b (in_first (eq_by_cmp name_cmp b a) false e)
 
-  named-out : o.has_tags ≡ true → (a : Name) (v : Value) → Has v (o.of_names (a ∷ [])) → v ≡ atom a
-  named-out t a v h = grind (arith, l.naming.only_out (o.of_names (a ∷ [])) (a ∷ []) (one_name t a).1 v h, ascending.is_it name_laws.name_total name_laws.name_same)
-
   named-element : (a : Name) → IsElement Normal o (o.of_names (a ∷ []))
   named-element a = grind (arith, named-in a a, name_laws.name_total)
 
@@ -295,10 +289,6 @@ module _ {E : Type 0} {Has : Value → E → Type 0} {Normal : E → Type 0} {o 
       subst (λ w. Spelled (tuple_word (w ∷ map text es) ∷ []) (IsRow (λ vs. HasEach Has vs fs))) (one_name t a).0 (row_spelled fs (named-element a, k.1) (subst (λ i. nat_lt (suc i) 65 ≡ true) (sym k.0) few))
 
   module _ (e : Name × List E) (m : List (Name × List E)) where
-    tag_first-out : o.has_tags ≡ true → (vs : Values) → HasEach Has vs (o.of_names (e.0 ∷ []) ∷ e.1) → HasTag Has vs (e ∷ m)
-    tag_first-out t no_value h = absurd h
-    tag_first-out t (and_value v vs) h = grind arith
-
     tag_later-out : is_table name_cmp (e ∷ m) ≡ true → (vs : Values) → HasTag Has vs m → HasTag Has vs (e ∷ m)
     tag_later-out table vs h =
         let w = tagged l vs m h in

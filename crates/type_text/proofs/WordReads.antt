@@ -19,7 +19,7 @@ use Rattle.type_text.specs.Starts.{begins_number, Lacks, NoTypeName}
 use Rattle.type_text.specs.WordTypes.{of_functions, IsWord, AreWords, spelled, joined_with, WordsOf}
 use Rattle.type_text.proofs.Prints.{any_is_all}
 use Rattle.type_text.proofs.LeafLaws.{word_stop, list_cases}
-use Rattle.type_text.proofs.WordStarts.{IsNumberStart, NoStart, is_number-true, at_arity, some_start}
+use Rattle.type_text.proofs.WordStarts.{IsNumberStart, NoStart, at_arity, some_start}
 use Rattle.type_text.proofs.TypeStarts.{at_any, at_none, at_words, not_at_zero, not_at_end}
 
 -- ---- what is found
@@ -70,12 +70,10 @@ pub record NextWord (d : ℕ) (t : Node) (next : List ℕ) (whole : TypeAt (suc 
   pub word : List ℕ
   pub type : TypeAt (suc d)
   pub later : List (List ℕ × TypeAt (suc d))
-  pub behind : List ℕ
   pub is_word : IsWord d word type
   pub words : AreWords d later
-  pub stop : WordStop behind
-  pub text : next ≡ word ++ behind
-  pub behind_is : behind ≡ after (codes " | ") (spelled later) ++ rest
+  pub stop : WordStop (after (codes " | ") (spelled later) ++ rest)
+  pub text : next ≡ word ++ (after (codes " | ") (spelled later) ++ rest)
   pub all : joined_with (ops (suc d)).join ((ops (suc d)).join (view (suc d) t) type) later ≡ whole
 
 pub no_bar : (rest next : List ℕ) → TypeStop rest → rest ≡ codes " | " ++ next → ⊥
@@ -94,16 +92,14 @@ next_word d t left whole rest next s stop is = by s.more s.words s.text s.all
       word = p.0;
       type = p.1;
       later = ps;
-      behind = after (codes " | ") (spelled ps) ++ rest;
       is_word = words.0;
       words = words.1;
       stop = words_stop ps rest stop;
       text = ap (drop 3) (sym is ∙ text) ∙ append_assoc p.0 (after (codes " | ") (spelled ps)) rest;
-      behind_is = refl;
       all = all;
     }
 
-pub words_further : (d : ℕ) (t other j : Node) (next left : List ℕ) (whole : TypeAt (suc d)) (rest : List ℕ) → (s : NextWord d t next whole rest) → view (suc d) other ≡ s.type → left ≡ s.behind → view (suc d) j ≡ (ops (suc d)).join (view (suc d) t) (view (suc d) other) → WordsLeft d j left whole rest
+pub words_further : (d : ℕ) (t other j : Node) (next left : List ℕ) (whole : TypeAt (suc d)) (rest : List ℕ) → (s : NextWord d t next whole rest) → view (suc d) other ≡ s.type → left ≡ after (codes " | ") (spelled s.later) ++ rest → view (suc d) j ≡ (ops (suc d)).join (view (suc d) t) (view (suc d) other) → WordsLeft d j left whole rest
 words_further d t other j next left whole rest s e f g = grind arith
 
 pub words_end : (d : ℕ) (t : Node) (left : List ℕ) (whole : TypeAt (suc d)) (rest : List ℕ) → WordsLeft d t left whole rest → Lacks left (codes " | ") → (view (suc d) t ≡ whole) × (left ≡ rest)
@@ -121,12 +117,10 @@ pub record ElementsLeft (d : ℕ) (row : List Node) (left : List ℕ) (whole : L
 pub record NextElement (d : ℕ) (row : List Node) (next : List ℕ) (whole : List (TypeAt d)) (rest : List ℕ) : Type 0 where
   pub type : TypeAt d
   pub later : List (TypeAt d)
-  pub behind : List ℕ
   pub element : IsElement (NormalAt d) (ops d) type
   pub elements : AreElements (NormalAt d) (ops d) later
-  pub stop : TypeStop behind
-  pub text : next ≡ text_at d type ++ behind
-  pub behind_is : behind ≡ after (codes ",") (map (text_at d) later) ++ (codes "}" ++ rest)
+  pub stop : TypeStop (after (codes ",") (map (text_at d) later) ++ (codes "}" ++ rest))
+  pub text : next ≡ text_at d type ++ (after (codes ",") (map (text_at d) later) ++ (codes "}" ++ rest))
   pub all : row_view d row ++ (type ∷ later) ≡ whole
 
 pub elements_stop : (d : ℕ) (es : List (TypeAt d)) (rest : List ℕ) → TypeStop (after (codes ",") (map (text_at d) es) ++ (codes "}" ++ rest))
@@ -156,7 +150,7 @@ no_element d now [] rest more k text is = (refl, ap (drop 1) (sym is ∙ text))
 no_element d now (t ∷ es) rest more k text is =
     absurd (not_at_end d t k.0.0 now (after (codes ",") (map (text_at d) es) ++ (codes "}" ++ rest)) (text ∙ append_assoc (text_at d t) (after (codes ",") (map (text_at d) es)) (codes "}" ++ rest)) more is)
 
-pub elements_further : (d : ℕ) (row new : List Node) (n : Node) (next left : List ℕ) (whole : List (TypeAt d)) (rest : List ℕ) → (s : NextElement d row next whole rest) → new ≡ row ++ n ∷ [] → view d n ≡ s.type → left ≡ s.behind → ElementsLeft d new left whole rest
+pub elements_further : (d : ℕ) (row new : List Node) (n : Node) (next left : List ℕ) (whole : List (TypeAt d)) (rest : List ℕ) → (s : NextElement d row next whole rest) → new ≡ row ++ n ∷ [] → view d n ≡ s.type → left ≡ after (codes ",") (map (text_at d) s.later) ++ (codes "}" ++ rest) → ElementsLeft d new left whole rest
 elements_further d row new n next left whole rest s e f g = grind (arith, map-append, append_assoc)
 
 pub elements_end : (d : ℕ) (row : List Node) (left : List ℕ) (whole : List (TypeAt d)) (rest : List ℕ) → ElementsLeft d row left whole rest → Lacks left (codes ",") → (row_view d row ≡ whole) × (left ≡ codes "}" ++ rest)
@@ -218,9 +212,6 @@ no_quote now (Some x) e h = absurd (true≢false e)
 
 pub number_there : (now : List ℕ) → begins_number now ≡ true → (b : ℕ) × ((more : List ℕ) × ((now ≡ b ∷ more) × IsNumberStart b))
 number_there now e = grind arith
-
-pub no_number_there : (now : List ℕ) → begins_number now ≡ false → (b : ℕ) (more : List ℕ) → now ≡ b ∷ more → IsNumberStart b → ⊥
-no_number_there now e b more is start = true≢false (sym (is_number-true b start) ∙ sym (ap begins_number is) ∙ e)
 
 -- the name of a word that begins with nothing else
 pub no_start : (now : List ℕ) → Lacks now (codes "'") → begins_number now ≡ false → Lacks now (codes "{") → Lacks now (codes "cons(") → Lacks now (codes "cons_any(") → NoTypeName now → NoStart now

@@ -21,8 +21,8 @@ use Rattle.type_sets.specs.declared.ends.High.TheVariants.{Max}
 use Rattle.type_model.specs.Shapes.{of_arity, Parts}
 use Rattle.type_model.specs.Operations.{Ops, of_atoms, of_list}
 use Rattle.type_model.specs.Normal.{IsElement, AreElements}
-use Rattle.type_text.specs.Starts.{is_number, Lacks}
-use Rattle.type_text.specs.Texts.{separated, low_text, high_text, range_word}
+use Rattle.type_text.specs.Starts.{Lacks}
+use Rattle.type_text.specs.Texts.{separated, low_text, high_text}
 use Rattle.type_text.specs.WordTypes.{of_ints, of_functions, of_row, Named, name_of, type_named, IsWordOf, named, one_int, ints_between, one_arity}
 
 -- a minus or a digit
@@ -63,17 +63,6 @@ all_range : numbers.range Min Max ≡ numbers.all
 all_range = numbers.range-yes Min Max refl
 
 -- ---- intervals
-
-abbrev range_tail : Low → High → List ℕ
-range_tail l h = low_text l ++ codes ".." ++ high_text h ++ codes ")"
-
-range-start : (l : Low) (h : High) → (more : List ℕ) × (range_word l h ≡ codes "integer(" ++ more)
-range-start Min Max = (codes ")", refl)
-range-start l h = (range_tail l h, refl)
-
--- a text that begins as a number does
-pub is_number-true : (b : ℕ) → IsNumberStart b → is_number b ≡ true
-is_number-true b h = grind arith
 
 -- the names of kinds are told by their texts
 same_name : (k j : Named) (rest more : List ℕ) → name_of j ++ rest ≡ name_of k ++ more → (j ≡ k) × (more ≡ rest)

@@ -15,7 +15,7 @@ use Rattle.type_text.proofs.words.+words.Goals as goal
 pub read_later-returns-in_default-2-clause-complete : goal.read_later-returns-in_default-2-clause-complete
 read_later-returns-in_default-2-clause-complete t c es rest k text =
     let n = next_element c.args.level c.loop-next.row c.loop-next.rest.now _ rest c.in-Some.next.now (c.loop-next.invariant.so_far es rest k text) c.in-Some.ensures.exact in
-    found_none _ c.in_ok-element.field-0 c.in_default-2.is (c.in_ok-element.ensures.complete n.type n.behind n.element n.stop n.text)
+    found_none _ c.in_ok-element.field-0 c.in_default-2.is (c.in_ok-element.ensures.complete n.type _ n.element n.stop n.text)
 
 pub read_later-loop-next-preserved : goal.read_later-loop-next-preserved
 read_later-loop-next-preserved t c =
@@ -26,14 +26,14 @@ read_later-loop-next-preserved t c =
       shorter = omega (arith, if_found _ c.in_ok-element.field-0 _ c.in-Some-2.is c.in_ok-element.ensures.shorter, c.in-Some.ensures.shorter, c.loop-next.invariant.shorter);
       so_far = λ es rest k text.
           let n = next_element c.args.level c.loop-next.row c.loop-next.rest.now _ rest c.in-Some.next.now (c.loop-next.invariant.so_far es rest k text) c.in-Some.ensures.exact in
-          let read = found_some _ c.in_ok-element.field-0 _ c.in-Some-2.is (c.in_ok-element.ensures.complete n.type n.behind n.element n.stop n.text) in
+          let read = found_some _ c.in_ok-element.field-0 _ c.in-Some-2.is (c.in_ok-element.ensures.complete n.type _ n.element n.stop n.text) in
           elements_further c.args.level c.loop-next.row c.add.new.self c.in-Some-2.element c.in-Some.next.now c.in-Some-2.after.now _ rest n c.in_ok-add.ensures.ok read.0 read.1;
     }
 
 pub read_more-returns-in_default-2-clause-complete : goal.read_more-returns-in_default-2-clause-complete
 read_more-returns-in_default-2-clause-complete t c later rest k stop text =
     let n = next_word c.args.level c.loop-next.t c.loop-next.rest.now _ rest c.in-Some.next.now (c.loop-next.invariant.so_far later rest k stop text) stop c.in-Some.ensures.exact in
-    found_none _ c.in_ok-other.field-0 c.in_default-2.is (c.in_ok-other.ensures.complete n.word n.behind n.type n.is_word n.stop n.text)
+    found_none _ c.in_ok-other.field-0 c.in_default-2.is (c.in_ok-other.ensures.complete n.word _ n.type n.is_word n.stop n.text)
 
 pub read_more-loop-next-preserved : goal.read_more-loop-next-preserved
 read_more-loop-next-preserved t c = record {
@@ -41,7 +41,7 @@ read_more-loop-next-preserved t c = record {
   shorter = omega (arith, if_found _ c.in_ok-other.field-0 _ c.in-Some-2.is c.in_ok-other.ensures.shorter, c.in-Some.ensures.shorter, c.loop-next.invariant.shorter);
   so_far = λ later rest k stop text.
       let n = next_word c.args.level c.loop-next.t c.loop-next.rest.now _ rest c.in-Some.next.now (c.loop-next.invariant.so_far later rest k stop text) stop c.in-Some.ensures.exact in
-      let read = found_some _ c.in_ok-other.field-0 _ c.in-Some-2.is (c.in_ok-other.ensures.complete n.word n.behind n.type n.is_word n.stop n.text) in
+      let read = found_some _ c.in_ok-other.field-0 _ c.in-Some-2.is (c.in_ok-other.ensures.complete n.word _ n.type n.is_word n.stop n.text) in
       words_further c.args.level c.loop-next.t c.in-Some-2.other c.in_ok-t.t c.in-Some.next.now c.in-Some-2.after.now _ rest n read.0 read.1 c.in_ok-t.ensures.value;
 }
 
@@ -53,7 +53,7 @@ read_row-returns-in-Some-clause-complete t c es rest k text =
 pub read_row-returns-in_default-2-clause-complete : goal.read_row-returns-in_default-2-clause-complete
 read_row-returns-in_default-2-clause-complete t c es rest k text =
     let n = first_element c.args.level c.args.text.now es rest k text c.in_default.ensures.complete in
-    found_none _ c.in_ok-element.field-0 c.in_default-2.is (c.in_ok-element.ensures.complete n.type n.behind n.element n.stop n.text)
+    found_none _ c.in_ok-element.field-0 c.in_default-2.is (c.in_ok-element.ensures.complete n.type _ n.element n.stop n.text)
 
 pub read_row-returns-clause-complete : goal.read_row-returns-clause-complete
 read_row-returns-clause-complete t c =
@@ -61,7 +61,7 @@ read_row-returns-clause-complete t c =
     (λ r f es rest k text.
     let is : c.add.new.self ≡ [] ++ c.in-Some-2.element ∷ [] = c.in_ok-add.ensures.ok ∙ ap (λ r. r ++ c.in-Some-2.element ∷ []) c.new-row.ensures in
     let n = first_element c.args.level c.args.text.now es rest k text c.in_default.ensures.complete in
-    let read = found_some _ c.in_ok-element.field-0 _ c.in-Some-2.is (c.in_ok-element.ensures.complete n.type n.behind n.element n.stop n.text) in
+    let read = found_some _ c.in_ok-element.field-0 _ c.in-Some-2.is (c.in_ok-element.ensures.complete n.type _ n.element n.stop n.text) in
     let left = elements_further c.args.level [] c.add.new.self c.in-Some-2.element c.args.text.now c.in-Some-2.rest.now es rest n is read.0 read.1 in
     subst (λ x. MatchOption r ⊥ (λ p. (row_view c.args.level p.0 ≡ x) × (p.1.now ≡ rest))) left.all (f left.more rest left.elements left.text)) c.read_later.ensures.complete
 
