@@ -17,18 +17,20 @@ use Rattle.core_scope.specs.declared.ask.Ask.{Ask}
 use Rattle.core_scope.specs.declared.ask.Ask.TheVariants.{AnyNumber, Exactly}
 use Rattle.core_scope.specs.Asks.{one_value}
 use Rattle.cons_tree.specs.Named.{just_true, naturals}
-use Rattle.cons_gen.specs.Patterns.{outer_bindings, outer_rows, outer_span}
+use Rattle.cons_rows.specs.Counts.{handed_on, results}
+use Rattle.cons_rows.specs.Patterns.{outer_bindings, outer_rows, outer_span}
+use Rattle.cons_rows.specs.Scopes.{Binding, Scope, bindings, with_bindings, with_functions}
+use Rattle.cons_rows.specs.Slots.{slots_from}
+use Rattle.cons_rows.specs.Walking.{Adds, Binds, Defines, Gathers, bindings_at, knowing, rows_of, scope_of}
+use Rattle.cons_rows.specs.Words.{Rows, bound, equals, one_of, together}
+use Rattle.cons_rows.specs.declared.generator.Generator.{Generator}
+use Rattle.cons_rows.specs.declared.passes.Surroundings.{Surroundings}
+use Rattle.cons_rows.proofs.Adding.{adds_as, adds_binds, adds_then, append_nil, behind, binds_adds, binds_as, binds_none, gathered, left, more, on_ok}
+use Rattle.cons_rows.proofs.Runs.{bindings_run}
 use Rattle.cons_gen.specs.Rows.{clause_rows, rows, step_bindings, step_rows}
-use Rattle.cons_gen.specs.Scopes.{Binding, Scope, bindings, with_bindings, with_functions}
-use Rattle.cons_gen.specs.Slots.{slots_from}
-use Rattle.cons_gen.specs.Spans.{clause_spans, handed_on, results, span, step_spans}
-use Rattle.cons_gen.specs.Words.{Rows, bound, equals, one_of, together}
-use Rattle.cons_gen.specs.declared.generator.Generator.{Generator}
-use Rattle.cons_gen.specs.declared.passes.Surroundings.{Surroundings}
-use Rattle.cons_gen.specs.steps.Walking.{Adds, Binds, Defines, Gathers, Generates, Leaves, bindings_at, handler_rows, knowing, rows_at, rows_of, scope_of, tried_rows}
-use Rattle.cons_gen.proofs.Adding.{adds_as, adds_binds, adds_then, append_nil, behind, binds_adds, binds_as, binds_none, gathered, left, more, on_ok}
+use Rattle.cons_gen.specs.Spans.{clause_spans, span, step_spans}
+use Rattle.cons_gen.specs.steps.Generating.{Generates, Leaves, handler_rows, rows_at, tried_rows}
 use Rattle.cons_gen.proofs.FormExits.{Answer, bounded}
-use Rattle.cons_gen.proofs.Runs.{bindings_run}
 
 module _ (about : Surroundings) where
   -- what an expression adds, where its slots begin at `s`
@@ -99,8 +101,8 @@ module _ (about : Surroundings) where
       gathered a b c (clause_spans k cs) start (alternatives to qs k cs (scope_of a) a.next) one_of is
       (subst (λ l. Adds a b (clause_spans k cs) (alternatives l qs k cs (scope_of a) a.next)) told_is (subst (λ l. Adds a b (clause_spans k cs) (alternatives told l k cs (scope_of a) a.next)) read_is one)) two)
 
-  pub guard_rows : (r : Answer) (a b c : Generator) (slot : ℕ) (t : m.Tree) (true_is : Type4) → slot ≡ a.next → Generates about a b one_value t → true_is ≡ just_true → OnOk r (Adds b c 0 (bound slot true_is)) → OnOk r (Adds a c (span one_value t) (given one_value t (scope_of a) a.next ++ bound a.next just_true))
-  guard_rows r a b c slot t true_is slot_is one told = on_ok r (λ two. more a b c (span one_value t) (rows_at about a one_value t) (bound a.next just_true) one (bounded about b c slot a.next true_is just_true slot_is told two))
+  pub guard_rows : (r : Answer) (a b c : Generator) (slot : ℕ) (t : m.Tree) → slot ≡ a.next → Generates about a b one_value t → OnOk r (Adds b c 0 (bound slot just_true)) → OnOk r (Adds a c (span one_value t) (given one_value t (scope_of a) a.next ++ bound a.next just_true))
+  guard_rows r a b c slot t slot_is one = on_ok r (λ two. more a b c (span one_value t) (rows_at about a one_value t) (bound a.next just_true) one (subst (λ s. Adds b c 0 (bound s just_true)) slot_is two))
 
   pub clause_opened : (x : Clause) (rest : m.Clauses) → (let c = clause_parts x in m.and_clause c.mark c.patterns c.guard c.body rest) ≡ m.and_clause (out-Clause x).mark (all_patterns (out-Clause x).patterns) (tree (out-Clause x).guard) (tree (out-Clause x).body) rest
   clause_opened x rest = ap (λ c. m.and_clause c.mark c.patterns c.guard c.body rest) (clause-is x)
@@ -159,13 +161,12 @@ module _ (about : Surroundings) where
   pub first_slots : (a b : Generator) (n : ℕ) (t : m.Tree) (slots : List ℕ) → Generates about a b (Exactly n) t → slots ≡ slots_from b.next n → slots ≡ slots_from (a.next + span (Exactly n) t) n
   first_slots a b n t slots one is = is ∙ ap (λ s. slots_from s n) one.next
 
-  pub first_rows : (a b c d : Generator) (n : ℕ) (t : m.Tree) (values slots right left_is : List ℕ) → values ≡ results (Exactly n) a.next t → Generates about a b (Exactly n) t → slots ≡ slots_from b.next n → Adds b c n [] → left_is ≡ slots → right ≡ values → Adds c d 0 (equals left_is right)
-      → Adds a d (span (Exactly n) t + n) (given (Exactly n) t (scope_of a) a.next ++ equals (slots_from (a.next + span (Exactly n) t) n) (results (Exactly n) a.next t))
-  first_rows a b c d n t values slots right left_is values_are one slots_are two left_are right_is three =
+  pub first_rows : (r : Answer) (a b c : Generator) (n : ℕ) (t : m.Tree) (values right : List ℕ) → values ≡ results (Exactly n) a.next t → Generates about a b (Exactly n) t → right ≡ values → OnOk r (Adds b c n (equals (slots_from b.next n) right))
+      → OnOk r (Adds a c (span (Exactly n) t + n) (given (Exactly n) t (scope_of a) a.next ++ equals (slots_from (a.next + span (Exactly n) t) n) (results (Exactly n) a.next t)))
+  first_rows r a b c n t values right values_are one right_is = on_ok r (λ two.
       let k : Ask = Exactly n in
-      let taken : Adds a c (span k t + n) (rows_at about a k t) = adds_as a c _ _ _ _ refl (append_nil (rows_at about a k t)) (adds_then a b c (span k t) n (span k t + n) (a.next + span k t) (rows_at about a k t) (λ sc s. []) one two refl refl) in
-      more a c d (span k t + n) (rows_at about a k t) (equals (slots_from (a.next + span k t) n) (results k a.next t)) taken
-      (subst (λ l. Adds c d 0 (equals l (results k a.next t))) (left_are ∙ slots_are ∙ ap (λ s. slots_from s n) one.next) (subst (λ l. Adds c d 0 (equals left_is l)) (right_is ∙ values_are) three))
+      adds_then a b c (span k t) n (span k t + n) (a.next + span k t) (rows_at about a k t) (λ sc s. equals (slots_from s n) (results k a.next t)) one
+      (subst (λ l. Adds b c n (equals (slots_from b.next n) l)) (right_is ∙ values_are) two) refl refl)
 
   pub tried_exit : (r : Answer) (a b c d : Generator) (k : Ask) (to : List ℕ) (t u : m.Tree) (xs ys : List VarName) (n start : ℕ) (slots other : List ℕ) → start ≡ length a.members.items → n ≡ length xs → slots ≡ slots_from (a.next + span (Exactly n) t) n
       → Adds a b (span (Exactly n) t + n) (given (Exactly n) t (scope_of a) a.next ++ equals (slots_from (a.next + span (Exactly n) t) n) (results (Exactly n) a.next t))

@@ -1,5 +1,5 @@
 -- The forms of data and of calls: what each way out says.
-use Rattle.std.proofs.Common.{◌≡◌, ℕ, suc, ◌+◌, ◌≤◌, Bool, true, false, List, [], ◌∷◌, ◌++◌, length, Result, OnOk, refl, sym, ap, ◌∙◌, subst, arith}
+use Rattle.std.proofs.Common.{◌≡◌, ℕ, suc, ◌+◌, ◌≤◌, List, [], ◌∷◌, ◌++◌, length, Result, OnOk, refl, sym, ap, ◌∙◌, subst, arith}
 use Rattle.std.specs.Prelude.{if◌then◌else◌}
 use Rattle.type_kinds.specs.declared.atom.Atom.{Atom}
 use Rattle.type_kinds.specs.declared.memory.Memory.{Memory}
@@ -15,16 +15,17 @@ use Rattle.core_ast.proofs.Items.{how_many-length}
 use Rattle.core_scope.specs.Asks.{is_raising, one_value}
 use Rattle.cons_tree.specs.Constraints.{only}
 use Rattle.cons_tree.specs.declared.parts.Part.TheVariants.{Tuple}
-use Rattle.cons_gen.specs.Passes.{applied_rows, called_rows}
+use Rattle.cons_rows.specs.Passes.{applied_rows, called_rows}
+use Rattle.cons_rows.specs.Scopes.{Scope}
+use Rattle.cons_rows.specs.Slots.{slots_from}
+use Rattle.cons_rows.specs.Walking.{Adds, knowing, scope_of}
+use Rattle.cons_rows.specs.Words.{Rows, bound, equals, function_type, inner_cells, list_rows, never}
+use Rattle.cons_rows.specs.declared.generator.Generator.{Generator}
+use Rattle.cons_rows.specs.declared.passes.Surroundings.{Surroundings}
+use Rattle.cons_rows.proofs.Adding.{adds_then, behind, behind_more, more, on_ok}
 use Rattle.cons_gen.specs.Rows.{all_rows, rows, segment_rows}
-use Rattle.cons_gen.specs.Scopes.{Scope}
-use Rattle.cons_gen.specs.Slots.{slots_from}
 use Rattle.cons_gen.specs.Spans.{segment_spans, span, spans, value_slots}
-use Rattle.cons_gen.specs.Words.{Rows, bound, equals, function_type, inner_cells, list_rows, never}
-use Rattle.cons_gen.specs.declared.generator.Generator.{Generator}
-use Rattle.cons_gen.specs.declared.passes.Surroundings.{Surroundings}
-use Rattle.cons_gen.specs.steps.Walking.{Adds, Generates, knowing, rows_at, scope_of}
-use Rattle.cons_gen.proofs.Adding.{adds_as, adds_then, append_nil, behind, behind_more, more, on_ok}
+use Rattle.cons_gen.specs.steps.Generating.{Generates, rows_at}
 
 abbrev pub Answer : Type 0
 Answer = Result (Unit {0}) Memory
@@ -134,12 +135,18 @@ module _ (about : Surroundings) where
       (subst (λ ls. Adds c d 0 (q (length args) ls (value_slots (a.next + n) ts))) (left_is ∙ rs_are)
       (subst (λ ss. Adds c d 0 (q (length args) left ss)) (args_are ∙ slots_are ∙ ap (λ k. value_slots k ts) one.next) three))))
 
-  pub raising_rows : (r : Answer) (a b c d : Generator) (n : ℕ) (x : Atom) (ts : m.Trees) (rs left : List ℕ) (so : Bool) → rs ≡ slots_from a.next n → Adds a b n [] → Adds b c (spans ts) (every ts (scope_of b) b.next) → so ≡ is_raising x → so ≡ true → left ≡ rs → OnOk r (Adds c d 0 (never left))
-      → OnOk r (Adds a d (n + spans ts) (every ts (scope_of a) (a.next + n) ++ (if is_raising x then never (slots_from a.next n) else [])))
-  raising_rows r a b c d n x ts rs left so rs_are one two told holds left_is = on_ok r (λ three.
-      behind_more a b c d n (spans ts) (every ts) (if is_raising x then never (slots_from a.next n) else []) one two
-      (subst (λ z. Adds c d 0 (if z then never (slots_from a.next n) else [])) (sym holds ∙ told) (subst (λ l. Adds c d 0 (never l)) (left_is ∙ rs_are) three)))
+  pub other_call_rows : (a b c d g : Generator) (n : ℕ) (t u : m.Tree) (ts : m.Trees) → Adds a b n [] → Generates about b c one_value t → Generates about c d one_value u → Adds d g (spans ts) (every ts (scope_of d) d.next)
+      → Adds a g (n + (span one_value t + span one_value u) + spans ts) (rows (knowing about) about.home.now (scope_of a) (a.next + n) one_value t ++ rows (knowing about) about.home.now (scope_of a) (a.next + n + span one_value t) one_value u ++ every ts (scope_of a) (a.next + n + (span one_value t + span one_value u)))
+  other_call_rows a b c d g n t u ts one two three four =
+      let s : ℕ = a.next + n in
+      let said : m.Tree → Scope → ℕ → Rows = λ x sc k. rows (knowing about) about.home.now sc k one_value x in
+      let first : Adds a c (n + span one_value t) (said t (scope_of a) s) = behind a b c n (span one_value t) (said t) one two in
+      let second : Adds a d (n + (span one_value t + span one_value u)) (said t (scope_of a) s ++ said u (scope_of a) (s + span one_value t)) =
+      adds_then a c d (n + span one_value t) (span one_value u) (n + (span one_value t + span one_value u)) (s + span one_value t) (said t (scope_of a) s) (said u) first three (omega arith) (omega arith) in
+      adds_then a d g (n + (span one_value t + span one_value u)) (spans ts) (n + (span one_value t + span one_value u) + spans ts) (s + (span one_value t + span one_value u)) (said t (scope_of a) s ++ said u (scope_of a) (s + span one_value t)) (every ts) second four (omega arith) refl
 
-  pub primop_rows : (a b c : Generator) (n : ℕ) (x : Atom) (ts : m.Trees) (so : Bool) (q : Rows) → Adds a b n [] → Adds b c (spans ts) (every ts (scope_of b) b.next) → so ≡ is_raising x → so ≡ false → Adds a c (n + spans ts) (every ts (scope_of a) (a.next + n) ++ (if is_raising x then q else []))
-  primop_rows a b c n x ts so q one two told fails =
-      adds_as a c (n + spans ts) (n + spans ts) (every ts (scope_of a) (a.next + n)) _ refl (sym (append_nil _) ∙ ap (λ z. every ts (scope_of a) (a.next + n) ++ (if z then q else [])) (sym fails ∙ told)) (behind a b c n (spans ts) (every ts) one two)
+  pub primop_rows : (r : Answer) (a b c d : Generator) (n : ℕ) (x : Atom) (ts : m.Trees) (rs left : List ℕ) → rs ≡ slots_from a.next n → Adds a b n [] → Adds b c (spans ts) (every ts (scope_of b) b.next) → left ≡ rs → OnOk r (Adds c d 0 (if is_raising x then never left else []))
+      → OnOk r (Adds a d (n + spans ts) (every ts (scope_of a) (a.next + n) ++ (if is_raising x then never (slots_from a.next n) else [])))
+  primop_rows r a b c d n x ts rs left rs_are one two left_is = on_ok r (λ three.
+      behind_more a b c d n (spans ts) (every ts) (if is_raising x then never (slots_from a.next n) else []) one two
+      (subst (λ l. Adds c d 0 (if is_raising x then never l else [])) (left_is ∙ rs_are) three))

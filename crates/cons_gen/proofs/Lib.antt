@@ -1,12 +1,6 @@
-mod Adding
 mod ControlExits
 mod ExpressionExits
 mod FormExits
 mod MadeExits
-mod MemberLaws
-mod PatternExits
-mod PatternRounds
-mod ResultCounts
+mod ResultSlots
 mod RowRounds
-mod Runs
-mod VariableLaws

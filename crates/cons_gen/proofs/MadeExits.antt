@@ -8,23 +8,23 @@ use Rattle.core_ast.specs.Model as m
 use Rattle.core_ast.specs.Tree.{all_patterns, clause_parts, tree}
 use Rattle.core_ast.proofs.Trees.{clause-is}
 use Rattle.core_scope.specs.Asks.{one_value}
-use Rattle.type_lattice.specs.Types.{Type4}
 use Rattle.cons_tree.specs.Constraints.{constraint}
 use Rattle.cons_tree.specs.Named.{just_true}
+use Rattle.cons_rows.specs.Passes.{Knowledge}
+use Rattle.cons_rows.specs.Patterns.{outer_bindings, outer_rows, outer_span}
+use Rattle.cons_rows.specs.Scopes.{Binding, Scope, bindings, with_bindings}
+use Rattle.cons_rows.specs.Slots.{slots_from}
+use Rattle.cons_rows.specs.Walking.{Adds, Binds, Gathers, bindings_at, knowing, rows_of, scope_of}
+use Rattle.cons_rows.specs.Words.{bound, together}
+use Rattle.cons_rows.specs.declared.generator.Generator.{Generator}
+use Rattle.cons_rows.specs.declared.passes.Surroundings.{Surroundings}
+use Rattle.cons_rows.proofs.Adding.{append_nil, drop_seam, mapped_length}
+use Rattle.cons_rows.proofs.Runs.{bindings_run}
 use Rattle.cons_gen.specs.Made.{clause_constraint, clause_params, clause_result, clause_slots, definition_constraint, head_rows, parameter_scope}
-use Rattle.cons_gen.specs.Passes.{Knowledge}
-use Rattle.cons_gen.specs.Patterns.{outer_bindings, outer_rows, outer_span}
 use Rattle.cons_gen.specs.Rows.{rows}
-use Rattle.cons_gen.specs.Scopes.{Binding, Scope, bindings, with_bindings}
-use Rattle.cons_gen.specs.Slots.{slots_from}
 use Rattle.cons_gen.specs.Spans.{span}
-use Rattle.cons_gen.specs.Words.{bound, together}
-use Rattle.cons_gen.specs.declared.generator.Generator.{Generator}
-use Rattle.cons_gen.specs.declared.passes.Surroundings.{Surroundings}
+use Rattle.cons_gen.specs.steps.Generating.{Generates, rows_at}
 use Rattle.cons_gen.specs.steps.Heading.{Heads}
-use Rattle.cons_gen.specs.steps.Walking.{Adds, Binds, Gathers, Generates, bindings_at, knowing, rows_at, rows_of, scope_of}
-use Rattle.cons_gen.proofs.Adding.{append_nil, drop_seam, mapped_length}
-use Rattle.cons_gen.proofs.Runs.{bindings_run}
 
 module _ (about : Surroundings) where
   -- ---- a definition
@@ -86,12 +86,12 @@ module _ (about : Surroundings) where
       clause_rows_are four = ap together (four.rows ∙ ap (λ l. take 1 l ++ together (drop 1 l) ∷ []) guarded)
 
       -- and that the guard is true, as the head of a clause says
-      module _ (f : Generator) (slot : ℕ) (t : Type4) (four : Gathers (λ rs. together rs ∷ []) 1 d e) (at : slot ≡ c.next) (is : t ≡ just_true) (five : Adds e f 0 (bound slot t)) where
+      module _ (f : Generator) (slot : ℕ) (four : Gathers (λ rs. together rs ∷ []) 1 d e) (at : slot ≡ c.next) (five : Adds e f 0 (bound slot just_true)) where
         headed_rows : rows_of f ≡ head_rows (knowing about) about.home.now sc qs s heads guard
         headed_rows =
             five.rows
-            ∙ ap (λ l. l ++ bound slot t) (four.rows ∙ ap (λ l. take 1 l ++ together (drop 1 l) ∷ []) guarded)
-            ∙ ap₂ (λ n u. together (outer_rows qs s heads) ∷ together (rows (knowing about) about.home.now (with_bindings sc (outer_bindings s heads)) (s + outer_span heads) one_value guard) ∷ bound n u) (at ∙ clause_slot) is
+            ∙ ap (λ l. l ++ bound slot just_true) (four.rows ∙ ap (λ l. take 1 l ++ together (drop 1 l) ∷ []) guarded)
+            ∙ ap (λ n. together (outer_rows qs s heads) ∷ together (rows (knowing about) about.home.now (with_bindings sc (outer_bindings s heads)) (s + outer_span heads) one_value guard) ∷ bound n just_true) (at ∙ clause_slot)
 
         headed_end : f.next ≡ clause_slots s heads guard
         headed_end = let same : e.next + 0 ≡ e.next = omega arith in five.next ∙ same ∙ four.next ∙ clause_end
@@ -102,14 +102,14 @@ module _ (about : Surroundings) where
         headed_functions : f.functions ≡ a.functions
         headed_functions = five.functions ∙ four.functions ∙ three.functions ∙ two.functions ∙ one.functions
 
-  pub heads_so : (a b c d e f : Generator) (qs : List ℕ) (x : Clause) (ps : List Pattern) (slot : ℕ) (t : Type4) → a.members.items ≡ [] → ps ≡ (out-Clause x).patterns → Binds a b (outer_span (all_patterns ps)) (outer_rows qs a.next (all_patterns ps)) (outer_bindings a.next (all_patterns ps)) → Gathers (λ rs. together rs ∷ []) 0 b c
-      → Generates about c d one_value (tree (out-Clause x).guard) → Gathers (λ rs. together rs ∷ []) 1 d e → slot ≡ c.next → t ≡ just_true → Adds e f 0 (bound slot t) → Heads (knowing about) about.home.now a f qs (clause_parts x).patterns (clause_parts x).guard
-  heads_so a b c d e f qs x ps slot t empty ps_are one two three four at is five =
+  pub heads_so : (a b c d e f : Generator) (qs : List ℕ) (x : Clause) (ps : List Pattern) (slot : ℕ) → a.members.items ≡ [] → ps ≡ (out-Clause x).patterns → Binds a b (outer_span (all_patterns ps)) (outer_rows qs a.next (all_patterns ps)) (outer_bindings a.next (all_patterns ps)) → Gathers (λ rs. together rs ∷ []) 0 b c
+      → Generates about c d one_value (tree (out-Clause x).guard) → Gathers (λ rs. together rs ∷ []) 1 d e → slot ≡ c.next → Adds e f 0 (bound slot just_true) → Heads (knowing about) about.home.now a f qs (clause_parts x).patterns (clause_parts x).guard
+  heads_so a b c d e f qs x ps slot empty ps_are one two three four at five =
       record {
-        next = headed_end a b c d e (scope_of a) qs a.next x ps refl refl empty ps_are one two three f slot t four at is five;
-        rows = headed_rows a b c d e (scope_of a) qs a.next x ps refl refl empty ps_are one two three f slot t four at is five;
-        variables = headed_variables a b c d e (scope_of a) qs a.next x ps refl refl empty ps_are one two three f slot t four at is five;
-        functions = headed_functions a b c d e (scope_of a) qs a.next x ps refl refl empty ps_are one two three f slot t four at is five;
+        next = headed_end a b c d e (scope_of a) qs a.next x ps refl refl empty ps_are one two three f slot four at five;
+        rows = headed_rows a b c d e (scope_of a) qs a.next x ps refl refl empty ps_are one two three f slot four at five;
+        variables = headed_variables a b c d e (scope_of a) qs a.next x ps refl refl empty ps_are one two three f slot four at five;
+        functions = headed_functions a b c d e (scope_of a) qs a.next x ps refl refl empty ps_are one two three f slot four at five;
       }
 
 -- the same told of the scope that was moved out, and of the first slot

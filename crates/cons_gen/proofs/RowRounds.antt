@@ -8,23 +8,25 @@ use Rattle.core_ast.specs.declared.syntax.StepOf.{StepOf}
 use Rattle.core_ast.specs.declared.syntax.StepOf.TheVariants.{Let, Do}
 use Rattle.core_ast.specs.Model as m
 use Rattle.core_ast.specs.Tree.{ClauseParts, tree, all_trees, all_pairs, all_segments, all_steps, all_clauses, clause_parts, pair_parts, segment_parts}
-use Rattle.cons_gen.specs.Patterns.{outer_span}
+use Rattle.cons_rows.specs.Counts.{results}
+use Rattle.cons_rows.specs.Patterns.{outer_span}
+use Rattle.cons_rows.specs.Scopes.{Binding, Scope, bindings, with_bindings}
+use Rattle.cons_rows.specs.Slots.{slots_from}
+use Rattle.cons_rows.specs.Walking.{Adds, AddsRest, BindsRest, knowing, scope_of}
+use Rattle.cons_rows.specs.Words.{Rows, equals}
+use Rattle.cons_rows.specs.declared.generator.Generator.{Generator}
+use Rattle.cons_rows.specs.declared.passes.Surroundings.{Surroundings}
+use Rattle.cons_rows.proofs.Adding.{adds_then, append_nil, bind_round, rest_round}
+use Rattle.cons_gen.specs.Rows.{pair_rows, step_bindings, step_rows}
+use Rattle.cons_gen.specs.Spans.{clause_spans, pair_spans, segment_spans, span, spans, step_spans, value_slots}
+use Rattle.cons_gen.specs.steps.Generating.{Generates, rows_at}
+use Rattle.cons_gen.proofs.ControlExits.{Stepped, alternatives, given}
+use Rattle.cons_gen.proofs.FormExits.{each_segment, every}
 use Rattle.core_ast.proofs.Items.{all_trees-next, all_pairs-next, all_segments-next, all_steps-next, all_clauses-next}
 use Rattle.core_ast.proofs.Trees.{pair-is, segment-is}
 use Rattle.core_scope.specs.declared.ask.Ask.{Ask}
 use Rattle.core_scope.specs.declared.ask.Ask.TheVariants.{AnyNumber, Exactly}
 use Rattle.core_scope.specs.Asks.{one_value}
-use Rattle.cons_gen.specs.Rows.{pair_rows, step_bindings, step_rows}
-use Rattle.cons_gen.specs.Scopes.{Binding, Scope, bindings, with_bindings}
-use Rattle.cons_gen.specs.Slots.{slots_from}
-use Rattle.cons_gen.specs.Spans.{clause_spans, pair_spans, results, segment_spans, span, spans, step_spans, value_slots}
-use Rattle.cons_gen.specs.Words.{Rows, equals}
-use Rattle.cons_gen.specs.declared.generator.Generator.{Generator}
-use Rattle.cons_gen.specs.declared.passes.Surroundings.{Surroundings}
-use Rattle.cons_gen.specs.steps.Walking.{Adds, AddsRest, BindsRest, Generates, knowing, rows_at, scope_of}
-use Rattle.cons_gen.proofs.Adding.{adds_then, append_nil, bind_round, rest_round}
-use Rattle.cons_gen.proofs.ControlExits.{Stepped, alternatives, given}
-use Rattle.cons_gen.proofs.FormExits.{each_segment, every}
 
 opened : (es : List Expr) (i : ℕ) (e : Expr) → i < length es → e ≡ get_or es i e → all_trees (drop i es) ≡ m.and_tree (tree e) (all_trees (drop (i + 1) es))
 opened es i e within is = all_trees-next es i e within ∙ ap (λ z. m.and_tree (tree z) (all_trees (drop (i + 1) es))) (sym is)

@@ -1,11 +1,4 @@
-pub mod Knowing
 pub mod Made
-pub mod Members
-pub mod Passes
-pub mod Patterns
 pub mod Rows
-pub mod Scopes
-pub mod Slots
 pub mod Spans
-pub mod Words
 pub mod steps

@@ -8,12 +8,13 @@ use Rattle.cons_tree.specs.Constraints.{Cons, only}
 use Rattle.cons_tree.specs.Named.{just_true}
 use Rattle.cons_tree.specs.declared.parts.Part.{Part}
 use Rattle.cons_tree.specs.declared.parts.Part.TheVariants.{Bound}
-use Rattle.cons_gen.specs.Scopes.{Scope, bindings, with_bindings}
-use Rattle.cons_gen.specs.Words.{Rows, together}
-use Rattle.cons_gen.specs.Passes.{Knowledge}
-use Rattle.cons_gen.specs.Patterns.{outer_span, outer_bindings, outer_rows}
-use Rattle.cons_gen.specs.Spans.{span}
+use Rattle.cons_rows.specs.Passes.{Knowledge}
+use Rattle.cons_rows.specs.Patterns.{outer_span, outer_bindings, outer_rows}
+use Rattle.cons_rows.specs.Scopes.{Scope, bindings, with_bindings}
+use Rattle.cons_rows.specs.Words.{Rows, together}
 use Rattle.cons_gen.specs.Rows.{rows}
+use Rattle.cons_gen.specs.Spans.{span}
+use Rattle.cons_gen.specs.declared.making.Scope as made
 
 -- ---- a definition: its parameters have the first slots, and its result the next one
 
@@ -25,6 +26,10 @@ definition_constraint P home xs t = together (rows P home (parameter_scope xs) (
 
 abbrev pub definition_slots : List VarName → m.Tree → ℕ
 definition_slots xs t = length xs + span one_value t
+
+-- what a clause sees that is taken by itself
+abbrev pub seen : made.Scope → Scope
+seen scope = record { variables = scope.vars; functions = scope.locals }
 
 -- ---- a clause, for slots from s on: its patterns, at the slots qs of what is matched, and then its guard
 

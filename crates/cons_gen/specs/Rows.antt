@@ -15,17 +15,13 @@ use Rattle.cons_tree.specs.Constraints.{Cons, only}
 use Rattle.cons_tree.specs.Named.{just_true, naturals}
 use Rattle.cons_tree.specs.declared.parts.Part.{Part}
 use Rattle.cons_tree.specs.declared.parts.Part.TheVariants.{Tuple}
-use Rattle.cons_gen.specs.Slots.{slots_from}
-use Rattle.cons_gen.specs.Scopes.{Scope, Binding, bindings, with_bindings, with_functions, slot_of}
-use Rattle.cons_gen.specs.Words.{Rows, bound, equal, together, one_of, equals, never, list_rows, inner_cells, function_type, literal_type}
-use Rattle.cons_gen.specs.Passes.{Knowledge, called_rows, applied_rows}
-use Rattle.cons_gen.specs.Patterns.{outer_span, outer_bindings, outer_rows}
-use Rattle.cons_gen.specs.Spans.{results, handed_on, whatever_asked, call_results, call_names, span, spans, pair_spans, step_spans, clause_spans, value_slots}
-
--- a variable has the value of the slot that it is bound to
-abbrev pub variable_rows : Option ℕ → ℕ → Rows
-variable_rows None s = []
-variable_rows (Some r) s = equal r s
+use Rattle.cons_rows.specs.Counts.{results, handed_on, whatever_asked, call_results, call_names}
+use Rattle.cons_rows.specs.Passes.{Knowledge, called_rows, applied_rows}
+use Rattle.cons_rows.specs.Patterns.{outer_span, outer_bindings, outer_rows}
+use Rattle.cons_rows.specs.Scopes.{Scope, Binding, bindings, with_bindings, with_functions, slot_of}
+use Rattle.cons_rows.specs.Slots.{slots_from}
+use Rattle.cons_rows.specs.Words.{Rows, variable_rows, bound, together, one_of, equals, never, list_rows, inner_cells, function_type, literal_type}
+use Rattle.cons_gen.specs.Spans.{span, spans, pair_spans, step_spans, clause_spans, value_slots}
 
 -- the one where there is a name, and the other where there is none
 abbrev pub named_or : {A : Type 0} → Option A → (A → Rows) → Rows → Rows

@@ -1,3 +1,2 @@
-pub mod Codes
+pub mod Generating
 pub mod Heading
-pub mod Walking

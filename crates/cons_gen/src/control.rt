@@ -1,5 +1,5 @@
 //! The forms that bind variables, choose and wait.
-ghost use Rattle.std.specs.Prelude.{◌≡◌, ◌+◌, ◌≤◌, [], ◌∷◌, ◌++◌, length, IfOk, OnOk};
+ghost use Rattle.std.specs.Prelude.{◌≡◌, ◌+◌, [], ◌∷◌, ◌++◌, length, IfOk, OnOk};
 ghost use Rattle.core_ast.specs.Model as m;
 ghost use Rattle.core_ast.specs.declared.syntax.Mark.{Mark};
 ghost use Rattle.core_ast.specs.Tree.{all_clauses, all_defs, all_steps, tree};
@@ -7,19 +7,17 @@ ghost use Rattle.core_scope.specs.Asks.{one_value};
 ghost use Rattle.core_scope.specs.Names.{defined_names};
 ghost use Rattle.core_scope.specs.declared.ask.Ask.TheVariants.{Exactly};
 ghost use Rattle.cons_tree.specs.Named.{just_true, naturals};
+ghost use Rattle.cons_rows.specs.Counts.{handed_on, results};
+ghost use Rattle.cons_rows.specs.Scopes.{bindings, with_bindings, with_functions};
+ghost use Rattle.cons_rows.specs.Slots.{slots_from};
+ghost use Rattle.cons_rows.specs.Walking.{Adds, Binds, bindings_at, knowing, scope_of};
+ghost use Rattle.cons_rows.specs.Words.{bound, equals, one_of, together};
 ghost use Rattle.cons_gen.specs.Rows.{clause_rows, rows, step_bindings, step_rows};
-ghost use Rattle.cons_gen.specs.Scopes.{bindings, with_bindings, with_functions};
-ghost use Rattle.cons_gen.specs.Slots.{slots_from};
-ghost use Rattle.cons_gen.specs.Spans.{clause_spans, handed_on, results, span, step_spans};
-ghost use Rattle.cons_gen.specs.Words.{bound, equals, one_of, together};
-ghost use Rattle.cons_gen.specs.steps.Walking.{Adds, Binds, Generates, Leaves, bindings_at, handler_rows, knowing, rows_at, scope_of, tried_rows};
+ghost use Rattle.cons_gen.specs.Spans.{clause_spans, span, step_spans};
+ghost use Rattle.cons_gen.specs.steps.Generating.{Generates, Leaves, handler_rows, rows_at, tried_rows};
 
-use crate::counts::handed_on;
 use crate::expressions::{walk_expression, walk_results};
-use crate::generator::Generator;
-use crate::passes::Surroundings;
-use crate::patterns::walk_outer;
-use crate::types::{all_naturals, true_type};
+use cons_rows::{Generator, Surroundings, all_naturals, handed_on, walk_outer};
 use cons_tree::Slot;
 use core_ast::{Clause, Expr, FunDef, Step, StepOf, TryParts, VarName};
 use core_scope::Ask;
@@ -32,11 +30,11 @@ pub struct CaseSlots {
     pub values: List<Slot>,
 }
 
-/// The slots of the results of a `receive`, and the place from which its alternatives stand.
+// The slots of the results of a `receive`, and the place from which its alternatives stand.
 #[derive(Drop)]
-pub struct ReceiveSlots {
-    pub results: List<Slot>,
-    pub start: usize,
+struct ReceiveSlots {
+    results: List<Slot>,
+    start: usize,
 }
 
 // An expression whose results are handed on to slots.
@@ -220,8 +218,7 @@ fn walk_guard(made: &mut Generator, about: &Surroundings, guard: &Expr) -> Resul
 {
     let slot = made.next;
     walk_expression(made, about, Ask::Exactly(1), guard)?;
-    let yes = true_type(made.alloc)?;
-    made.bound(slot, yes)
+    made.holds(slot)
 }
 
 /// The body of a `letrec` of these definitions.
@@ -255,9 +252,7 @@ fn walk_first(
     ensures rows { OnOk result (Adds made.old made.new (span (Exactly count) (tree expr.now) + count) (rows_at about.now made.old (Exactly count) (tree expr.now) ++ equals (slots_from (made.old.next + span (Exactly count) (tree expr.now)) count) (results (Exactly count) made.old.next (tree expr.now)))) }
 {
     let values = walk_results(made, about, Ask::Exactly(count), expr)?;
-    let slots = made.take_run(count)?;
-    made.equal_each(slots.as_slice(), values.as_slice())?;
-    Ok(slots)
+    made.take_equal(count, values.as_slice())
 }
 
 // What a `try` does where its first expression gives values.
@@ -327,9 +322,29 @@ pub fn walk_try(
     made.any_since(start)
 }
 
-/// The clauses of a `receive`, each a row of its own, behind the slots of the results and that of the message.
+/// A `receive`: its timeout's rows stand in front of its alternatives, and its slots behind those of the clauses.
 #[cycle(rows)]
-pub fn walk_messages(
+pub fn walk_receive(
+    made: &mut Generator,
+    about: &Surroundings,
+    ask: Ask,
+    clauses: &[Clause],
+    timeout: &Expr,
+    action: &Expr,
+) -> Result<(), Memory>
+    ensures { OnOk result ((i : Mark) → Generates about.now made.old made.new ask (m.receive i (all_clauses clauses.now) (tree timeout.now) (tree action.now))) }
+{
+    let receive = walk_messages(made, about, ask, clauses)?;
+    let (slot, middle) = (made.next, made.count());
+    walk_expression(made, about, Ask::Exactly(1), timeout)?;
+    let start = made.rotate(receive.start, middle);
+    walk_action(made, about, ask, &receive.results, slot, action)?;
+    made.any_since(start)
+}
+
+// The clauses of a `receive`, each a row of its own, behind the slots of the results and that of the message.
+#[cycle(rows)]
+fn walk_messages(
     made: &mut Generator,
     about: &Surroundings,
     ask: Ask,
@@ -346,9 +361,9 @@ pub fn walk_messages(
     Ok(ReceiveSlots { results, start })
 }
 
-/// The action of a `receive` whose timeout has this slot: one row.
+// The action of a `receive` whose timeout has this slot: one row.
 #[cycle(rows)]
-pub fn walk_action(
+fn walk_action(
     made: &mut Generator,
     about: &Surroundings,
     ask: Ask,

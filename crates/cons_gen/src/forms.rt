@@ -1,28 +1,27 @@
 //! The forms of data and of calls.
-ghost use Rattle.std.specs.Prelude.{◌≡◌, ◌+◌, ◌≤◌, [], ◌∷◌, ◌++◌, length, if◌then◌else◌, IfOk, OnOk};
+ghost use Rattle.std.specs.Prelude.{◌≡◌, ◌+◌, [], ◌∷◌, ◌++◌, length, if◌then◌else◌, IfOk, OnOk};
 ghost use Rattle.type_lattice.specs.Kinds.{of_kind};
 ghost use Rattle.type_lattice.specs.declared.kinds.Kind.TheVariants as kind;
 ghost use Rattle.core_ast.specs.Tree.{all_pairs, all_segments, all_trees, tree};
 ghost use Rattle.core_scope.specs.Asks.{is_raising, one_value};
 ghost use Rattle.cons_tree.specs.Constraints.{only};
 ghost use Rattle.cons_tree.specs.declared.parts.Part.TheVariants as part;
-ghost use Rattle.cons_gen.specs.Passes.{applied_rows, called_rows};
-ghost use Rattle.cons_gen.specs.Rows.{all_rows, pair_rows, rows, segment_rows, variable_rows};
-ghost use Rattle.cons_gen.specs.Scopes.{slot_of};
-ghost use Rattle.cons_gen.specs.Slots.{slots_from};
-ghost use Rattle.cons_gen.specs.Spans.{handed_on, pair_spans, segment_spans, span, spans, value_slots, whatever_asked};
-ghost use Rattle.cons_gen.specs.Words.{bound, equals, function_type, inner_cells, list_rows, literal_type, never};
-ghost use Rattle.cons_gen.specs.steps.Walking.{Adds, Generates, knowing, rows_at, scope_of};
+ghost use Rattle.cons_rows.specs.Counts.{handed_on, whatever_asked};
+ghost use Rattle.cons_rows.specs.Passes.{applied_rows, called_rows};
+ghost use Rattle.cons_rows.specs.Slots.{slots_from};
+ghost use Rattle.cons_rows.specs.Walking.{Adds, knowing, scope_of};
+ghost use Rattle.cons_rows.specs.Words.{bound, equals, function_type, inner_cells, list_rows, never};
+ghost use Rattle.cons_gen.specs.Rows.{all_rows, pair_rows, rows, segment_rows};
+ghost use Rattle.cons_gen.specs.Spans.{pair_spans, segment_spans, span, spans, value_slots};
+ghost use Rattle.cons_gen.specs.steps.Generating.{rows_at};
 
-use crate::counts::{handed_on, whatever_asked};
 use crate::expressions::{walk_all, walk_expression};
-use crate::generator::Generator;
-use crate::passes::Surroundings;
-use crate::types::{function_type, literal_type};
-use crate::words::{Elements, inner_cells};
+use cons_rows::{
+    Elements, Generator, Surroundings, function_type, handed_on, inner_cells, whatever_asked,
+};
 use cons_tree::{Part, Slot};
-use core_ast::{Expr, FunName, Literal, MapPair, Segment};
-use core_scope::{Ask, is_text};
+use core_ast::{Expr, FunName, MapPair, Segment};
+use core_scope::Ask;
 use type_kinds::{Atom, Memory};
 use type_lattice::{Kind, Ty};
 
@@ -31,44 +30,6 @@ use type_lattice::{Kind, Ty};
 pub struct ListSlots {
     pub value: Slot,
     pub elements: Elements,
-}
-
-impl Generator {
-    /// A variable: it has the value of the slot that it is bound to.
-    pub fn variable(&mut self, name: &Atom) -> Result<(), Memory>
-        ensures { OnOk result (Adds self.old self.new 1 (variable_rows (slot_of self.old.variables name.now) self.old.next)) }
-    {
-        let own = self.take(1)?;
-        match self.variables.slot_of(name) {
-            Some(slot) => self.equal(slot, own),
-            None => Ok(()),
-        }
-    }
-
-    /// A function of so many arguments.
-    pub fn function(&mut self, count: usize) -> Result<(), Memory>
-        ensures { OnOk result (Adds self.old self.new 1 (bound self.old.next (function_type count))) }
-    {
-        let own = self.take(1)?;
-        self.bound(own, function_type(count))
-    }
-
-    /// A literal.
-    pub fn literal(&mut self, literal: &Literal) -> Result<(), Memory>
-        ensures { OnOk result (Adds self.old self.new 1 (bound self.old.next (literal_type literal.now))) }
-    {
-        let own = self.take(1)?;
-        let ty = literal_type(self.alloc, literal)?;
-        self.bound(own, ty)
-    }
-
-    /// A value of which nothing is known.
-    pub fn free(&mut self) -> Result<(), Memory>
-        ensures { OnOk result (Adds self.old self.new 1 []) }
-    {
-        self.take(1)?;
-        Ok(())
-    }
 }
 
 /// The elements of a list, behind its own slot and its inner cells.
@@ -256,11 +217,23 @@ pub fn walk_named_call(
     made.call(about, home, name, results.as_slice(), slots.as_slice())
 }
 
-// Whether a primop of this name never returns.
-fn is_raising(name: &Atom) -> bool
-    ensures { result ≡ is_raising name.now }
+/// A call whose module and name aren't both literal atoms, which has so many results.
+#[cycle(rows)]
+pub fn walk_other_call(
+    made: &mut Generator,
+    about: &Surroundings,
+    count: usize,
+    home: &Expr,
+    name: &Expr,
+    args: &[Expr],
+) -> Result<(), Memory>
+    ensures { OnOk result (Adds made.old made.new (count + (span one_value (tree home.now) + span one_value (tree name.now)) + spans (all_trees args.now)) (rows (knowing about.now) about.now.home.now (scope_of made.old) (made.old.next + count) one_value (tree home.now) ++ rows (knowing about.now) about.now.home.now (scope_of made.old) (made.old.next + count + span one_value (tree home.now)) one_value (tree name.now) ++ all_rows (knowing about.now) about.now.home.now (scope_of made.old) (made.old.next + count + (span one_value (tree home.now) + span one_value (tree name.now))) (all_trees args.now))) }
 {
-    is_text(name, b"match_fail") || is_text(name, b"raise") || is_text(name, b"raw_raise")
+    made.take(count)?;
+    walk_expression(made, about, Ask::Exactly(1), home)?;
+    walk_expression(made, about, Ask::Exactly(1), name)?;
+    walk_all(made, about, args)?;
+    Ok(())
 }
 
 /// A primop.
@@ -276,8 +249,5 @@ pub fn walk_primop(
 {
     let results = made.take_run(whatever_asked(ask))?;
     walk_all(made, about, args)?;
-    if is_raising(name) {
-        return made.never(results.as_slice());
-    }
-    Ok(())
+    made.primop(name, results.as_slice())
 }

@@ -2,19 +2,15 @@
 ghost use Rattle.std.specs.Prelude.{◌≡◌, [], ◌++◌, map, IfOk, OnOk};
 ghost use Rattle.core_ast.specs.Tree.{clause_parts};
 ghost use Rattle.cons_tree.specs.Constraints.{constraint};
-ghost use Rattle.cons_gen.specs.Knowing.{knowledge};
+ghost use Rattle.cons_rows.specs.Knowing.{knowledge};
+ghost use Rattle.cons_rows.specs.Patterns.{outer_bindings};
+ghost use Rattle.cons_rows.specs.Walking.{knowing};
+ghost use Rattle.cons_rows.specs.declared.passes.Pass.TheVariants.{Strict};
 ghost use Rattle.cons_gen.specs.Made.{clause_slots, head_rows};
-ghost use Rattle.cons_gen.specs.Patterns.{outer_bindings};
 ghost use Rattle.cons_gen.specs.steps.Heading.{Heads};
-ghost use Rattle.cons_gen.specs.steps.Walking.{knowing};
-ghost use Rattle.cons_gen.specs.declared.passes.Pass.TheVariants.{Strict};
 
 use crate::expressions::walk_expression;
-use crate::generator::Generator;
-use crate::passes::{Pass, Surroundings};
-use crate::patterns::walk_outer;
-use crate::types::true_type;
-use crate::variables::Variables;
+use cons_rows::{Generator, Pass, Surroundings, Variables, walk_outer};
 use cons_tree::{Constraint, Slot, Summaries};
 use core_ast::{Clause, FunName};
 use core_scope::{Ask, Names};
@@ -110,8 +106,7 @@ fn walk_head(
     let guard = made.next;
     walk_expression(made, about, Ask::Exactly(1), &clause.guard)?;
     made.all_since(1)?;
-    let yes = true_type(made.alloc)?;
-    made.bound(guard, yes)
+    made.holds(guard)
 }
 
 // The rows, and the scope, which is moved to its place.

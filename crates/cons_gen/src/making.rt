@@ -1,18 +1,16 @@
 //! The constraint of a definition, and that of a clause by itself.
 ghost use Rattle.std.specs.Prelude.{◌≡◌, [], length, IfOk};
-ghost use Rattle.core_ast.specs.Tree.{all_patterns, clause_parts, tree};
+ghost use Rattle.core_ast.specs.Tree.{clause_parts, tree};
 ghost use Rattle.cons_tree.specs.Constraints.{constraint};
-ghost use Rattle.cons_gen.specs.Knowing.{knowledge, seen};
-ghost use Rattle.cons_gen.specs.Made.{clause_constraint, clause_params, clause_result, clause_slots, definition_constraint, definition_slots};
-ghost use Rattle.cons_gen.specs.Slots.{slots_from};
-ghost use Rattle.cons_gen.specs.Words.{together};
-ghost use Rattle.cons_gen.specs.steps.Walking.{rows_of, scope_of};
-ghost use Rattle.cons_gen.specs.declared.passes.Pass.TheVariants.{Strict};
+ghost use Rattle.cons_rows.specs.Knowing.{knowledge};
+ghost use Rattle.cons_rows.specs.Slots.{slots_from};
+ghost use Rattle.cons_rows.specs.Walking.{rows_of, scope_of};
+ghost use Rattle.cons_rows.specs.Words.{together};
+ghost use Rattle.cons_rows.specs.declared.passes.Pass.TheVariants.{Strict};
+ghost use Rattle.cons_gen.specs.Made.{clause_constraint, clause_params, clause_result, clause_slots, definition_constraint, definition_slots, seen};
 
 use crate::expressions::walk_expression;
-use crate::generator::Generator;
-use crate::passes::{Pass, Surroundings};
-use crate::patterns::walk_outer;
+use cons_rows::{Generator, Pass, Surroundings, walk_outer};
 use cons_tree::{Constraint, Slot, Summaries};
 use core_ast::{Clause, FunDef, FunName};
 use core_scope::Ask;

@@ -1,8 +1,8 @@
 use Rattle.std.proofs.Common.{◌≡◌, ◌++◌, drop}
 use Rattle.core_ast.specs.Tree.{all_trees, all_pairs, all_segments, all_steps, all_clauses}
+use Rattle.cons_rows.specs.Walking.{AddsRest, BindsRest, knowing, scope_of}
 use Rattle.cons_gen.specs.Rows.{all_rows, clause_rows, pair_rows, segment_rows, step_bindings, step_rows}
 use Rattle.cons_gen.specs.Spans.{clause_spans, pair_spans, segment_spans, spans, step_spans, value_slots}
-use Rattle.cons_gen.specs.steps.Walking.{AddsRest, BindsRest, knowing, scope_of}
 use Rattle.cons_gen.proofs.+rows.Given as goal
 
 abbrev pub invariant-expressions::walk_all-loop-expr : goal.invariant-expressions::walk_all-loop-expr

@@ -1,8 +1,8 @@
 use Rattle.std.proofs.Common.{map, ap, ◌∙◌}
 use Rattle.cons_tree.specs.Constraints.{constraint}
-use Rattle.cons_gen.specs.Words.{together}
-use Rattle.cons_tree.proofs.TreeLaws.{of_all}
+use Rattle.cons_rows.specs.Words.{together}
 use Rattle.cons_gen.proofs.making.finished.Goals as goal
+use Rattle.cons_tree.proofs.TreeLaws.{of_all}
 
 pub returns-clause-constraint : goal.returns-clause-constraint
 returns-clause-constraint c = of_all c.from_vec.result ∙ ap (λ l. together (map constraint l)) c.from_vec.ensures

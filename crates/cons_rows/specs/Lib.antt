@@ -1,0 +1,10 @@
+pub mod Counts
+pub mod Knowing
+pub mod Members
+pub mod Passes
+pub mod Patterns
+pub mod Scopes
+pub mod Slots
+pub mod Walking
+pub mod Words
+pub mod steps
