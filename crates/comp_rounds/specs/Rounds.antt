@@ -15,7 +15,7 @@ use Rattle.cons_tree.specs.declared.parts.Callee.{Callee}
 use Rattle.cons_tree.specs.declared.parts.Callee.TheVariants.{Known, Local}
 use Rattle.cons_solve.specs.Environments.{solution}
 use Rattle.cons_gen.specs.Made.{definition_constraint, definition_slots}
-use Rattle.cons_gen.specs.Passes.{Knowledge}
+use Rattle.cons_rows.specs.Passes.{Knowledge}
 use Rattle.comp_rounds.specs.Signatures.{nothing, signature, anything, join_of, is_below}
 
 -- A function of the component: its module, its definition, and whether its module exports it.

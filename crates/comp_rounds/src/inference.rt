@@ -4,13 +4,14 @@ ghost use Rattle.type_lattice.specs.Types.{any};
 ghost use Rattle.cons_tree.specs.Constraints.{constraint};
 ghost use Rattle.cons_tree.specs.Environments.{State, env_of, type_at};
 ghost use Rattle.cons_solve.specs.Environments.{solution};
-ghost use Rattle.cons_gen.specs.Knowing.{knowledge};
+ghost use Rattle.cons_rows.specs.Knowing.{knowledge};
 ghost use Rattle.comp_rounds.specs.Members.{function_of};
 ghost use Rattle.comp_rounds.specs.Rounds.{inferred, signature_in};
 
 use crate::members::Member;
 use crate::signatures::{anys, no_value, signature_of};
-use cons_gen::{Made, Pass, generate};
+use cons_gen::{Made, generate};
+use cons_rows::Pass;
 use cons_solve::solve;
 use cons_tree::{Env, Sig, Summaries, type_facts};
 use std::alloc::Global;

@@ -23,8 +23,8 @@ use Rattle.cons_tree.specs.declared.parts.Sig.{Sig}
 use Rattle.cons_tree.specs.declared.parts.Summary.{Summary}
 use Rattle.core_meaning.specs.Meaning.{Outcome, gives, Trace, Called, call_built_in, call_enters, call_outside}
 use Rattle.core_meaning.specs.Programs.{Program, module_named, exported, outside, found_in}
-use Rattle.cons_gen.specs.Passes.{Knowledge, signature}
-use Rattle.cons_gen.specs.Slots.{slots_from}
+use Rattle.cons_rows.specs.Passes.{Knowledge, signature}
+use Rattle.cons_rows.specs.Slots.{slots_from}
 use Rattle.module_flow.specs.Calls.{Given, one, result_in, by_part, by_signature, by_row, by_callee, called, fits, by_both, by_state, may_return}
 use Rattle.sound_laws.specs.Facts.{Facts, SolutionFacts}
 use Rattle.sound_laws.specs.Knowledge.{Allows, IsHonest, summary_of, Within, AllBearOut}

@@ -15,8 +15,8 @@ use Rattle.core_scope.specs.Places.HasPart.{receive_action, catch_argument, firs
 use Rattle.core_scope.specs.Places.HasPart.{after_do, clause_guard, clause_body, other_clauses, definition_body, other_definitions}
 use Rattle.core_scope.specs.Places.StandsIn.{deeper}
 use Rattle.type_lattice.specs.Types.{any}
-use Rattle.cons_gen.specs.Scopes.{or_outer}
-use Rattle.cons_gen.specs.Spans.{call_names}
+use Rattle.cons_rows.specs.Scopes.{or_outer}
+use Rattle.cons_rows.specs.Counts.{call_names}
 use Rattle.module_flow.specs.Calls.{inner_or}
 use Rattle.module_flow.specs.Escapes.{Defined, defining, label_listed, unless_name, escapes, escapes_all, escapes_pairs, escapes_segments, escapes_steps, escapes_clauses, escapes_defs, escapes_patterns}
 use Rattle.module_flow.specs.Flow.{has_label}

@@ -19,8 +19,8 @@ use Rattle.core_scope.specs.Places.StandsIn.{deeper}
 use Rattle.type_lattice.specs.Types.{Type4, is_none, meet}
 use Rattle.cons_tree.specs.Environments.{Types, State}
 use Rattle.cons_tree.specs.Named.{naturals}
-use Rattle.cons_gen.specs.Scopes.{or_outer}
-use Rattle.cons_gen.specs.Spans.{call_names}
+use Rattle.cons_rows.specs.Scopes.{or_outer}
+use Rattle.cons_rows.specs.Counts.{call_names}
 use Rattle.module_flow.specs.declared.states.Gift.{Gift}
 use Rattle.module_flow.specs.declared.states.Gift.TheVariants.{Enters, Returns}
 use Rattle.module_flow.specs.Calls.{Given, inner_or}

@@ -23,8 +23,8 @@ use Rattle.core_meaning.specs.Environments.{value_of, local_function, function_o
 use Rattle.core_meaning.specs.Matching.{LiteralIs}
 use Rattle.core_meaning.specs.Meaning.{Failure, raised, stopped, Outcome, gives, fails, Trace, chosen, applied, with_last, in_pairs, in_segments, list_value, IsMadeOf, AreOutside, back_by, AllGive, give_next, Chained, chain_ends, let_gives, let_fails, do_gives, do_fails}
 use Rattle.core_meaning.specs.Meaning.{Choose, choose_none, choose_missed, choose_refused, choose_raised, choose_failed, choose_this, Apply, Called}
-use Rattle.cons_gen.specs.Spans.{whatever_asked, call_names}
-use Rattle.cons_gen.specs.Words.{function_type, literal_type}
+use Rattle.cons_rows.specs.Counts.{whatever_asked, call_names}
+use Rattle.cons_rows.specs.Words.{function_type, literal_type}
 use Rattle.module_flow.specs.declared.functions.Meant.TheVariants.{Inner, Top}
 use Rattle.module_flow.specs.Calls.{Given, meant, inner_or, called, applied as name_applied}
 use Rattle.module_flow.specs.Clauses.{head_solved, inside}

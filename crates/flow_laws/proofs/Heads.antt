@@ -16,10 +16,10 @@ use Rattle.core_meaning.specs.Programs.{Program}
 use Rattle.core_meaning.specs.Matching.{MatchEach}
 use Rattle.core_meaning.specs.Meaning.{Outcome, gives, Trace}
 use Rattle.cons_gen.specs.Made.{head_rows}
-use Rattle.cons_gen.specs.Patterns.{outer_rows, outer_span, outer_bindings}
-use Rattle.cons_gen.specs.Scopes.{with_bindings}
+use Rattle.cons_rows.specs.Patterns.{outer_rows, outer_span, outer_bindings}
+use Rattle.cons_rows.specs.Scopes.{with_bindings}
 use Rattle.cons_gen.specs.Spans.{span}
-use Rattle.cons_gen.specs.Words.{together}
+use Rattle.cons_rows.specs.Words.{together}
 use Rattle.cons_solve.specs.Environments.{solution}
 use Rattle.module_flow.specs.Clauses.{beginning, patterns_solved, head_solved, inside}
 use Rattle.module_flow.specs.Scopes.{Sight, scope_in}

@@ -15,7 +15,7 @@ use Rattle.core_meaning.specs.Meaning.{Step, step_variable, step_literal, step_f
 use Rattle.core_meaning.specs.Meaning.{step_letrec, step_apply_name, step_apply_name_raises, step_apply, step_call, step_call_raises, step_primop, step_primop_raises, step_try, step_handle, step_try_stops, step_catch, step_caught, step_catch_stops, step_receive, step_timeout, step_waits, step_receive_fails}
 use Rattle.core_meaning.specs.Runs.{EvalWith}
 use Rattle.core_scope.specs.Asks.{width}
-use Rattle.cons_gen.specs.Words.{function_type}
+use Rattle.cons_rows.specs.Words.{function_type}
 use Rattle.module_flow.specs.Scopes.{Sight, variable_name, variable_names}
 use Rattle.module_flow.specs.Walk.{walk, value}
 use Rattle.module_flow.specs.World.{strict}

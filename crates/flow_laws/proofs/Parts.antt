@@ -9,7 +9,7 @@ use Rattle.core_scope.specs.declared.ask.Ask.TheVariants.{Exactly}
 use Rattle.type_model.specs.Values.{Value, Values, no_value, and_value, Env}
 use Rattle.type_lattice.specs.Types.{Type4, HasTypes}
 use Rattle.core_meaning.specs.Meaning.{Failure, Outcome, gives, Trace, with_last, both_rows, in_pairs, in_segments, in_application, operands, AllGive, give_none, give_next, OneFails, fail_here, fail_later}
-use Rattle.cons_gen.specs.Spans.{call_names}
+use Rattle.cons_rows.specs.Counts.{call_names}
 use Rattle.module_flow.specs.Scopes.{Sight}
 use Rattle.module_flow.specs.Walk.{then, first, walk, walk_all, walk_pairs, walk_segments}
 use Rattle.module_flow.specs.World.{World}

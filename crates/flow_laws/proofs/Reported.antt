@@ -10,8 +10,8 @@ use Rattle.core_scope.specs.Labels.{labels, labels_of_all, labels_of_segments, l
 use Rattle.type_lattice.specs.Types.{Type4, is_none, meet}
 use Rattle.cons_tree.specs.Environments.{Types, State}
 use Rattle.cons_tree.specs.Named.{naturals}
-use Rattle.cons_gen.specs.Spans.{call_names}
-use Rattle.cons_gen.specs.Words.{function_type}
+use Rattle.cons_rows.specs.Counts.{call_names}
+use Rattle.cons_rows.specs.Words.{function_type}
 use Rattle.warn_list.specs.declared.finding.Finding.{Finding}
 use Rattle.warn_list.specs.declared.finding.FindingKind.TheVariants.{DeadCall, DeadClause}
 use Rattle.warn_list.specs.declared.finding.CallText.{CallText}

@@ -12,7 +12,7 @@ use Rattle.cons_tree.specs.Facts.{TypeFacts}
 use Rattle.cons_tree.specs.declared.parts.Callee.{Callee}
 use Rattle.core_meaning.specs.Programs.{Program}
 use Rattle.core_meaning.specs.Meaning.{Outcome, gives, fails, list_value}
-use Rattle.cons_gen.specs.Spans.{handed_on}
+use Rattle.cons_rows.specs.Counts.{handed_on}
 use Rattle.module_flow.specs.Calls.{Given, one}
 use Rattle.module_flow.specs.Clauses.{head_solved, inside}
 use Rattle.module_flow.specs.Scopes.{Sight, as_many}

@@ -12,8 +12,8 @@ use Rattle.type_kinds.specs.declared.atom.Atom.{Atom}
 use Rattle.type_lattice.specs.Types.{Type4, is_none, meet}
 use Rattle.cons_tree.specs.Environments.{Types}
 use Rattle.cons_tree.specs.Named.{naturals}
-use Rattle.cons_gen.specs.Spans.{call_names}
-use Rattle.cons_gen.specs.Words.{function_type}
+use Rattle.cons_rows.specs.Counts.{call_names}
+use Rattle.cons_rows.specs.Words.{function_type}
 use Rattle.warn_list.specs.declared.finding.Finding.{Finding}
 use Rattle.warn_list.specs.declared.finding.FindingKind.TheVariants.{DeadCall, DeadClause}
 use Rattle.warn_list.specs.declared.finding.CallText.TheVariants.{Local, Remote, Value}

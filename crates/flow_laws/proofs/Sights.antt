@@ -14,8 +14,8 @@ use Rattle.core_meaning.specs.Environments as run
 use Rattle.core_meaning.specs.Environments.{value_of, local_function, with_variable}
 use Rattle.core_meaning.specs.Matching.{Match, match_variable, match_literal, match_list, match_tuple, match_map, match_binary, match_alias, MatchEach, match_none, match_next, MatchList, match_rest, match_head, MatchPairs, match_no_pair, match_pair, MatchSegments, match_no_segment, match_segment}
 use Rattle.core_meaning.specs.Programs.{function_named, closure_of, locals_of}
-use Rattle.cons_gen.specs.Scopes.{Binding, or_outer}
-use Rattle.cons_gen.specs.Slots.{slots_from}
+use Rattle.cons_rows.specs.Scopes.{Binding, or_outer}
+use Rattle.cons_rows.specs.Slots.{slots_from}
 use Rattle.module_flow.specs.Functions.{defined_labels, label_named}
 use Rattle.module_flow.specs.Scopes.{Sight, scope_in, as_many, with_variables, with_functions, matching, slot_or, argument_slot, argument_slots}
 use Rattle.sound_laws.specs.Assignments.{Alike}

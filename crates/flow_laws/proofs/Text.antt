@@ -15,7 +15,7 @@ use Rattle.core_scope.specs.steps.SameNames.{functions_same}
 use Rattle.type_model.specs.Values.{Local}
 use Rattle.type_lattice.specs.Types.{Type4, any}
 use Rattle.core_meaning.specs.Programs.{with_label, locals_of, function_named}
-use Rattle.cons_gen.specs.Scopes.{or_outer}
+use Rattle.cons_rows.specs.Scopes.{or_outer}
 use Rattle.module_flow.specs.Escapes.{escaping}
 use Rattle.module_flow.specs.Flow.{has_label, exported_labels, open_labels, begins_one, begins, first_state}
 use Rattle.module_flow.specs.Functions.{defined_labels, label_named}

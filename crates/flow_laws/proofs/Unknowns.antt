@@ -8,7 +8,7 @@ use Rattle.core_ast.specs.Lengths.{how_many}
 use Rattle.core_scope.specs.Asks.{erlang, function_name}
 use Rattle.core_scope.specs.Names.{same_atom}
 use Rattle.cons_tree.specs.declared.parts.Callee.{Callee}
-use Rattle.cons_gen.specs.Spans.{call_names}
+use Rattle.cons_rows.specs.Counts.{call_names}
 use Rattle.warn_list.specs.declared.finding.Finding.{Finding}
 use Rattle.warn_list.specs.declared.finding.FindingKind.{FindingKind}
 use Rattle.warn_list.specs.declared.finding.FindingKind.TheVariants.{NoReturn, DeadCall, DeadClause, NeverCalled, UnknownFunction}

@@ -17,7 +17,7 @@ use Rattle.core_ast.specs.Tree.{tree, all_trees, all_pairs, all_segments, all_st
 use Rattle.core_ast.specs.Lengths.{how_many}
 use Rattle.core_ast.proofs.Forms.{variable_tree, local_tree, external_tree, literal_tree, fun_tree, listed_tree, tuple_tree, new_map_tree, updated_map_tree, binary_tree, values_tree, chain_tree, case_tree, letrec_tree, apply_tree, call_tree, primop_tree, try_tree, receive_tree, catch_tree}
 use Rattle.core_ast.proofs.Items.{how_many-length}
-use Rattle.cons_gen.specs.Spans.{call_names}
+use Rattle.cons_rows.specs.Counts.{call_names}
 use Rattle.cons_tree.specs.declared.parts.Callee.{Callee}
 use Rattle.module_flow.specs.declared.around.Around.{Around}
 use Rattle.module_flow.specs.declared.unknown.CallWalk.{CallWalk}

@@ -15,9 +15,9 @@ use Rattle.cons_tree.specs.declared.parts.Constraint.TheVariants as c
 use Rattle.cons_tree.specs.declared.parts.Part.{Part}
 use Rattle.cons_solve.specs.Environments.{solution}
 use Rattle.cons_gen.specs.Made.{clause_slots, head_rows}
-use Rattle.cons_gen.specs.Patterns.{outer_bindings, outer_rows, outer_span}
+use Rattle.cons_rows.specs.Patterns.{outer_bindings, outer_rows, outer_span}
 use Rattle.cons_gen.specs.Spans.{span}
-use Rattle.cons_gen.specs.Words.{Rows, together}
+use Rattle.cons_rows.specs.Words.{Rows, together}
 use Rattle.cons_gen.specs.declared.heads.InScope.{InScope}
 use Rattle.warn_list.specs.declared.finding.Finding.{Finding}
 use Rattle.warn_list.specs.declared.finding.FindingKind.TheVariants.{DeadClause}

@@ -9,7 +9,7 @@ use Rattle.core_ast.specs.Tree.{tree, all_defs}
 use Rattle.core_ast.proofs.Items.{all_defs-next}
 use Rattle.core_scope.specs.declared.ask.Ask.{Ask}
 use Rattle.core_scope.specs.Asks.{one_value}
-use Rattle.cons_gen.specs.Scopes.{bindings}
+use Rattle.cons_rows.specs.Scopes.{bindings}
 use Rattle.warn_list.specs.declared.finding.Finding.{Finding}
 use Rattle.module_flow.specs.declared.around.Around.{Around}
 use Rattle.module_flow.specs.declared.states.Gift.{Gift}

@@ -12,8 +12,8 @@ use Rattle.core_scope.specs.declared.ask.Ask.{Ask}
 use Rattle.core_scope.specs.declared.ask.Ask.TheVariants.{Exactly}
 use Rattle.core_scope.specs.Asks.{function_name, one_value, width}
 use Rattle.type_lattice.specs.Types.{Type4, any}
-use Rattle.cons_gen.specs.Spans.{call_names}
-use Rattle.cons_gen.specs.Words.{function_type}
+use Rattle.cons_rows.specs.Counts.{call_names}
+use Rattle.cons_rows.specs.Words.{function_type}
 use Rattle.warn_list.specs.declared.finding.Finding.{Finding}
 use Rattle.warn_list.specs.declared.finding.FindingKind.TheVariants.{DeadCall}
 use Rattle.warn_list.specs.declared.finding.CallText.TheVariants.{Local, Remote, Value}

@@ -11,8 +11,8 @@ use Rattle.core_scope.specs.Asks.{function_name, is_raising, one_value}
 use Rattle.type_lattice.specs.Types.{Type4, any, is_none, meet}
 use Rattle.type_lattice.specs.Kinds.{of_kind}
 use Rattle.type_lattice.specs.declared.kinds.Kind.TheVariants.{Map}
-use Rattle.cons_gen.specs.Spans.{whatever_asked}
-use Rattle.cons_gen.specs.Words.{function_type}
+use Rattle.cons_rows.specs.Counts.{whatever_asked}
+use Rattle.cons_rows.specs.Words.{function_type}
 use Rattle.warn_list.specs.declared.finding.Finding.{Finding}
 use Rattle.warn_list.specs.declared.finding.FindingKind.TheVariants.{DeadCall}
 use Rattle.warn_list.specs.declared.finding.CallText.TheVariants.{Local, Remote, Value}

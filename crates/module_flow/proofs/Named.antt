@@ -6,7 +6,7 @@ use Rattle.std.specs.List.{list_any}
 use Rattle.std.proofs.lemmas.Cmp.{nat_eq_equiv, nat_list_eq_equiv}
 use Rattle.core_ast.specs.declared.syntax.FunName.{FunName}
 use Rattle.core_scope.specs.Names.{same_atom, same_function}
-use Rattle.cons_gen.specs.Scopes.{or_outer}
+use Rattle.cons_rows.specs.Scopes.{or_outer}
 use Rattle.module_flow.specs.Functions.{label_named}
 
 same_either : (f g : FunName) → same_function f g ≡ same_function g f

@@ -6,7 +6,7 @@ use Rattle.core_ast.specs.declared.syntax.FunName.{FunName}
 use Rattle.core_ast.specs.declared.syntax.VarName.{VarName}
 use Rattle.core_ast.specs.Model as m
 use Rattle.core_scope.specs.Names.{defined_names}
-use Rattle.cons_gen.specs.Scopes.{Binding, bindings}
+use Rattle.cons_rows.specs.Scopes.{Binding, bindings}
 use Rattle.type_lattice.specs.Types.{Type4}
 use Rattle.warn_list.specs.declared.finding.Finding.{Finding}
 use Rattle.module_flow.specs.declared.states.Gift.{Gift}

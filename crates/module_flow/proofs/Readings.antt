@@ -14,8 +14,8 @@ use Rattle.type_lattice.specs.declared.kinds.Kind.TheVariants.{Bitstring, Map}
 use Rattle.cons_tree.specs.Environments.{Types, State}
 use Rattle.cons_tree.specs.Named.{naturals}
 use Rattle.cons_tree.specs.declared.parts.Callee.{Callee}
-use Rattle.cons_gen.specs.Spans.{call_names}
-use Rattle.cons_gen.specs.Words.{function_type}
+use Rattle.cons_rows.specs.Counts.{call_names}
+use Rattle.cons_rows.specs.Words.{function_type}
 use Rattle.module_flow.specs.declared.functions.Meant.{Meant}
 use Rattle.module_flow.specs.declared.functions.Meant.TheVariants.{Inner, Top, Nothing}
 use Rattle.module_flow.specs.declared.states.Gift.{Gift}

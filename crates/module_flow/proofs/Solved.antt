@@ -11,7 +11,7 @@ use Rattle.cons_tree.specs.declared.parts.Constraint.TheVariants as tree
 use Rattle.cons_tree.specs.declared.parts.Constraint.TheOpen.{Constraint-F}
 use Rattle.cons_tree.specs.declared.parts.Constraint.TheFolds.{map-Constraint, fold_out-Constraint}
 use Rattle.cons_solve.specs.Environments.{solution}
-use Rattle.cons_gen.specs.Slots.{slots_from}
+use Rattle.cons_rows.specs.Slots.{slots_from}
 use Rattle.module_flow.specs.Calls.{Given, by_part, one, result_in}
 
 -- ---- slots one after another

@@ -18,8 +18,8 @@ use Rattle.core_ast.proofs.Items.{all_defs-next, all_trees-next}
 use Rattle.core_scope.specs.Asks.{function_name}
 use Rattle.core_scope.specs.Names.{defined_names}
 use Rattle.cons_tree.specs.declared.parts.Callee.{Callee}
-use Rattle.cons_gen.specs.Scopes.{Binding, binding, bindings, slot_of}
-use Rattle.cons_gen.specs.Words.{function_type}
+use Rattle.cons_rows.specs.Scopes.{Binding, binding, bindings, slot_of}
+use Rattle.cons_rows.specs.Words.{function_type}
 use Rattle.type_lattice.specs.Types.{Type4, any, is_none, meet}
 use Rattle.warn_list.specs.declared.finding.Finding.{Finding}
 use Rattle.warn_list.specs.declared.finding.FindingKind.{FindingKind}

@@ -16,8 +16,8 @@ use Rattle.cons_solve.specs.Environments.{solution}
 use Rattle.bif_types.specs.declared.bif.Bif.{Bif}
 use Rattle.bif_types.specs.Parts.{part_of_row}
 use Rattle.bif_types.specs.Table.{looked_up}
-use Rattle.cons_gen.specs.Slots.{slots_from}
-use Rattle.cons_gen.specs.Passes.{Knowledge, signature}
+use Rattle.cons_rows.specs.Slots.{slots_from}
+use Rattle.cons_rows.specs.Passes.{Knowledge, signature}
 use Rattle.module_flow.specs.declared.functions.Meant.{Meant}
 use Rattle.module_flow.specs.declared.functions.Meant.TheVariants.{Inner, Top, Nothing}
 use Rattle.module_flow.specs.Functions.{label_named}

@@ -4,8 +4,8 @@ use Rattle.core_ast.specs.Model as m
 use Rattle.type_lattice.specs.Types.{any}
 use Rattle.cons_tree.specs.Environments.{Types, State}
 use Rattle.cons_solve.specs.Environments.{solution}
-use Rattle.cons_gen.specs.Words.{together}
-use Rattle.cons_gen.specs.Patterns.{outer_bindings, outer_rows, outer_span}
+use Rattle.cons_rows.specs.Words.{together}
+use Rattle.cons_rows.specs.Patterns.{outer_bindings, outer_rows, outer_span}
 use Rattle.cons_gen.specs.Spans.{span}
 use Rattle.core_scope.specs.Asks.{one_value}
 use Rattle.cons_gen.specs.Made.{head_rows}

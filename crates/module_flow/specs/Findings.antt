@@ -8,8 +8,8 @@ use Rattle.core_scope.specs.declared.ask.Ask.TheVariants.{AnyNumber, Exactly}
 use Rattle.core_scope.specs.Asks.{one_value, function_name, width}
 use Rattle.type_lattice.specs.Types.{Type4, is_none, meet}
 use Rattle.cons_tree.specs.Environments.{Types, State}
-use Rattle.cons_gen.specs.Spans.{call_names}
-use Rattle.cons_gen.specs.Words.{function_type}
+use Rattle.cons_rows.specs.Counts.{call_names}
+use Rattle.cons_rows.specs.Words.{function_type}
 use Rattle.warn_list.specs.declared.finding.Finding.{Finding}
 use Rattle.warn_list.specs.declared.finding.FindingKind.TheVariants.{DeadCall, DeadClause}
 use Rattle.warn_list.specs.declared.finding.CallText.TheVariants.{Local, Remote, Value}

@@ -3,7 +3,7 @@ use Rattle.std.specs.Prelude.{ℕ, List, [], ◌∷◌, Option, Some, None, if�
 use Rattle.core_ast.specs.declared.syntax.FunName.{FunName}
 use Rattle.core_ast.specs.Model as m
 use Rattle.core_scope.specs.Names.{same_function}
-use Rattle.cons_gen.specs.Scopes.{or_outer}
+use Rattle.cons_rows.specs.Scopes.{or_outer}
 
 -- the labels of definitions, in the order of the text
 abbrev pub defined_labels : m.Defs → List ℕ

@@ -11,7 +11,7 @@ use Rattle.core_scope.specs.Asks.{one_value, width}
 use Rattle.type_lattice.specs.Types.{Type4, is_none, meet}
 use Rattle.cons_tree.specs.Environments.{Types, State}
 use Rattle.cons_tree.specs.Named.{naturals}
-use Rattle.cons_gen.specs.Spans.{call_names}
+use Rattle.cons_rows.specs.Counts.{call_names}
 use Rattle.module_flow.specs.declared.states.Gift.{Gift}
 use Rattle.module_flow.specs.declared.states.Gift.TheVariants.{Enters, Returns}
 use Rattle.module_flow.specs.declared.functions.Meant.{Meant}

@@ -8,7 +8,7 @@ use Rattle.core_ast.specs.Model as m
 use Rattle.core_scope.specs.Names.{defined_names}
 use Rattle.type_lattice.specs.Types.{Type4, any}
 use Rattle.cons_tree.specs.Environments.{Types, type_at}
-use Rattle.cons_gen.specs.Scopes.{Binding, Scope, bindings, slot_of}
+use Rattle.cons_rows.specs.Scopes.{Binding, Scope, bindings, slot_of}
 use Rattle.module_flow.specs.Functions.{defined_labels}
 
 -- The variables, the outer before the inner, each with its slot; the functions, the outer before the inner, each with its

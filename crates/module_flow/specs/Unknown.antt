@@ -9,7 +9,7 @@ use Rattle.core_scope.specs.Asks.{erlang, function_name}
 use Rattle.core_scope.specs.Names.{same_atom, same_function}
 use Rattle.cons_tree.specs.declared.parts.Callee.{Callee}
 use Rattle.cons_tree.specs.declared.parts.Callee.TheVariants.{Known, Local, Undefined, Unknown}
-use Rattle.cons_gen.specs.Spans.{call_names}
+use Rattle.cons_rows.specs.Counts.{call_names}
 use Rattle.warn_list.specs.declared.finding.Finding.{Finding}
 use Rattle.warn_list.specs.declared.finding.FindingKind.TheVariants.{UnknownFunction}
 use Rattle.module_flow.specs.declared.around.Around.{Around}

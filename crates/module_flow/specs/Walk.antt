@@ -13,8 +13,8 @@ use Rattle.type_lattice.specs.Kinds.{of_kind}
 use Rattle.type_lattice.specs.declared.kinds.Kind.TheVariants.{Bitstring, Map}
 use Rattle.cons_tree.specs.Environments.{Types, State}
 use Rattle.cons_tree.specs.Named.{naturals}
-use Rattle.cons_gen.specs.Spans.{handed_on, whatever_asked, call_names}
-use Rattle.cons_gen.specs.Words.{function_type, literal_type}
+use Rattle.cons_rows.specs.Counts.{handed_on, whatever_asked, call_names}
+use Rattle.cons_rows.specs.Words.{function_type, literal_type}
 use Rattle.module_flow.specs.Calls.{Given, called, applied}
 use Rattle.module_flow.specs.Clauses.{head_solved, inside}
 use Rattle.module_flow.specs.Scopes.{Sight, argument_names, argument_slots, as_many, matching, type_of, with_functions, with_variables}

@@ -4,7 +4,7 @@ use Rattle.std.specs.Prelude.{ℕ, false, true, List}
 use Rattle.type_kinds.specs.declared.atom.Atom.{Atom}
 use Rattle.core_ast.specs.declared.syntax.FunName.{FunName}
 use Rattle.cons_tree.specs.declared.parts.Callee.{Callee}
-use Rattle.cons_gen.specs.Passes.{Knowledge}
+use Rattle.cons_rows.specs.Passes.{Knowledge}
 use Rattle.module_flow.specs.States.{FlowState}
 
 -- home: the module; names and labels: its functions

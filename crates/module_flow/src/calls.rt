@@ -3,8 +3,8 @@ ghost use Rattle.std.specs.Prelude.{◌≡◌, ◌∷◌, is_some, IfOk};
 ghost use Rattle.bif_types.specs.Table.{looked_up};
 ghost use Rattle.core_scope.specs.Asks.{function_name};
 ghost use Rattle.type_lattice.specs.Types.{any};
-ghost use Rattle.cons_gen.specs.Passes.{Knowledge};
-ghost use Rattle.cons_gen.specs.Slots.{slots_from};
+ghost use Rattle.cons_rows.specs.Passes.{Knowledge};
+ghost use Rattle.cons_rows.specs.Slots.{slots_from};
 ghost use Rattle.cons_tree.specs.Callees.{found};
 ghost use Rattle.module_flow.specs.Calls.{by_both, by_callee, by_part, by_row, by_signature, by_state, called, fits, may_return};
 

@@ -14,7 +14,7 @@ use crate::forms::{
 };
 use crate::types::{Given, discard_given, value};
 use crate::walk::{About, Walk, add_first};
-use cons_gen::{call_names, function_type, literal_type};
+use cons_rows::{call_names, function_type, literal_type};
 use core_ast::{Expr, Form};
 use core_scope::Ask;
 use type_kinds::{List, Memory};

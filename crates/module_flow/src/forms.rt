@@ -5,7 +5,7 @@ ghost use Rattle.core_scope.specs.Asks.{function_name, is_raising, one_value};
 ghost use Rattle.type_lattice.specs.Types.{any, tuple};
 ghost use Rattle.type_lattice.specs.Kinds.{of_kind};
 ghost use Rattle.type_lattice.specs.declared.kinds.Kind.TheVariants.{Bitstring, Map};
-ghost use Rattle.cons_gen.specs.Words.{function_type};
+ghost use Rattle.cons_rows.specs.Words.{function_type};
 ghost use Rattle.warn_list.specs.declared.finding.FindingKind.TheVariants.{DeadCall};
 ghost use Rattle.warn_list.specs.declared.finding.CallText.TheVariants.{Local, Remote, Value};
 ghost use Rattle.module_flow.specs.Around.{at_node};
@@ -24,7 +24,7 @@ use crate::types::{
     Given, add_any, discard, discard_given, discard_types, first, list_type, meets, value,
 };
 use crate::walk::{About, Walk};
-use cons_gen::{function_type, whatever_asked};
+use cons_rows::{function_type, whatever_asked};
 use core_ast::{Expr, FunName, MapPair, Mark, Segment};
 use core_scope::{Ask, is_text};
 use type_kinds::{Atom, List, Memory};

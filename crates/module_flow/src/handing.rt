@@ -3,7 +3,7 @@ ghost use Rattle.std.specs.Prelude.{◌≡◌, IfOk};
 ghost use Rattle.module_flow.specs.Walk.{handed};
 
 use crate::types::{Given, as_many};
-use cons_gen::handed_on;
+use cons_rows::handed_on;
 use core_scope::Ask;
 use type_kinds::Memory;
 

@@ -3,7 +3,7 @@ ghost use Rattle.std.specs.Prelude.{◌≡◌, ◌&&◌, ◌∷◌, [], not, Som
 ghost use Rattle.core_ast.specs.Tree.{all_clauses, all_defs, all_pairs, all_pat_pairs, all_pat_segments, all_patterns, all_segments, all_steps, all_trees, pattern_tree, tree};
 ghost use Rattle.core_scope.specs.Asks.{erlang};
 ghost use Rattle.core_scope.specs.Names.{same_atom};
-ghost use Rattle.cons_gen.specs.Spans.{call_names};
+ghost use Rattle.cons_rows.specs.Counts.{call_names};
 ghost use Rattle.cons_tree.specs.Callees.{found};
 ghost use Rattle.warn_list.specs.declared.finding.FindingKind.TheVariants.{UnknownFunction};
 ghost use Rattle.module_flow.specs.Around.{at_node};
@@ -12,7 +12,7 @@ ghost use Rattle.module_flow.specs.steps.FirstCalls.{Notes, naming_of, none_name
 
 use crate::around::{Around, step_note};
 use crate::calls::function_name;
-use cons_gen::{Members, call_names};
+use cons_rows::{Members, call_names};
 use cons_tree::{Callee, Summaries};
 use core_ast::{
     Clause, Expr, Form, FunDef, FunName, MapPair, Mark, PatForm, PatPair, PatSegment, Pattern,

@@ -6,7 +6,7 @@ ghost use Rattle.type_lattice.specs.Types.{any};
 ghost use Rattle.cons_tree.specs.Constraints.{constraint};
 ghost use Rattle.cons_tree.specs.Trails.{answer, laid, Within};
 ghost use Rattle.cons_solve.specs.Environments.{solution};
-ghost use Rattle.cons_gen.specs.Scopes.{binding};
+ghost use Rattle.cons_rows.specs.Scopes.{binding};
 ghost use Rattle.warn_list.specs.declared.finding.FindingKind.TheVariants.{DeadCall};
 ghost use Rattle.warn_list.specs.declared.finding.CallText.TheVariants.{Local, Remote, Value};
 ghost use Rattle.module_flow.specs.declared.functions.Meant.TheVariants.{Top};

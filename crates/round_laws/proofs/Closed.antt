@@ -14,7 +14,7 @@ use Rattle.cons_tree.specs.declared.parts.Callee.TheVariants.{Known, Local, Unde
 use Rattle.cons_tree.specs.declared.parts.Part.{Part}
 use Rattle.cons_tree.specs.declared.parts.Sig.{Sig}
 use Rattle.cons_tree.specs.declared.parts.Summary.{Summary}
-use Rattle.cons_gen.specs.Passes.{Knowledge, signature}
+use Rattle.cons_rows.specs.Passes.{Knowledge, signature}
 use Rattle.cons_solve.specs.Environments.{solution}
 use Rattle.comp_rounds.specs.Rounds.{Callees, Function, is_named, is_member, callee_of, with_function, of_one, with_signatures, strict_pass, lenient_pass, inferred, paired, given, strict_signatures, lenient_signatures, summaries}
 use Rattle.comp_rounds.specs.Signatures.{is_below, all_below}

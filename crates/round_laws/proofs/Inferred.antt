@@ -11,7 +11,7 @@ use Rattle.cons_tree.specs.Signatures.{has_none}
 use Rattle.cons_tree.specs.declared.parts.Part.{Part}
 use Rattle.cons_tree.specs.declared.parts.Sig.{Sig}
 use Rattle.cons_gen.specs.Made.{definition_constraint, definition_slots}
-use Rattle.cons_gen.specs.Passes.{Knowledge}
+use Rattle.cons_rows.specs.Passes.{Knowledge}
 use Rattle.cons_solve.specs.Environments.{solution}
 use Rattle.comp_rounds.specs.Rounds.{Function, arity, solved, inferred, signature_in}
 use Rattle.comp_rounds.specs.Signatures.{signature_by, signature, are_below, is_below}

@@ -16,11 +16,12 @@ use Rattle.cons_tree.specs.Environments.{Assignment}
 use Rattle.core_meaning.specs.Programs.{Program}
 use Rattle.core_meaning.specs.Environments.{function_of}
 use Rattle.core_meaning.specs.Meaning.{Outcome, gives, Trace, AllGive, give_none, give_next, Enter, Called, Apply}
-use Rattle.cons_gen.specs.Slots.{slots_from}
-use Rattle.cons_gen.specs.Scopes.{Scope}
-use Rattle.cons_gen.specs.Words.{Rows, bound, never, function_type, literal_type}
-use Rattle.cons_gen.specs.Passes.{Knowledge, called_rows, applied_rows}
-use Rattle.cons_gen.specs.Spans.{whatever_asked, call_results, both_atoms, call_names, unless_named, span, spans, value_slots}
+use Rattle.cons_rows.specs.Slots.{slots_from}
+use Rattle.cons_rows.specs.Scopes.{Scope}
+use Rattle.cons_rows.specs.Words.{Rows, bound, never, function_type, literal_type}
+use Rattle.cons_rows.specs.Passes.{Knowledge, called_rows, applied_rows}
+use Rattle.cons_gen.specs.Spans.{unless_named, span, spans, value_slots}
+use Rattle.cons_rows.specs.Counts.{whatever_asked, call_results, both_atoms, call_names}
 use Rattle.cons_gen.specs.Rows.{named_or, rows, all_rows}
 use Rattle.sound_laws.specs.Assignments.{Extension}
 use Rattle.sound_laws.specs.Facts.{Facts}

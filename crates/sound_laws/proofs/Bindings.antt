@@ -12,11 +12,12 @@ use Rattle.cons_tree.specs.Environments.{Assignment}
 use Rattle.core_meaning.specs.Programs.{Program, locals_of}
 use Rattle.core_meaning.specs.Environments.{with_variables}
 use Rattle.core_meaning.specs.Meaning.{Outcome, gives, Trace, Chained, chain_ends, let_gives, do_gives}
-use Rattle.cons_gen.specs.Slots.{slots_from}
-use Rattle.cons_gen.specs.Scopes.{Scope, bindings, with_bindings, with_functions}
-use Rattle.cons_gen.specs.Words.{equals}
-use Rattle.cons_gen.specs.Passes.{Knowledge}
-use Rattle.cons_gen.specs.Spans.{handed_on, results, span, step_spans}
+use Rattle.cons_rows.specs.Slots.{slots_from}
+use Rattle.cons_rows.specs.Scopes.{Scope, bindings, with_bindings, with_functions}
+use Rattle.cons_rows.specs.Words.{equals}
+use Rattle.cons_rows.specs.Passes.{Knowledge}
+use Rattle.cons_gen.specs.Spans.{span, step_spans}
+use Rattle.cons_rows.specs.Counts.{handed_on, results}
 use Rattle.cons_gen.specs.Rows.{step_bindings, rows, step_rows}
 use Rattle.sound_laws.specs.Assignments.{Extension}
 use Rattle.sound_laws.specs.Knowledge.{AllBearOut}

@@ -21,8 +21,8 @@ use Rattle.bif_types.specs.Table.{looked_up}
 use Rattle.core_meaning.specs.Programs.{Program, module_named, function_named, closure_of, locals_of, top_of_module, top_function, exported, hidden, built_in, outside, Found, found_in}
 use Rattle.core_meaning.specs.Environments.{or_outer, local_function, function_of}
 use Rattle.core_meaning.specs.Meaning.{Outcome, gives, gave, Trace, Enter, enter_gives, Called, call_built_in, call_enters, call_outside, Apply, apply_closure, apply_external, apply_foreign}
-use Rattle.cons_gen.specs.Words.{bound}
-use Rattle.cons_gen.specs.Passes.{Knowledge, signature, by_summary, by_names, by_name, built_in_rows, with_result, called_rows, applied_rows}
+use Rattle.cons_rows.specs.Words.{bound}
+use Rattle.cons_rows.specs.Passes.{Knowledge, signature, by_summary, by_names, by_name, built_in_rows, with_result, called_rows, applied_rows}
 use Rattle.sound_laws.specs.Facts.{Facts}
 use Rattle.sound_laws.specs.Knowledge.{Allows, IsHonest, summary_of, Within, BearsOut, AllBearOut}
 use Rattle.sound_laws.specs.Satisfied.{SatRows}

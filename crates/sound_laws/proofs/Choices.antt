@@ -13,12 +13,13 @@ use Rattle.cons_tree.specs.Named.{just_true, naturals}
 use Rattle.cons_tree.specs.Satisfied.{values_of}
 use Rattle.core_meaning.specs.Programs.{Program}
 use Rattle.core_meaning.specs.Meaning.{Failure, raised, stopped, Outcome, gives, Trace, chosen, Choose, choose_missed, choose_refused, choose_raised, choose_this}
-use Rattle.cons_gen.specs.Slots.{slots_from}
-use Rattle.cons_gen.specs.Scopes.{Scope, with_bindings}
-use Rattle.cons_gen.specs.Words.{bound, equals}
-use Rattle.cons_gen.specs.Passes.{Knowledge}
-use Rattle.cons_gen.specs.Patterns.{outer_span, outer_bindings, outer_rows}
-use Rattle.cons_gen.specs.Spans.{handed_on, result_count, results, span, clause_spans}
+use Rattle.cons_rows.specs.Slots.{slots_from}
+use Rattle.cons_rows.specs.Scopes.{Scope, with_bindings}
+use Rattle.cons_rows.specs.Words.{bound, equals}
+use Rattle.cons_rows.specs.Passes.{Knowledge}
+use Rattle.cons_rows.specs.Patterns.{outer_span, outer_bindings, outer_rows}
+use Rattle.cons_gen.specs.Spans.{span, clause_spans}
+use Rattle.cons_rows.specs.Counts.{handed_on, result_count, results}
 use Rattle.cons_gen.specs.Rows.{rows, clause_rows}
 use Rattle.sound_laws.specs.Assignments.{Extension}
 use Rattle.sound_laws.specs.Facts.{Facts}

@@ -10,8 +10,8 @@ use Rattle.core_meaning.specs.Meaning.{Failure, Outcome, gives, fails, Trace, ap
 use Rattle.core_meaning.specs.Meaning.{Step, step_variable, step_literal, step_function, step_name, step_external, step_list, step_tuple, step_values, step_new_map, step_map, step_binary, step_chain, step_case, step_letrec}
 use Rattle.core_meaning.specs.Meaning.{step_apply_name, step_apply, step_call, step_primop, step_try, step_handle, step_catch, step_caught, step_receive, step_timeout}
 use Rattle.core_meaning.specs.Runs.{EvalWith}
-use Rattle.cons_gen.specs.Scopes.{Scope}
-use Rattle.cons_gen.specs.Passes.{Knowledge}
+use Rattle.cons_rows.specs.Scopes.{Scope}
+use Rattle.cons_rows.specs.Passes.{Knowledge}
 use Rattle.sound_laws.specs.Facts.{Facts}
 use Rattle.sound_laws.specs.Knowledge.{IsHonest, AllBearOut}
 use Rattle.sound_laws.specs.Satisfied.{AreAsked, Meets}

@@ -11,11 +11,12 @@ use Rattle.cons_tree.specs.Environments.{Assignment}
 use Rattle.cons_tree.specs.Satisfied.{values_of}
 use Rattle.core_meaning.specs.Programs.{Program}
 use Rattle.core_meaning.specs.Meaning.{Outcome, gives, Trace, with_last, both_rows, in_pairs, in_segments, AllGive, give_none, give_next}
-use Rattle.cons_gen.specs.Slots.{slots_from}
-use Rattle.cons_gen.specs.Scopes.{Scope}
-use Rattle.cons_gen.specs.Words.{equals}
-use Rattle.cons_gen.specs.Passes.{Knowledge}
-use Rattle.cons_gen.specs.Spans.{handed_on, call_results, result_count, results, span, spans, pair_spans, segment_spans, value_slots}
+use Rattle.cons_rows.specs.Slots.{slots_from}
+use Rattle.cons_rows.specs.Scopes.{Scope}
+use Rattle.cons_rows.specs.Words.{equals}
+use Rattle.cons_rows.specs.Passes.{Knowledge}
+use Rattle.cons_gen.specs.Spans.{span, spans, pair_spans, segment_spans, value_slots}
+use Rattle.cons_rows.specs.Counts.{handed_on, call_results, result_count, results}
 use Rattle.cons_gen.specs.Rows.{rows, all_rows, pair_rows, segment_rows}
 use Rattle.sound_laws.specs.Assignments.{Extension}
 use Rattle.sound_laws.specs.Knowledge.{AllBearOut}

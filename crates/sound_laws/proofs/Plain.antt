@@ -20,12 +20,14 @@ use Rattle.core_meaning.specs.Programs.{Program}
 use Rattle.core_meaning.specs.Environments.{value_of, function_of}
 use Rattle.core_meaning.specs.Matching.{LiteralIs}
 use Rattle.core_meaning.specs.Meaning.{Outcome, gives, Trace, with_last, in_pairs, in_segments, list_value, AllGive}
-use Rattle.cons_gen.specs.Slots.{slots_from}
-use Rattle.cons_gen.specs.Scopes.{Scope, slot_of}
-use Rattle.cons_gen.specs.Words.{bound, equals, list_rows, inner_cells, function_type, literal_type}
-use Rattle.cons_gen.specs.Passes.{Knowledge}
-use Rattle.cons_gen.specs.Spans.{handed_on, span, spans, pair_spans, value_slots}
-use Rattle.cons_gen.specs.Rows.{variable_rows, rows, all_rows, pair_rows, segment_rows}
+use Rattle.cons_rows.specs.Slots.{slots_from}
+use Rattle.cons_rows.specs.Scopes.{Scope, slot_of}
+use Rattle.cons_rows.specs.Words.{bound, equals, list_rows, inner_cells, function_type, literal_type}
+use Rattle.cons_rows.specs.Passes.{Knowledge}
+use Rattle.cons_gen.specs.Spans.{span, spans, pair_spans, value_slots}
+use Rattle.cons_rows.specs.Counts.{handed_on}
+use Rattle.cons_gen.specs.Rows.{rows, all_rows, pair_rows, segment_rows}
+use Rattle.cons_rows.specs.Words.{variable_rows}
 use Rattle.sound_laws.specs.Assignments.{Alike, Extension}
 use Rattle.sound_laws.specs.Facts.{Facts}
 use Rattle.sound_laws.specs.Knowledge.{AllBearOut}

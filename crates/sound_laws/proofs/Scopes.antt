@@ -13,8 +13,8 @@ use Rattle.cons_tree.specs.Satisfied.{values_of}
 use Rattle.core_meaning.specs.Programs.{function_named, closure_of, locals_of}
 use Rattle.core_meaning.specs.Environments as run
 use Rattle.core_meaning.specs.Environments.{value_of, local_function, with_variable, with_variables}
-use Rattle.cons_gen.specs.Slots.{slots_from}
-use Rattle.cons_gen.specs.Scopes.{Scope, Binding, slot_of, or_outer, binding, bindings, with_bindings, with_functions}
+use Rattle.cons_rows.specs.Slots.{slots_from}
+use Rattle.cons_rows.specs.Scopes.{Scope, Binding, slot_of, or_outer, binding, bindings, with_bindings, with_functions}
 use Rattle.sound_laws.specs.Assignments.{Alike, Extension}
 use Rattle.sound_laws.specs.Scopes.{StandsFor}
 use Rattle.sound_laws.proofs.Extensions.{and_next, mapped, wider, kept, set_one}

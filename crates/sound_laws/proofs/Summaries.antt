@@ -17,9 +17,9 @@ use Rattle.core_meaning.specs.Programs.{Program, AreAtLabels, module_named, func
 use Rattle.core_meaning.specs.Environments.{with_variables}
 use Rattle.core_meaning.specs.Meaning.{gives, Event, made, chosen, applied, entered, gave, back, Trace, Among}
 use Rattle.core_meaning.specs.Runs.{EvalWith, IsOutside, Eval, Run}
-use Rattle.cons_gen.specs.Slots.{slots_from}
+use Rattle.cons_rows.specs.Slots.{slots_from}
 use Rattle.cons_gen.specs.Made.{parameter_scope, definition_constraint, definition_slots}
-use Rattle.cons_gen.specs.Passes.{Knowledge, signature}
+use Rattle.cons_rows.specs.Passes.{Knowledge, signature}
 use Rattle.sound_laws.specs.Facts.{Facts, SolutionFacts}
 use Rattle.sound_laws.specs.Knowledge.{IsHonest, Within, EachEvent, AllBearOut}
 use Rattle.sound_laws.specs.Scopes.{StandsFor}

@@ -20,8 +20,8 @@ use Rattle.cons_tree.specs.Environments.{Assignment}
 use Rattle.cons_tree.specs.Named.{integers, naturals, floats, just_true}
 use Rattle.cons_tree.specs.Satisfied.{IsInteger, IsNatural, IsFloat, true_value}
 use Rattle.core_meaning.specs.Matching.{LiteralIs, IsBits, IsOfKind}
-use Rattle.cons_gen.specs.Words.{function_type, literal_type}
-use Rattle.cons_gen.specs.Patterns.{segment_rows}
+use Rattle.cons_rows.specs.Words.{function_type, literal_type}
+use Rattle.cons_rows.specs.Patterns.{segment_rows}
 use Rattle.sound_laws.specs.Facts.{Facts}
 use Rattle.sound_laws.specs.Satisfied.{SatRows}
 

@@ -8,9 +8,9 @@ use Rattle.cons_tree.specs.declared.parts.Part.{Part}
 use Rattle.core_scope.specs.declared.ask.Ask.{Ask}
 use Rattle.core_scope.specs.declared.ask.Ask.TheVariants.{AnyNumber, Exactly}
 use Rattle.core_meaning.specs.Meaning.{list_value}
-use Rattle.cons_gen.specs.Slots.{slots_from}
-use Rattle.cons_gen.specs.Spans.{handed_on, whatever_asked}
-use Rattle.cons_gen.specs.Words.{Rows, equals, cell_rows, list_rows, inner_cells}
+use Rattle.cons_rows.specs.Slots.{slots_from}
+use Rattle.cons_rows.specs.Counts.{handed_on, whatever_asked}
+use Rattle.cons_rows.specs.Words.{Rows, equals, cell_rows, list_rows, inner_cells}
 use Rattle.sound_laws.specs.Assignments.{Alike, Extension}
 use Rattle.sound_laws.specs.Satisfied.{AreAsked, Hold, SatRows}
 use Rattle.sound_laws.proofs.Extensions.{wider, kept, set_all, AreUnder, same_values, first_value, later_values}

@@ -16,8 +16,8 @@ use Rattle.cons_tree.specs.declared.parts.Callee.{Callee}
 use Rattle.cons_solve.specs.Environments.{solution}
 use Rattle.core_meaning.specs.Programs.{Program, module_named}
 use Rattle.cons_gen.specs.Made.{definition_constraint, definition_slots}
-use Rattle.cons_gen.specs.Passes.{Knowledge, signature}
-use Rattle.cons_gen.specs.Slots.{slots_from}
+use Rattle.cons_rows.specs.Passes.{Knowledge, signature}
+use Rattle.cons_rows.specs.Slots.{slots_from}
 use Rattle.sound_laws.specs.Knowledge.{IsHonest, summary_of}
 
 -- ---- definitions

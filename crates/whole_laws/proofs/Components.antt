@@ -12,10 +12,10 @@ use Rattle.cons_tree.specs.declared.parts.Callee.{Callee}
 use Rattle.cons_tree.specs.declared.parts.Sig.{Sig}
 use Rattle.cons_tree.specs.declared.parts.Summary.{Summary}
 use Rattle.cons_solve.specs.Environments.{solution}
-use Rattle.cons_gen.specs.Passes.{Knowledge}
-use Rattle.cons_gen.specs.Scopes.{bindings}
+use Rattle.cons_rows.specs.Passes.{Knowledge}
+use Rattle.cons_rows.specs.Scopes.{bindings}
 use Rattle.cons_gen.specs.Made.{definition_constraint, definition_slots}
-use Rattle.cons_gen.specs.Words.{together}
+use Rattle.cons_rows.specs.Words.{together}
 use Rattle.comp_rounds.specs.Rounds.{Callees, Function, arity, is_named, is_member, callee_of, with_function, with_summaries, with_signatures, of_one, solved, signature_in, inferred, strict_pass, lenient_pass, all_next, given, after_rounds, last_round, strict_signatures, lenient_signatures, paired, summaries}
 use Rattle.whole_laws.proofs.Frames.{GivesNothing, AreAlike, Agrees, EachAgrees, Agree, rows_frame}
 

@@ -17,12 +17,13 @@ use Rattle.cons_tree.specs.declared.parts.Callee.{Callee}
 use Rattle.cons_tree.specs.declared.parts.Callee.TheVariants.{Known, Local, Undefined, Unknown}
 use Rattle.bif_types.specs.declared.bif.Bif.{Bif}
 use Rattle.bif_types.specs.Table.{looked_up}
-use Rattle.cons_gen.specs.Passes.{Knowledge, by_name, by_names, built_in_rows, with_result, called_rows, applied_rows}
+use Rattle.cons_rows.specs.Passes.{Knowledge, by_name, by_names, built_in_rows, with_result, called_rows, applied_rows}
 use Rattle.cons_gen.specs.Rows.{rows, all_rows, pair_rows, segment_rows, step_rows, clause_rows, named_or}
-use Rattle.cons_gen.specs.Scopes.{Scope, Binding}
-use Rattle.cons_gen.specs.Slots.{slots_from}
-use Rattle.cons_gen.specs.Spans.{both_atoms, call_names, call_results, span, value_slots}
-use Rattle.cons_gen.specs.Words.{Rows, bound, function_type}
+use Rattle.cons_rows.specs.Scopes.{Scope, Binding}
+use Rattle.cons_rows.specs.Slots.{slots_from}
+use Rattle.cons_gen.specs.Spans.{span, value_slots}
+use Rattle.cons_rows.specs.Counts.{both_atoms, call_names, call_results}
+use Rattle.cons_rows.specs.Words.{Rows, bound, function_type}
 
 -- what a call by a module and a name gets no value from
 abbrev pub GivesNothing : Callee → Type 0

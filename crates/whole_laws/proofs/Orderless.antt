@@ -6,7 +6,7 @@ use Rattle.core_ast.specs.declared.syntax.FunName.{FunName}
 use Rattle.cons_tree.specs.declared.parts.Callee.{Callee}
 use Rattle.cons_tree.specs.declared.parts.Sig.{Sig}
 use Rattle.cons_tree.specs.declared.parts.Summary.{Summary}
-use Rattle.cons_gen.specs.Passes.{Knowledge}
+use Rattle.cons_rows.specs.Passes.{Knowledge}
 use Rattle.comp_rounds.specs.Rounds.{Callees, Function, arity, is_named, is_member, callee_of, with_function, with_summaries, with_signatures, of_one, inferred, strict_pass, lenient_pass, next_signature, all_next, given, after_rounds, last_round, strict_signatures, lenient_signatures, paired, summaries}
 use Rattle.comp_rounds.specs.Signatures.{nothing}
 use Rattle.whole_laws.proofs.Named.{first_there, later_there, there_cases, none_there, Placed, search_named, named_is, named_itself, member_at, NamedOnce}

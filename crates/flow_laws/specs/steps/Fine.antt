@@ -10,8 +10,8 @@ use Rattle.core_scope.specs.Asks.{one_value, width}
 use Rattle.type_lattice.specs.Types.{Type4, Below, AreBelow, any, is_none, meet}
 use Rattle.cons_tree.specs.Environments.{Types}
 use Rattle.cons_tree.specs.Named.{naturals}
-use Rattle.cons_gen.specs.Spans.{call_names}
-use Rattle.cons_gen.specs.Words.{function_type}
+use Rattle.cons_rows.specs.Counts.{call_names}
+use Rattle.cons_rows.specs.Words.{function_type}
 use Rattle.module_flow.specs.declared.functions.Meant.{Meant}
 use Rattle.module_flow.specs.declared.functions.Meant.TheVariants.{Inner, Top, Nothing}
 use Rattle.module_flow.specs.Calls.{meant, called, may_return}

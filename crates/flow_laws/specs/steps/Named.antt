@@ -5,7 +5,7 @@ use Rattle.core_ast.specs.declared.syntax.FunName.{FunName}
 use Rattle.core_ast.specs.Model as m
 use Rattle.core_ast.specs.Named.{local_name}
 use Rattle.core_scope.specs.Names.{defined_names}
-use Rattle.cons_gen.specs.Spans.{call_names}
+use Rattle.cons_rows.specs.Counts.{call_names}
 use Rattle.module_flow.specs.Calls.{inner_or}
 use Rattle.module_flow.specs.Functions.{defined_labels, label_named}
 use Rattle.module_flow.specs.World.{World}

@@ -6,7 +6,7 @@ use Rattle.core_ast.specs.Named.{local_name}
 use Rattle.core_ast.specs.Tree.{all_clauses, all_defs, all_pairs, all_segments, all_steps, all_trees, tree}
 use Rattle.core_ast.proofs.Forms.{apply_tree, binary_tree, call_tree, case_tree, catch_tree, chain_tree, external_tree, fun_tree, letrec_tree, listed_tree, literal_tree, local_tree, new_map_tree, primop_tree, receive_tree, try_tree, tuple_tree, updated_map_tree, values_tree, variable_tree}
 use Rattle.type_lattice.specs.Types.{any}
-use Rattle.cons_gen.specs.Words.{function_type, literal_type}
+use Rattle.cons_rows.specs.Words.{function_type, literal_type}
 use Rattle.module_flow.specs.steps.Walking.{world_of, sight_of}
 use Rattle.module_flow.proofs.ExpressionExits.{applied_gives, applied_noted, binary_noted, call_gives, call_noted, case_noted, catch_noted, chain_form_noted, form_given, form_silent, fun_noted, kept, letrec_form_noted, listed_noted, named_call_gives, named_call_noted, new_map_noted, operator_gives, operator_noted, primop_noted, read_one, read_three, read_two, receive_noted, try_noted, tuple_noted, unnamed_call, updated_map_noted, value_is, values_noted}
 use Rattle.module_flow.proofs.FormExits.{updated_told}

@@ -8,7 +8,7 @@ use Rattle.core_ast.specs.declared.syntax.StepOf.{StepOf}
 use Rattle.core_ast.specs.declared.syntax.StepOf.TheVariants.{Let, Do}
 use Rattle.core_ast.specs.declared.syntax.TryOf.{TryOf}
 use Rattle.core_ast.specs.Tree.{tree}
-use Rattle.cons_gen.specs.Members.{is_member}
+use Rattle.cons_rows.specs.Members.{is_member}
 use Rattle.cons_tree.specs.declared.parts.Callee.{Callee}
 use Rattle.warn_list.specs.declared.finding.Finding.{Finding}
 use Rattle.warn_list.specs.declared.finding.FindingKind.TheVariants.{UnknownFunction}

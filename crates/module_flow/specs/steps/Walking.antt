@@ -9,7 +9,7 @@ use Rattle.core_ast.specs.Model as m
 use Rattle.core_scope.specs.declared.ask.Ask.{Ask}
 use Rattle.cons_tree.specs.Callees.{found as callee_found}
 use Rattle.type_lattice.specs.Types.{Type4}
-use Rattle.cons_gen.specs.Scopes.{Binding}
+use Rattle.cons_rows.specs.Scopes.{Binding}
 use Rattle.cons_tree.specs.Environments.{Types}
 use Rattle.warn_list.specs.declared.finding.Finding.{Finding}
 use Rattle.module_flow.specs.declared.around.Around.{Around}

@@ -1,6 +1,7 @@
 //! The solution of a function's constraint below a type that its parameter begins with.
 use super::support::module_of;
-use cons_gen::{Pass, generate};
+use cons_gen::generate;
+use cons_rows::Pass;
 use cons_solve::solve;
 use cons_tree::{Env, Summaries};
 use core_ast::FunDef;

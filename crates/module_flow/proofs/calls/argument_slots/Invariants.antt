@@ -1,5 +1,5 @@
 use Rattle.std.proofs.Common.{◌≡◌}
-use Rattle.cons_gen.specs.Slots.{slots_from}
+use Rattle.cons_rows.specs.Slots.{slots_from}
 use Rattle.module_flow.proofs.calls.argument_slots.Given as goal
 
 abbrev pub invariant-loop-place : goal.invariant-loop-place

@@ -1,5 +1,5 @@
 use Rattle.std.proofs.Common.{◌≡◌, ◌+◌, drop}
-use Rattle.cons_gen.specs.Scopes.{bindings}
+use Rattle.cons_rows.specs.Scopes.{bindings}
 use Rattle.module_flow.specs.steps.Walking.{with_bindings}
 use Rattle.module_flow.proofs.walk.Walk.bind.Given as goal
 

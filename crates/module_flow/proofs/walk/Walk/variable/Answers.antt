@@ -1,5 +1,5 @@
 use Rattle.std.proofs.Common.{◌≡◌, Some}
-use Rattle.cons_gen.specs.Scopes.{slot_of}
+use Rattle.cons_rows.specs.Scopes.{slot_of}
 use Rattle.module_flow.specs.steps.Walking.{sight_of}
 use Rattle.module_flow.proofs.WalkSteps.{variable_anew}
 use Rattle.module_flow.proofs.walk.Walk.variable.Goals as goal
