@@ -39,7 +39,7 @@ use Rattle.cons_rows.specs.Walking.{Adds, Binds, Gathers, Rotates, knowing, rows
 use Rattle.cons_rows.specs.Words.{Rows, bound, equals, function_type, inner_cells, list_rows, literal_type, never, one_of, together, variable_rows}
 use Rattle.cons_rows.specs.declared.generator.Generator.{Generator}
 use Rattle.cons_rows.specs.declared.passes.Surroundings.{Surroundings}
-use Rattle.cons_rows.proofs.Adding.{adds_as, adds_then, drop_seam, mapped_length, more, on_ok}
+use Rattle.cons_rows.proofs.Adding.{adds_as, adds_then, behind, drop_seam, mapped_length, more, on_ok}
 use Rattle.cons_gen.specs.Rows.{named_or, pair_rows, step_bindings, step_rows}
 use Rattle.cons_gen.specs.Spans.{clause_spans, pair_spans, segment_spans, span, spans, step_spans, unless_named, value_slots}
 use Rattle.cons_gen.specs.steps.Generating.{Generates, Leaves, rows_at}
@@ -97,29 +97,11 @@ module _ (about : Surroundings) (k : Ask) where
         (subst (λ o. Adds a b (j + unless_named o (span one_value (tree x) + span one_value (tree y)) + spans ts) (named_or o (λ g. every about ts (scope_of a) (a.next + j) ++ called_rows (knowing about) g.0 g.1 (how_many ts) (slots_from a.next j) (value_slots (a.next + j) ts)) (given about one_value (tree x) (scope_of a) (a.next + j) ++ given about one_value (tree y) (scope_of a) (a.next + j + span one_value (tree x)) ++ every about ts (scope_of a) (a.next + j + (span one_value (tree x) + span one_value (tree y)))))) (sym named))
         (on_ok r (adds_as a b _ _ _ _ (omega arith) (ap (λ z. every about ts (scope_of a) (a.next + z) ++ called_rows (knowing about) home name (length xs) (slots_from a.next z) (value_slots (a.next + z) ts)) same ∙ ap (λ z. every about ts (scope_of a) (a.next + j) ++ called_rows (knowing about) home name z (slots_from a.next j) (value_slots (a.next + j) ts)) (sym (how_many-length xs)))) h))
 
-    pub other_call_exit : (x y : Expr) (xs : List Expr) (given_by : Ask) (n : ℕ) → e.form ≡ f.Call x y xs → call_names (tree x) (tree y) ≡ None → given_by ≡ call_gives (tree x) (tree y) (length xs) → n ≡ call_results k given_by
-        → OnOk r (Adds a b (n + (span one_value (tree x) + span one_value (tree y)) + spans (all_trees xs)) (given about one_value (tree x) (scope_of a) (a.next + n) ++ given about one_value (tree y) (scope_of a) (a.next + n + span one_value (tree x)) ++ every about (all_trees xs) (scope_of a) (a.next + n + (span one_value (tree x) + span one_value (tree y)))))
-        → OnOk r (Generates about a b k (tree e))
-    other_call_exit x y xs given_by n is unnamed gives count h =
-        let t : m.Tree = tree x in
-        let u : m.Tree = tree y in
-        let ts : m.Trees = all_trees xs in
-        let j : ℕ = call_results k (call_gives t u (how_many ts)) in
-        let same : n ≡ j = count ∙ ap (call_results k) (gives ∙ ap (call_gives t u) (sym (how_many-length xs))) in
-        let said : ℕ → Rows = λ z. given about one_value t (scope_of a) (a.next + z) ++ given about one_value u (scope_of a) (a.next + z + span one_value t) ++ every about ts (scope_of a) (a.next + z + (span one_value t + span one_value u)) in
-        of_tree (m.call e.mark t u ts) (call_tree e x y xs is)
-        (on_ok r
-        (subst (λ o. Adds a b (j + unless_named o (span one_value t + span one_value u) + spans ts) (named_or o (λ q. every about ts (scope_of a) (a.next + j) ++ called_rows (knowing about) q.0 q.1 (how_many ts) (slots_from a.next j) (value_slots (a.next + j) ts)) (said j))) (sym unnamed))
-        (on_ok r (subst (λ z. Adds a b (z + (span one_value t + span one_value u) + spans ts) (said z)) same) h))
-
     pub primop_exit : (x : Atom) (xs : List Expr) → e.form ≡ f.Primop x xs → OnOk r (Adds a b (whatever_asked k + spans (all_trees xs)) (every about (all_trees xs) (scope_of a) (a.next + whatever_asked k) ++ (if is_raising x then never (slots_from a.next (whatever_asked k)) else []))) → OnOk r (Generates about a b k (tree e))
     primop_exit x xs is = of_tree (m.primop e.mark x (all_trees xs)) (primop_tree e x xs is)
 
     pub try_form : (x : TryOf Expr) → e.form ≡ f.Try x → OnOk r ((i : Mark) → Generates about a b k (m.try i (tree x.arg) x.vars (tree x.body) x.catch_vars (tree x.handler))) → OnOk r (Generates about a b k (tree e))
     try_form x is h = of_tree (m.try e.mark (tree x.arg) x.vars (tree x.body) x.catch_vars (tree x.handler)) (try_tree e x is) (on_ok r (λ g. g e.mark) h)
-
-    pub receive_form : (cs : List Clause) (x y : Expr) → e.form ≡ f.Receive cs x y → OnOk r ((i : Mark) → Generates about a b k (m.receive i (all_clauses cs) (tree x) (tree y))) → OnOk r (Generates about a b k (tree e))
-    receive_form cs x y is h = of_tree (m.receive e.mark (all_clauses cs) (tree x) (tree y)) (receive_tree e cs x y is) (on_ok r (λ g. g e.mark) h)
 
     pub catch_exit : (x : Expr) → e.form ≡ f.Catch x → OnOk r (Adds a b 1 []) → OnOk r (Generates about a b k (tree e))
     catch_exit x is = of_tree (m.catch e.mark (tree x)) (catch_tree e x is)
@@ -216,13 +198,31 @@ module _ (about : Surroundings) (k : Ask) where
         (adds_then a b c (1 + span one_value t) (spans ts) (1 + span one_value t + spans ts) (s + span one_value t) said (λ sc z. args sc z ++ bound s (function_type (length xs))) one
         (subst (λ z. Adds b c (spans ts) (args (scope_of b) b.next ++ bound z (function_type (length xs)))) operator_is two) (omega arith) refl))) h)
 
+  pub other_call_exit : (a b c d g : Generator) (e x y : Expr) (xs : List Expr) (given_by : Ask) (n : ℕ) → e.form ≡ f.Call x y xs → call_names (tree x) (tree y) ≡ None → given_by ≡ call_gives (tree x) (tree y) (length xs) → n ≡ call_results k given_by → Adds a b n []
+      → Generates about b c one_value (tree x) → Generates about c d one_value (tree y) → Adds d g (spans (all_trees xs)) (every about (all_trees xs) (scope_of d) d.next) → Generates about a g k (tree e)
+  other_call_exit a b c d g e x y xs given_by n is unnamed gives count one two three four =
+      let t : m.Tree = tree x in
+      let u : m.Tree = tree y in
+      let ts : m.Trees = all_trees xs in
+      let j : ℕ = call_results k (call_gives t u (how_many ts)) in
+      let same : n ≡ j = count ∙ ap (call_results k) (gives ∙ ap (call_gives t u) (sym (how_many-length xs))) in
+      let s : ℕ = a.next + j in
+      let taken : Adds a b j [] = subst (λ z. Adds a b z []) same one in
+      let first : Adds a c (j + span one_value t) (given about one_value t (scope_of a) s) = behind a b c j (span one_value t) (given about one_value t) taken two in
+      let second : Adds a d (j + (span one_value t + span one_value u)) (given about one_value t (scope_of a) s ++ given about one_value u (scope_of a) (s + span one_value t)) =
+      adds_then a c d (j + span one_value t) (span one_value u) (j + (span one_value t + span one_value u)) (s + span one_value t) (given about one_value t (scope_of a) s) (given about one_value u) first three (omega arith) (omega arith) in
+      let third : Adds a g (j + (span one_value t + span one_value u) + spans ts) (given about one_value t (scope_of a) s ++ given about one_value u (scope_of a) (s + span one_value t) ++ every about ts (scope_of a) (s + (span one_value t + span one_value u))) =
+      adds_then a d g (j + (span one_value t + span one_value u)) (spans ts) (j + (span one_value t + span one_value u) + spans ts) (s + (span one_value t + span one_value u)) (given about one_value t (scope_of a) s ++ given about one_value u (scope_of a) (s + span one_value t)) (every about ts) second four (omega arith) refl in
+      subst (Generates about a g k) (sym (call_tree e x y xs is))
+      (subst (λ o. Adds a g (j + unless_named o (span one_value t + span one_value u) + spans ts) (named_or o (λ q. every about ts (scope_of a) s ++ called_rows (knowing about) q.0 q.1 (how_many ts) (slots_from a.next j) (value_slots s ts)) (given about one_value t (scope_of a) s ++ given about one_value u (scope_of a) (s + span one_value t) ++ every about ts (scope_of a) (s + (span one_value t + span one_value u))))) (sym unnamed) third)
+
   -- the clauses, then the timeout, whose rows come first, then the action
-  pub receive_exit : (r : Answer) (a b c d g h : Generator) (cs : List Clause) (x y : Expr) (rs : List ℕ) (start middle slot again : ℕ) → rs ≡ slots_from a.next (handed_on k) → start ≡ length a.members.items
+  pub receive_exit : (r : Answer) (a b c d g h : Generator) (e : Expr) (cs : List Clause) (x y : Expr) (rs : List ℕ) (start middle slot again : ℕ) → e.form ≡ f.Receive cs x y → rs ≡ slots_from a.next (handed_on k) → start ≡ length a.members.items
       → Adds a b (handed_on k + 1 + clause_spans k (all_clauses cs)) (alternatives about (slots_from a.next (handed_on k)) ((a.next + handed_on k) ∷ []) k (all_clauses cs) (scope_of a) (a.next + handed_on k + 1))
       → slot ≡ b.next → middle ≡ length b.members.items → Generates about b c one_value (tree x) → again ≡ start + (length c.members.items - middle) → Rotates start middle c d
       → Adds d g (span k (tree y)) (together (rows_at about d k (tree y) ++ equals rs (results k d.next (tree y)) ++ bound slot naturals) ∷ []) → OnOk r (Gathers one_of again g h)
-      → OnOk r ((i : Mark) → Generates about a h k (m.receive i (all_clauses cs) (tree x) (tree y)))
-  receive_exit r a b c d g h cs x y rs start middle slot again rs_are start_is one slot_is middle_is two again_is turned three said =
+      → OnOk r (Generates about a h k (tree e))
+  receive_exit r a b c d g h e cs x y rs start middle slot again is rs_are start_is one slot_is middle_is two again_is turned three said =
       let ts : m.Clauses = all_clauses cs in
       let t : m.Tree = tree x in
       let u : m.Tree = tree y in
@@ -258,7 +258,8 @@ module _ (about : Surroundings) (k : Ask) where
       ∙ ap (λ l. l ++ last) rows_d ∙ append_assoc (rows_of a ++ waits) choices last in
       let from_g : again ≡ length (rows_of a ++ waits) =
       (let l1 = length-append (rows_of a ++ choices) waits in let l2 = length-append (rows_of a) choices in let l3 = length-append (rows_of a) waits in omega arith) in
-      on_ok r (λ four i. record {
+      of_tree r a h e (m.receive e.mark ts t u) (receive_tree e cs x y is)
+      (on_ok r (λ four. record {
         next = four.next ∙ three.next ∙ ap (λ z. z + span k u) at_d ∙ (let z : a.next + handed_on k + 1 + clause_spans k ts + span one_value t + span k u ≡ a.next + (handed_on k + 1 + clause_spans k ts + span one_value t + span k u) = omega arith in z);
         rows = four.rows ∙ ap (λ l. take again l ++ one_of (drop again l)) rows_g
             ∙ ap (λ z. take z ((rows_of a ++ waits) ++ (choices ++ last)) ++ one_of (drop z ((rows_of a ++ waits) ++ (choices ++ last)))) from_g
@@ -267,7 +268,7 @@ module _ (about : Surroundings) (k : Ask) where
             ∙ append_assoc (rows_of a) waits (one_of (choices ++ last));
         variables = four.variables ∙ three.variables ∙ turned.variables ∙ two.variables ∙ one.variables;
         functions = four.functions ∙ three.functions ∙ turned.functions ∙ two.functions ∙ one.functions;
-      }) said
+      }) said)
 
 -- ---- what was read of a call
 

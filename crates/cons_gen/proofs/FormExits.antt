@@ -135,16 +135,6 @@ module _ (about : Surroundings) where
       (subst (λ ls. Adds c d 0 (q (length args) ls (value_slots (a.next + n) ts))) (left_is ∙ rs_are)
       (subst (λ ss. Adds c d 0 (q (length args) left ss)) (args_are ∙ slots_are ∙ ap (λ k. value_slots k ts) one.next) three))))
 
-  pub other_call_rows : (a b c d g : Generator) (n : ℕ) (t u : m.Tree) (ts : m.Trees) → Adds a b n [] → Generates about b c one_value t → Generates about c d one_value u → Adds d g (spans ts) (every ts (scope_of d) d.next)
-      → Adds a g (n + (span one_value t + span one_value u) + spans ts) (rows (knowing about) about.home.now (scope_of a) (a.next + n) one_value t ++ rows (knowing about) about.home.now (scope_of a) (a.next + n + span one_value t) one_value u ++ every ts (scope_of a) (a.next + n + (span one_value t + span one_value u)))
-  other_call_rows a b c d g n t u ts one two three four =
-      let s : ℕ = a.next + n in
-      let said : m.Tree → Scope → ℕ → Rows = λ x sc k. rows (knowing about) about.home.now sc k one_value x in
-      let first : Adds a c (n + span one_value t) (said t (scope_of a) s) = behind a b c n (span one_value t) (said t) one two in
-      let second : Adds a d (n + (span one_value t + span one_value u)) (said t (scope_of a) s ++ said u (scope_of a) (s + span one_value t)) =
-      adds_then a c d (n + span one_value t) (span one_value u) (n + (span one_value t + span one_value u)) (s + span one_value t) (said t (scope_of a) s) (said u) first three (omega arith) (omega arith) in
-      adds_then a d g (n + (span one_value t + span one_value u)) (spans ts) (n + (span one_value t + span one_value u) + spans ts) (s + (span one_value t + span one_value u)) (said t (scope_of a) s ++ said u (scope_of a) (s + span one_value t)) (every ts) second four (omega arith) refl
-
   pub primop_rows : (r : Answer) (a b c d : Generator) (n : ℕ) (x : Atom) (ts : m.Trees) (rs left : List ℕ) → rs ≡ slots_from a.next n → Adds a b n [] → Adds b c (spans ts) (every ts (scope_of b) b.next) → left ≡ rs → OnOk r (Adds c d 0 (if is_raising x then never left else []))
       → OnOk r (Adds a d (n + spans ts) (every ts (scope_of a) (a.next + n) ++ (if is_raising x then never (slots_from a.next n) else [])))
   primop_rows r a b c d n x ts rs left rs_are one two left_is = on_ok r (λ three.

@@ -7,6 +7,7 @@ use Rattle.core_ast.specs.Named.{local_name}
 use Rattle.core_scope.specs.declared.ask.Ask.{Ask}
 use Rattle.core_scope.specs.declared.ask.Ask.TheVariants.{AnyNumber, Exactly}
 use Rattle.core_scope.specs.Asks.{one_value, call_gives, width}
+use Rattle.cons_rows.specs.Counts.{call_names, call_results, handed_on, whatever_asked}
 use Rattle.cons_rows.specs.Patterns.{outer_span}
 use Rattle.cons_rows.specs.Words.{inner_cells}
 

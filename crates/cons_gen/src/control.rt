@@ -30,11 +30,11 @@ pub struct CaseSlots {
     pub values: List<Slot>,
 }
 
-// The slots of the results of a `receive`, and the place from which its alternatives stand.
+/// The slots of the results of a `receive`, and the place from which its alternatives stand.
 #[derive(Drop)]
-struct ReceiveSlots {
-    results: List<Slot>,
-    start: usize,
+pub struct ReceiveSlots {
+    pub results: List<Slot>,
+    pub start: usize,
 }
 
 // An expression whose results are handed on to slots.
@@ -322,29 +322,9 @@ pub fn walk_try(
     made.any_since(start)
 }
 
-/// A `receive`: its timeout's rows stand in front of its alternatives, and its slots behind those of the clauses.
+/// The clauses of a `receive`, each a row of its own, behind the slots of the results and that of the message.
 #[cycle(rows)]
-pub fn walk_receive(
-    made: &mut Generator,
-    about: &Surroundings,
-    ask: Ask,
-    clauses: &[Clause],
-    timeout: &Expr,
-    action: &Expr,
-) -> Result<(), Memory>
-    ensures { OnOk result ((i : Mark) → Generates about.now made.old made.new ask (m.receive i (all_clauses clauses.now) (tree timeout.now) (tree action.now))) }
-{
-    let receive = walk_messages(made, about, ask, clauses)?;
-    let (slot, middle) = (made.next, made.count());
-    walk_expression(made, about, Ask::Exactly(1), timeout)?;
-    let start = made.rotate(receive.start, middle);
-    walk_action(made, about, ask, &receive.results, slot, action)?;
-    made.any_since(start)
-}
-
-// The clauses of a `receive`, each a row of its own, behind the slots of the results and that of the message.
-#[cycle(rows)]
-fn walk_messages(
+pub fn walk_messages(
     made: &mut Generator,
     about: &Surroundings,
     ask: Ask,
@@ -361,9 +341,9 @@ fn walk_messages(
     Ok(ReceiveSlots { results, start })
 }
 
-// The action of a `receive` whose timeout has this slot: one row.
+/// The action of a `receive` whose timeout has this slot: one row.
 #[cycle(rows)]
-fn walk_action(
+pub fn walk_action(
     made: &mut Generator,
     about: &Surroundings,
     ask: Ask,

@@ -8,11 +8,12 @@ ghost use Rattle.cons_gen.specs.Spans.{spans, value_slots};
 ghost use Rattle.cons_gen.specs.steps.Generating.{Generates};
 
 use crate::control::{
-    walk_alternatives, walk_argument, walk_last, walk_letrec, walk_receive, walk_steps, walk_try,
+    walk_action, walk_alternatives, walk_argument, walk_last, walk_letrec, walk_messages,
+    walk_steps, walk_try,
 };
 use crate::forms::{
     walk_application, walk_binary, walk_elements, walk_named_call, walk_operands, walk_operator,
-    walk_other_call, walk_pairs, walk_primop, walk_tail, walk_tuple, walk_updated, walk_values,
+    walk_pairs, walk_primop, walk_tail, walk_tuple, walk_updated, walk_values,
 };
 use cons_rows::{Generator, Surroundings, call_names, call_results, result_count};
 use cons_tree::Slot;
@@ -77,20 +78,24 @@ pub fn walk_expression(
                     walk_named_call(made, about, count, home, name, args.as_slice())
                 }
                 None => {
-                    walk_other_call(made, about, count, home.get(), name.get(), args.as_slice())
+                    made.take(count)?;
+                    walk_expression(made, about, Ask::Exactly(1), home.get())?;
+                    walk_expression(made, about, Ask::Exactly(1), name.get())?;
+                    walk_all(made, about, args.as_slice())?;
+                    Ok(())
                 }
             }
         }
         Form::Primop(name, args) => walk_primop(made, about, ask, name, args.as_slice()),
         Form::Try(parts) => walk_try(made, about, ask, parts),
-        Form::Receive(clauses, timeout, action) => walk_receive(
-            made,
-            about,
-            ask,
-            clauses.as_slice(),
-            timeout.get(),
-            action.get(),
-        ),
+        Form::Receive(clauses, timeout, action) => {
+            let receive = walk_messages(made, about, ask, clauses.as_slice())?;
+            let (slot, middle) = (made.next, made.count());
+            walk_expression(made, about, Ask::Exactly(1), timeout.get())?;
+            let start = made.rotate(receive.start, middle);
+            walk_action(made, about, ask, &receive.results, slot, action.get())?;
+            made.any_since(start)
+        }
         Form::Catch(_) => made.free(),
     }
 }

@@ -217,25 +217,6 @@ pub fn walk_named_call(
     made.call(about, home, name, results.as_slice(), slots.as_slice())
 }
 
-/// A call whose module and name aren't both literal atoms, which has so many results.
-#[cycle(rows)]
-pub fn walk_other_call(
-    made: &mut Generator,
-    about: &Surroundings,
-    count: usize,
-    home: &Expr,
-    name: &Expr,
-    args: &[Expr],
-) -> Result<(), Memory>
-    ensures { OnOk result (Adds made.old made.new (count + (span one_value (tree home.now) + span one_value (tree name.now)) + spans (all_trees args.now)) (rows (knowing about.now) about.now.home.now (scope_of made.old) (made.old.next + count) one_value (tree home.now) ++ rows (knowing about.now) about.now.home.now (scope_of made.old) (made.old.next + count + span one_value (tree home.now)) one_value (tree name.now) ++ all_rows (knowing about.now) about.now.home.now (scope_of made.old) (made.old.next + count + (span one_value (tree home.now) + span one_value (tree name.now))) (all_trees args.now))) }
-{
-    made.take(count)?;
-    walk_expression(made, about, Ask::Exactly(1), home)?;
-    walk_expression(made, about, Ask::Exactly(1), name)?;
-    walk_all(made, about, args)?;
-    Ok(())
-}
-
 /// A primop.
 #[cycle(rows)]
 pub fn walk_primop(

@@ -2,7 +2,7 @@ use Rattle.std.proofs.Common.{Some, length, refl, sym, ap, ◌∙◌}
 use Rattle.cons_rows.proofs.Reading.{read_one, read_two, read_three}
 use Rattle.cons_gen.proofs.+rows.Goals as goal
 use Rattle.cons_gen.proofs.ControlExits.{handler_exit, handler_told, let_rows, one_clause, tried_exit, tried_told}
-use Rattle.cons_gen.proofs.ExpressionExits.{variable_exit, local_exit, external_exit, literal_exit, fun_exit, listed_exit, tuple_exit, new_map_exit, updated_map_exit, binary_exit, values_exit, chain_exit, case_exit, letrec_exit, applied_exit, other_apply_exit, named_call_exit, other_call_exit, primop_exit, try_form, receive_form, receive_exit, catch_exit, gives_told, names_told}
+use Rattle.cons_gen.proofs.ExpressionExits.{variable_exit, local_exit, external_exit, literal_exit, fun_exit, listed_exit, tuple_exit, new_map_exit, updated_map_exit, binary_exit, values_exit, chain_exit, case_exit, letrec_exit, applied_exit, other_apply_exit, named_call_exit, other_call_exit, primop_exit, try_form, receive_exit, catch_exit, gives_told, names_told}
 use Rattle.cons_gen.proofs.FormExits.{application_rows, elements_within, named_call_rows}
 use Rattle.cons_gen.proofs.RowRounds.{pairs_round, segments_round}
 use Rattle.core_ast.specs.Tree.{tree, all_clauses}
@@ -50,11 +50,6 @@ control::walk_handler-returns t c =
     handler_told c.args.about.now c.all_since.result c.args.made.now c.all_since.new.self c.args.ask c.args.to.now c.args.parts.now.catch_vars c.args.parts.now.handler c.get.result.now c.get.ensures
     (handler_exit c.args.about.now c.all_since.result c.args.made.now c.take_run.new.self c.walk_under.new.made c.all_since.new.self c.args.ask c.args.to.now (tree c.get.result.now) c.args.parts.now.catch_vars c.as_slice.result.now c.len.result c.count-start.result c.in_ok-slots.slots c.as_slice-2.result.now
     c.count-start.ensures c.len.ensures c.in_ok-slots.ensures.slots c.in_ok-slots.ensures.taken c.as_slice.ensures c.as_slice-2.ensures c.in_ok-walk_under.ensures c.all_since.ensures)
-
-pub control::walk_receive-returns-in_ok-walk_action : goal.control::walk_receive-returns-in_ok-walk_action
-control::walk_receive-returns-in_ok-walk_action t c =
-    receive_exit c.args.about.now c.args.ask c.any_since.result c.args.made.now c.walk_messages.new.made c.walk_expression.new.made c.rotate-start.new.self c.walk_action.new.made c.any_since.new.self c.args.clauses.now c.args.timeout.now c.args.action.now c.in_ok-receive.receive.results c.in_ok-receive.receive.start c.count-middle.result
-    c.walk_messages.new.made.next c.rotate-start.result c.in_ok-receive.ensures.results c.in_ok-receive.ensures.start c.in_ok-receive.ensures.rows refl c.count-middle.ensures c.in_ok-walk_expression.ensures c.rotate-start.ensures.start c.rotate-start.ensures.rows c.in_ok-walk_action.ensures c.any_since.ensures
 
 pub expressions::walk_expression-returns-in-Var : goal.expressions::walk_expression-returns-in-Var
 expressions::walk_expression-returns-in-Var t c = variable_exit c.args.about.now c.args.ask c.variable.result c.args.made.now c.variable.new.self c.args.expr.now c.in-Var.name c.in-Var.is c.variable.ensures
@@ -123,13 +118,13 @@ expressions::walk_expression-returns-in-Some-call_names t c =
     (gives_told c.get-in-Call-3.result.now c.get-in-Call-4.result.now c.get-in-Call.result.now c.get-in-Call-2.result.now c.len-in-Call.result _ c.call_gives-given.result (c.get-in-Call.ensures ∙ sym c.get-in-Call-3.ensures) (c.get-in-Call-2.ensures ∙ sym c.get-in-Call-4.ensures) (c.len-in-Call.ensures ∙ ap length (sym c.as_slice-in-Some-call_names.ensures)) c.call_gives-given.ensures)
     c.call_results-count.ensures c.walk_named_call.ensures
 
-pub expressions::walk_expression-returns-in-None-call_names : goal.expressions::walk_expression-returns-in-None-call_names
-expressions::walk_expression-returns-in-None-call_names t c =
-    other_call_exit c.args.about.now c.args.ask c.walk_other_call.result c.args.made.now c.walk_other_call.new.made c.args.expr.now c.get-in-None-call_names.result.now c.get-in-None-call_names-2.result.now c.as_slice-in-None-call_names.result.now c.call_gives-given.result c.call_results-count.result
+pub expressions::walk_expression-returns-in_ok-walk_all-in-None-call_names : goal.expressions::walk_expression-returns-in_ok-walk_all-in-None-call_names
+expressions::walk_expression-returns-in_ok-walk_all-in-None-call_names t c =
+    other_call_exit c.args.about.now c.args.ask c.args.made.now c.take.new.self c.walk_expression.new.made c.walk_expression-in-None-call_names.new.made c.walk_all.new.made c.args.expr.now c.get-in-None-call_names.result.now c.get-in-None-call_names-2.result.now c.as_slice-in-None-call_names.result.now c.call_gives-given.result c.call_results-count.result
     (read_three f.Call c.in-Call.is c.get-in-None-call_names.ensures c.get-in-None-call_names-2.ensures c.as_slice-in-None-call_names.ensures)
     (names_told c.get-in-None-call_names.result.now c.get-in-None-call_names-2.result.now c.get-in-Call-3.result.now c.get-in-Call-4.result.now (c.get-in-None-call_names.ensures ∙ sym c.get-in-Call-3.ensures) (c.get-in-None-call_names-2.ensures ∙ sym c.get-in-Call-4.ensures) ∙ c.in-None-call_names.ensures)
     (gives_told c.get-in-None-call_names.result.now c.get-in-None-call_names-2.result.now c.get-in-Call.result.now c.get-in-Call-2.result.now c.len-in-Call.result _ c.call_gives-given.result (c.get-in-Call.ensures ∙ sym c.get-in-None-call_names.ensures) (c.get-in-Call-2.ensures ∙ sym c.get-in-None-call_names-2.ensures) (c.len-in-Call.ensures ∙ ap length (sym c.as_slice-in-None-call_names.ensures)) c.call_gives-given.ensures)
-    c.call_results-count.ensures c.walk_other_call.ensures
+    c.call_results-count.ensures c.in_ok-take-in-None-call_names.ensures.taken c.in_ok-walk_expression-in-None-call_names.ensures c.in_ok-walk_expression-in-None-call_names-2.ensures c.in_ok-walk_all-in-None-call_names.ensures.rows
 
 pub expressions::walk_expression-returns-in-Primop : goal.expressions::walk_expression-returns-in-Primop
 expressions::walk_expression-returns-in-Primop t c = primop_exit c.args.about.now c.args.ask c.walk_primop.result c.args.made.now c.walk_primop.new.made c.args.expr.now c.in-Primop.name c.as_slice-in-Primop.result.now (read_two f.Primop c.in-Primop.is refl c.as_slice-in-Primop.ensures) c.walk_primop.ensures
@@ -137,9 +132,11 @@ expressions::walk_expression-returns-in-Primop t c = primop_exit c.args.about.no
 pub expressions::walk_expression-returns-in-Try : goal.expressions::walk_expression-returns-in-Try
 expressions::walk_expression-returns-in-Try t c = try_form c.args.about.now c.args.ask c.walk_try.result c.args.made.now c.walk_try.new.made c.args.expr.now c.in-Try.parts c.in-Try.is c.walk_try.ensures
 
-pub expressions::walk_expression-returns-in-Receive : goal.expressions::walk_expression-returns-in-Receive
-expressions::walk_expression-returns-in-Receive t c =
-    receive_form c.args.about.now c.args.ask c.walk_receive.result c.args.made.now c.walk_receive.new.made c.args.expr.now c.as_slice-in-Receive.result.now c.get-in-Receive.result.now c.get-in-Receive-2.result.now (read_three f.Receive c.in-Receive.is c.as_slice-in-Receive.ensures c.get-in-Receive.ensures c.get-in-Receive-2.ensures) c.walk_receive.ensures
+pub expressions::walk_expression-returns-in_ok-walk_action-in-Receive : goal.expressions::walk_expression-returns-in_ok-walk_action-in-Receive
+expressions::walk_expression-returns-in_ok-walk_action-in-Receive t c =
+    receive_exit c.args.about.now c.args.ask c.any_since.result c.args.made.now c.walk_messages.new.made c.walk_expression-in-Receive.new.made c.rotate-start.new.self c.walk_action.new.made c.any_since.new.self c.args.expr.now c.as_slice-in-Receive.result.now c.get-in-Receive.result.now c.get-in-Receive-2.result.now
+    c.in_ok-receive-in-Receive.receive.results c.in_ok-receive-in-Receive.receive.start c.count-middle.result c.walk_messages.new.made.next c.rotate-start.result (read_three f.Receive c.in-Receive.is c.as_slice-in-Receive.ensures c.get-in-Receive.ensures c.get-in-Receive-2.ensures) c.in_ok-receive-in-Receive.ensures.results
+    c.in_ok-receive-in-Receive.ensures.start c.in_ok-receive-in-Receive.ensures.rows refl c.count-middle.ensures c.in_ok-walk_expression-in-Receive.ensures c.rotate-start.ensures.start c.rotate-start.ensures.rows c.in_ok-walk_action-in-Receive.ensures c.any_since.ensures
 
 pub expressions::walk_expression-returns-in-Catch : goal.expressions::walk_expression-returns-in-Catch
 expressions::walk_expression-returns-in-Catch t c = catch_exit c.args.about.now c.args.ask c.free.result c.args.made.now c.free.new.self c.args.expr.now c.in-Catch.field-0 c.in-Catch.is c.free.ensures
