@@ -25,7 +25,8 @@ use Rattle.core_meaning.specs.Meaning.{Outcome, gives, Trace, Called, call_built
 use Rattle.core_meaning.specs.Programs.{Program, module_named, exported, outside, found_in}
 use Rattle.cons_rows.specs.Passes.{Knowledge, signature}
 use Rattle.cons_rows.specs.Slots.{slots_from}
-use Rattle.module_flow.specs.Calls.{Given, one, result_in, by_part, by_signature, by_row, by_callee, called, fits, by_both, by_state, may_return}
+use Rattle.flow_calls.specs.TypeLists.{Given, one}
+use Rattle.flow_calls.specs.Calls.{result_in, by_part, by_signature, by_row, by_callee, called, fits, by_both, by_state, may_return}
 use Rattle.sound_laws.specs.Facts.{Facts, SolutionFacts}
 use Rattle.sound_laws.specs.Knowledge.{Allows, IsHonest, summary_of, Within, AllBearOut}
 use Rattle.sound_laws.proofs.Calls.{within, is_erlang, not_erlang}

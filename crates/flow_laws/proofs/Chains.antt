@@ -4,10 +4,10 @@ use Rattle.core_ast.specs.declared.syntax.FunName.{FunName}
 use Rattle.core_ast.specs.Model as m
 use Rattle.core_scope.specs.declared.ask.Ask.TheVariants.{AnyNumber, Exactly}
 use Rattle.type_lattice.specs.Types.{Type4}
-use Rattle.module_flow.specs.Calls.{Given}
-use Rattle.module_flow.specs.Scopes.{Sight, with_variables}
-use Rattle.module_flow.specs.Walk.{see_given, see_steps, walk}
-use Rattle.module_flow.specs.World.{World}
+use Rattle.flow_calls.specs.TypeLists.{Given}
+use Rattle.flow_state.specs.Scopes.{Sight, with_variables}
+use Rattle.flow_walk.specs.Walk.{see_given, see_steps, walk}
+use Rattle.flow_state.specs.World.{World}
 
 kept_by : (o : Given) (f : List Type4 → Option Sight) (inner : Sight) (fs : List FunName) (ls : List ℕ) → ((ts : List Type4) → f ts ≡ Some inner → (inner.functions ≡ fs) × (inner.labels ≡ ls)) → see_given o f ≡ Some inner → (inner.functions ≡ fs) × (inner.labels ≡ ls)
 kept_by None f inner fs ls h e = absurd cc

@@ -17,9 +17,10 @@ use Rattle.core_meaning.specs.Environments.{value_of, local_function, with_varia
 use Rattle.core_meaning.specs.Matching.{Match, match_variable, match_literal, match_list, match_tuple, match_map, match_binary, match_alias, MatchEach, match_none, match_next, MatchList, match_rest, match_head, MatchPairs, match_no_pair, match_pair, MatchSegments, match_no_segment, match_segment}
 use Rattle.core_meaning.specs.Meaning.{IsAmong, IsMadeOf, keys_given, values_given, list_value, AreOutside}
 use Rattle.core_meaning.specs.Programs.{Program, function_at, AreAtLabels, function_named, closure_of, locals_of}
-use Rattle.module_flow.specs.Scopes.{Sight, with_functions, with_variables}
-use Rattle.module_flow.specs.States.{FlowState, parameters_of, result_of}
-use Rattle.module_flow.specs.Walk.{first, walk}
+use Rattle.flow_state.specs.Scopes.{Sight, with_functions, with_variables}
+use Rattle.flow_state.specs.States.{FlowState, parameters_of, result_of}
+use Rattle.flow_calls.specs.TypeLists.{first}
+use Rattle.flow_walk.specs.Walk.{walk}
 use Rattle.cons_tree.specs.Facts.{TypeFacts}
 use Rattle.flow_laws.specs.steps.Covered.{world_of, IsBorneOut, HasResult, Covered, AreCovered, PairsCovered, CoveredEnv}
 use Rattle.flow_laws.specs.steps.Fine.{Fine, FineFunctions}

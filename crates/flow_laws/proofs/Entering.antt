@@ -13,11 +13,12 @@ use Rattle.bif_types.specs.Results.{BifMay, is_exact}
 use Rattle.cons_tree.specs.Facts.{TypeFacts}
 use Rattle.core_meaning.specs.Meaning.{Outcome, gives, fails, gave, entered, Trace, Enter, enter_gives, enter_fails, Called, call_built_in, call_enters, call_outside, call_raises, Apply, apply_closure, apply_external, apply_foreign, apply_raises}
 use Rattle.core_meaning.specs.Programs.{module_named, function_at, function_named, closure_of, locals_of, top_of_module, top_function, is_exported, exports_in, built_in, exported, hidden, found, found_in}
-use Rattle.module_flow.specs.Functions.{defined_labels, label_named}
-use Rattle.module_flow.specs.Scopes.{Sight, outermost, as_many}
-use Rattle.module_flow.specs.Scopes as see
-use Rattle.module_flow.specs.States.{parameters_of, result_of}
-use Rattle.module_flow.specs.Walk.{first, walk}
+use Rattle.flow_calls.specs.Functions.{defined_labels, label_named}
+use Rattle.flow_state.specs.Scopes.{Sight, outermost}
+use Rattle.flow_calls.specs.TypeLists.{as_many, first}
+use Rattle.flow_state.specs.Scopes as see
+use Rattle.flow_state.specs.States.{parameters_of, result_of}
+use Rattle.flow_walk.specs.Walk.{walk}
 use Rattle.sound_laws.proofs.Summaries.{of_module}
 use Rattle.flow_laws.specs.steps.Covered.{defs_in}
 use Rattle.flow_laws.specs.steps.Seen.{IsSeen, label_found}

@@ -17,12 +17,12 @@ use Rattle.core_scope.specs.Places.StandsIn.{deeper}
 use Rattle.type_lattice.specs.Types.{any}
 use Rattle.cons_rows.specs.Scopes.{or_outer}
 use Rattle.cons_rows.specs.Counts.{call_names}
-use Rattle.module_flow.specs.Calls.{inner_or}
-use Rattle.module_flow.specs.Escapes.{Defined, defining, label_listed, unless_name, escapes, escapes_all, escapes_pairs, escapes_segments, escapes_steps, escapes_clauses, escapes_defs, escapes_patterns}
+use Rattle.flow_state.specs.Applications.{inner_or}
+use Rattle.flow_calls.specs.Escapes.{Defined, defining, label_listed, unless_name, escapes, escapes_all, escapes_pairs, escapes_segments, escapes_steps, escapes_clauses, escapes_defs, escapes_patterns}
 use Rattle.module_flow.specs.Flow.{has_label}
-use Rattle.module_flow.specs.Functions.{defined_labels, label_named}
-use Rattle.module_flow.specs.States.{parameters_of}
-use Rattle.module_flow.specs.World.{World}
+use Rattle.flow_calls.specs.Functions.{defined_labels, label_named}
+use Rattle.flow_state.specs.States.{parameters_of}
+use Rattle.flow_state.specs.World.{World}
 use Rattle.flow_laws.specs.steps.Fine.{ByName, FineName}
 use Rattle.flow_laws.specs.steps.Named.{NameFine, Named, NamedAll, NamedPairs, NamedSegments, NamedSteps, NamedClauses, NamedDefs}
 use Rattle.flow_laws.specs.steps.Seen.{NamesOnce}

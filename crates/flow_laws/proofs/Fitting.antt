@@ -21,16 +21,17 @@ use Rattle.cons_tree.specs.Environments.{Types, State}
 use Rattle.cons_tree.specs.Named.{naturals}
 use Rattle.cons_rows.specs.Scopes.{or_outer}
 use Rattle.cons_rows.specs.Counts.{call_names}
-use Rattle.module_flow.specs.declared.states.Gift.{Gift}
-use Rattle.module_flow.specs.declared.states.Gift.TheVariants.{Enters, Returns}
-use Rattle.module_flow.specs.Calls.{Given, inner_or}
-use Rattle.module_flow.specs.Clauses.{patterns_solved, head_solved, inside}
-use Rattle.module_flow.specs.Functions.{defined_labels, label_named}
-use Rattle.module_flow.specs.Gifts.{listed_by, where_given, where_entered, where_limited, where_seen, where_solved, enters_meant, enters, returns, gifts, gifts_of_all, gifts_of_pairs, gifts_of_segments, gifts_of_steps, gifts_of_clauses, gifts_of_functions}
-use Rattle.module_flow.specs.Scopes.{Sight, with_functions, with_variables}
-use Rattle.module_flow.specs.States.{parameters_of}
-use Rattle.module_flow.specs.Walk.{first, matched_slots, seen_by_clauses, seen_by_messages, see_steps, walk, walk_all}
-use Rattle.module_flow.specs.World.{World}
+use Rattle.flow_state.specs.declared.states.Gift.{Gift}
+use Rattle.flow_state.specs.declared.states.Gift.TheVariants.{Enters, Returns}
+use Rattle.flow_calls.specs.TypeLists.{Given, where_given, first}
+use Rattle.flow_state.specs.Applications.{inner_or, enters_meant, enters}
+use Rattle.flow_walk.specs.Clauses.{patterns_solved, head_solved, inside}
+use Rattle.flow_calls.specs.Functions.{defined_labels, label_named}
+use Rattle.flow_walk.specs.Gifts.{listed_by, where_entered, where_limited, where_seen, where_solved, gifts, gifts_of_all, gifts_of_pairs, gifts_of_segments, gifts_of_steps, gifts_of_clauses, gifts_of_functions}
+use Rattle.flow_state.specs.States.{returns, parameters_of}
+use Rattle.flow_state.specs.Scopes.{Sight, with_functions, with_variables}
+use Rattle.flow_walk.specs.Walk.{matched_slots, seen_by_clauses, seen_by_messages, see_steps, walk, walk_all}
+use Rattle.flow_state.specs.World.{World}
 use Rattle.flow_laws.proofs.Chains.{steps_keep}
 
 the_same : {A : Type 0} {x y : A} → Some x ≡ Some y → x ≡ y

@@ -25,15 +25,17 @@ use Rattle.core_meaning.specs.Meaning.{Failure, raised, stopped, Outcome, gives,
 use Rattle.core_meaning.specs.Meaning.{Choose, choose_none, choose_missed, choose_refused, choose_raised, choose_failed, choose_this, Apply, Called}
 use Rattle.cons_rows.specs.Counts.{whatever_asked, call_names}
 use Rattle.cons_rows.specs.Words.{function_type, literal_type}
-use Rattle.module_flow.specs.declared.functions.Meant.TheVariants.{Inner, Top}
-use Rattle.module_flow.specs.Calls.{Given, meant, inner_or, called, applied as name_applied}
-use Rattle.module_flow.specs.Clauses.{head_solved, inside}
-use Rattle.module_flow.specs.Functions.{label_named}
-use Rattle.module_flow.specs.Scopes.{Sight, outermost, as_many, matching, argument_names, argument_slots, type_of, type_of_slot, with_functions}
-use Rattle.module_flow.specs.Scopes as see
-use Rattle.module_flow.specs.States.{parameters_of}
-use Rattle.module_flow.specs.Walk.{then, then_seen, see_given, then_inside, either, handed, first, where_meets, of_variable, if_named, by_primop, list_type, value, walk, walk_all, walk_pairs, walk_segments, see_steps, walk_clauses, seen_by_clauses, matched_slots, seen_by_messages}
-use Rattle.module_flow.specs.World.{strict, lenient}
+use Rattle.flow_calls.specs.declared.functions.Meant.TheVariants.{Inner, Top}
+use Rattle.flow_calls.specs.TypeLists.{Given, as_many, either, first, list_type, value}
+use Rattle.flow_state.specs.Applications.{meant, inner_or, applied as name_applied, where_meets}
+use Rattle.flow_calls.specs.Calls.{called}
+use Rattle.flow_walk.specs.Clauses.{head_solved, inside}
+use Rattle.flow_calls.specs.Functions.{label_named}
+use Rattle.flow_state.specs.Scopes.{Sight, outermost, matching, argument_names, argument_slots, type_of, type_of_slot, with_functions, of_variable}
+use Rattle.flow_state.specs.Scopes as see
+use Rattle.flow_state.specs.States.{parameters_of}
+use Rattle.flow_walk.specs.Walk.{then, then_seen, see_given, then_inside, handed, if_named, by_primop, walk, walk_all, walk_pairs, walk_segments, see_steps, walk_clauses, seen_by_clauses, matched_slots, seen_by_messages}
+use Rattle.flow_state.specs.World.{strict, lenient}
 use Rattle.sound_laws.specs.Satisfied.{AreAsked}
 use Rattle.sound_laws.proofs.Applications.{both_given}
 use Rattle.sound_laws.proofs.Calls.{applied_function, function_arity}

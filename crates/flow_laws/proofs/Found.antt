@@ -16,13 +16,13 @@ use Rattle.core_meaning.specs.Programs.{Program, HasModule, function_named, clos
 use Rattle.warn_list.specs.declared.finding.Finding.{Finding}
 use Rattle.warn_list.specs.declared.finding.FindingKind.{FindingKind}
 use Rattle.warn_list.specs.declared.finding.FindingKind.TheVariants.{NoReturn, DeadCall, DeadClause, NeverCalled, UnknownFunction}
-use Rattle.module_flow.specs.declared.around.Around.{Around}
-use Rattle.module_flow.specs.Around.{under, at_node}
-use Rattle.module_flow.specs.Findings.{found_in_functions}
+use Rattle.flow_calls.specs.declared.around.Around.{Around}
+use Rattle.flow_calls.specs.Around.{under, at_node}
+use Rattle.flow_walk.specs.Findings.{found_in_functions}
 use Rattle.module_flow.specs.Flow.{Callees, world, around_module, gives_nothing, unless_entered, functions_reported, findings_in}
-use Rattle.module_flow.specs.Scopes.{outermost}
-use Rattle.module_flow.specs.States.{FlowState, parameters_of}
-use Rattle.module_flow.specs.Unknown.{unknown_functions}
+use Rattle.flow_state.specs.Scopes.{outermost}
+use Rattle.flow_state.specs.States.{FlowState, parameters_of}
+use Rattle.flow_calls.specs.Unknown.{unknown_functions}
 use Rattle.sound_laws.specs.Knowledge.{summary_of}
 use Rattle.flow_laws.specs.Claims.{defined_at}
 use Rattle.flow_laws.specs.steps.Taken.{Reports, IsDead, AreDead}

@@ -21,9 +21,9 @@ use Rattle.cons_rows.specs.Scopes.{with_bindings}
 use Rattle.cons_gen.specs.Spans.{span}
 use Rattle.cons_rows.specs.Words.{together}
 use Rattle.cons_solve.specs.Environments.{solution}
-use Rattle.module_flow.specs.Clauses.{beginning, patterns_solved, head_solved, inside}
-use Rattle.module_flow.specs.Scopes.{Sight, scope_in}
-use Rattle.module_flow.specs.World.{World, strict}
+use Rattle.flow_walk.specs.Clauses.{beginning, patterns_solved, head_solved, inside}
+use Rattle.flow_state.specs.Scopes.{Sight, scope_in}
+use Rattle.flow_state.specs.World.{World, strict}
 use Rattle.sound_laws.specs.Assignments.{Alike}
 use Rattle.sound_laws.specs.Facts.{Facts, SolutionFacts}
 use Rattle.sound_laws.specs.Knowledge.{AllBearOut}

@@ -16,9 +16,10 @@ use Rattle.core_meaning.specs.Meaning.{step_letrec, step_apply_name, step_apply_
 use Rattle.core_meaning.specs.Runs.{EvalWith}
 use Rattle.core_scope.specs.Asks.{width}
 use Rattle.cons_rows.specs.Words.{function_type}
-use Rattle.module_flow.specs.Scopes.{Sight, variable_name, variable_names}
-use Rattle.module_flow.specs.Walk.{walk, value}
-use Rattle.module_flow.specs.World.{strict}
+use Rattle.flow_state.specs.Scopes.{Sight, variable_name, variable_names}
+use Rattle.flow_walk.specs.Walk.{walk}
+use Rattle.flow_calls.specs.TypeLists.{value}
+use Rattle.flow_state.specs.World.{strict}
 use Rattle.sound_laws.proofs.Applications.{literal_is}
 use Rattle.sound_laws.proofs.Calls.{function_arity}
 use Rattle.sound_laws.proofs.Expressions.{every_extends}

@@ -14,19 +14,19 @@ use Rattle.core_scope.specs.Places.StandsIn.{itself}
 use Rattle.type_model.specs.Values.{closure, no_variable, Local}
 use Rattle.type_lattice.specs.Types.{any}
 use Rattle.core_meaning.specs.Programs.{Program, module_named, function_named, closure_of, locals_of, top_of_module, exports_in}
-use Rattle.module_flow.specs.declared.around.Around.{Around}
-use Rattle.module_flow.specs.declared.states.Gift.{Gift}
-use Rattle.module_flow.specs.declared.states.Gift.TheVariants.{Enters, Returns}
-use Rattle.module_flow.specs.Escapes.{none_defined, defining}
-use Rattle.module_flow.specs.Findings.{found_in_functions}
+use Rattle.flow_calls.specs.declared.around.Around.{Around}
+use Rattle.flow_state.specs.declared.states.Gift.{Gift}
+use Rattle.flow_state.specs.declared.states.Gift.TheVariants.{Enters, Returns}
+use Rattle.flow_calls.specs.Escapes.{none_defined, defining}
+use Rattle.flow_walk.specs.Findings.{found_in_functions}
 use Rattle.module_flow.specs.Flow.{Callees, has_label, open_labels, first_state, last_state, world, around_module}
-use Rattle.module_flow.specs.Functions.{defined_labels}
-use Rattle.module_flow.specs.Gifts.{gifts_of_functions}
-use Rattle.module_flow.specs.Scopes.{outermost}
-use Rattle.module_flow.specs.Settled as flow
-use Rattle.module_flow.specs.Settled.{stands, AreCounted, GiveCounted, AreWhollyTaken}
-use Rattle.module_flow.specs.States.{FlowState, parameters_of}
-use Rattle.module_flow.specs.World.{World}
+use Rattle.flow_calls.specs.Functions.{defined_labels}
+use Rattle.flow_walk.specs.Gifts.{gifts_of_functions}
+use Rattle.flow_state.specs.Scopes.{outermost}
+use Rattle.flow_state.specs.Settled as flow
+use Rattle.flow_state.specs.Settled.{stands, AreCounted, GiveCounted, AreWhollyTaken}
+use Rattle.flow_state.specs.States.{FlowState, parameters_of}
+use Rattle.flow_state.specs.World.{World}
 use Rattle.flow_laws.specs.steps.Covered.{defs_in}
 use Rattle.flow_laws.specs.Facts.{LastFacts}
 use Rattle.flow_laws.specs.steps.Last.{IsLast}

@@ -11,13 +11,14 @@ use Rattle.type_lattice.specs.Types.{Type4, HasTypes}
 use Rattle.core_meaning.specs.Environments.{local_function, function_of, or_outer}
 use Rattle.core_meaning.specs.Meaning.{Failure, Outcome, gives, fails, Trace, back_by, AllGive, Enter}
 use Rattle.core_meaning.specs.Programs.{top_function}
-use Rattle.module_flow.specs.declared.functions.Meant.TheVariants.{Inner, Top}
-use Rattle.module_flow.specs.Calls.{meant, inner_or, by_meaning, applied, may_return}
-use Rattle.module_flow.specs.Functions.{label_named}
-use Rattle.module_flow.specs.Scopes.{Sight, outermost}
-use Rattle.module_flow.specs.States.{result_of}
-use Rattle.module_flow.specs.Walk.{then, walk}
-use Rattle.module_flow.specs.World.{strict, lenient}
+use Rattle.flow_calls.specs.declared.functions.Meant.TheVariants.{Inner, Top}
+use Rattle.flow_state.specs.Applications.{meant, inner_or, by_meaning, applied}
+use Rattle.flow_calls.specs.Calls.{may_return}
+use Rattle.flow_calls.specs.Functions.{label_named}
+use Rattle.flow_state.specs.Scopes.{Sight, outermost}
+use Rattle.flow_state.specs.States.{result_of}
+use Rattle.flow_walk.specs.Walk.{then, walk}
+use Rattle.flow_state.specs.World.{strict, lenient}
 use Rattle.sound_laws.proofs.Applications.{given_count}
 use Rattle.sound_laws.proofs.Calls.{within}
 use Rattle.sound_laws.proofs.Summaries.{of_module, below_have}

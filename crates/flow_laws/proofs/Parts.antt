@@ -10,9 +10,10 @@ use Rattle.type_model.specs.Values.{Value, Values, no_value, and_value, Env}
 use Rattle.type_lattice.specs.Types.{Type4, HasTypes}
 use Rattle.core_meaning.specs.Meaning.{Failure, Outcome, gives, Trace, with_last, both_rows, in_pairs, in_segments, in_application, operands, AllGive, give_none, give_next, OneFails, fail_here, fail_later}
 use Rattle.cons_rows.specs.Counts.{call_names}
-use Rattle.module_flow.specs.Scopes.{Sight}
-use Rattle.module_flow.specs.Walk.{then, first, walk, walk_all, walk_pairs, walk_segments}
-use Rattle.module_flow.specs.World.{World}
+use Rattle.flow_state.specs.Scopes.{Sight}
+use Rattle.flow_walk.specs.Walk.{then, walk, walk_all, walk_pairs, walk_segments}
+use Rattle.flow_calls.specs.TypeLists.{first}
+use Rattle.flow_state.specs.World.{World}
 use Rattle.sound_laws.proofs.Applications.{both_given, literal_is}
 use Rattle.flow_laws.specs.steps.Fine.{ByName, Fine, FineAll, FinePairs, FineSegments}
 use Rattle.flow_laws.specs.steps.Seen.{IsSeen}

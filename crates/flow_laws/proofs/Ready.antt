@@ -16,8 +16,8 @@ use Rattle.warn_list.specs.declared.finding.FindingKind.{FindingKind}
 use Rattle.warn_list.specs.declared.finding.FindingKind.TheVariants.{NoReturn, DeadCall, DeadClause, NeverCalled}
 use Rattle.warn_list.specs.declared.finding.CallText.{CallText}
 use Rattle.module_flow.specs.Flow.{Callees, last_state, gives_nothing}
-use Rattle.module_flow.specs.States.{parameters_of}
-use Rattle.module_flow.specs.World.{strict, lenient}
+use Rattle.flow_state.specs.States.{parameters_of}
+use Rattle.flow_state.specs.World.{strict, lenient}
 use Rattle.sound_laws.specs.Accepted.{AreAccepted}
 use Rattle.sound_laws.specs.Facts.{Facts, SolutionFacts}
 use Rattle.sound_laws.specs.Knowledge.{Within, summary_of, BearsOut, EachEvent}

@@ -15,16 +15,18 @@ use Rattle.cons_rows.specs.Words.{function_type}
 use Rattle.warn_list.specs.declared.finding.Finding.{Finding}
 use Rattle.warn_list.specs.declared.finding.FindingKind.TheVariants.{DeadCall, DeadClause}
 use Rattle.warn_list.specs.declared.finding.CallText.{CallText}
-use Rattle.module_flow.specs.declared.around.Around.{Around}
-use Rattle.module_flow.specs.Around.{under, under_steps, at_node}
-use Rattle.module_flow.specs.Calls.{Given, called, may_apply}
-use Rattle.module_flow.specs.Clauses.{head_solved, inside}
-use Rattle.module_flow.specs.Findings.{unless_given, either_found, unless_function, found, found_in_all, found_in_pairs, found_in_segments, found_in_steps, found_in_clauses, found_in_functions}
-use Rattle.module_flow.specs.Gifts.{listed_by, where_given, where_entered, where_limited, where_seen}
-use Rattle.module_flow.specs.Scopes.{Sight, with_functions, with_variables}
-use Rattle.module_flow.specs.States.{parameters_of}
-use Rattle.module_flow.specs.Walk.{first, matched_slots, seen_by_clauses, seen_by_messages, see_steps, walk, walk_all}
-use Rattle.module_flow.specs.World.{World, lenient}
+use Rattle.flow_calls.specs.declared.around.Around.{Around}
+use Rattle.flow_calls.specs.Around.{under, under_steps, at_node}
+use Rattle.flow_calls.specs.TypeLists.{Given, where_given, first}
+use Rattle.flow_calls.specs.Calls.{called}
+use Rattle.flow_state.specs.Applications.{may_apply, unless_given, unless_function}
+use Rattle.flow_walk.specs.Clauses.{head_solved, inside}
+use Rattle.flow_walk.specs.Findings.{either_found, found, found_in_all, found_in_pairs, found_in_segments, found_in_steps, found_in_clauses, found_in_functions}
+use Rattle.flow_walk.specs.Gifts.{listed_by, where_entered, where_limited, where_seen}
+use Rattle.flow_state.specs.Scopes.{Sight, with_functions, with_variables}
+use Rattle.flow_state.specs.States.{parameters_of}
+use Rattle.flow_walk.specs.Walk.{matched_slots, seen_by_clauses, seen_by_messages, see_steps, walk, walk_all}
+use Rattle.flow_state.specs.World.{World, lenient}
 use Rattle.flow_laws.specs.steps.Taken.{Member, Reports, AreDead, AreAt}
 
 pub member_left : (l : ℕ) (a b : List ℕ) → Member l a → Member l (a ++ b)

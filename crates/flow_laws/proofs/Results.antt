@@ -13,12 +13,13 @@ use Rattle.cons_tree.specs.declared.parts.Callee.{Callee}
 use Rattle.core_meaning.specs.Programs.{Program}
 use Rattle.core_meaning.specs.Meaning.{Outcome, gives, fails, list_value}
 use Rattle.cons_rows.specs.Counts.{handed_on}
-use Rattle.module_flow.specs.Calls.{Given, one}
-use Rattle.module_flow.specs.Clauses.{head_solved, inside}
-use Rattle.module_flow.specs.Scopes.{Sight, as_many}
-use Rattle.module_flow.specs.States.{FlowState, joins}
-use Rattle.module_flow.specs.Walk.{then, then_inside, either, handed, first, where_meets, list_type, walk, walk_clauses}
-use Rattle.module_flow.specs.World.{World}
+use Rattle.flow_calls.specs.TypeLists.{Given, one, as_many, joins, either, first, list_type}
+use Rattle.flow_walk.specs.Clauses.{head_solved, inside}
+use Rattle.flow_state.specs.Scopes.{Sight}
+use Rattle.flow_state.specs.States.{FlowState}
+use Rattle.flow_walk.specs.Walk.{then, then_inside, handed, walk, walk_clauses}
+use Rattle.flow_state.specs.Applications.{where_meets}
+use Rattle.flow_state.specs.World.{World}
 use Rattle.sound_laws.specs.Satisfied.{AreAsked}
 use Rattle.flow_laws.proofs.Coverage.{Cov, Covs}
 use Rattle.flow_laws.proofs.Sights.{as_many_have, as_many_length}

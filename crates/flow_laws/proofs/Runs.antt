@@ -11,8 +11,8 @@ use Rattle.cons_tree.specs.declared.parts.Callee.{Callee}
 use Rattle.core_meaning.specs.Meaning.{Event, made, chosen, entered, back, Trace, Among}
 use Rattle.core_meaning.specs.Programs.{Program, is_exported, top_function}
 use Rattle.core_meaning.specs.Runs.{EvalWith, IsOutside, WasMade, Run}
-use Rattle.module_flow.specs.States.{FlowState, parameters_of}
-use Rattle.module_flow.specs.World.{strict, lenient}
+use Rattle.flow_state.specs.States.{FlowState, parameters_of}
+use Rattle.flow_state.specs.World.{strict, lenient}
 use Rattle.sound_laws.specs.Facts.{Facts, SolutionFacts}
 use Rattle.sound_laws.specs.Knowledge.{IsHonest, AllBearOut, EachEvent}
 use Rattle.sound_laws.proofs.Summaries.{LabelsStand}

@@ -12,11 +12,11 @@ use Rattle.cons_tree.specs.Facts.{TypeFacts}
 use Rattle.cons_tree.specs.declared.parts.Callee.{Callee}
 use Rattle.core_meaning.specs.Meaning.{Outcome, Event, Trace}
 use Rattle.core_meaning.specs.Programs.{Program}
-use Rattle.module_flow.specs.Calls.{Given}
-use Rattle.module_flow.specs.Scopes.{Sight}
-use Rattle.module_flow.specs.States.{FlowState}
-use Rattle.module_flow.specs.Walk.{walk}
-use Rattle.module_flow.specs.World.{World, strict, lenient}
+use Rattle.flow_calls.specs.TypeLists.{Given}
+use Rattle.flow_state.specs.Scopes.{Sight}
+use Rattle.flow_state.specs.States.{FlowState}
+use Rattle.flow_walk.specs.Walk.{walk}
+use Rattle.flow_state.specs.World.{World, strict, lenient}
 use Rattle.sound_laws.specs.Facts.{Facts, SolutionFacts}
 use Rattle.sound_laws.specs.Knowledge.{IsHonest, EachEvent, AllBearOut}
 use Rattle.sound_laws.proofs.Parts.{front_bears, back_bears}

@@ -17,19 +17,21 @@ use Rattle.cons_rows.specs.Words.{function_type}
 use Rattle.warn_list.specs.declared.finding.Finding.{Finding}
 use Rattle.warn_list.specs.declared.finding.FindingKind.TheVariants.{DeadCall, DeadClause}
 use Rattle.warn_list.specs.declared.finding.CallText.TheVariants.{Local, Remote, Value}
-use Rattle.module_flow.specs.declared.around.Around.{Around}
-use Rattle.module_flow.specs.declared.states.Gift.{Gift}
-use Rattle.module_flow.specs.declared.functions.Meant.{Meant}
-use Rattle.module_flow.specs.declared.functions.Meant.TheVariants.{Inner, Top, Nothing}
-use Rattle.module_flow.specs.Around.{under, under_steps, at_node}
-use Rattle.module_flow.specs.Calls.{Given, meant, called, may_by_meaning, may_apply}
-use Rattle.module_flow.specs.Clauses.{patterns_solved, head_solved, inside}
-use Rattle.module_flow.specs.Findings.{unless_given, either_found, unless_function, found, found_in_all, found_in_pairs, found_in_segments, found_in_steps, found_in_clauses, found_in_functions}
-use Rattle.module_flow.specs.Gifts.{listed_by, where_given, where_entered, where_limited, where_seen, where_solved, enters_meant, enters, returns, gifts, gifts_of_all, gifts_of_pairs, gifts_of_segments, gifts_of_steps, gifts_of_clauses, gifts_of_functions}
-use Rattle.module_flow.specs.Scopes.{Sight, with_functions, with_variables}
-use Rattle.module_flow.specs.States.{parameters_of}
-use Rattle.module_flow.specs.Walk.{first, matched_slots, seen_by_clauses, seen_by_messages, see_steps, walk, walk_all}
-use Rattle.module_flow.specs.World.{World, lenient}
+use Rattle.flow_calls.specs.declared.around.Around.{Around}
+use Rattle.flow_state.specs.declared.states.Gift.{Gift}
+use Rattle.flow_calls.specs.declared.functions.Meant.{Meant}
+use Rattle.flow_calls.specs.declared.functions.Meant.TheVariants.{Inner, Top, Nothing}
+use Rattle.flow_calls.specs.Around.{under, under_steps, at_node}
+use Rattle.flow_calls.specs.TypeLists.{Given, where_given, first}
+use Rattle.flow_state.specs.Applications.{meant, may_by_meaning, may_apply, unless_given, unless_function, enters_meant, enters}
+use Rattle.flow_calls.specs.Calls.{called}
+use Rattle.flow_walk.specs.Clauses.{patterns_solved, head_solved, inside}
+use Rattle.flow_walk.specs.Findings.{either_found, found, found_in_all, found_in_pairs, found_in_segments, found_in_steps, found_in_clauses, found_in_functions}
+use Rattle.flow_walk.specs.Gifts.{listed_by, where_entered, where_limited, where_seen, where_solved, gifts, gifts_of_all, gifts_of_pairs, gifts_of_segments, gifts_of_steps, gifts_of_clauses, gifts_of_functions}
+use Rattle.flow_state.specs.States.{returns, parameters_of}
+use Rattle.flow_state.specs.Scopes.{Sight, with_functions, with_variables}
+use Rattle.flow_walk.specs.Walk.{matched_slots, seen_by_clauses, seen_by_messages, see_steps, walk, walk_all}
+use Rattle.flow_state.specs.World.{World, lenient}
 use Rattle.flow_laws.specs.steps.Fine.{ByName, FineApplied, Fine, FineAll, FinePairs, FineSegments, FineSteps, FineClauses, FineFunctions}
 use Rattle.flow_laws.specs.steps.Named.{Named, NamedAll, NamedPairs, NamedSegments, NamedSteps, NamedClauses, NamedDefs}
 use Rattle.flow_laws.specs.steps.Taken.{Member, Distinct, Reports, AreAt, AreTaken, Takes}

@@ -7,9 +7,9 @@ use Rattle.type_model.specs.Values.{Value, closure, no_variable, Local}
 use Rattle.type_lattice.specs.Types.{Type4}
 use Rattle.cons_tree.specs.declared.parts.Callee.{Callee}
 use Rattle.core_meaning.specs.Programs.{Program, module_named, function_named, closure_of, locals_of, top_of_module}
-use Rattle.module_flow.specs.declared.around.Around.{Around}
-use Rattle.module_flow.specs.Scopes.{outermost}
-use Rattle.module_flow.specs.States.{FlowState, parameters_of}
+use Rattle.flow_calls.specs.declared.around.Around.{Around}
+use Rattle.flow_state.specs.Scopes.{outermost}
+use Rattle.flow_state.specs.States.{FlowState, parameters_of}
 use Rattle.sound_laws.proofs.Summaries.{LabelsStand}
 use Rattle.flow_laws.specs.steps.Covered.{defs_in, world_of, IsBorneOut, HasResult, IsSettled}
 use Rattle.flow_laws.specs.steps.Fine.{FineFunctions}

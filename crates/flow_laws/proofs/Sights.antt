@@ -16,8 +16,9 @@ use Rattle.core_meaning.specs.Matching.{Match, match_variable, match_literal, ma
 use Rattle.core_meaning.specs.Programs.{function_named, closure_of, locals_of}
 use Rattle.cons_rows.specs.Scopes.{Binding, or_outer}
 use Rattle.cons_rows.specs.Slots.{slots_from}
-use Rattle.module_flow.specs.Functions.{defined_labels, label_named}
-use Rattle.module_flow.specs.Scopes.{Sight, scope_in, as_many, with_variables, with_functions, matching, slot_or, argument_slot, argument_slots}
+use Rattle.flow_calls.specs.Functions.{defined_labels, label_named}
+use Rattle.flow_state.specs.Scopes.{Sight, scope_in, with_variables, with_functions, matching, slot_or, argument_slot, argument_slots}
+use Rattle.flow_calls.specs.TypeLists.{as_many}
 use Rattle.sound_laws.specs.Assignments.{Alike}
 use Rattle.sound_laws.specs.Scopes.{StandsFor}
 use Rattle.sound_laws.proofs.Extensions.{set_all, AreUnder, first_value, later_values}

@@ -16,11 +16,11 @@ use Rattle.type_model.specs.Values.{Local}
 use Rattle.type_lattice.specs.Types.{Type4, any}
 use Rattle.core_meaning.specs.Programs.{with_label, locals_of, function_named}
 use Rattle.cons_rows.specs.Scopes.{or_outer}
-use Rattle.module_flow.specs.Escapes.{escaping}
+use Rattle.flow_calls.specs.Escapes.{escaping}
 use Rattle.module_flow.specs.Flow.{has_label, exported_labels, open_labels, begins_one, begins, first_state}
-use Rattle.module_flow.specs.Functions.{defined_labels, label_named}
-use Rattle.module_flow.specs.Settled.{stands, AreCounted}
-use Rattle.module_flow.specs.States.{parameters_of}
+use Rattle.flow_calls.specs.Functions.{defined_labels, label_named}
+use Rattle.flow_state.specs.Settled.{stands, AreCounted}
+use Rattle.flow_state.specs.States.{parameters_of}
 use Rattle.flow_laws.specs.steps.Seen.{label_found, NamesOnce}
 use Rattle.flow_laws.proofs.Escaping.{AllOpen}
 use Rattle.flow_laws.proofs.Fitting.{NamesFit}

@@ -12,9 +12,9 @@ use Rattle.cons_rows.specs.Counts.{call_names}
 use Rattle.warn_list.specs.declared.finding.Finding.{Finding}
 use Rattle.warn_list.specs.declared.finding.FindingKind.{FindingKind}
 use Rattle.warn_list.specs.declared.finding.FindingKind.TheVariants.{NoReturn, DeadCall, DeadClause, NeverCalled, UnknownFunction}
-use Rattle.module_flow.specs.declared.around.Around.{Around}
-use Rattle.module_flow.specs.Around.{under, under_steps, at_node}
-use Rattle.module_flow.specs.Unknown.{Naming, naming, namings, all_namings, pair_namings, segment_namings, step_namings, clause_namings, def_namings, pattern_namings, patterns_namings, pat_pair_namings, pat_segment_namings, is_unknown, is_named, found_first, unknown_functions}
+use Rattle.flow_calls.specs.declared.around.Around.{Around}
+use Rattle.flow_calls.specs.Around.{under, under_steps, at_node}
+use Rattle.flow_calls.specs.Unknown.{Naming, naming, namings, all_namings, pair_namings, segment_namings, step_namings, clause_namings, def_namings, pattern_namings, patterns_namings, pat_pair_namings, pat_segment_namings, is_unknown, is_named, found_first, unknown_functions}
 
 abbrev pub IsOfUnknown : FindingKind → Type 0
 IsOfUnknown (NoReturn f) = ⊥

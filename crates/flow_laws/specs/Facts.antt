@@ -13,11 +13,11 @@ use Rattle.core_scope.specs.declared.checked.Checked.{Checked}
 use Rattle.type_lattice.specs.Types.{any}
 use Rattle.core_meaning.specs.Programs.{Program, HasModule, AreAtLabels}
 use Rattle.module_flow.specs.Flow.{Callees, first_state, last_state, world}
-use Rattle.module_flow.specs.Gifts.{gifts_of_functions}
-use Rattle.module_flow.specs.Scopes.{outermost}
-use Rattle.module_flow.specs.Settled as flow
-use Rattle.module_flow.specs.Settled.{AreCounted, GiveCounted, AreWhollyTaken}
-use Rattle.module_flow.specs.States.{FlowState, parameters_of}
+use Rattle.flow_walk.specs.Gifts.{gifts_of_functions}
+use Rattle.flow_state.specs.Scopes.{outermost}
+use Rattle.flow_state.specs.Settled as flow
+use Rattle.flow_state.specs.Settled.{AreCounted, GiveCounted, AreWhollyTaken}
+use Rattle.flow_state.specs.States.{FlowState, parameters_of}
 
 -- what is known of accepted modules, each a clause of a law of `core_scope` or of `core_meaning`
 pub record TextFacts : Type 0 where

@@ -5,14 +5,14 @@ use Rattle.core_ast.specs.Model as m
 use Rattle.core_scope.specs.Functions.{LabelledFunction, functions_of}
 use Rattle.core_scope.specs.Names.{defined_names}
 use Rattle.type_lattice.specs.Types.{any, none}
-use Rattle.module_flow.specs.declared.names.DefinedFunction.{DefinedFunction}
+use Rattle.flow_calls.specs.declared.names.DefinedFunction.{DefinedFunction}
 use Rattle.module_flow.specs.Flow.{Callees, begins, begins_one, first_state, has_label, made_of, open_labels, world}
-use Rattle.module_flow.specs.Functions.{defined_labels}
-use Rattle.module_flow.specs.Gifts.{gifts_of_functions}
-use Rattle.module_flow.specs.NamedFunctions.{named_as, named_functions}
-use Rattle.module_flow.specs.Scopes.{outermost}
-use Rattle.module_flow.specs.States.{FlowState, takes}
-use Rattle.module_flow.specs.World.{World}
+use Rattle.flow_calls.specs.Functions.{defined_labels}
+use Rattle.flow_walk.specs.Gifts.{gifts_of_functions}
+use Rattle.flow_calls.specs.NamedFunctions.{named_as, named_functions}
+use Rattle.flow_state.specs.Scopes.{outermost}
+use Rattle.flow_state.specs.States.{FlowState, takes}
+use Rattle.flow_state.specs.World.{World}
 use Rattle.module_flow.specs.steps.Beginning.{begun}
 
 -- the functions that have names, each as it begins

@@ -5,15 +5,16 @@ use Rattle.core_ast.specs.Model as m
 use Rattle.type_lattice.specs.Types.{Type4, AreBelow, any}
 use Rattle.type_lattice.specs.Inclusion.{is_same}
 use Rattle.cons_tree.specs.Facts.{TypeFacts}
-use Rattle.module_flow.specs.declared.states.Gift.{Gift}
-use Rattle.module_flow.specs.declared.states.Gift.TheVariants.{Enters, Returns}
+use Rattle.flow_state.specs.declared.states.Gift.{Gift}
+use Rattle.flow_state.specs.declared.states.Gift.TheVariants.{Enters, Returns}
 use Rattle.module_flow.specs.Flow.{Callees, after_rounds, first_state, last_round, last_state, made_of, world}
-use Rattle.module_flow.specs.Gifts.{gifts_of_functions}
-use Rattle.module_flow.specs.Scopes.{outermost}
-use Rattle.module_flow.specs.Settled.{AreCounted, AreTaken, AreWhollyTaken, EachBelow, GiveCounted, IsWhollyTaken, labels_of}
-use Rattle.module_flow.specs.States.{FlowState, anys, are_same, changed, entered, entered_with, joined_rounds, joins, next_state, parameters_of, returning, takes, takes_one, widened, widened_parameters}
-use Rattle.module_flow.proofs.Settling.{takes_labels}
-use Rattle.module_flow.proofs.Taking.{Covers, Grow, covers_anys, covers_itself, grow_itself, grow_through, one_grows, widened_parameters_of}
+use Rattle.flow_walk.specs.Gifts.{gifts_of_functions}
+use Rattle.flow_state.specs.Scopes.{outermost}
+use Rattle.flow_state.specs.Settled.{AreCounted, AreTaken, AreWhollyTaken, EachBelow, GiveCounted, IsWhollyTaken, labels_of}
+use Rattle.flow_state.specs.States.{FlowState, anys, changed, entered, entered_with, joined_rounds, next_state, parameters_of, returning, takes, takes_one, widened, widened_parameters}
+use Rattle.flow_calls.specs.TypeLists.{are_same, joins}
+use Rattle.flow_state.proofs.Labels.{takes_labels}
+use Rattle.flow_state.proofs.Taking.{Covers, Grow, covers_anys, covers_itself, grow_itself, grow_through, one_grows, widened_parameters_of}
 
 -- ---- lengths
 

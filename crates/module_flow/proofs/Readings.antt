@@ -16,17 +16,19 @@ use Rattle.cons_tree.specs.Named.{naturals}
 use Rattle.cons_tree.specs.declared.parts.Callee.{Callee}
 use Rattle.cons_rows.specs.Counts.{call_names}
 use Rattle.cons_rows.specs.Words.{function_type}
-use Rattle.module_flow.specs.declared.functions.Meant.{Meant}
-use Rattle.module_flow.specs.declared.functions.Meant.TheVariants.{Inner, Top, Nothing}
-use Rattle.module_flow.specs.declared.states.Gift.{Gift}
-use Rattle.module_flow.specs.Calls.{Given, applied, by_meaning, by_state, called, meant, one}
-use Rattle.module_flow.specs.Clauses.{patterns_solved, head_solved, inside}
-use Rattle.module_flow.specs.Gifts.{listed_by, where_given, where_entered, where_limited, where_seen, where_solved, enters, enters_meant, returns, gifts, gifts_of_all, gifts_of_pairs, gifts_of_segments, gifts_of_steps, gifts_of_clauses, gifts_of_functions}
-use Rattle.module_flow.specs.Scopes.{Sight, with_functions, with_variables}
-use Rattle.module_flow.specs.States.{FlowState, parameters_of}
-use Rattle.module_flow.specs.Walk.{either, first, handed, if_named, list_type, matched_slots, see_given, see_steps, seen_by_clauses, seen_by_messages, then, then_inside, then_seen, value, walk, walk_all, walk_clauses, walk_pairs, walk_segments, where_meets, by_primop}
-use Rattle.module_flow.specs.World.{World, strict}
-use Rattle.module_flow.specs.steps.Reading.{AlikeInText, AlikeWhereGiven}
+use Rattle.flow_calls.specs.declared.functions.Meant.{Meant}
+use Rattle.flow_calls.specs.declared.functions.Meant.TheVariants.{Inner, Top, Nothing}
+use Rattle.flow_state.specs.declared.states.Gift.{Gift}
+use Rattle.flow_calls.specs.TypeLists.{Given, one, where_given, either, first, list_type, value}
+use Rattle.flow_state.specs.Applications.{applied, by_meaning, meant, enters, enters_meant, where_meets}
+use Rattle.flow_calls.specs.Calls.{by_state, called}
+use Rattle.flow_walk.specs.Clauses.{patterns_solved, head_solved, inside}
+use Rattle.flow_walk.specs.Gifts.{listed_by, where_entered, where_limited, where_seen, where_solved, gifts, gifts_of_all, gifts_of_pairs, gifts_of_segments, gifts_of_steps, gifts_of_clauses, gifts_of_functions}
+use Rattle.flow_state.specs.States.{returns, FlowState, parameters_of}
+use Rattle.flow_state.specs.Scopes.{Sight, with_functions, with_variables}
+use Rattle.flow_walk.specs.Walk.{handed, if_named, matched_slots, see_given, see_steps, seen_by_clauses, seen_by_messages, then, then_inside, then_seen, walk, walk_all, walk_clauses, walk_pairs, walk_segments, by_primop}
+use Rattle.flow_state.specs.World.{World, strict}
+use Rattle.flow_state.specs.steps.Reading.{AlikeInText, AlikeWhereGiven}
 
 -- ---- choices of equals
 

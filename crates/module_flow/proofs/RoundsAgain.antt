@@ -4,17 +4,18 @@ use Rattle.core_ast.specs.declared.syntax.FunName.{FunName}
 use Rattle.core_ast.specs.declared.syntax.Module.{Module}
 use Rattle.core_ast.specs.Tree.{all_defs, module_tree}
 use Rattle.core_scope.specs.Names.{defined_names}
-use Rattle.module_flow.specs.declared.states.Gift.{Gift}
+use Rattle.flow_state.specs.declared.states.Gift.{Gift}
 use Rattle.module_flow.specs.declared.visits.Visit.{Visit}
 use Rattle.module_flow.specs.Flow.{Callees, made_of}
-use Rattle.module_flow.specs.Functions.{defined_labels}
-use Rattle.module_flow.specs.States.{FlowState, next_state, takes}
-use Rattle.module_flow.specs.World.{World}
-use Rattle.module_flow.specs.steps.Reading.{Alike}
-use Rattle.module_flow.specs.steps.Visits.{AreSettled, Definition, Noted, gifts_again, in_round, visits_again}
-use Rattle.module_flow.proofs.Absorbing.{JoinFacts}
+use Rattle.flow_calls.specs.Functions.{defined_labels}
+use Rattle.flow_state.specs.States.{FlowState, next_state, takes}
+use Rattle.flow_state.specs.World.{World}
+use Rattle.flow_state.specs.steps.Reading.{Alike}
+use Rattle.module_flow.specs.steps.Visits.{AreSettled, Definition, gifts_again, visits_again}
+use Rattle.flow_state.specs.steps.Changes.{Noted, in_round}
+use Rattle.flow_state.proofs.Absorbing.{JoinFacts}
 use Rattle.module_flow.proofs.Beginnings.{round_made}
-use Rattle.module_flow.proofs.Skipping.{after}
+use Rattle.flow_state.proofs.Skipping.{after}
 use Rattle.module_flow.proofs.Visiting.{round_again, settled_again}
 
 module _ (F : JoinFacts) (callees : Callees) (source : Module) (names : List FunName) (labels : List ℕ) where

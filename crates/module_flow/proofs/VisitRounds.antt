@@ -2,10 +2,10 @@
 use Rattle.std.proofs.Common.{◌≡◌, ℕ, zero, suc, ◌+◌, ◌≤◌, true, false, cond, List, [], ◌∷◌, ◌++◌, length, set, drop, take, map, slice_get, Some, refl, sym, ap, ap₂, ◌∙◌, subst, arith, append_assoc, append-nil}
 use Rattle.std.proofs.lemmas.List.{drop-set-lt, take_more_set}
 use Rattle.std.proofs.lemmas.Option.{slice_get_within}
-use Rattle.module_flow.specs.declared.states.Gift.{Gift}
+use Rattle.flow_state.specs.declared.states.Gift.{Gift}
 use Rattle.module_flow.specs.declared.visits.Visit.{Visit}
-use Rattle.module_flow.specs.World.{World}
-use Rattle.module_flow.specs.steps.Reading.{labels_given}
+use Rattle.flow_state.specs.World.{World}
+use Rattle.flow_state.specs.steps.Reading.{labels_given}
 use Rattle.module_flow.specs.steps.Visits.{AreSettled, Definition, first_visit, gifts_again, gifts_of_one, is_touched, visits_again}
 
 next_is : {X : Type 0} (xs : List X) (i : ℕ) (x : X) → slice_get xs i ≡ Some x → drop i xs ≡ x ∷ drop (suc i) xs

@@ -8,20 +8,21 @@ use Rattle.core_scope.specs.Asks.{one_value}
 use Rattle.core_scope.specs.Functions.{LabelledFunction, functions_of_defs}
 use Rattle.type_lattice.specs.Types.{Type4}
 use Rattle.cons_tree.specs.declared.parts.Callee.{Callee}
-use Rattle.module_flow.specs.declared.states.Gift.{Gift}
+use Rattle.flow_state.specs.declared.states.Gift.{Gift}
 use Rattle.module_flow.specs.declared.visits.Visit.{Visit}
-use Rattle.module_flow.specs.Gifts.{gifts, gifts_of_functions, returns, where_entered}
-use Rattle.module_flow.specs.NamedFunctions.{named_as, named_functions}
-use Rattle.module_flow.specs.Scopes.{outermost, with_variables}
-use Rattle.module_flow.specs.States.{FlowState, parameters_of}
-use Rattle.module_flow.specs.Walk.{walk}
-use Rattle.module_flow.specs.World.{World}
-use Rattle.module_flow.specs.steps.Kept.{KeptIn}
-use Rattle.module_flow.specs.steps.Reading.{Alike, AlikeIfNamed, AlikeInText, AlikeWhereGiven, AreAlike, labels_given, labels_named}
-use Rattle.module_flow.specs.steps.Visits.{AreSettled, Definition, IsSettled, gifts_again, gifts_of_one, in_round, is_touched, labels_in_text, visits_again}
-use Rattle.module_flow.proofs.Absorbing.{JoinFacts}
+use Rattle.flow_walk.specs.Gifts.{gifts, gifts_of_functions, where_entered}
+use Rattle.flow_state.specs.States.{returns, FlowState, parameters_of}
+use Rattle.flow_calls.specs.NamedFunctions.{named_as, named_functions}
+use Rattle.flow_state.specs.Scopes.{outermost, with_variables}
+use Rattle.flow_walk.specs.Walk.{walk}
+use Rattle.flow_state.specs.World.{World}
+use Rattle.flow_state.specs.steps.Kept.{KeptIn}
+use Rattle.flow_state.specs.steps.Reading.{Alike, AlikeIfNamed, AlikeInText, AlikeWhereGiven, AreAlike, labels_given, labels_named}
+use Rattle.module_flow.specs.steps.Visits.{AreSettled, Definition, IsSettled, gifts_again, gifts_of_one, is_touched, labels_in_text, visits_again}
+use Rattle.flow_state.specs.steps.Changes.{in_round}
+use Rattle.flow_state.proofs.Absorbing.{JoinFacts}
 use Rattle.module_flow.proofs.Readings.{gifts_of_functions_same}
-use Rattle.module_flow.proofs.Skipping.{after, after_skips, kept_given, kept_still}
+use Rattle.flow_state.proofs.Skipping.{after, after_skips, kept_given, kept_still}
 
 -- ---- what is alike where nothing was touched
 

@@ -12,16 +12,16 @@ use Rattle.cons_tree.specs.declared.parts.Callee.{Callee}
 use Rattle.cons_tree.specs.declared.parts.Callee.TheVariants.{Known, Local, Undefined, Unknown}
 use Rattle.warn_list.specs.declared.finding.Finding.{Finding}
 use Rattle.warn_list.specs.declared.finding.FindingKind.TheVariants.{NoReturn, NeverCalled}
-use Rattle.module_flow.specs.declared.around.Around.{Around}
-use Rattle.module_flow.specs.Around.{under, at_node}
-use Rattle.module_flow.specs.Escapes.{escaping}
-use Rattle.module_flow.specs.Findings.{found_in_functions}
-use Rattle.module_flow.specs.Functions.{defined_labels}
-use Rattle.module_flow.specs.Gifts.{gifts_of_functions}
-use Rattle.module_flow.specs.Scopes.{outermost}
-use Rattle.module_flow.specs.States.{FlowState, parameters_of, takes, next_state, joined_rounds}
-use Rattle.module_flow.specs.Unknown.{unknown_functions}
-use Rattle.module_flow.specs.World.{World}
+use Rattle.flow_calls.specs.declared.around.Around.{Around}
+use Rattle.flow_calls.specs.Around.{under, at_node}
+use Rattle.flow_calls.specs.Escapes.{escaping}
+use Rattle.flow_walk.specs.Findings.{found_in_functions}
+use Rattle.flow_calls.specs.Functions.{defined_labels}
+use Rattle.flow_walk.specs.Gifts.{gifts_of_functions}
+use Rattle.flow_state.specs.Scopes.{outermost}
+use Rattle.flow_state.specs.States.{FlowState, parameters_of, takes, next_state, joined_rounds}
+use Rattle.flow_calls.specs.Unknown.{unknown_functions}
+use Rattle.flow_state.specs.World.{World}
 
 -- what stands under each module and name
 abbrev pub Callees : Type 0

@@ -1,16 +1,2 @@
-pub mod Around
-pub mod Calls
-pub mod Clauses
-pub mod Escapes
-pub mod Findings
 pub mod Flow
-pub mod Functions
-pub mod Gifts
-pub mod NamedFunctions
-pub mod Scopes
-pub mod Settled
-pub mod States
-pub mod Unknown
-pub mod Walk
-pub mod World
 pub mod steps

@@ -1,11 +1,2 @@
 pub mod Beginning
-pub mod Codes
-pub mod FirstCalls
-pub mod Forms
-pub mod Gathering
-pub mod Kept
-pub mod Notes
-pub mod Placing
-pub mod Reading
 pub mod Visits
-pub mod Walking

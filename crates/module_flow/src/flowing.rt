@@ -5,26 +5,22 @@ ghost use Rattle.core_scope.specs.Checked.{tree_of};
 ghost use Rattle.core_scope.specs.Names.{defined_names};
 ghost use Rattle.cons_tree.specs.Callees.{found};
 ghost use Rattle.warn_list.specs.declared.finding.FindingKind.TheVariants.{NeverCalled, NoReturn};
-ghost use Rattle.module_flow.specs.Around.{at_node};
-ghost use Rattle.module_flow.specs.Findings.{found_in_functions};
+ghost use Rattle.flow_calls.specs.Around.{at_node};
+ghost use Rattle.flow_walk.specs.Findings.{found_in_functions};
 ghost use Rattle.module_flow.specs.Flow.{findings, functions_reported, gives_nothing, last_state, unless_entered};
-ghost use Rattle.module_flow.specs.Functions.{defined_labels};
-ghost use Rattle.module_flow.specs.Scopes.{outermost};
-ghost use Rattle.module_flow.specs.States.{parameters_of};
-ghost use Rattle.module_flow.specs.Unknown.{unknown_functions};
-ghost use Rattle.module_flow.specs.steps.Walking.{noting, world_of};
+ghost use Rattle.flow_calls.specs.Functions.{defined_labels};
+ghost use Rattle.flow_state.specs.Scopes.{outermost};
+ghost use Rattle.flow_state.specs.States.{parameters_of};
+ghost use Rattle.flow_calls.specs.Unknown.{unknown_functions};
+ghost use Rattle.flow_state.specs.steps.Walking.{noting, world_of};
 
-use crate::around::Around;
-use crate::changes::Changes;
-use crate::functions::Functions;
 use crate::rounds::{first_state, walk_module};
-use crate::states::{FlowFun, FlowStates, JOINED_ROUNDS};
-use crate::unknown::unknown_functions;
 use crate::visits::{first_visits, walk_again};
-use crate::walk::{About, Walk};
 use cons_tree::{Callee, Summaries, type_facts};
 use core_ast::{FunDef, Module};
 use core_scope::Checked;
+use flow_calls::{Around, Functions, unknown_functions};
+use flow_state::{About, Changes, FlowFun, FlowStates, FlowWalk, JOINED_ROUNDS};
 use std::alloc::Global;
 use type_kinds::{List, Memory, Shared};
 use type_lattice::decision_laws;
@@ -110,7 +106,7 @@ fn found_by_walk(
     ensures { IfOk result (λ list. list ≡ found_in_functions (world_of about.now) around outermost (all_defs defs.now)) }
 {
     let walker = walk_module(alloc, about, around, defs, true)?;
-    let Walk { found, .. } = walker;
+    let FlowWalk { found, .. } = walker;
     Ok(found)
 }
 
@@ -151,11 +147,11 @@ fn report_functions(
 ) -> Result<List<Finding>, Memory>
     ensures { IfOk result (λ list. list ≡ functions_reported (world_of about.now) around (all_defs defs.now)) }
 {
-    let mut walker = Walk::new(alloc, true);
+    let mut walker = FlowWalk::new(alloc, true);
     for def in defs {
         report_function(&mut walker, about, around, def.get())?;
     }
-    let Walk { found, .. } = walker;
+    let FlowWalk { found, .. } = walker;
     Ok(found)
 }
 
@@ -171,7 +167,7 @@ fn gives_nothing(callee: &Callee) -> bool
 
 // What is reported of a function of the module by itself.
 fn report_function(
-    walker: &mut Walk,
+    walker: &mut FlowWalk,
     about: &About,
     around: Around,
     def: &FunDef,
@@ -185,7 +181,7 @@ fn report_function(
 
 // Reports a function that has no local return.
 fn report_no_return(
-    walker: &mut Walk,
+    walker: &mut FlowWalk,
     about: &About,
     around: Around,
     def: &FunDef,
@@ -201,7 +197,7 @@ fn report_no_return(
 
 // Reports a function that is never entered.
 fn report_never_called(
-    walker: &mut Walk,
+    walker: &mut FlowWalk,
     about: &About,
     around: Around,
     def: &FunDef,

@@ -3,10 +3,10 @@ ghost use Rattle.std.specs.Prelude.{◌≡◌, ◌≤◌, ℕ, replicate, Some};
 ghost use Rattle.core_ast.specs.Model as m;
 ghost use Rattle.type_lattice.specs.Types.{any};
 ghost use Rattle.module_flow.specs.Flow.{Callees, after_rounds, first_state, last_round, last_state, made_of, world};
-ghost use Rattle.module_flow.specs.Gifts.{gifts_of_functions};
-ghost use Rattle.module_flow.specs.Scopes.{outermost};
-ghost use Rattle.module_flow.specs.Settled.{AreCounted, AreTaken, AreWhollyTaken, GiveCounted, labels_of};
-ghost use Rattle.module_flow.specs.States.{FlowState, joined_rounds, next_state, parameters_of, widened};
+ghost use Rattle.flow_walk.specs.Gifts.{gifts_of_functions};
+ghost use Rattle.flow_state.specs.Scopes.{outermost};
+ghost use Rattle.flow_state.specs.Settled.{AreCounted, AreTaken, AreWhollyTaken, GiveCounted, labels_of};
+ghost use Rattle.flow_state.specs.States.{FlowState, joined_rounds, next_state, parameters_of, widened};
 
 use cons_tree::type_facts;
 use type_lattice::decision_laws;

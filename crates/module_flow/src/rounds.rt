@@ -2,21 +2,18 @@
 ghost use Rattle.std.specs.Prelude.{◌≡◌, ◌∷◌, ◌++◌, ◌||◌, [], ℕ, cond, map, nat_eq, None, replicate, Some, IfOk, OnOk};
 ghost use Rattle.core_ast.specs.Tree.{all_defs, module_tree};
 ghost use Rattle.type_lattice.specs.Types.{any};
-ghost use Rattle.module_flow.specs.Findings.{found_in_functions};
+ghost use Rattle.flow_walk.specs.Findings.{found_in_functions};
 ghost use Rattle.module_flow.specs.Flow.{exported_labels, first_state, has_label};
-ghost use Rattle.module_flow.specs.Gifts.{gifts_of_functions};
-ghost use Rattle.module_flow.specs.Scopes.{outermost};
+ghost use Rattle.flow_walk.specs.Gifts.{gifts_of_functions};
+ghost use Rattle.flow_state.specs.Scopes.{outermost};
 ghost use Rattle.module_flow.specs.steps.Beginning.{begun};
-ghost use Rattle.module_flow.specs.steps.Walking.{world_of};
+ghost use Rattle.flow_state.specs.steps.Walking.{world_of};
 
-use crate::around::Around;
-use crate::control::walk_function;
-use crate::names::{DefinedFunction, names_of_module};
-use crate::states::{FlowFun, FlowStates};
-use crate::types::any_types;
-use crate::walk::{About, Walk};
 use core_ast::{FunDef, FunName, Module};
 use core_scope::Names;
+use flow_calls::{Around, DefinedFunction, any_types, names_of_module};
+use flow_state::{About, FlowFun, FlowStates, FlowWalk};
+use flow_walk::walk_function;
 use indexmap::IndexSet;
 use std::alloc::{AllocFailed, Global};
 use std::marker::Model;
@@ -182,11 +179,11 @@ pub fn walk_module(
     around: Around,
     defs: &[Shared<FunDef>],
     reporting: bool,
-) -> Result<Walk, Memory>
+) -> Result<FlowWalk, Memory>
     ensures gifts { IfOk result (λ walker. walker.gifts ≡ gifts_of_functions (world_of about.now) outermost (all_defs defs.now)) }
     ensures found { IfOk result (λ walker. walker.found ≡ cond reporting (found_in_functions (world_of about.now) around outermost (all_defs defs.now)) []) }
 {
-    let mut walker = Walk::new(alloc, reporting);
+    let mut walker = FlowWalk::new(alloc, reporting);
     for def in defs {
         walk_function(&mut walker, about, around, def.get())?;
     }

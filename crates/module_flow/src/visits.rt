@@ -1,17 +1,14 @@
 //! Which functions a round walks again.
-ghost use Rattle.std.specs.Prelude.{◌≡◌, ◌++◌, ◌∷◌, ◌<◌, [], length, map, slice_get, slice_set, Some, IfOk, OnOk};
+ghost use Rattle.std.specs.Prelude.{◌≡◌, ◌++◌, ◌<◌, length, map, slice_get, slice_set, Some, IfOk, OnOk};
 ghost use Rattle.module_flow.specs.declared.visits.Visit.{Visit};
-ghost use Rattle.module_flow.specs.steps.Reading.{labels_given, labels_named};
-ghost use Rattle.module_flow.specs.steps.Visits.{first_visit, gifts_again, gifts_of_one, is_touched, labels_in_text, visits_again};
-ghost use Rattle.module_flow.specs.steps.Walking.{world_of};
+ghost use Rattle.flow_state.specs.steps.Reading.{labels_given, labels_named};
+ghost use Rattle.module_flow.specs.steps.Visits.{first_visit, gifts_again, gifts_of_one, is_touched, visits_again};
+ghost use Rattle.flow_state.specs.steps.Walking.{world_of};
 
-use crate::around::Around;
-use crate::changes::Changes;
-use crate::control::walk_function;
-use crate::names::{DefinedFunction, names_of_function};
-use crate::states::Gift;
-use crate::walk::{About, Walk};
 use core_ast::FunDef;
+use flow_calls::{Around, DefinedFunction, names_of_function};
+use flow_state::{About, Changes, FlowWalk, Gift};
+use flow_walk::walk_function;
 use std::alloc::Global;
 use type_kinds::{List, Memory, Shared};
 
@@ -88,9 +85,9 @@ fn walk_one(
 ) -> Result<List<Gift>, Memory>
     ensures { IfOk result (λ gifts. gifts ≡ gifts_of_one (world_of about.now) def.now) }
 {
-    let mut walker = Walk::new(alloc, false);
+    let mut walker = FlowWalk::new(alloc, false);
     walk_function(&mut walker, about, around, def)?;
-    let Walk { gifts, .. } = walker;
+    let FlowWalk { gifts, .. } = walker;
     Ok(gifts)
 }
 

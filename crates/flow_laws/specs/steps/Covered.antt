@@ -11,11 +11,12 @@ use Rattle.type_lattice.specs.Types.{Type4, HasTypes, Below, any}
 use Rattle.cons_tree.specs.declared.parts.Callee.{Callee}
 use Rattle.core_meaning.specs.Programs.{Program, module_named, function_at, AreAtLabels, locals_of, is_exported, top_function}
 use Rattle.core_meaning.specs.Meaning.{Event, made, chosen, applied, entered, gave, back}
-use Rattle.module_flow.specs.Functions.{defined_labels}
-use Rattle.module_flow.specs.Scopes.{Sight, outermost, with_variables, with_functions}
-use Rattle.module_flow.specs.States.{FlowState, parameters_of, result_of}
-use Rattle.module_flow.specs.Walk.{first, walk}
-use Rattle.module_flow.specs.World.{World}
+use Rattle.flow_calls.specs.Functions.{defined_labels}
+use Rattle.flow_state.specs.Scopes.{Sight, outermost, with_variables, with_functions}
+use Rattle.flow_state.specs.States.{FlowState, parameters_of, result_of}
+use Rattle.flow_calls.specs.TypeLists.{first}
+use Rattle.flow_walk.specs.Walk.{walk}
+use Rattle.flow_state.specs.World.{World}
 use Rattle.flow_laws.specs.steps.Fine.{Fine, FineFunctions, IsOpen}
 use Rattle.flow_laws.specs.steps.Seen.{IsSeen, NamesOnce}
 

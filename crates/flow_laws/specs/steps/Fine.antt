@@ -12,14 +12,16 @@ use Rattle.cons_tree.specs.Environments.{Types}
 use Rattle.cons_tree.specs.Named.{naturals}
 use Rattle.cons_rows.specs.Counts.{call_names}
 use Rattle.cons_rows.specs.Words.{function_type}
-use Rattle.module_flow.specs.declared.functions.Meant.{Meant}
-use Rattle.module_flow.specs.declared.functions.Meant.TheVariants.{Inner, Top, Nothing}
-use Rattle.module_flow.specs.Calls.{meant, called, may_return}
-use Rattle.module_flow.specs.Clauses.{patterns_solved, head_solved, inside}
-use Rattle.module_flow.specs.Scopes.{Sight, with_variables, with_functions}
-use Rattle.module_flow.specs.States.{parameters_of, result_of}
-use Rattle.module_flow.specs.Walk.{first, matched_slots, seen_by_clauses, seen_by_messages, see_steps, walk, walk_all}
-use Rattle.module_flow.specs.World.{World, lenient}
+use Rattle.flow_calls.specs.declared.functions.Meant.{Meant}
+use Rattle.flow_calls.specs.declared.functions.Meant.TheVariants.{Inner, Top, Nothing}
+use Rattle.flow_state.specs.Applications.{meant}
+use Rattle.flow_calls.specs.Calls.{called, may_return}
+use Rattle.flow_walk.specs.Clauses.{patterns_solved, head_solved, inside}
+use Rattle.flow_state.specs.Scopes.{Sight, with_variables, with_functions}
+use Rattle.flow_state.specs.States.{parameters_of, result_of}
+use Rattle.flow_calls.specs.TypeLists.{first}
+use Rattle.flow_walk.specs.Walk.{matched_slots, seen_by_clauses, seen_by_messages, see_steps, walk, walk_all}
+use Rattle.flow_state.specs.World.{World, lenient}
 use Rattle.flow_laws.specs.steps.Seen.{NamesOnce}
 
 -- the one where there is a name, and the other where there is none

@@ -7,11 +7,11 @@ use Rattle.type_model.specs.Values.{closure, no_variable}
 use Rattle.type_lattice.specs.Types.{any}
 use Rattle.cons_tree.specs.declared.parts.Callee.{Callee}
 use Rattle.core_meaning.specs.Programs.{Program, module_named, is_exported, top_function}
-use Rattle.module_flow.specs.declared.around.Around.{Around}
-use Rattle.module_flow.specs.Findings.{found_in_functions}
-use Rattle.module_flow.specs.Gifts.{gifts_of_functions}
-use Rattle.module_flow.specs.Scopes.{outermost}
-use Rattle.module_flow.specs.States.{FlowState, parameters_of}
+use Rattle.flow_calls.specs.declared.around.Around.{Around}
+use Rattle.flow_walk.specs.Findings.{found_in_functions}
+use Rattle.flow_walk.specs.Gifts.{gifts_of_functions}
+use Rattle.flow_state.specs.Scopes.{outermost}
+use Rattle.flow_state.specs.States.{FlowState, parameters_of}
 use Rattle.flow_laws.specs.steps.Covered.{defs_in, world_of}
 use Rattle.flow_laws.specs.steps.Named.{NamedDefs}
 use Rattle.flow_laws.specs.steps.Seen.{NamesOnce}

@@ -6,9 +6,9 @@ use Rattle.core_ast.specs.Model as m
 use Rattle.core_ast.specs.Named.{local_name}
 use Rattle.core_scope.specs.Names.{defined_names}
 use Rattle.cons_rows.specs.Counts.{call_names}
-use Rattle.module_flow.specs.Calls.{inner_or}
-use Rattle.module_flow.specs.Functions.{defined_labels, label_named}
-use Rattle.module_flow.specs.World.{World}
+use Rattle.flow_state.specs.Applications.{inner_or}
+use Rattle.flow_calls.specs.Functions.{defined_labels, label_named}
+use Rattle.flow_state.specs.World.{World}
 use Rattle.flow_laws.specs.steps.Fine.{ByName, FineName}
 use Rattle.flow_laws.specs.steps.Seen.{NamesOnce}
 

@@ -8,8 +8,8 @@ use Rattle.type_model.specs.Values.{Env, closure, Local}
 use Rattle.cons_tree.specs.Environments.{Assignment, LiesIn}
 use Rattle.core_meaning.specs.Environments.{local_function}
 use Rattle.core_meaning.specs.Programs.{function_named, locals_of}
-use Rattle.module_flow.specs.Functions.{defined_labels, label_named}
-use Rattle.module_flow.specs.Scopes.{Sight, scope_in}
+use Rattle.flow_calls.specs.Functions.{defined_labels, label_named}
+use Rattle.flow_state.specs.Scopes.{Sight, scope_in}
 use Rattle.sound_laws.specs.Scopes.{StandsFor}
 
 -- the functions of `letrec`s that are seen are those of the environment, each with its label

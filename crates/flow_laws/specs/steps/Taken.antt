@@ -4,10 +4,10 @@ use Rattle.type_lattice.specs.Types.{Below}
 use Rattle.warn_list.specs.declared.finding.Finding.{Finding}
 use Rattle.warn_list.specs.declared.finding.FindingKind.{FindingKind}
 use Rattle.warn_list.specs.declared.finding.FindingKind.TheVariants.{NoReturn, DeadCall, DeadClause, NeverCalled, UnknownFunction}
-use Rattle.module_flow.specs.declared.states.Gift.{Gift}
-use Rattle.module_flow.specs.declared.states.Gift.TheVariants.{Enters, Returns}
-use Rattle.module_flow.specs.States.{result_of}
-use Rattle.module_flow.specs.World.{World}
+use Rattle.flow_state.specs.declared.states.Gift.{Gift}
+use Rattle.flow_state.specs.declared.states.Gift.TheVariants.{Enters, Returns}
+use Rattle.flow_state.specs.States.{result_of}
+use Rattle.flow_state.specs.World.{World}
 use Rattle.flow_laws.specs.steps.Fine.{IsEntered}
 
 abbrev pub Member : ℕ → List ℕ → Type 0

@@ -1,8 +1,8 @@
 -- A function as the flow begins.
 use Rattle.std.specs.Prelude.{ℕ, List, Some, None, cond, replicate}
 use Rattle.type_lattice.specs.Types.{none, any}
-use Rattle.module_flow.specs.declared.names.DefinedFunction.{DefinedFunction}
-use Rattle.module_flow.specs.declared.states.FlowFun.{FlowFun}
+use Rattle.flow_calls.specs.declared.names.DefinedFunction.{DefinedFunction}
+use Rattle.flow_state.specs.declared.states.FlowFun.{FlowFun}
 use Rattle.module_flow.specs.Flow.{has_label}
 
 -- a function, entered with anything if its label is one of these, and else not entered

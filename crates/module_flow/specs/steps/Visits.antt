@@ -1,19 +1,19 @@
 -- Which functions a round walks again: those for which something changed of what their last walk read.
-use Rattle.std.specs.Prelude.{◌≡◌, ℕ, Bool, false, ◌||◌, nat_eq, cond, List, [], ◌∷◌, ◌++◌, Some, slice_index_or}
+use Rattle.std.specs.Prelude.{◌≡◌, ℕ, Bool, false, ◌||◌, cond, List, [], ◌∷◌, ◌++◌}
 use Rattle.std.specs.List.{list_any}
 use Rattle.core_ast.specs.declared.syntax.Expr.{Expr}
 use Rattle.core_ast.specs.declared.syntax.FunDefOf.{FunDefOf}
 use Rattle.core_ast.specs.Tree.{all_defs}
 use Rattle.core_scope.specs.Functions.{functions_of_defs}
-use Rattle.module_flow.specs.declared.states.Gift.{Gift}
+use Rattle.flow_state.specs.declared.states.Gift.{Gift}
 use Rattle.module_flow.specs.declared.visits.Visit.{Visit}
-use Rattle.module_flow.specs.Gifts.{gifts_of_functions}
-use Rattle.module_flow.specs.NamedFunctions.{named_functions}
-use Rattle.module_flow.specs.Scopes.{outermost}
-use Rattle.module_flow.specs.States.{FlowState}
-use Rattle.module_flow.specs.World.{World}
-use Rattle.module_flow.specs.steps.Kept.{KeptIn}
-use Rattle.module_flow.specs.steps.Reading.{Alike, labels_given, labels_named}
+use Rattle.flow_walk.specs.Gifts.{gifts_of_functions}
+use Rattle.flow_calls.specs.NamedFunctions.{named_functions}
+use Rattle.flow_state.specs.Scopes.{outermost}
+use Rattle.flow_state.specs.World.{World}
+use Rattle.flow_state.specs.steps.Kept.{KeptIn}
+use Rattle.flow_state.specs.steps.Reading.{labels_given, labels_named}
+use Rattle.flow_state.specs.steps.Changes.{in_round}
 
 abbrev pub Definition : Type 0
 Definition = FunDefOf Expr
@@ -32,20 +32,8 @@ first_visit d = record { own = labels_in_text d; given = [] }
 -- ---- what changed
 
 -- rounds: of each label the round before which it changed last, 0 where it isn't known
-
--- it changed before the round of this number
-abbrev pub in_round : (rounds : List ℕ) → (round label : ℕ) → Bool
-in_round rounds k l = nat_eq (slice_index_or rounds l 0) k
-
 abbrev pub is_touched : (rounds : List ℕ) → (round : ℕ) → Visit → Bool
 is_touched rounds k v = list_any (in_round rounds k) v.own || list_any (in_round rounds k) v.given
-
--- From one state to the other all that changed is noted as changed before the round of this number, and where nothing changed this is
--- told.
-pub record Noted (old new : FlowState) (before after : List ℕ) (k : ℕ) (changed : Bool) : Type 0 where
-  pub keeps : (l : ℕ) → in_round after k l ≡ false → in_round before k l ≡ false
-  pub alike : (l : ℕ) → in_round after k l ≡ false → Alike old new l
-  pub still : changed ≡ false → new ≡ old
 
 -- ---- a round
 

@@ -2,9 +2,9 @@ use Rattle.std.proofs.Common.{◌≡◌, ◌≤◌, length, map, sym, ap, ◌∙
 use Rattle.core_ast.specs.Tree.{module_tree}
 use Rattle.cons_tree.specs.Callees.{found}
 use Rattle.module_flow.specs.Flow.{first_state, last_round, made_of}
-use Rattle.module_flow.specs.States.{next_state}
+use Rattle.flow_state.specs.States.{next_state}
 use Rattle.module_flow.specs.steps.Visits.{first_visit}
-use Rattle.module_flow.proofs.Absorbing.{JoinFacts, join_facts}
+use Rattle.flow_state.proofs.Absorbing.{JoinFacts, join_facts}
 use Rattle.module_flow.proofs.RoundsAgain.{is_made, settled_next}
 use Rattle.module_flow.proofs.Settling as settling
 use Rattle.module_flow.proofs.VisitRounds.{first_settled, settled_long}

@@ -1,5 +1,5 @@
 use Rattle.std.proofs.Common.{drop}
-use Rattle.module_flow.specs.steps.Walking.{world_of}
+use Rattle.flow_state.specs.steps.Walking.{world_of}
 use Rattle.module_flow.proofs.Reporting.{ReportedTo}
 use Rattle.module_flow.proofs.flowing.report_functions.Given as goal
 

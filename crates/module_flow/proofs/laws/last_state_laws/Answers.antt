@@ -1,9 +1,9 @@
 use Rattle.module_flow.specs.Flow.{last_round, last_state, world}
-use Rattle.module_flow.specs.Gifts.{gifts_of_functions}
-use Rattle.module_flow.specs.Scopes.{outermost}
+use Rattle.flow_walk.specs.Gifts.{gifts_of_functions}
+use Rattle.flow_state.specs.Scopes.{outermost}
 use Rattle.module_flow.proofs.Counting as counting
 use Rattle.module_flow.proofs.Settling as settling
-use Rattle.module_flow.proofs.Taking.{settled_takes}
+use Rattle.flow_state.proofs.Taking.{settled_takes}
 use Rattle.module_flow.proofs.laws.last_state_laws.Goals as goal
 
 pub returns-clause-unchanged : goal.returns-clause-unchanged

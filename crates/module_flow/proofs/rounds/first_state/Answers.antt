@@ -1,11 +1,11 @@
 use Rattle.std.proofs.Common.{◌≡◌, ℕ, ◌++◌, ap, ap₂, ◌∙◌}
 use Rattle.core_ast.specs.Tree.{all_defs, module_tree}
 use Rattle.core_scope.specs.Functions.{functions_of, functions_of_defs}
-use Rattle.module_flow.specs.Escapes.{escaping}
+use Rattle.flow_calls.specs.Escapes.{escaping}
 use Rattle.module_flow.specs.Flow.{exported_labels, first_state, has_label, open_labels}
-use Rattle.module_flow.specs.NamedFunctions.{named_functions}
+use Rattle.flow_calls.specs.NamedFunctions.{named_functions}
 use Rattle.module_flow.proofs.Beginnings.{begun_first}
-use Rattle.module_flow.proofs.Notes.{if_ok}
+use Rattle.flow_state.proofs.Notes.{if_ok}
 use Rattle.module_flow.proofs.rounds.first_state.Goals as goal
 
 pub returns : goal.returns

@@ -1,5 +1,5 @@
 use Rattle.std.proofs.Common.{◌≡◌, ◌++◌, drop}
-use Rattle.module_flow.specs.steps.Reading.{labels_given}
+use Rattle.flow_state.specs.steps.Reading.{labels_given}
 use Rattle.module_flow.proofs.visits.labels_given.Given as goal
 
 abbrev pub invariant-loop-gift : goal.invariant-loop-gift

@@ -2,10 +2,10 @@ use Rattle.std.proofs.Common.{◌≡◌, ◌++◌, length, set, slice_get, Some,
 use Rattle.std.proofs.Math.ListN.{length-set}
 use Rattle.std.proofs.lemmas.Option.{slice_get_read}
 use Rattle.module_flow.specs.declared.visits.Visit.{Visit}
-use Rattle.module_flow.specs.World.{World}
-use Rattle.module_flow.specs.steps.Reading.{labels_given}
+use Rattle.flow_state.specs.World.{World}
+use Rattle.flow_state.specs.steps.Reading.{labels_given}
 use Rattle.module_flow.specs.steps.Visits.{gifts_again, gifts_of_one, is_touched, visits_again}
-use Rattle.module_flow.specs.steps.Walking.{world_of}
+use Rattle.flow_state.specs.steps.Walking.{world_of}
 use Rattle.module_flow.proofs.VisitRounds.{gifts_end, gifts_off, gifts_on, visits_end, visits_off, visits_on}
 use Rattle.module_flow.proofs.visits.walk_again.Goals as goal
 use Rattle.module_flow.proofs.visits.walk_again.Goals.{then-is_touched+in_ok-walk_at, else-is_touched}

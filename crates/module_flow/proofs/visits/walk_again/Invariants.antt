@@ -1,6 +1,6 @@
 use Rattle.std.proofs.Common.{◌≡◌, ◌++◌, drop, length, take}
 use Rattle.module_flow.specs.steps.Visits.{gifts_again, visits_again}
-use Rattle.module_flow.specs.steps.Walking.{world_of}
+use Rattle.flow_state.specs.steps.Walking.{world_of}
 use Rattle.module_flow.proofs.visits.walk_again.Given as goal
 
 abbrev pub invariant-loop-place : goal.invariant-loop-place

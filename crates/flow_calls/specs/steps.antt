@@ -1,0 +1,3 @@
+pub mod FirstCalls
+pub mod Gathering
+pub mod Notes

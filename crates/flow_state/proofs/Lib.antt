@@ -1,0 +1,11 @@
+pub mod Absorbing
+pub mod Labels
+mod LastRounds
+pub mod Notes
+mod Places
+mod Sameness
+pub mod Skipping
+pub mod Taking
+mod WalkSteps
+pub mod Widening
+mod Widenings

@@ -1,0 +1,5 @@
+use Rattle.std.proofs.Common.{◌≡◌, ◌++◌, replicate}
+use Rattle.flow_state.proofs.changes.Changes.reach.Given as goal
+
+abbrev pub invariant-loop-at : goal.invariant-loop-at
+invariant-loop-at l = l.self.rounds ≡ l.fn.self.rounds ++ replicate l._at 0

@@ -1,0 +1,6 @@
+pub mod Applications
+pub mod Scopes
+pub mod Settled
+pub mod States
+pub mod World
+pub mod steps

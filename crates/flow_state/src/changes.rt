@@ -1,0 +1,67 @@
+//! When functions of the flow changed last.
+ghost use Rattle.std.specs.Prelude.{◌≡◌, ◌++◌, ◌-◌, [], ℕ, cond, length, nat_eq, replicate, slice_index_or, OnOk};
+ghost use Rattle.std.specs.List.{list_any};
+ghost use Rattle.flow_state.specs.steps.Changes.{in_round};
+
+use std::alloc::Global;
+use type_kinds::{List, Memory};
+
+/// Of each label the number of the round before which the function changed last. Before round 0 all did.
+#[derive(Drop)]
+pub struct Changes {
+    pub rounds: List<usize>,
+}
+
+impl Changes {
+    /// No function changed since. Takes no memory.
+    pub fn new(alloc: Global) -> Changes
+        ensures { result.rounds ≡ [] }
+    {
+        Changes {
+            rounds: List::new(alloc),
+        }
+    }
+
+    /// Notes that a function changed before this round.
+    pub fn note(&mut self, label: u32, round: usize) -> Result<(), Memory>
+        ensures { OnOk result ((k l : ℕ) → in_round self.new.rounds k l ≡ cond (nat_eq label l) (nat_eq round k) (in_round self.old.rounds k l)) }
+    {
+        let place = label as usize;
+        self.reach(place + 1)?;
+        let _before = self.rounds.replace(place, round);
+        Ok(())
+    }
+
+    // Has at least so many labels.
+    fn reach(&mut self, count: usize) -> Result<(), Memory>
+        ensures { OnOk result (self.new.rounds ≡ self.old.rounds ++ replicate (count - length self.old.rounds) 0) }
+    {
+        let missing = count.saturating_sub(self.rounds.len());
+        for _at in 0..missing {
+            self.rounds.add(0)?;
+        }
+        Ok(())
+    }
+
+    // The round before which a function changed last.
+    fn last(&self, label: u32) -> usize
+        ensures { result ≡ slice_index_or self.now.rounds label 0 }
+    {
+        match self.rounds.get(label as usize) {
+            Some(round) => *round,
+            None => 0,
+        }
+    }
+
+    /// Whether one of these functions changed before this round.
+    pub fn any_in_round(&self, round: usize, labels: &[u32]) -> bool
+        ensures { result ≡ list_any (in_round self.now.rounds round) labels.now }
+    {
+        for label in labels {
+            if self.last(*label) == round {
+                return true;
+            }
+        }
+        false
+    }
+}

@@ -1,0 +1,9 @@
+mod Choices
+mod ClauseExits
+mod ControlExits
+mod ExpressionExits
+mod FormExits
+mod FormRounds
+mod Givens
+mod StepRounds
+mod Walks

@@ -1,5 +1,0 @@
-use Rattle.module_flow.proofs.Named.{no_place}
-use Rattle.module_flow.proofs.functions.label_at.Goals as goal
-
-pub returns-in-None : goal.returns-in-None
-returns-in-None c = no_place c.args.labels.now c.args.place c.get.result c.in-None.is c.get.ensures.value
