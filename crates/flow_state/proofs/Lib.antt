@@ -1,6 +1,7 @@
 pub mod Absorbing
 pub mod Labels
 mod LastRounds
+pub mod Latest
 pub mod Notes
 mod Places
 mod Sameness

@@ -1,7 +1,7 @@
 //! When functions of the flow changed last.
 ghost use Rattle.std.specs.Prelude.{◌≡◌, ◌++◌, ◌-◌, [], ℕ, cond, length, nat_eq, replicate, slice_index_or, OnOk};
 ghost use Rattle.std.specs.List.{list_any};
-ghost use Rattle.flow_state.specs.steps.Changes.{in_round};
+ghost use Rattle.flow_state.specs.steps.Changes.{MoreNoted, in_round};
 
 use std::alloc::Global;
 use type_kinds::{List, Memory};
@@ -10,31 +10,49 @@ use type_kinds::{List, Memory};
 #[derive(Drop)]
 pub struct Changes {
     pub rounds: List<usize>,
+    /// The labels of those that changed before the round for which changes are noted now.
+    pub latest: List<u32>,
 }
 
 impl Changes {
     /// No function changed since. Takes no memory.
     pub fn new(alloc: Global) -> Changes
-        ensures { result.rounds ≡ [] }
+        ensures rounds { result.rounds ≡ [] }
+        ensures latest { result.latest ≡ [] }
     {
         Changes {
             rounds: List::new(alloc),
+            latest: List::new(alloc),
         }
+    }
+
+    /// Changes are noted for another round from here on. Takes no memory.
+    pub fn begin(&mut self)
+        ensures rounds { self.new.rounds ≡ self.old.rounds }
+        ensures latest { self.new.latest ≡ [] }
+    {
+        self.latest.truncate(0);
     }
 
     /// Notes that a function changed before this round.
     pub fn note(&mut self, label: u32, round: usize) -> Result<(), Memory>
-        ensures { OnOk result ((k l : ℕ) → in_round self.new.rounds k l ≡ cond (nat_eq label l) (nat_eq round k) (in_round self.old.rounds k l)) }
+        ensures rounds { OnOk result ((k l : ℕ) → in_round self.new.rounds k l ≡ cond (nat_eq label l) (nat_eq round k) (in_round self.old.rounds k l)) }
+        ensures more { OnOk result (MoreNoted self.old self.new round) }
     {
+        if self.last(label) == round {
+            return Ok(());
+        }
         let place = label as usize;
         self.reach(place + 1)?;
         let _before = self.rounds.replace(place, round);
+        self.latest.add(label)?;
         Ok(())
     }
 
     // Has at least so many labels.
     fn reach(&mut self, count: usize) -> Result<(), Memory>
-        ensures { OnOk result (self.new.rounds ≡ self.old.rounds ++ replicate (count - length self.old.rounds) 0) }
+        ensures rounds { OnOk result (self.new.rounds ≡ self.old.rounds ++ replicate (count - length self.old.rounds) 0) }
+        ensures latest { self.new.latest ≡ self.old.latest }
     {
         let missing = count.saturating_sub(self.rounds.len());
         for _at in 0..missing {

@@ -4,7 +4,7 @@ ghost use Rattle.flow_state.specs.States.{changed, entered, next_state, paramete
 ghost use Rattle.flow_state.specs.steps.Kept.{functions_at, functions_given, widens};
 ghost use Rattle.flow_state.specs.steps.Placing.{are_same_parameters, is_same_function, place_of};
 ghost use Rattle.flow_state.specs.steps.Reading.{label_of};
-ghost use Rattle.flow_state.specs.steps.Changes.{Noted};
+ghost use Rattle.flow_state.specs.steps.Changes.{MoreNoted, Noted, NotedAnew};
 
 use crate::changes::Changes;
 use cons_tree::copy_types;
@@ -154,7 +154,9 @@ impl FlowStates {
     ) -> Result<bool, Memory>
         ensures after { OnOk result (self.new ≡ next_state round self.old (takes self.old gifts.now)) }
         ensures noted { IfOk result (λ changed. Noted self.old self.new changes.old.rounds changes.new.rounds next changed) }
+        ensures anew { OnOk result (NotedAnew changes.old changes.new next) }
     {
+        changes.begin();
         if round < JOINED_ROUNDS {
             return self.take_all(gifts, changes, next);
         }
@@ -174,6 +176,7 @@ impl FlowStates {
     ) -> Result<bool, Memory>
         ensures after { OnOk result (self.new ≡ takes self.old gifts.now) }
         ensures noted { IfOk result (λ changed. Noted self.old self.new changes.old.rounds changes.new.rounds next changed) }
+        ensures more { OnOk result (MoreNoted changes.old changes.new next) }
     {
         let mut changed = false;
         for gift in gifts {
@@ -193,6 +196,7 @@ impl FlowStates {
     ) -> Result<bool, Memory>
         ensures after { OnOk result (self.new ≡ takes_one self.old gift.now) }
         ensures noted { IfOk result (λ changed. Noted self.old self.new changes.old.rounds changes.new.rounds next changed) }
+        ensures more { OnOk result (MoreNoted changes.old changes.new next) }
     {
         if !self.take(gift)? {
             return Ok(false);

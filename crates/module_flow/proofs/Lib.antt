@@ -1,5 +1,7 @@
 mod Beginnings
+mod Candidates
 mod Counting
+mod NotedReaders
 mod Readings
 mod Reporting
 mod RoundsAgain

@@ -1,2 +1,4 @@
 pub mod Beginning
+pub mod Readers
+pub mod VisitCodes
 pub mod Visits

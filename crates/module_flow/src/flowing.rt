@@ -15,7 +15,7 @@ ghost use Rattle.flow_calls.specs.Unknown.{unknown_functions};
 ghost use Rattle.flow_state.specs.steps.Walking.{noting, world_of};
 
 use crate::rounds::{first_state, walk_module};
-use crate::visits::{first_visits, walk_again};
+use crate::visits::{first_places, first_visits, walk_again};
 use cons_tree::{Callee, Summaries, type_facts};
 use core_ast::{FunDef, Module};
 use core_scope::Checked;
@@ -79,6 +79,7 @@ fn last_state(
     let defs = source.defs.as_slice();
     let mut state = first_state(alloc, source)?;
     let mut visits = first_visits(alloc, defs)?;
+    let mut places = first_places(alloc, defs.len())?;
     let mut changes = Changes::new(alloc);
     let count = state.functions().len();
     for round in 0..JOINED_ROUNDS + 2 * count {
@@ -88,10 +89,20 @@ fn last_state(
             known,
             state: &state,
         };
-        let gifts = walk_again(alloc, &about, around, defs, &mut visits, &changes, round)?;
+        let gifts = walk_again(
+            alloc,
+            &about,
+            around,
+            defs,
+            &mut visits,
+            &changes,
+            round,
+            places.as_slice(),
+        )?;
         if !state.take_round(gifts.as_slice(), &mut changes, round, round + 1)? {
             return Ok(state);
         }
+        places = visits.candidates(&changes)?;
     }
     Ok(state)
 }

@@ -4,6 +4,7 @@
 
 mod flowing;
 mod laws;
+mod readers;
 mod rounds;
 mod visits;
 

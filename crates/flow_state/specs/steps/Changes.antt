@@ -1,5 +1,7 @@
 -- When functions changed last, and what a round notes of it.
-use Rattle.std.specs.Prelude.{◌≡◌, ℕ, Bool, false, nat_eq, List, slice_index_or}
+use Rattle.std.specs.Prelude.{◌≡◌, ◌<◌, ℕ, Bool, false, true, nat_eq, List, slice_index_or}
+use Rattle.std.specs.List.{Contains}
+use Rattle.flow_state.specs.declared.changes.Changes.{Changes}
 use Rattle.flow_state.specs.States.{FlowState}
 use Rattle.flow_state.specs.steps.Reading.{Alike}
 
@@ -15,3 +17,21 @@ pub record Noted (old new : FlowState) (before after : List ℕ) (k : ℕ) (chan
   pub keeps : (l : ℕ) → in_round after k l ≡ false → in_round before k l ≡ false
   pub alike : (l : ℕ) → in_round after k l ≡ false → Alike old new l
   pub still : changed ≡ false → new ≡ old
+
+-- no function is noted as changed before the round of this number
+abbrev pub NoneIn : (rounds : List ℕ) → (round : ℕ) → Type 0
+NoneIn rounds k = (l : ℕ) → in_round rounds k l ≡ false
+
+-- each function that is noted so is among these
+abbrev pub AllListed : (rounds : List ℕ) → (round : ℕ) → (labels : List ℕ) → Type 0
+AllListed rounds k labels = (l : ℕ) → in_round rounds k l ≡ true → Contains labels l
+
+-- Between these changes and those, others were noted as changed before the round of this number.
+pub record MoreNoted (before after : Changes) (k : ℕ) : Type 0 where
+  pub listed : AllListed before.rounds k before.latest → AllListed after.rounds k after.latest
+  pub later : (n : ℕ) → k < n → NoneIn before.rounds n → NoneIn after.rounds n
+
+-- The same, where none is noted so before.
+pub record NotedAnew (before after : Changes) (k : ℕ) : Type 0 where
+  pub listed : NoneIn before.rounds k → AllListed after.rounds k after.latest
+  pub later : (n : ℕ) → k < n → NoneIn before.rounds n → NoneIn after.rounds n

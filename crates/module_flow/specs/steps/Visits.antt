@@ -1,6 +1,7 @@
 -- Which functions a round walks again: those for which something changed of what their last walk read.
-use Rattle.std.specs.Prelude.{◌≡◌, ℕ, Bool, false, ◌||◌, cond, List, [], ◌∷◌, ◌++◌}
-use Rattle.std.specs.List.{list_any}
+use Rattle.std.specs.Prelude.{◌≡◌, ℕ, Bool, false, true, ◌||◌, cond, List, [], ◌∷◌, ◌++◌, Some, slice_get}
+use Rattle.std.specs.List.{Contains, list_any}
+use Rattle.std.specs.List.Sorted.{IsNonDecreasing}
 use Rattle.core_ast.specs.declared.syntax.Expr.{Expr}
 use Rattle.core_ast.specs.declared.syntax.FunDefOf.{FunDefOf}
 use Rattle.core_ast.specs.Tree.{all_defs}
@@ -34,6 +35,11 @@ first_visit d = record { own = labels_in_text d; given = [] }
 -- rounds: of each label the round before which it changed last, 0 where it isn't known
 abbrev pub is_touched : (rounds : List ℕ) → (round : ℕ) → Visit → Bool
 is_touched rounds k v = list_any (in_round rounds k) v.own || list_any (in_round rounds k) v.given
+
+-- Places in ascending order, with those of all functions of which something changed before the round.
+pub record AreCandidates (rounds : List ℕ) (k : ℕ) (visits : List Visit) (places : List ℕ) : Type 0 where
+  pub ascending : IsNonDecreasing places
+  pub all : (q : ℕ) (v : Visit) → slice_get visits q ≡ Some v → is_touched rounds k v ≡ true → Contains places q
 
 -- ---- a round
 
