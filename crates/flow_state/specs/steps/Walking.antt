@@ -1,6 +1,5 @@
 -- The state of a walk: what it sees, and what it notes.
 use Rattle.std.specs.Prelude.{◌≡◌, ◌≤◌, ℕ, Bool, cond, List, [], ◌∷◌, ◌++◌, Some, None, length, take}
-use Rattle.core_ast.specs.Model as m
 use Rattle.cons_tree.specs.Callees.{found as callee_found}
 use Rattle.type_lattice.specs.Types.{Type4}
 use Rattle.cons_rows.specs.Scopes.{Binding}
