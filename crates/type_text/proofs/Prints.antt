@@ -2,12 +2,16 @@
 use Rattle.std.proofs.Common.{◌≡◌, ℕ, zero, suc, ◌-◌, Bool, true, false, cond, ◌&&◌, List, [], ◌∷◌, ◌++◌, Option, Some, map, codes, refl, sym, ap, ◌∙◌, true≢false, arith, append_assoc}
 use Rattle.std.specs.Coded.{Coded-set, coded_bool}
 use Rattle.type_kinds.specs.Quoted.{quoted}
+use Rattle.type_sets.specs.Names as names
+use Rattle.type_sets.specs.Names.{Names}
 use Rattle.type_sets.specs.Numbers as numbers
 use Rattle.type_sets.specs.Numbers.{Numbers}
 use Rattle.type_sets.specs.declared.ends.Low.TheVariants as low
 use Rattle.type_sets.specs.declared.ends.High.TheVariants as high
+use Rattle.type_sets.specs.declared.bits.Bits.{Bits}
+use Rattle.type_sets.specs.declared.bits.Bits.TheVariants.{Any}
 use Rattle.type_sets.proofs.Truths.{first, second, is_false}
-use Rattle.type_model.specs.Shapes.{PlainParts, Cell, Tuples, all_tuples, TypeAt}
+use Rattle.type_model.specs.Shapes.{Functions, all_functions, PlainParts, Cell, Tuples, all_tuples, TypeAt}
 use Rattle.type_model.specs.Operations.{ops, plain_all}
 use Rattle.type_trees.specs.declared.node.Node.{Node}
 use Rattle.type_trees.specs.declared.node.Node.TheVariants as v
@@ -16,7 +20,7 @@ use Rattle.type_trees.specs.declared.node.SizeOf.{SizeOf}
 use Rattle.type_trees.specs.declared.node.TagOf.{TagOf}
 use Rattle.type_trees.specs.View.{view, row_view, tags_view, sizes_view, parts_view, Fits, EachInParts}
 use Rattle.type_trees.proofs.Views.{view_any, view_of, of_above, fits_of, below_fits}
-use Rattle.type_text.specs.Texts.{separated, tuple_word, tag_words, size_words, parts_words, is_all_ints, is_all_plain, is_any_cell, is_every_tuple, is_any, text_at}
+use Rattle.type_text.specs.Texts.{separated, tuple_word, tag_words, size_words, parts_words, is_all_atoms, is_all_ints, is_all_bits, is_all_functions, is_all_plain, is_any_cell, is_every_tuple, is_any, text_at}
 
 -- ---- one level of a tree
 
@@ -26,19 +30,31 @@ each_below t p e d h = (below_fits t p e d h).each
 
 -- ---- whether all parts are full
 
+atoms_all : (s : Names) → is_all_atoms s ≡ true → s ≡ names.every
+atoms_all s h = grind arith
+
 ints_all : (s : Numbers) → is_all_ints s ≡ true → s ≡ numbers.all
 ints_all (numbers.some xs e) h = absurd (true≢false (sym h))
 ints_all (numbers.between low.Min high.Max e) h = ap (numbers.between low.Min high.Max) (Coded-set coded_bool true true e refl)
 ints_all (numbers.between l k e) h = absurd (true≢false (sym h))
 
+bits_all : (b : Bits) → is_all_bits b ≡ true → b ≡ Any
+bits_all b h = grind arith
+
+functions_all : (f : Functions) → is_all_functions f ≡ true → f ≡ all_functions
+functions_all f h = grind arith
+
 plain_is_all : (p : PlainParts) → is_all_plain p ≡ true → p ≡ plain_all
-plain_is_all p h = grind (arith, ints_all)
+plain_is_all p h = grind (arith, first, atoms_all, ints_all, second, bits_all, functions_all)
 
 tuples_all : {E : Type 0} (t : Tuples E) → is_every_tuple t ≡ true → t ≡ all_tuples
 tuples_all t h = grind arith
 
+open_cell : (b c : Bool) → cond b false c ≡ true → (b ≡ false) × (c ≡ true)
+open_cell b c h = grind arith
+
 cell_all : {E : Type 0} (full : E → Bool) (any : E) → ((e : E) → full e ≡ true → e ≡ any) → (c : Option (Cell E)) → is_any_cell full c ≡ true → c ≡ Some (record { element = any; is_proper = false })
-cell_all full any f c h = grind arith
+cell_all full any h c k = grind (arith, open_cell)
 
 -- where they are, the type is every value
 pub any_is_all : (d : ℕ) (t : TypeAt d) → is_any d t ≡ true → t ≡ (ops d).any
@@ -76,11 +92,15 @@ text_of_parts t p e d h = grind (arith, view_of, not_all)
 
 pub text_of_none : (t : Node) (p : PartsOf Node) → t ≡ v.Of p → (d : ℕ) → Fits d t → true ≡ (ops d).is_none (view d t) → text_at d (view d t) ≡ codes "none()"
 text_of_none t p e zero h k = let f = of_above t p e zero h in absurd (omega arith)
-text_of_none t p e (suc d) h k = grind (arith, text_of_parts t p e d h)
+text_of_none t p e (suc d) h k = text_of_parts t p e d h ∙ ap (λ b. cond b (codes "none()") (separated (codes " | ") (parts_words (text_at d) (parts_view d p)))) (sym k)
 
 pub text_of_some : (t : Node) (p : PartsOf Node) → t ≡ v.Of p → (d : ℕ) → Fits d t → false ≡ (ops d).is_none (view d t) → text_at d (view d t) ≡ separated (codes " | ") (parts_words (text_at (d - 1)) (parts_view (d - 1) p))
 text_of_some t p e zero h k = let f = of_above t p e zero h in absurd (omega arith)
-text_of_some t p e (suc d) h k = grind (arith, text_of_parts t p e d h)
+text_of_some t p e (suc d) h k =
+    let one_less : d ≡ suc d - 1 = omega arith in
+    text_of_parts t p e d h
+    ∙ ap (λ b. cond b (codes "none()") (separated (codes " | ") (parts_words (text_at d) (parts_view d p)))) (sym k)
+    ∙ ap (λ n. separated (codes " | ") (parts_words (text_at n) (parts_view n p))) one_less
 
 -- ---- the words of longer lists
 
@@ -103,4 +123,4 @@ tags_words-append d (t ∷ ts) us = ap (λ ws. tuple_word (quoted t.atom ∷ row
 
 pub sizes_words-append : (d : ℕ) (ss us : List (SizeOf Node)) → sizes_words d (ss ++ us) ≡ sizes_words d ss ++ sizes_words d us
 sizes_words-append d [] us = refl
-sizes_words-append d (s ∷ ss) us = grind (arith, sizes_words-append d ss us, append_assoc)
+sizes_words-append d (s ∷ ss) us = grind (arith, sizes_words-append d ss us, append_assoc, sizes_words)

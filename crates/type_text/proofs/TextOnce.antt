@@ -1,25 +1,27 @@
 -- That a type is read in one way: two types with one text are one.
-use Rattle.std.proofs.Common.{◌≡◌, inl, inr, ℕ, zero, suc, ◌^◌, List, [], ◌∷◌, ◌++◌, map, drop, refl, sym, ap, ◌∙◌, arith, append_assoc, true≢false}
+use Rattle.std.proofs.Common.{◌≡◌, inl, inr, ℕ, zero, suc, ◌^◌, true, false, List, [], ◌∷◌, ◌++◌, map, drop, refl, sym, ap, ◌∙◌, arith, append_assoc, true≢false}
 use Rattle.std.specs.Prelude.{codes}
 use Rattle.std.proofs.lemmas.List.{append-nil}
 use borrow.Author.Tests.{ltb-true}
-use Rattle.std.specs.Fmt.{signed_decimal}
+use Rattle.std.specs.Fmt.{decimal, signed_decimal}
 use Rattle.type_kinds.specs.Quoted.{quoted}
+use Rattle.type_sets.specs.Names as names
 use Rattle.type_sets.specs.Numbers as numbers
 use Rattle.type_sets.specs.declared.ends.Low.TheVariants.{Min}
 use Rattle.type_sets.specs.declared.ends.High.TheVariants.{Max}
 use Rattle.type_sets.proofs.Truths.{decided}
-use Rattle.type_model.specs.Shapes.{TypeAt}
-use Rattle.type_model.specs.Operations.{ops}
+use Rattle.type_model.specs.Shapes.{of_arity, all_functions, TypeAt}
+use Rattle.type_model.specs.Operations.{ops, of_atoms}
 use Rattle.type_model.specs.Normal.{AreElements, NormalAt}
 use Rattle.type_model.proofs.LevelLaws.{level_laws}
 use Rattle.type_lattice.specs.Types.{Type4, same_type}
 use Rattle.type_text.specs.Starts.{Lacks}
 use Rattle.type_text.specs.Words.{WordStop, TypeStop}
 use Rattle.type_text.specs.Texts.{after, separated, low_text, high_text, range_word, is_any, text_at, text_of}
-use Rattle.type_text.specs.WordTypes.{of_ints, IsWord, AreWords, spelled, joined_with, one_atom, one_int, ints_between, one_arity, proper_list, any_list, one_tuple, name_of, named}
+use Rattle.type_text.specs.WordTypes.{of_ints, of_functions, of_row, IsWord, AreWords, spelled, joined_with, one_atom, one_int, ints_between, every_function, one_arity, proper_list, any_list, one_tuple, name_of, named}
+use Rattle.type_model.specs.Operations.{of_list}
 use Rattle.type_text.proofs.Prints.{any_is_all}
-use Rattle.type_text.proofs.WordStarts.{no_close, begins, signed-start, at_every_int, at_quote, at_number, at_range, at_arity, at_proper_list, at_any_list, at_tuple, at_named}
+use Rattle.type_text.proofs.WordStarts.{begins, signed-start, at_every_int, at_quote, at_number, at_range, at_arity, at_proper_list, at_any_list, at_tuple, at_named}
 use Rattle.type_text.proofs.TypeStarts.{text_any, text_none, at_any, at_none, at_words, not_at_end}
 use Rattle.type_text.proofs.WordLaws.{words_of}
 use Rattle.type_text.proofs.WordReads.{words_stop, no_bar, elements_stop, no_comma}
@@ -28,6 +30,9 @@ use Rattle.type_text.proofs.LeafOnce.{quoted_once, decimal_once, signed_once, en
 -- types of a level are read in one way
 abbrev Once : ℕ → Type 0
 Once d = (s t : TypeAt d) (r q : List ℕ) → NormalAt d s → NormalAt d t → TypeStop r → TypeStop q → text_at d s ++ r ≡ text_at d t ++ q → (s ≡ t) × (r ≡ q)
+
+one_not_all : (n : ℕ) → of_arity n ≡ all_functions → ⊥
+one_not_all n e = cc
 
 -- ---- one level up, from that of the elements
 
@@ -57,9 +62,16 @@ module _ (d : ℕ) (once : Once d) where
   -- ---- one word
 
   word_once : (w z : List ℕ) (u v : TypeAt (suc d)) (r q : List ℕ) → IsWord d w u → IsWord d z v → WordStop r → WordStop q → w ++ r ≡ z ++ q → (u ≡ v) × (r ≡ q)
-  word_once w z u v r q (one_atom a) k f g x = grind (arith, at_quote z v k (quoted a ++ r) q _ x refl, quoted_once a)
+  word_once w z u v r q (one_atom a) k f g x =
+      let m = at_quote z v k (quoted a ++ r) q _ x refl in
+      let same = quoted_once a m.0 r q m.1.0 in
+      (ap (λ b. of_atoms (ops d) (names.listed (b ∷ []))) same.0 ∙ sym m.1.1, same.1)
   word_once w z u v r q (named n) k f g x = let m = at_named n z v k (name_of n ++ r) q r x refl in (sym m.0, m.1)
-  word_once w z u v r q (one_int n j) k f g x = grind (arith, signed-start n j, at_number z v k (signed_decimal n ++ r) q, signed_once n)
+  word_once w z u v r q (one_int n j) k f g x =
+      let s = signed-start n j in
+      let m = at_number z v k (signed_decimal n ++ r) q s.0 (s.1.0 ++ r) x (ap (λ t. t ++ r) s.1.1.0) s.1.1.1 in
+      let same = signed_once n m.0 r q j m.1.0 f g m.1.1.0 in
+      (ap (λ b. of_ints (ops d) (numbers.listed (b ∷ []))) same.0 ∙ sym m.1.1.1, same.1)
   word_once w z u v r q (ints_between Min Max j) k f g x =
       let m = at_every_int z v k (codes "integer()" ++ r) q r x refl in
       ((at_every_int {text = text_at d} {Normal = NormalAt d} {o = ops d} (codes "integer()") u (ints_between Min Max j) (codes "integer()" ++ r) r r refl refl).0 ∙ sym m.0, m.1)
@@ -69,19 +81,26 @@ module _ (d : ℕ) (once : Once d) where
       let same = ends_once l m.0 h m.1.0 r q m.1.1.1.0 in
       ((λ i. of_ints (ops d) (numbers.range (same.0 i) (same.1.0 i))) ∙ sym m.1.1.1.1, same.1.1)
   word_once w z u v r q (one_arity n j) k f g x =
-      let m = at_arity z v k _ q _ x refl (λ more e. no_close n j r more (ap (drop 4) e)) in
+      let now = (codes "fun(" ++ decimal n ++ codes ")") ++ r in
+      let not_all : Lacks now (codes "fun()") = λ more b. one_not_all n (ap (λ p. p.plain.functions) (at_named {text = text_at d} {Normal = NormalAt d} {o = ops d} every_function (codes "fun(" ++ decimal n ++ codes ")") u (one_arity n j) now r more refl b).0) in
+      let m = at_arity z v k now q ((decimal n ++ codes ")") ++ r) x refl not_all in
       let a = ltb-true n (2 ^ 32) j in
       let b = ltb-true m.0 (2 ^ 32) m.1.0 in
-      grind (arith, append_assoc, m, decimal_once n m.0 (codes ")" ++ r) (codes ")" ++ q) (omega (arith, a)) (omega (arith, b)))
+      let same = decimal_once n m.0 (codes ")" ++ r) (codes ")" ++ q) (omega (arith, a)) (omega (arith, b)) refl refl (sym (append_assoc (decimal n) (codes ")") r) ∙ m.1.1.0) in
+      (ap (λ y. of_functions (ops d) (of_arity y)) same.0 ∙ sym m.1.1.1, ap (drop 1) same.1)
   word_once w z u v r q (proper_list e j) k f g x =
-      let m = at_proper_list z v k _ q _ x refl in
-      grind (arith, append_assoc, m, once e m.0 (codes ")" ++ r) (codes ")" ++ q) j.0 m.1.0.0)
+      let m = at_proper_list z v k ((codes "cons(" ++ text_at d e ++ codes ")") ++ r) q ((text_at d e ++ codes ")") ++ r) x refl in
+      let same = once e m.0 (codes ")" ++ r) (codes ")" ++ q) j.0 m.1.0.0 refl refl (sym (append_assoc (text_at d e) (codes ")") r) ∙ m.1.1.0) in
+      (ap (λ y. of_list (ops d) y true) same.0 ∙ sym m.1.1.1, ap (drop 1) same.1)
   word_once w z u v r q (any_list e j) k f g x =
-      let m = at_any_list z v k _ q _ x refl in
-      grind (arith, append_assoc, m, once e m.0 (codes ")" ++ r) (codes ")" ++ q) j.0 m.1.0.0)
+      let m = at_any_list z v k ((codes "cons_any(" ++ text_at d e ++ codes ")") ++ r) q ((text_at d e ++ codes ")") ++ r) x refl in
+      let same = once e m.0 (codes ")" ++ r) (codes ")" ++ q) j.0 m.1.0.0 refl refl (sym (append_assoc (text_at d e) (codes ")") r) ∙ m.1.1.0) in
+      (ap (λ y. of_list (ops d) y false) same.0 ∙ sym m.1.1.1, ap (drop 1) same.1)
   word_once w z u v r q (one_tuple es j few) k f g x =
-      let m = at_tuple z v k _ q _ x refl in
-      grind (arith, append_assoc, m, tuples_once es m.0 r q j m.1.0)
+      let row = separated (codes ",") (map (text_at d) es) in
+      let m = at_tuple z v k ((codes "{" ++ row ++ codes "}") ++ r) q ((row ++ codes "}") ++ r) x refl in
+      let same = tuples_once es m.0 r q j m.1.0 (sym (append_assoc row (codes "}") r) ∙ m.1.1.1.0) in
+      (ap (of_row (ops d)) same.0 ∙ sym m.1.1.1.1, same.1)
 
   -- ---- words in a row
 
@@ -127,7 +146,7 @@ module _ (d : ℕ) (once : Once d) where
 -- ---- each level
 
 base_once : Once 0
-base_once s t r q j k f g x = grind arith
+base_once h k f g p q e r s = grind (arith, at_any)
 
 level_once : (d : ℕ) → Once d
 level_once zero = base_once

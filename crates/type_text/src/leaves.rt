@@ -22,7 +22,6 @@ pub fn after_word<'a>(text: &'a [u8], word: &[u8]) -> Option<&'a [u8]>
 }
 
 /// An atom in quotes.
-#[tactic(auto, using(crate::proofs::LeafLaws::atom_further, crate::proofs::LeafLaws::atom_ends))]
 pub fn read_quoted(alloc: Global, text: &[u8]) -> Result<Option<(Atom, &[u8])>, Memory>
     ensures complete { IfOk result (λ read. (atom rest : List ℕ) → text.now ≡ quoted atom ++ rest → IsSomeAnd read (λ p. (p.0 ≡ atom) × (p.1.now ≡ rest))) }
     ensures shorter { IfOk result (λ read. IfSome read (λ p. length p.1.now < length text.now)) }
@@ -135,7 +134,6 @@ pub fn read_arity(text: &[u8]) -> Option<(u32, &[u8])>
 }
 
 // A number below 2^127.
-#[tactic(auto, using(crate::proofs::LeafLaws::no_digits, type_kinds::proofs::DigitLaws::number_in_front, type_kinds::proofs::DigitLaws::front_digits))]
 fn read_natural(text: &[u8]) -> Option<(u128, &[u8])>
     ensures complete { (n : ℕ) (rest : List ℕ) → n < 2 ^ 127 → WordStop rest → text.now ≡ decimal n ++ rest → IsSomeAnd result (λ p. (p.0 ≡ n) × (p.1.now ≡ rest)) }
     ensures narrow { IfSome result (λ p. p.0 < 2 ^ 127) }

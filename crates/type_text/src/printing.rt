@@ -14,7 +14,6 @@ use type_trees::{BodyOf, CellOf, FunSet, Node, Plain, SizeOf, TagOf, TuplesOf, i
 
 /// Appends the text of the type: `none()`, `any()`, or what its parts have with ` | ` between, part by
 /// part. A type has one text. If allocation fails `out` is as before.
-#[tactic(auto, unfolding(crate::specs::Texts::text_of))]
 pub fn print(t: &Ty, out: &mut Bytes) -> Result<(), Memory>
     ensures ok { OnOk result (out.new ≡ out.old ++ text_of t.now) }
     ensures err { OnErr result (out.new ≡ out.old) }
@@ -25,7 +24,6 @@ pub fn print(t: &Ty, out: &mut Bytes) -> Result<(), Memory>
 }
 
 // Appends the text of the type that the tree stands for.
-#[tactic(auto, using(type_trees::proofs::Views::of_above, crate::proofs::Prints::each_below, crate::proofs::Prints::text_of_any, crate::proofs::Prints::text_of_none, std::proofs::lemmas::Result::on_ok_weaker))]
 #[cycle(print)]
 fn append_type(level: u32, t: &Node, out: &mut Bytes) -> Result<(), Memory>
     requires { Fits level t.now }

@@ -27,7 +27,6 @@ use type_trees::{
 };
 
 /// The type of a level, which has a value, that the text begins with, and what is left.
-#[tactic(auto, using(type_trees::proofs::Views::any_fits))]
 #[cycle(words)]
 pub fn read_type<'a>(
     alloc: Global,
@@ -52,7 +51,6 @@ pub fn read_type<'a>(
 
 // The join of a type and of all words to come, each of which has a separator before it. Here and
 // below the level is that of the elements.
-#[tactic(auto, using(crate::proofs::WordReads::words_end))]
 #[cycle(words)]
 fn read_more<'a>(
     alloc: Global,
@@ -198,7 +196,6 @@ fn read_tuple<'a>(
 fn discard_row(_row: List<Node>) {}
 
 // The tuples of these element types.
-#[tactic(auto, using(type_trees::proofs::MadeTrees::row_body))]
 fn tuples_with(alloc: Global, level: u32, row: List<Node>) -> Result<Node, Memory>
     requires few { length row ≤ MAX_ELEMENTS }
     requires each { EachNode (Fits level) row }
@@ -212,7 +209,6 @@ fn tuples_with(alloc: Global, level: u32, row: List<Node>) -> Result<Node, Memor
 }
 
 // Element types up to the closing bracket, which is gone then too.
-#[tactic(auto, using(crate::proofs::WordReads::if_found, crate::proofs::WordReads::elements_more, type_trees::proofs::Views::each_more))]
 #[cycle(words)]
 fn read_row<'a>(
     alloc: Global,
@@ -236,7 +232,6 @@ fn read_row<'a>(
 }
 
 // More element types, each of which has a comma before it, and the closing bracket.
-#[tactic(auto, using(crate::proofs::WordReads::elements_end))]
 #[cycle(words)]
 fn read_later<'a>(
     alloc: Global,

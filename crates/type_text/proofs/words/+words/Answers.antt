@@ -6,16 +6,16 @@ use Rattle.type_sets.specs.Names as names
 use Rattle.type_sets.specs.Numbers as numbers
 use Rattle.type_trees.specs.declared.node.Node.TheVariants as v
 use Rattle.type_trees.specs.View.{row_view, Fits}
-use Rattle.type_trees.proofs.Views.{one_more, each_more}
+use Rattle.type_trees.proofs.Views.{any_fits, one_more, each_more}
 use Rattle.type_text.specs.WordTypes.{of_ints}
 use Rattle.type_text.proofs.WordStarts.{at_quote, at_number, at_tuple, at_proper_list, at_any_list}
-use Rattle.type_text.proofs.WordReads.{found_none, found_some, if_found, found_as, found_at, next_word, words_further, next_element, first_element, no_element, elements_further, elements_more, TypeRead, any_read, zero_read, no_word_read, words_read, quote_there, no_quote, number_there, no_start, name_found}
+use Rattle.type_text.proofs.WordReads.{found_none, found_some, if_found, found_as, found_at, next_word, words_further, words_end, next_element, first_element, no_element, elements_further, elements_end, elements_more, TypeRead, any_read, zero_read, no_word_read, words_read, quote_there, no_quote, number_there, no_start, name_found}
 use Rattle.type_text.proofs.words.+words.Goals as goal
 
 pub read_later-returns-in_default-2-clause-complete : goal.read_later-returns-in_default-2-clause-complete
 read_later-returns-in_default-2-clause-complete t c es rest k text =
     let n = next_element c.args.level c.loop-next.row c.loop-next.rest.now _ rest c.in-Some.next.now (c.loop-next.invariant.so_far es rest k text) c.in-Some.ensures.exact in
-    found_none _ c.in_ok-element.field-0 c.in_default-2.is (c.in_ok-element.ensures.complete n.type _ n.element n.stop n.text)
+    found_none _ c.in_ok-element.field-0 c.in_default-2.is (c.in_ok-element.ensures.complete n.type n.behind n.element n.stop n.text)
 
 pub read_later-loop-next-preserved : goal.read_later-loop-next-preserved
 read_later-loop-next-preserved t c =
@@ -26,14 +26,24 @@ read_later-loop-next-preserved t c =
       shorter = omega (arith, if_found _ c.in_ok-element.field-0 _ c.in-Some-2.is c.in_ok-element.ensures.shorter, c.in-Some.ensures.shorter, c.loop-next.invariant.shorter);
       so_far = λ es rest k text.
           let n = next_element c.args.level c.loop-next.row c.loop-next.rest.now _ rest c.in-Some.next.now (c.loop-next.invariant.so_far es rest k text) c.in-Some.ensures.exact in
-          let read = found_some _ c.in_ok-element.field-0 _ c.in-Some-2.is (c.in_ok-element.ensures.complete n.type _ n.element n.stop n.text) in
+          let read = found_some _ c.in_ok-element.field-0 _ c.in-Some-2.is (c.in_ok-element.ensures.complete n.type n.behind n.element n.stop n.text) in
           elements_further c.args.level c.loop-next.row c.add.new.self c.in-Some-2.element c.in-Some.next.now c.in-Some-2.after.now _ rest n c.in_ok-add.ensures.ok read.0 read.1;
     }
+
+pub read_later-returns-in-Some-after_word-clause-complete : goal.read_later-returns-in-Some-after_word-clause-complete
+read_later-returns-in-Some-after_word-clause-complete t c es rest k text =
+    let ends = elements_end c.args.level c.loop-next.row c.loop-next.rest.now _ rest (c.loop-next.invariant.so_far es rest k text) c.in_default.ensures.complete in
+    (ends.0, c.in-Some-after_word.ensures.complete rest ends.1)
+
+pub read_later-returns-in-None-clause-complete : goal.read_later-returns-in-None-clause-complete
+read_later-returns-in-None-clause-complete t c es rest k text =
+    let ends = elements_end c.args.level c.loop-next.row c.loop-next.rest.now _ rest (c.loop-next.invariant.so_far es rest k text) c.in_default.ensures.complete in
+    c.in-None.ensures.complete rest ends.1
 
 pub read_more-returns-in_default-2-clause-complete : goal.read_more-returns-in_default-2-clause-complete
 read_more-returns-in_default-2-clause-complete t c later rest k stop text =
     let n = next_word c.args.level c.loop-next.t c.loop-next.rest.now _ rest c.in-Some.next.now (c.loop-next.invariant.so_far later rest k stop text) stop c.in-Some.ensures.exact in
-    found_none _ c.in_ok-other.field-0 c.in_default-2.is (c.in_ok-other.ensures.complete n.word _ n.type n.is_word n.stop n.text)
+    found_none _ c.in_ok-other.field-0 c.in_default-2.is (c.in_ok-other.ensures.complete n.word n.behind n.type n.is_word n.stop n.text)
 
 pub read_more-loop-next-preserved : goal.read_more-loop-next-preserved
 read_more-loop-next-preserved t c = record {
@@ -41,9 +51,13 @@ read_more-loop-next-preserved t c = record {
   shorter = omega (arith, if_found _ c.in_ok-other.field-0 _ c.in-Some-2.is c.in_ok-other.ensures.shorter, c.in-Some.ensures.shorter, c.loop-next.invariant.shorter);
   so_far = λ later rest k stop text.
       let n = next_word c.args.level c.loop-next.t c.loop-next.rest.now _ rest c.in-Some.next.now (c.loop-next.invariant.so_far later rest k stop text) stop c.in-Some.ensures.exact in
-      let read = found_some _ c.in_ok-other.field-0 _ c.in-Some-2.is (c.in_ok-other.ensures.complete n.word _ n.type n.is_word n.stop n.text) in
+      let read = found_some _ c.in_ok-other.field-0 _ c.in-Some-2.is (c.in_ok-other.ensures.complete n.word n.behind n.type n.is_word n.stop n.text) in
       words_further c.args.level c.loop-next.t c.in-Some-2.other c.in_ok-t.t c.in-Some.next.now c.in-Some-2.after.now _ rest n read.0 read.1 c.in_ok-t.ensures.value;
 }
+
+pub read_more-returns-clause-complete : goal.read_more-returns-clause-complete
+read_more-returns-clause-complete t c later rest k stop text =
+    words_end c.args.level c.loop-next.t c.loop-next.rest.now _ rest (c.loop-next.invariant.so_far later rest k stop text) c.in_default.ensures.complete
 
 pub read_row-returns-in-Some-clause-complete : goal.read_row-returns-in-Some-clause-complete
 read_row-returns-in-Some-clause-complete t c es rest k text =
@@ -53,7 +67,13 @@ read_row-returns-in-Some-clause-complete t c es rest k text =
 pub read_row-returns-in_default-2-clause-complete : goal.read_row-returns-in_default-2-clause-complete
 read_row-returns-in_default-2-clause-complete t c es rest k text =
     let n = first_element c.args.level c.args.text.now es rest k text c.in_default.ensures.complete in
-    found_none _ c.in_ok-element.field-0 c.in_default-2.is (c.in_ok-element.ensures.complete n.type _ n.element n.stop n.text)
+    found_none _ c.in_ok-element.field-0 c.in_default-2.is (c.in_ok-element.ensures.complete n.type n.behind n.element n.stop n.text)
+
+pub read_row-read_later-requires : goal.read_row-read_later-requires
+read_row-read_later-requires t c =
+    let fits = if_found _ c.in_ok-element.field-0 _ c.in-Some-2.is c.in_ok-element.ensures.fits in
+    let is : c.add.new.self ≡ [] ++ c.in-Some-2.element ∷ [] = c.in_ok-add.ensures.ok ∙ ap (λ r. r ++ c.in-Some-2.element ∷ []) c.new-row.ensures in
+    (omega (arith, c.decreases), (each_more (Fits c.args.level) c.add.new.self [] c.in-Some-2.element is tt fits.0, elements_more c.args.level [] c.add.new.self c.in-Some-2.element is tt fits.0 fits.1))
 
 pub read_row-returns-clause-complete : goal.read_row-returns-clause-complete
 read_row-returns-clause-complete t c =
@@ -61,9 +81,12 @@ read_row-returns-clause-complete t c =
     (λ r f es rest k text.
     let is : c.add.new.self ≡ [] ++ c.in-Some-2.element ∷ [] = c.in_ok-add.ensures.ok ∙ ap (λ r. r ++ c.in-Some-2.element ∷ []) c.new-row.ensures in
     let n = first_element c.args.level c.args.text.now es rest k text c.in_default.ensures.complete in
-    let read = found_some _ c.in_ok-element.field-0 _ c.in-Some-2.is (c.in_ok-element.ensures.complete n.type _ n.element n.stop n.text) in
+    let read = found_some _ c.in_ok-element.field-0 _ c.in-Some-2.is (c.in_ok-element.ensures.complete n.type n.behind n.element n.stop n.text) in
     let left = elements_further c.args.level [] c.add.new.self c.in-Some-2.element c.args.text.now c.in-Some-2.rest.now es rest n is read.0 read.1 in
     subst (λ x. MatchOption r ⊥ (λ p. (row_view c.args.level p.0 ≡ x) × (p.1.now ≡ rest))) left.all (f left.more rest left.elements left.text)) c.read_later.ensures.complete
+
+pub read_type-returns-in-Some-clause-fits : goal.read_type-returns-in-Some-clause-fits
+read_type-returns-in-Some-clause-fits t c = any_fits v.Any refl c.args.level
 
 pub read_type-returns-in-Some-clause-complete : goal.read_type-returns-in-Some-clause-complete
 read_type-returns-in-Some-clause-complete t c u rest k some stop text = any_read c.args.level c.args.text.now c.in-Some.rest.now v.Any refl c.in-Some.ensures.exact u rest k text

@@ -1,5 +1,6 @@
-use Rattle.std.proofs.Common.{arith, refl, sym, ap, ◌∙◌}
+use Rattle.std.proofs.Common.{refl, sym, ap, ◌∙◌, true≢false}
 use Rattle.type_sets.specs.Numbers as numbers
+use Rattle.type_sets.specs.Ends.{is_range}
 use Rattle.type_sets.specs.declared.ends.Low.TheVariants.{Min}
 use Rattle.type_sets.specs.declared.ends.High.TheVariants.{Max}
 use Rattle.type_model.specs.Operations.{ops}
@@ -20,9 +21,11 @@ returns-in_err-low-clause-complete c d w rest u i e =
 pub returns-then-is_range-clause-complete : goal.returns-then-is_range-clause-complete
 returns-then-is_range-clause-complete c d w rest u i e =
     let s = at_range w u i c.args.text.now rest c.in_ok-inside.inside.now e c.in_ok-inside.ensures.exact c.in_default.ensures.complete in
-    grind (arith, s)
+    let found = c.in_ok-low.ensures.complete s.0 s.1.0 rest s.1.1.1.0 in
+    (ap (of_ints (ops d)) (c.range-then-is_range.ensures.value ∙ (λ n. numbers.range (found.0 n) (found.1 n))) ∙ sym s.1.1.1.1, found.2)
 
 pub returns-else-is_range-clause-complete : goal.returns-else-is_range-clause-complete
 returns-else-is_range-clause-complete c d w rest u i e =
     let s = at_range w u i c.args.text.now rest c.in_ok-inside.inside.now e c.in_ok-inside.ensures.exact c.in_default.ensures.complete in
-    grind (arith, s)
+    let found = c.in_ok-low.ensures.complete s.0 s.1.0 rest s.1.1.1.0 in
+    absurd (true≢false (sym s.1.1.0 ∙ sym (λ n. is_range (found.0 n) (found.1 n)) ∙ sym c.is_range.ensures ∙ c.if-is_range.false))
