@@ -6,10 +6,10 @@ use Rattle.core_scan.specs.declared.token.Token.{Token}
 use Rattle.core_scan.specs.declared.token.ScanFault.{ScanFault}
 use Rattle.core_scan.specs.Bytes.{start, past}
 use Rattle.core_scan.specs.Lexed.{Lexed, FirstFault}
-use Rattle.core_parse.specs.declared.fault.ParseFault.{ParseFault}
-use Rattle.core_parse.specs.declared.fault.ParseFault.TheVariants as p
-use Rattle.core_parse.specs.Spells.{SpellsTo, SpellsModule}
-use Rattle.core_parse.specs.Begins.{IsModule, Refused, depth_limit}
+use Rattle.core_grammar.specs.declared.fault.ParseFault.{ParseFault}
+use Rattle.core_grammar.specs.declared.fault.ParseFault.TheVariants as p
+use Rattle.core_grammar.specs.Spells.{SpellsTo, SpellsModule}
+use Rattle.core_grammar.specs.Begins.{IsModule, Refused, depth_limit}
 use Rattle.core_scope.specs.declared.fault.Break.{Break}
 use Rattle.core_scope.specs.Breaks.{module_breaks}
 use Rattle.core_scope.specs.Accepted.{FirstBreak}

@@ -7,10 +7,10 @@ use Rattle.core_scan.specs.declared.token.ScanFault.{ScanFault}
 use Rattle.core_scan.specs.declared.token.ScanFault.TheVariants as s
 use Rattle.core_scan.specs.Bytes.{start, past}
 use Rattle.core_scan.specs.Lexed.{Lexed, FirstFault}
-use Rattle.core_parse.specs.declared.fault.ParseFault.{ParseFault}
-use Rattle.core_parse.specs.declared.fault.ParseFault.TheVariants as p
-use Rattle.core_parse.specs.Begins.{IsModule}
-use Rattle.core_parse.specs.Begins as grammar
+use Rattle.core_grammar.specs.declared.fault.ParseFault.{ParseFault}
+use Rattle.core_grammar.specs.declared.fault.ParseFault.TheVariants as p
+use Rattle.core_grammar.specs.Begins.{IsModule}
+use Rattle.core_grammar.specs.Begins as grammar
 use Rattle.core_scope.specs.declared.fault.Break.{Break}
 use Rattle.core_scope.specs.declared.fault.ScopeRule.{ScopeRule}
 use Rattle.core_scope.specs.declared.fault.ScopeRule.TheVariants.{BoundVariables, DistinctVariables, DefinedFunctions, DistinctFunctions, DefinedExports, Degrees}

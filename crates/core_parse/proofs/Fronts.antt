@@ -4,19 +4,19 @@ use Rattle.type_kinds.specs.declared.place.Place.{Place}
 use Rattle.core_scan.specs.declared.token.Token.{Token}
 use Rattle.core_ast.specs.Model as m
 use Rattle.core_scan.specs.declared.sort.Sort.{Sort}
-use Rattle.core_parse.specs.declared.fault.ParseFault.{ParseFault}
-use Rattle.core_parse.specs.declared.fault.Fault.{Fault}
-use Rattle.core_parse.specs.declared.fault.Fault.TheVariants as g
-use Rattle.core_parse.specs.Grammar.{Part, a, first, the, Nonterminal, SaidBy, Said, Action, Way, ways, annotated_module}
-use Rattle.core_parse.specs.Labels.{numbered}
-use Rattle.core_parse.specs.Spells.{Reads, ReadsOne, ReadsAll, SpellsTo, SpellsModule}
-use Rattle.core_parse.specs.Spells as r
-use Rattle.core_parse.specs.Begins.{Fronts, nothing, token_, node_, part_, FrontsOne, here_, later_, FrontsAll, none_, inside, whole, BeginsTo, Begins, depth_limit, FailsAt, TooShort, SinksAt, IsModule, Refused, in_text}
-use Rattle.core_parse.specs.steps.Matches.{Sight, all, front, Matches, unseen, token, node, part, MatchesOne, here, later, MatchesAll, none, one}
-use Rattle.core_parse.specs.steps.Track.{Stops, Wants, Sinks, itself, deeper_limit, MatchesBranch}
-use Rattle.core_parse.specs.steps.Faults.{Refuses, RanOut, Starts}
-use Rattle.core_parse.specs.steps.Readings.{ReadsModule}
-use Rattle.core_parse.proofs.Moves.{some_value, blank, un_itself, to_itself, un_said}
+use Rattle.core_grammar.specs.declared.fault.ParseFault.{ParseFault}
+use Rattle.core_grammar.specs.declared.fault.PartFault.{PartFault}
+use Rattle.core_grammar.specs.declared.fault.PartFault.TheVariants as g
+use Rattle.core_grammar.specs.Grammar.{Part, a, first, the, Nonterminal, SaidBy, Said, Action, Way, ways, annotated_module}
+use Rattle.core_grammar.specs.Labels.{numbered}
+use Rattle.core_grammar.specs.Spells.{Reads, ReadsOne, ReadsAll, SpellsTo, SpellsModule}
+use Rattle.core_grammar.specs.Spells as r
+use Rattle.core_grammar.specs.Begins.{Fronts, nothing, token_, node_, part_, FrontsOne, here_, later_, FrontsAll, none_, inside, whole, BeginsTo, Begins, depth_limit, FailsAt, TooShort, SinksAt, IsModule, Refused, in_text}
+use Rattle.core_grammar.specs.Matches.{Sight, all, front, Matches, unseen, token, node, part, MatchesOne, here, later, MatchesAll, none, one}
+use Rattle.core_grammar.specs.Track.{Stops, Wants, Sinks, itself, deeper_limit, MatchesBranch}
+use Rattle.core_grammar.specs.Faults.{Refuses, RanOut, Starts}
+use Rattle.core_grammar.specs.Readings.{ReadsModule}
+use Rattle.core_grammar.proofs.Moves.{some_value, blank, un_itself, to_itself, un_said}
 
 -- what is read matches, whatever is seen
 module _ (s : Sight) (l : ℕ) where
@@ -217,20 +217,20 @@ left_over ts left t made h = record {
     bad : [] ≡ t ∷ [] → ⊥
     bad e = absurd cc
 
-pub refusal : (ts : List Token) (end : Place) (e : Fault) (b : ParseFault) → Refuses annotated_module ts e → b ≡ in_text end e → Refused ts end b
+pub refusal : (ts : List Token) (end : Place) (e : PartFault) (b : ParseFault) → Refuses annotated_module ts e → b ≡ in_text end e → Refused ts end b
 refusal ts end (g.Syntax place) b h e = subst (Refused ts end) (sym e) (inl (fails_at ts place h))
 refusal ts end g.End b h e = subst (Refused ts end) (sym e) (inr (refl, too_short ts h))
 refusal ts end (g.TooDeep place) b h e = subst (Refused ts end) (sym e) (sinks_at ts place h)
 refusal ts end g.Memory b h e = subst (Refused ts end) (sym e) tt
 
-pub ran_out_empty : (ts : List Token) (e : Fault) → RanOut ts e → ts ≡ []
+pub ran_out_empty : (ts : List Token) (e : PartFault) → RanOut ts e → ts ≡ []
 ran_out_empty ts g.End h = h
 ran_out_empty ts (g.Syntax place) h = absurd h
 ran_out_empty ts (g.TooDeep place) h = absurd h
 ran_out_empty ts g.Memory h = absurd h
 
 -- what `parse` answers behind a whole module
-pub read_whole : (ts us : List Token) (made : m.Module) (e : Fault) → ReadsModule ts made us → RanOut us e → IsModule ts made
+pub read_whole : (ts us : List Token) (made : m.Module) (e : PartFault) → ReadsModule ts made us → RanOut us e → IsModule ts made
 read_whole ts us made e h r = module_is ts made (subst (λ x. ReadsModule ts made x) (ran_out_empty us e r) h)
 
 pub read_past : (ts us left : List Token) (t : Token) (c : Sort) (place end : Place) (made : m.Module) → ReadsModule ts made us → Starts us t c place left → FailsAt ts place ⊎ ((place ≡ end) × TooShort ts)

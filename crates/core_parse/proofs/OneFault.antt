@@ -4,11 +4,11 @@ use Rattle.std.proofs.Common.{◌≡◌, ◌≢◌, ℕ, List, [], ◌∷◌, �
 use Rattle.std.proofs.lemmas.List.{append_assoc}
 use Rattle.type_kinds.specs.declared.place.Place.{Place}
 use Rattle.core_scan.specs.declared.token.Token.{Token}
-use Rattle.core_parse.specs.declared.fault.ParseFault.{ParseFault}
-use Rattle.core_parse.specs.declared.fault.ParseFault.TheVariants as f
-use Rattle.core_parse.specs.Grammar.{Part, a, first, the, Nonterminal, Said, Way, ways, annotated_module}
-use Rattle.core_parse.specs.Spells.{Reads}
-use Rattle.core_parse.specs.Begins.{Fronts, nothing, token_, node_, part_, FrontsOne, here_, later_, FrontsAll, none_, inside, whole, BeginsTo, Begins, depth_limit, FailsAt, SinksAt, Refused}
+use Rattle.core_grammar.specs.declared.fault.ParseFault.{ParseFault}
+use Rattle.core_grammar.specs.declared.fault.ParseFault.TheVariants as f
+use Rattle.core_grammar.specs.Grammar.{Part, a, first, the, Nonterminal, Said, Way, ways, annotated_module}
+use Rattle.core_grammar.specs.Spells.{Reads}
+use Rattle.core_grammar.specs.Begins.{Fronts, nothing, token_, node_, part_, FrontsOne, here_, later_, FrontsAll, none_, inside, whole, BeginsTo, Begins, depth_limit, FailsAt, SinksAt, Refused}
 use Rattle.core_parse.proofs.Whole.{read_alone, begun_by, apart}
 
 nothing_before : (before more : List Token) → [] ≡ before ++ more → before ≡ []

@@ -5,12 +5,12 @@ use Rattle.std.proofs.lemmas.List.{append_assoc}
 use Rattle.type_kinds.specs.declared.place.Place.{Place}
 use Rattle.core_scan.specs.declared.token.Token.{Token}
 use Rattle.core_ast.specs.Model as m
-use Rattle.core_parse.specs.declared.fault.ParseFault.{ParseFault}
-use Rattle.core_parse.specs.declared.fault.ParseFault.TheVariants as f
-use Rattle.core_parse.specs.Grammar.{Part, a, first, the, Nonterminal, SaidBy, Said, Action, Way, ways, annotated_module}
-use Rattle.core_parse.specs.Spells.{Reads, ReadsOne, ReadsAll, SpellsTo}
-use Rattle.core_parse.specs.Spells as r
-use Rattle.core_parse.specs.Begins.{Fronts, nothing, token_, node_, part_, FrontsOne, here_, later_, FrontsAll, none_, inside, whole, BeginsTo, depth_limit, Refused}
+use Rattle.core_grammar.specs.declared.fault.ParseFault.{ParseFault}
+use Rattle.core_grammar.specs.declared.fault.ParseFault.TheVariants as f
+use Rattle.core_grammar.specs.Grammar.{Part, a, first, the, Nonterminal, SaidBy, Said, Action, Way, ways, annotated_module}
+use Rattle.core_grammar.specs.Spells.{Reads, ReadsOne, ReadsAll, SpellsTo}
+use Rattle.core_grammar.specs.Spells as r
+use Rattle.core_grammar.specs.Begins.{Fronts, nothing, token_, node_, part_, FrontsOne, here_, later_, FrontsAll, none_, inside, whole, BeginsTo, depth_limit, Refused}
 
 -- the tokens that were read, behind which anything may follow
 abbrev Used : (List Token → List Token → Type 0) → List Token → List Token → Type 0

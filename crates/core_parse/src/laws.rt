@@ -1,14 +1,14 @@
 // What holds of the definitions, for every text.
 ghost use Rattle.std.specs.Prelude.{◌≡◌, ◌≢◌, ℕ, ◌*◌, ◌≤◌, List, length};
 ghost use Rattle.core_ast.specs.Model.{Module as ModuleTree};
-ghost use Rattle.core_parse.specs.Begins.{depth_limit, Refused};
-ghost use Rattle.core_parse.specs.Spells.{SpellsTo};
-ghost use Rattle.core_parse.specs.declared.fault.ParseFault.{ParseFault};
-ghost use Rattle.core_parse.specs.declared.fault.ParseFault.TheVariants as faults;
+ghost use Rattle.core_grammar.specs.Begins.{depth_limit, Refused};
+ghost use Rattle.core_grammar.specs.Spells.{SpellsTo};
+ghost use Rattle.core_grammar.specs.declared.fault.ParseFault.{ParseFault};
+ghost use Rattle.core_grammar.specs.declared.fault.ParseFault.TheVariants as faults;
 ghost use Rattle.type_kinds.specs.declared.place.Place.{Place};
 ghost use Rattle.core_scan.specs.declared.token.Token.{Token};
 ghost use Rattle.core_scan.specs.Lexed.{Lexed};
-ghost use Rattle.core_parse.specs.Weights.{weight};
+ghost use Rattle.core_grammar.specs.Weights.{weight};
 
 /// The tokens of a text weigh at most two for each of its bytes, so those that are scanned may be parsed.
 #[tactic(auto, using(crate::proofs::LexedWeights::lexed_weight))]

@@ -1,18 +1,18 @@
 ghost use Rattle.std.specs.Prelude.{◌≡◌, ◌+◌, ◌^◌, ◌<◌, ◌≤◌, length, IfOk, IfErr};
 ghost use Rattle.core_ast.specs.Tree.{module_tree};
-ghost use Rattle.core_parse.specs.Begins.{IsModule, Refused};
-ghost use Rattle.core_parse.specs.Grammar.{the, many, noted_, annotated_module as annotated_module_part, «module» as module_part, attribute as attribute_part, constant};
-ghost use Rattle.core_parse.specs.steps.Faults.{Refuses};
-ghost use Rattle.core_parse.specs.steps.Readings.{ReadsAnnotatedConstant, ReadsAttribute, ReadsAttributes, ReadsHeader, ReadsBareModule, ReadsModule};
-ghost use Rattle.core_parse.specs.Weights.{weight};
+ghost use Rattle.core_grammar.specs.Begins.{IsModule, Refused};
+ghost use Rattle.core_grammar.specs.Grammar.{the, many, noted_, annotated_module as annotated_module_part, «module» as module_part, attribute as attribute_part, constant};
+ghost use Rattle.core_grammar.specs.Faults.{Refuses};
+ghost use Rattle.core_grammar.specs.Readings.{ReadsAnnotatedConstant, ReadsAttribute, ReadsAttributes, ReadsHeader, ReadsBareModule, ReadsModule};
+ghost use Rattle.core_grammar.specs.Weights.{weight};
 
-use crate::annotations::annotation;
-use crate::constants::constant;
-use crate::definitions::{ReadDefinitions, definitions};
-use crate::fault::{Fault, ParseFault};
-use crate::leaves::{next, no_note, take, text_of};
-use crate::names::{annotated_atom, exports};
 use core_ast::{FunDef, FunName, Module, discard_module};
+use core_forms::definitions::{ReadDefinitions, definitions};
+use core_grammar::annotations::annotation;
+use core_grammar::constants::constant;
+use core_grammar::fault::{ParseFault, PartFault};
+use core_grammar::leaves::{next, no_note, take, text_of};
+use core_grammar::names::{annotated_atom, exports};
 use core_scan::{Sort, Token, fits};
 use std::alloc::Global;
 use type_kinds::{List, Memory, Place, Shared};
@@ -57,7 +57,7 @@ pub fn parse(alloc: Global, tokens: &[Token], end: Place) -> Result<Module, Pars
 }
 
 // A module, with or without annotation brackets.
-fn annotated_module<'a>(alloc: Global, tokens: &'a [Token]) -> Result<ReadModule<'a>, Fault>
+fn annotated_module<'a>(alloc: Global, tokens: &'a [Token]) -> Result<ReadModule<'a>, PartFault>
     requires { weight tokens.now < 2 ^ 32 }
     ensures ok { IfOk result (λ r. ReadsModule tokens.now (module_tree r.module) r.rest.now) }
     ensures err { IfErr result (λ e. Refuses annotated_module_part tokens.now e) }
@@ -95,7 +95,7 @@ fn annotated_module<'a>(alloc: Global, tokens: &'a [Token]) -> Result<ReadModule
 }
 
 // A module without annotation brackets.
-fn bare_module<'a>(alloc: Global, tokens: &'a [Token]) -> Result<ReadModule<'a>, Fault>
+fn bare_module<'a>(alloc: Global, tokens: &'a [Token]) -> Result<ReadModule<'a>, PartFault>
     requires { weight tokens.now < 2 ^ 32 }
     ensures ok { IfOk result (λ r. ReadsBareModule tokens.now (module_tree r.module) r.rest.now) }
     ensures err { IfErr result (λ e. Refuses module_part tokens.now e) }
@@ -106,7 +106,7 @@ fn bare_module<'a>(alloc: Global, tokens: &'a [Token]) -> Result<ReadModule<'a>,
     };
     let name = match text_of(alloc, header.name) {
         Ok(name) => name,
-        Err(Memory) => return Err(Fault::Memory),
+        Err(Memory) => return Err(PartFault::Memory),
     };
     let ReadDefinitions {
         items,
@@ -127,7 +127,7 @@ fn bare_module<'a>(alloc: Global, tokens: &'a [Token]) -> Result<ReadModule<'a>,
             },
             rest,
         }),
-        Err(Memory) => Err(Fault::Memory),
+        Err(Memory) => Err(PartFault::Memory),
     }
 }
 
@@ -150,7 +150,7 @@ fn shared(alloc: Global, functions: List<FunDef>) -> Result<List<Shared<FunDef>>
 }
 
 // The word `module`, the name, the exports and the attributes.
-fn header<'a>(alloc: Global, tokens: &'a [Token]) -> Result<ReadHeader<'a>, Fault>
+fn header<'a>(alloc: Global, tokens: &'a [Token]) -> Result<ReadHeader<'a>, PartFault>
     ensures ok { IfOk result (λ r. ReadsHeader tokens.now r.name.now r.exports r.export_places r.rest.now) }
     ensures lighter { IfOk result (λ r. weight r.rest.now ≤ weight tokens.now) }
     ensures err { IfErr result (λ e. Refuses module_part tokens.now e) }
@@ -191,7 +191,7 @@ fn header<'a>(alloc: Global, tokens: &'a [Token]) -> Result<ReadHeader<'a>, Faul
 }
 
 // Attributes with commas between them, up to and with the closing square bracket.
-fn attributes<'a>(alloc: Global, tokens: &'a [Token]) -> Result<&'a [Token], Fault>
+fn attributes<'a>(alloc: Global, tokens: &'a [Token]) -> Result<&'a [Token], PartFault>
     ensures ok { IfOk result (λ r. ReadsAttributes tokens.now r.now) }
     ensures lighter { IfOk result (λ r. weight r.now ≤ weight tokens.now) }
     ensures err { IfErr result (λ e. Refuses (many Sort.CloseSquare (the attribute_part)) tokens.now e) }
@@ -217,14 +217,14 @@ fn attributes<'a>(alloc: Global, tokens: &'a [Token]) -> Result<&'a [Token], Fau
             return Ok(after.rest);
         }
         if !fits(Sort::Comma, after.sort) {
-            return Err(Fault::Syntax(after.place));
+            return Err(PartFault::Syntax(after.place));
         }
         from = after.rest;
     }
 }
 
 // atom = constant, each with or without annotation brackets
-fn attribute<'a>(alloc: Global, tokens: &'a [Token]) -> Result<&'a [Token], Fault>
+fn attribute<'a>(alloc: Global, tokens: &'a [Token]) -> Result<&'a [Token], PartFault>
     ensures ok { IfOk result (λ r. ReadsAttribute tokens.now r.now) }
     ensures shorter { IfOk result (λ r. length r.now < length tokens.now) }
     ensures lighter { IfOk result (λ r. weight r.now ≤ weight tokens.now) }
@@ -245,7 +245,7 @@ fn attribute<'a>(alloc: Global, tokens: &'a [Token]) -> Result<&'a [Token], Faul
 }
 
 // A constant, with or without annotation brackets.
-fn annotated_constant<'a>(alloc: Global, tokens: &'a [Token]) -> Result<&'a [Token], Fault>
+fn annotated_constant<'a>(alloc: Global, tokens: &'a [Token]) -> Result<&'a [Token], PartFault>
     ensures ok { IfOk result (λ r. ReadsAnnotatedConstant tokens.now r.now) }
     ensures shorter { IfOk result (λ r. length r.now < length tokens.now) }
     ensures lighter { IfOk result (λ r. weight r.now ≤ weight tokens.now) }

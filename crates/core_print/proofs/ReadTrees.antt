@@ -14,8 +14,8 @@ use Rattle.core_ast.specs.Notes.{note_tree, noted_pattern, noted_clause}
 use Rattle.core_scan.specs.declared.sort.Sort.{Sort}
 use Rattle.core_scan.specs.declared.sort.Sort.TheVariants as s
 use Rattle.core_scan.specs.Sorts.{fits, kind_sort}
-use Rattle.core_parse.specs.Build.{no_note, note_or_none, with_note, kind_text, is_chain, before, let_, do_, at, and_step, StepParts, MapParts, map_tree, FunctionParts, note_function}
-use Rattle.core_parse.specs.Grammar.{Part, the, SaidBy, many, more, expression as expression_part, bare_expression, other_expression, list, list_rest, list_tail, pattern as pattern_part, bare_pattern, other_pattern, pattern_list, pattern_rest, pattern_tail, pattern_segment, pattern_pair, segment, pairs as pairs_part, more_pairs, pair, clauses_to, clause, bare_clause, definitions, definition, function, alias_variable}
+use Rattle.core_grammar.specs.Build.{no_note, note_or_none, with_note, kind_text, is_chain, before, let_, do_, at, and_step, StepParts, MapParts, map_tree, FunctionParts, note_function}
+use Rattle.core_grammar.specs.Grammar.{Part, the, SaidBy, many, more, expression as expression_part, bare_expression, other_expression, list, list_rest, list_tail, pattern as pattern_part, bare_pattern, other_pattern, pattern_list, pattern_rest, pattern_tail, pattern_segment, pattern_pair, segment, pairs as pairs_part, more_pairs, pair, clauses_to, clause, bare_clause, definitions, definition, function, alias_variable}
 use Rattle.core_print.specs.Words.{Word, reserved, symbol, integer, atom}
 use Rattle.core_print.specs.Words as w
 use Rattle.core_print.specs.Canonical as c

@@ -18,13 +18,13 @@ use Rattle.core_scan.specs.declared.token.TokenKind.TheVariants as k
 use Rattle.core_scan.specs.Sorts.{fits, sort, kind_sort, integer_sort}
 use Rattle.core_scan.specs.Vocabulary.{words, symbols, sort_in}
 use Rattle.core_scan.specs.Spells.{IsName, IsFloat, is_variable_start}
-use Rattle.core_parse.specs.declared.notes.Constant.{Constant}
-use Rattle.core_parse.specs.declared.notes.Constant.TheVariants.{Number, Pair, Generated, Another}
-use Rattle.core_parse.specs.Build.{kind_text, kind_value, value, magnitude, at, Noted, with_note, note_or_none, note_of, line_within, NameAt, byte_trees, byte_patterns, before, let_, do_, map_tree, FunctionParts, note_function, export_names, note_module}
-use Rattle.core_parse.specs.Grammar.{Part, a, first, the, Nonterminal, SaidBy, Said, Action, Way, ways, noted_, annotation, many, more, annotated_module, «module», attribute, function_name, definition, function, definitions, variable, variables, literal, constant, other_constant, constant_list, constant_rest, constant_tail, constant_segment, constant_pair, expression, bare_expression, other_expression, list, list_rest, list_tail, segment, pairs as pairs_part, more_pairs, pair, bare_pair, clauses_to, clause, bare_clause, clause_patterns, pattern, bare_pattern, other_pattern, alias_variable, pattern_list, pattern_rest, pattern_tail, pattern_segment, pattern_pair, bare_pattern_pair}
-use Rattle.core_parse.specs.Labels.{numbered}
-use Rattle.core_parse.specs.Spells.{Reads, ReadsOne, ReadsAll, SpellsTo}
-use Rattle.core_parse.specs.Spells as r
+use Rattle.core_grammar.specs.declared.notes.Constant.{Constant}
+use Rattle.core_grammar.specs.declared.notes.Constant.TheVariants.{Number, Pair, Generated, Another}
+use Rattle.core_grammar.specs.Build.{kind_text, kind_value, value, magnitude, at, Noted, with_note, note_or_none, note_of, line_within, NameAt, byte_trees, byte_patterns, before, let_, do_, map_tree, FunctionParts, note_function, export_names, note_module}
+use Rattle.core_grammar.specs.Grammar.{Part, a, first, the, Nonterminal, SaidBy, Said, Action, Way, ways, noted_, annotation, many, more, annotated_module, «module», attribute, function_name, definition, function, definitions, variable, variables, literal, constant, other_constant, constant_list, constant_rest, constant_tail, constant_segment, constant_pair, expression, bare_expression, other_expression, list, list_rest, list_tail, segment, pairs as pairs_part, more_pairs, pair, bare_pair, clauses_to, clause, bare_clause, clause_patterns, pattern, bare_pattern, other_pattern, alias_variable, pattern_list, pattern_rest, pattern_tail, pattern_segment, pattern_pair, bare_pattern_pair}
+use Rattle.core_grammar.specs.Labels.{numbered}
+use Rattle.core_grammar.specs.Spells.{Reads, ReadsOne, ReadsAll, SpellsTo}
+use Rattle.core_grammar.specs.Spells as r
 use Rattle.core_print.specs.Tokens.{AreBytes}
 use Rattle.core_print.specs.Fits.{LineFits, NoteFits, LiteralFits, NameFits, NamesFit, VariableFits, VariablesFit, SomeTrees, SomePatterns, Fits, AllFit, PairsFit, SegmentsFit, ClausesFit, DefsFit, PatternFits, PatternsFit, PatPairsFit, PatSegmentsFit, ModuleFits}
 

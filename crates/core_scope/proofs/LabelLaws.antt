@@ -4,7 +4,7 @@ use Rattle.std.proofs.Math.Logic.{∥∥₁_elim}
 use Rattle.std.proofs.Props.{props}
 use Rattle.std.specs.List.{range_with_len}
 use Rattle.core_ast.specs.Model as m
-use Rattle.core_parse.specs.Labels.{numbered, number, number_all, number_segments, number_pairs, number_steps, number_clauses, number_defs, number_pattern, number_patterns, number_pat_segments, number_pat_pairs}
+use Rattle.core_grammar.specs.Labels.{numbered, number, number_all, number_segments, number_pairs, number_steps, number_clauses, number_defs, number_pattern, number_patterns, number_pat_segments, number_pat_pairs}
 use Rattle.core_scope.specs.declared.checked.Checked.{Checked}
 use Rattle.core_scope.specs.Accepted.{IsSpelled}
 use Rattle.core_scope.specs.Checked.{tree_of}

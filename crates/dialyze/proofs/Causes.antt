@@ -8,8 +8,8 @@ use Rattle.core_ast.specs.Model as m
 use Rattle.core_scan.specs.declared.token.ScanFault.{ScanFault}
 use Rattle.core_scan.specs.declared.token.ScanFault.TheVariants as s
 use Rattle.core_scope.specs.Sets.{StandsEarlier, FirstDuplicate}
-use Rattle.core_parse.specs.declared.fault.ParseFault.{ParseFault}
-use Rattle.core_parse.specs.declared.fault.ParseFault.TheVariants as p
+use Rattle.core_grammar.specs.declared.fault.ParseFault.{ParseFault}
+use Rattle.core_grammar.specs.declared.fault.ParseFault.TheVariants as p
 use Rattle.core_scope.specs.declared.fault.ScopeRule.{ScopeRule}
 use Rattle.core_scope.specs.declared.fault.ScopeRule.TheVariants.{BoundVariables, DistinctVariables, DefinedFunctions, DistinctFunctions, DefinedExports, Degrees}
 use Rattle.da_shelf.specs.Told.{Files}

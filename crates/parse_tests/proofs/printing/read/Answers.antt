@@ -1,5 +1,5 @@
 use Rattle.std.proofs.Common.{arith, ap}
-use Rattle.core_parse.specs.Weights.{weight}
+use Rattle.core_grammar.specs.Weights.{weight}
 use Rattle.parse_tests.proofs.printing.read.Goals as goal
 
 pub parse-requires : goal.parse-requires

@@ -1,5 +1,5 @@
 use Rattle.std.proofs.Common.{arith, ap}
-use Rattle.core_parse.specs.Weights.{weight}
+use Rattle.core_grammar.specs.Weights.{weight}
 use Rattle.core_scope.proofs.SpelledLaws.{parsed_is_spelled}
 use Rattle.whole_tests.proofs.tests.support.module_of.Goals as goal
 

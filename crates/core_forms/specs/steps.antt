@@ -1,0 +1,5 @@
+pub mod Items
+pub mod Chains
+pub mod Patterns
+pub mod Clauses
+pub mod Definitions

@@ -1,0 +1,13 @@
+pub mod Begins
+pub mod Build
+pub mod Faults
+pub mod Grammar
+pub mod Labels
+pub mod Matches
+pub mod Pairs
+pub mod Readings
+pub mod Spells
+pub mod Starters
+pub mod Strings
+pub mod Track
+pub mod Weights
