@@ -1,12 +1,16 @@
--- What it says that a list is short enough to be listed.
-use Rattle.std.proofs.Common.{◌≡◌, ◌≤◌, ◌+◌, true, List, length, arith}
-use borrow.Author.Tests.{ltb-true, lt-ltb}
-use Rattle.type_sets.specs.declared.limits.TheConstants.{MAX_MEMBERS}
+-- A part of a list that is short enough to be listed is short enough.
+use Rattle.std.proofs.Common.{◌≡◌, true, List, arith}
+use Rattle.std.specs.declared.cmp.Ordering.{Ordering}
+use Rattle.std.specs.Cmp.{IsTotalOrder}
+use Rattle.std.specs.FinSet.{IsAntisymmetric}
+use Rattle.type_sets.specs.Ascending.{is_ascending, has_item, merged}
 use Rattle.type_sets.specs.Few.{are_few}
+use Rattle.type_sets.proofs.AscendingLaws.{length-part, ascending-merged, merged-part}
 
-module _ {K : Type 0} (xs : List K) where
-  pub few-is : are_few xs ≡ true → length xs ≤ MAX_MEMBERS
-  few-is e = let less = ltb-true (length xs) (MAX_MEMBERS + 1) e in omega arith
+module _ {K : Type 0} {R : K → K → Ordering} (o : IsTotalOrder R) (same : IsAntisymmetric R) where
+  pub few-part : (ys xs : List K) → is_ascending R xs ≡ true → is_ascending R ys ≡ true → are_few ys ≡ true → ((q : K) → has_item R xs q ≡ true → has_item R ys q ≡ true) → are_few xs ≡ true
+  few-part ys xs a b few f = grind (arith, length-part o same ys xs a b f)
 
-  pub is-few : length xs ≤ MAX_MEMBERS → are_few xs ≡ true
-  is-few le = lt-ltb (length xs) (MAX_MEMBERS + 1) (omega arith)
+  -- two parts together are one
+  pub few-merged : (us xs ys : List K) → is_ascending R xs ≡ true → is_ascending R us ≡ true → are_few us ≡ true → ((q : K) → has_item R xs q ≡ true → has_item R us q ≡ true) → ((q : K) → has_item R ys q ≡ true → has_item R us q ≡ true) → are_few (merged R xs ys) ≡ true
+  few-merged us xs ys a b few f g = few-part us (merged R xs ys) (ascending-merged o same xs ys a) b few (merged-part o same xs ys (has_item R us) f g)

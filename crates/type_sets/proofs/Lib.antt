@@ -1,11 +1,11 @@
 pub mod AscendingLaws
-mod AtomViews
+mod AtomKinds
 pub mod BitHeights
 pub mod BitLaws
 mod EndLaws
 pub mod FewLaws
 mod HeightLaws
-mod IntViews
+mod IntKinds
 pub mod NameHeights
 pub mod NameLaws
 pub mod NumberHeights

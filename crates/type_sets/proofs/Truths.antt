@@ -19,9 +19,6 @@ in_second a b h = grind arith
 pub either : (a b : Bool) → (a || b) ≡ true → (a ≡ true) ⊎ (b ≡ true)
 either a b h = grind arith
 
-pub and_swap : (a b : Bool) → (a && b) ≡ (b && a)
-and_swap a b = grind arith
-
 pub and_itself : (a : Bool) → (a && a) ≡ a
 and_itself a = grind arith
 
@@ -30,17 +27,6 @@ and_true a = grind arith
 
 pub and_none : (a : Bool) → (a && false) ≡ false
 and_none a = grind arith
-
--- the parts of two tests, sorted
-pub and_cross : (a b c d : Bool) → ((a && b) && (c && d)) ≡ ((a && c) && (b && d))
-and_cross a b c d = grind arith
-
-pub or_move : (a b c : Bool) → (a || (b || c)) ≡ (b || (a || c))
-or_move a b c = grind arith
-
--- the middle test moved to the end
-pub or_turn : (a b c : Bool) → ((b || a) || c) ≡ (a || (b || c))
-or_turn a b c = grind arith
 
 pub or_false : (a : Bool) → a ≡ (a || false)
 or_false a = grind arith

@@ -40,6 +40,7 @@ impl Model for AtomSet {
 
 impl AtomSet {
     /// No atom. Takes no memory.
+    #[tactic(auto, using(crate::proofs::AtomKinds::kinds))]
     pub fn none() -> AtomSet
         ensures { result ≡ none }
     {
@@ -89,6 +90,7 @@ impl AtomSet {
     }
 
     /// Whether no atom is in the set. Takes no memory.
+    #[tactic(auto, using(crate::proofs::AtomKinds::kinds))]
     pub fn is_none(&self) -> bool
         ensures value { result ≡ is_none self.now }
         ensures empty { IsTrue result ↔ (self.now ≡ none) }
@@ -100,6 +102,7 @@ impl AtomSet {
     }
 
     /// The atoms in ascending order, or `None` for all. Takes no memory.
+    #[tactic(auto, using(crate::proofs::AtomKinds::kinds))]
     pub fn members(&self) -> Option<&[Shared<Atom>]>
         ensures value { option_copied result ≡ members_of self.now }
         ensures some { IfSome result (λ xs. IsTrue (are_listed xs.now) × (self.now ≡ listed xs.now)) }
@@ -111,6 +114,7 @@ impl AtomSet {
     }
 
     /// Whether each atom of this set is in the other. Takes no memory.
+    #[tactic(auto, using(crate::proofs::AtomKinds::parts))]
     pub fn leq(&self, other: &AtomSet) -> bool
         ensures { IsTrue result ↔ Below self.now other.now }
     {
@@ -172,6 +176,7 @@ impl AtomSet {
     }
 
     /// The set of the atoms, which a set has to be able to list.
+    #[tactic(auto, using(crate::proofs::AtomKinds::kinds))]
     pub fn listed(alloc: Global, atoms: List<Shared<Atom>>) -> Result<AtomSet, Memory>
         requires { IsTrue (are_listed atoms) }
         ensures value { IfOk result (λ set. set ≡ listed atoms) }
@@ -184,6 +189,7 @@ impl AtomSet {
 }
 
 // Whether the atom is in the list.
+#[tactic(auto, using(crate::proofs::AtomKinds::finds))]
 fn holds(atoms: &[Shared<Atom>], atom: &Atom) -> bool
     ensures { result ≡ has_item name_cmp atoms.now atom.now }
 {
@@ -231,6 +237,7 @@ fn copied(alloc: Global, atoms: &[Shared<Atom>]) -> Result<List<Shared<Atom>>, M
 }
 
 // The atoms of the list that are in the set.
+#[tactic(auto, using(crate::proofs::AtomKinds::keeps))]
 fn kept(alloc: Global, atoms: &[Shared<Atom>], set: &AtomSet) -> Result<AtomSet, Memory>
     requires { IsTrue (are_listed atoms.now) }
     ensures { IfOk result (λ s. s ≡ listed (filter (has set.now) atoms.now)) }
@@ -271,6 +278,7 @@ fn put(atoms: &mut List<Shared<Atom>>, atom: &Shared<Atom>) -> Result<(), Memory
 
 // The set of the atoms of two ascending lists, and all atoms where they are more than
 // `MAX_MEMBERS`.
+#[tactic(auto, using(crate::proofs::AtomKinds::merges))]
 fn both(alloc: Global, atoms: &[Shared<Atom>], others: &[Shared<Atom>]) -> Result<AtomSet, Memory>
     requires { IsTrue (are_listed atoms.now) }
     ensures { IfOk result (λ set. set ≡ or_else (merged name_cmp atoms.now others.now) every) }

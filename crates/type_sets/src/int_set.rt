@@ -41,6 +41,7 @@ impl Model for IntSet {
 
 impl IntSet {
     /// No integer.
+    #[tactic(auto, using(crate::proofs::IntKinds::kinds))]
     pub fn none() -> IntSet
         ensures { result ≡ none }
     {
@@ -50,6 +51,7 @@ impl IntSet {
     }
 
     /// The set of one integer.
+    #[tactic(auto, using(crate::proofs::IntKinds::ones))]
     pub fn one(n: i128) -> IntSet
         requires { IsTrue (is_narrow n) }
         ensures value { result ≡ listed (n ∷ []) }
@@ -81,6 +83,7 @@ impl IntSet {
     }
 
     /// The set of the integers, which a set has to be able to list.
+    #[tactic(auto, using(crate::proofs::IntKinds::kinds))]
     pub fn listed(numbers: &[i128]) -> IntSet
         requires { IsTrue (are_listed numbers.now) }
         ensures value { result ≡ listed numbers.now }
@@ -103,6 +106,7 @@ impl IntSet {
     }
 
     /// The integers from the one end to the other, of which there has to be one.
+    #[tactic(auto, using(crate::proofs::IntKinds::kinds))]
     pub fn range(low: Low, high: High) -> IntSet
         requires { IsTrue (is_range low high) }
         ensures value { result ≡ range low high }
@@ -125,6 +129,7 @@ impl IntSet {
     }
 
     /// The integers in ascending order, or `None` for an interval.
+    #[tactic(auto, using(crate::proofs::IntKinds::kinds))]
     pub fn members(&self) -> Option<&[i128]>
         ensures value { option_copied result ≡ members_of self.now }
         ensures some { IfSome result (λ xs. IsTrue (are_listed xs.now) × (self.now ≡ listed xs.now)) }
@@ -136,6 +141,7 @@ impl IntSet {
     }
 
     /// The ends of an interval, and `None` for a set that isn't one.
+    #[tactic(auto, using(crate::proofs::IntKinds::kinds))]
     pub fn ends(&self) -> Option<(Low, High)>
         ensures value { result ≡ ends_of self.now }
         ensures some { IfSome result (λ p. IsTrue (is_range p.0 p.1) × (self.now ≡ range p.0 p.1)) }
@@ -157,6 +163,7 @@ impl IntSet {
     }
 
     /// Whether no integer is in the set.
+    #[tactic(auto, using(crate::proofs::IntKinds::kinds))]
     pub fn is_none(&self) -> bool
         ensures value { result ≡ is_none self.now }
         ensures empty { IsTrue result ↔ (self.now ≡ none) }
@@ -183,6 +190,7 @@ impl IntSet {
     }
 
     /// The integers of both sets.
+    #[tactic(auto, using(crate::proofs::IntKinds::meets), unfolding(crate::specs::Numbers::meet))]
     pub fn meet(&self, other: &IntSet) -> IntSet
         ensures value { result ≡ meet self.now other.now }
         ensures both { (n : ℤ) → has result n ≡ (has self.now n && has other.now n) }
@@ -200,6 +208,7 @@ impl IntSet {
 
     /// The smallest set of this kind that contains both: their integers alone where both sets list
     /// them and there are at most `MAX_MEMBERS`, and else the smallest interval that contains both.
+    #[tactic(auto, using(crate::proofs::IntKinds::joins))]
     pub fn join(&self, other: &IntSet) -> IntSet
         ensures value { result ≡ join self.now other.now }
         ensures left { Below self.now result }
@@ -215,6 +224,7 @@ impl IntSet {
     }
 
     // The numbers of two sets that list them, where they are few enough to be listed together.
+    #[tactic(auto, using(crate::proofs::IntKinds::lists), unfolding(crate::specs::Numbers::join))]
     fn together(&self, other: &IntSet) -> Option<ArrayVec<i128, MAX_MEMBERS>>
         ensures some { IfSome result (λ v. IsTrue (are_listed v.items) × (join self.now other.now ≡ listed v.items)) }
         ensures none { IfNone result (join self.now other.now ≡ hull self.now other.now) }
@@ -229,6 +239,7 @@ impl IntSet {
     }
 
     // The smallest interval that contains both sets, and no integer where both are empty.
+    #[tactic(auto, unfolding(crate::specs::Numbers::hull))]
     fn hull(&self, other: &IntSet) -> IntSet
         ensures { result ≡ hull self.now other.now }
     {
@@ -238,6 +249,7 @@ impl IntSet {
     }
 
     // The integers from the one end to the other.
+    #[tactic(auto, unfolding(crate::specs::Numbers::range))]
     fn between(low: Low, high: High) -> IntSet
         ensures { result ≡ range low high }
     {
@@ -249,6 +261,7 @@ impl IntSet {
     }
 
     // The nearest end under the set.
+    #[tactic(auto, using(crate::proofs::IntKinds::kinds))]
     fn low_end(&self) -> Low
         ensures { result ≡ low_end self.now }
     {
@@ -259,6 +272,7 @@ impl IntSet {
     }
 
     // The nearest end over the set.
+    #[tactic(auto, using(crate::proofs::IntKinds::kinds))]
     fn high_end(&self) -> High
         ensures { result ≡ high_end self.now }
     {
@@ -325,6 +339,7 @@ fn copied(numbers: &[i128]) -> ArrayVec<i128, MAX_MEMBERS>
 }
 
 // The numbers of the list that are in the set.
+#[tactic(auto, using(crate::proofs::IntKinds::keeps))]
 fn kept(numbers: &[i128], set: &IntSet) -> IntSet
     requires { IsTrue (are_listed numbers.now) }
     ensures { result ≡ listed (filter (has set.now) numbers.now) }

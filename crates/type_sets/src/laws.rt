@@ -14,6 +14,7 @@ use crate::limits::MAX_MEMBERS;
 /// exactly the integers of both sets, and the join is the smallest set of this kind that contains
 /// both: of two lists their integers where these are at most `MAX_MEMBERS`, and else the smallest
 /// interval that contains both. A set is the empty one or has an integer.
+#[tactic(auto, using(crate::proofs::NumberLaws::laws))]
 pub fn int_set_laws()
     ensures reflexive { (s : numbers.Numbers) → numbers.Below s s }
     ensures transitive { (s t u : numbers.Numbers) → numbers.Below s t → numbers.Below t u → numbers.Below s u }
@@ -30,6 +31,7 @@ pub fn int_set_laws()
 
 /// From a set of integers one can go to a smaller one, and on, just as often as its height says. A
 /// smaller set has a lower height, and none is above `MAX_MEMBERS + 5`.
+#[tactic(auto, using(crate::proofs::NumberHeights::laws))]
 pub fn int_set_heights()
     ensures lower { (s t : numbers.Numbers) → numbers.Below s t → (s ≡ t → ⊥) → numbers.height s < numbers.height t }
     ensures bound { (s : numbers.Numbers) (n : ℕ) → Falls numbers.Below n s → n ≤ numbers.height s }
@@ -41,6 +43,7 @@ pub fn int_set_heights()
 /// the atoms of both sets, and the join is the smallest set of this kind that contains both: of two
 /// lists their atoms where these are at most `MAX_MEMBERS`, and else all. A set is the empty one or
 /// has an atom.
+#[tactic(auto, using(crate::proofs::NameLaws::laws))]
 pub fn atom_set_laws()
     ensures reflexive { (s : names.Names) → names.Below s s }
     ensures transitive { (s t u : names.Names) → names.Below s t → names.Below t u → names.Below s u }
@@ -57,6 +60,7 @@ pub fn atom_set_laws()
 
 /// From a set of atoms one can go to a smaller one, and on, just as often as its height says. A
 /// smaller set has a lower height, and none is above `MAX_MEMBERS + 1`.
+#[tactic(auto, using(crate::proofs::NameHeights::laws))]
 pub fn atom_set_heights()
     ensures lower { (s t : names.Names) → names.Below s t → (s ≡ t → ⊥) → names.height s < names.height t }
     ensures bound { (s : names.Names) (n : ℕ) → Falls names.Below n s → n ≤ names.height s }
@@ -66,6 +70,7 @@ pub fn atom_set_heights()
 
 /// Inclusion of sets of bit strings is an order, and sets of the same bit strings are one. The meet
 /// has exactly the bit strings of both sets, and the join is the smallest of the three sets that contains both.
+#[tactic(auto, using(crate::proofs::BitLaws::laws))]
 pub fn bits_laws()
     ensures reflexive { (s : Bits) → bits.Below s s }
     ensures transitive { (s t u : Bits) → bits.Below s t → bits.Below t u → bits.Below s u }
@@ -78,6 +83,7 @@ pub fn bits_laws()
 
 /// From a set of bit strings one can go to a smaller one, and on, just as often as its height says.
 /// A smaller set has a lower height, and none is above 2.
+#[tactic(auto, using(crate::proofs::BitHeights::laws))]
 pub fn bits_heights()
     ensures lower { (s t : Bits) → bits.Below s t → (s ≡ t → ⊥) → bits.height s < bits.height t }
     ensures bound { (s : Bits) (n : ℕ) → Falls bits.Below n s → n ≤ bits.height s }

@@ -1,6 +1,6 @@
-use Rattle.type_sets.specs.Names.{has}
-use Rattle.type_sets.proofs.AtomViews.{listed-kept}
+use Rattle.std.proofs.Common.{arith}
+use Rattle.std.proofs.lemmas.Grind.{common_steps}
 use Rattle.type_sets.proofs.atom_set.kept.Goals as goal
 
-pub listed-requires : goal.listed-requires
-listed-requires c = listed-kept (has c.args.set.now) c.args.atoms.now c.loop-atom.out c.loop-atom.atom-index c.requires c.loop-atom-test.false c.loop-atom.invariant
+pub loop-atom-preserved : goal.loop-atom-preserved
+loop-atom-preserved c = grind (arith, common_steps)

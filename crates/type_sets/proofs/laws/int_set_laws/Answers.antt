@@ -1,17 +1,5 @@
-use Rattle.type_sets.proofs.NumberLaws as law
+use Rattle.type_sets.proofs.NumberLaws.{join-least}
 use Rattle.type_sets.proofs.laws.int_set_laws.Goals as goal
 
-pub returns : goal.returns
-returns c = record {
-  reflexive = law.below-itself;
-  transitive = law.below-below;
-  antisymmetric = law.same_numbers;
-  meet = law.has-meet;
-  left = law.join-left;
-  right = law.join-right;
-  least = law.join-least;
-  empty = law.is_none-is;
-  filled = law.has_some;
-  few = law.join-few;
-  many = law.join-many;
-}
+pub returns-clause-least : goal.returns-clause-least
+returns-clause-least c = join-least
