@@ -33,62 +33,39 @@ pub record Filled {V X : Type 0} (Has : V → Option X → Type 0) (Normal : Opt
   pub join_right : (x y : X) → Normal (Some x) → Normal (Some y) → BelowBy Has (Some y) (Some (join x y))
   pub join_least : (x y z : X) → Normal (Some x) → Normal (Some y) → Normal (Some z) → BelowBy Has (Some x) (Some z) → BelowBy Has (Some y) (Some z) → BelowBy Has (Some (join x y)) (Some z)
 
-module _ {V X : Type 0} {Has : V → Option X → Type 0} {Normal : Option X → Type 0} {meet : X → X → Option X} {join : X → X → X} (f : Filled Has Normal meet join) where
-  filled : (s : Option X) → Normal s → (s ≡ None) ⊎ ((v : V) × Has v s)
-  filled None k = inl refl
-  filled (Some x) k = inr (f.value x k)
+both_normal : {X : Type 0} (Normal : Option X → Type 0) (meet : X → X → Option X) → Normal None → ((x y : X) → Normal (Some x) → Normal (Some y) → Normal (meet x y)) → (s t : Option X) → Normal s → Normal t → Normal (both_at meet s t)
+both_normal Normal meet n m s t j k = grind arith
 
+joined_normal : {X : Type 0} (Normal : Option X → Type 0) (join : X → X → X) → ((x y : X) → Normal (Some x) → Normal (Some y) → Normal (Some (join x y))) → (s t : Option X) → Normal s → Normal t → Normal (joined join s t)
+joined_normal Normal join m s t j k = grind arith
+
+module _ {V X : Type 0} {Has : V → Option X → Type 0} {Normal : Option X → Type 0} {meet : X → X → Option X} {join : X → X → X} (f : Filled Has Normal meet join) where
   -- what has a value isn't part of none
   not_none : (x : X) → Normal (Some x) → BelowBy Has (Some x) None → ⊥
   not_none x k b = let w = f.value x k in f.none_empty w.0 (b w.0 w.1)
 
   same : (s t : Option X) → Normal s → Normal t → BelowBy Has s t → BelowBy Has t s → s ≡ t
   same None None j k a b = refl
-  same None (Some y) j k a b = absurd (not_none y k b)
-  same (Some x) None j k a b = absurd (not_none x j a)
   same (Some x) (Some y) j k a b = ap Some (f.same x y j k a b)
-
-  meet_normal : (s t : Option X) → Normal s → Normal t → Normal (both_at meet s t)
-  meet_normal None t j k = f.none_normal
-  meet_normal (Some x) None j k = f.none_normal
-  meet_normal (Some x) (Some y) j k = f.meet_normal x y j k
-
-  meet_in : (s t : Option X) → Normal s → Normal t → (v : V) → Has v s → Has v t → Has v (both_at meet s t)
-  meet_in s t h k v g p = grind (arith, f.meet_in)
-
-  meet_out : (s t : Option X) → Normal s → Normal t → (v : V) → Has v (both_at meet s t) → Has v s × Has v t
-  meet_out s t h k v g = grind (arith, f.none_empty, f.meet_out)
-
-  join_normal : (s t : Option X) → Normal s → Normal t → Normal (joined join s t)
-  join_normal None t j k = k
-  join_normal (Some x) None j k = j
-  join_normal (Some x) (Some y) j k = f.join_normal x y j k
-
-  join_left : (s t : Option X) → Normal s → Normal t → BelowBy Has s (joined join s t)
-  join_left s t h k g p = grind (arith, f.none_empty, f.join_left)
-
-  join_right : (s t : Option X) → Normal s → Normal t → BelowBy Has t (joined join s t)
-  join_right s t h k g p = grind (arith, f.none_empty, f.join_right)
+  same s t j k a b = search not_none
 
   join_least : (s t u : Option X) → Normal s → Normal t → Normal u → BelowBy Has s u → BelowBy Has t u → BelowBy Has (joined join s t) u
-  join_least None t u i j k a b v h = b v h
-  join_least (Some x) None u i j k a b v h = a v h
-  join_least (Some x) (Some y) None i j k a b v h = absurd (not_none x i a)
   join_least (Some x) (Some y) (Some z) i j k a b v h = f.join_least x y z i j k a b v h
+  join_least s t u i j k a b v h = grind (arith, not_none)
 
   pub with_none : Lattice Has Normal None (both_at meet) (joined join)
   with_none = record {
     none_normal = f.none_normal;
     none_empty = f.none_empty;
-    filled = filled;
+    filled = λ s. elim s as (λ s. Normal s → (s ≡ None) ⊎ ((v : V) × Has v s)) [ None ↦ λ k. inl refl | Some x ↦ λ k. inr (f.value x k) ];
     same = same;
-    meet_normal = meet_normal;
-    meet_in = meet_in;
-    meet_left = λ s t j k v h. (meet_out s t j k v h).0;
-    meet_right = λ s t j k v h. (meet_out s t j k v h).1;
-    join_normal = join_normal;
-    join_left = join_left;
-    join_right = join_right;
+    meet_normal = both_normal Normal meet f.none_normal f.meet_normal;
+    meet_in = λ s t j k v h g. grind (arith, f.meet_in);
+    meet_left = λ s t j k v h. grind (arith, f.none_empty, f.meet_out);
+    meet_right = λ s t j k v h. grind (arith, f.none_empty, f.meet_out);
+    join_normal = joined_normal Normal join f.join_normal;
+    join_left = λ s t j k v h. grind (arith, f.none_empty, f.join_left);
+    join_right = λ s t j k v h. grind (arith, f.none_empty, f.join_right);
     join_least = join_least;
   }
 
@@ -122,12 +99,8 @@ module _ {V P X : Type 0} {Has : V → P → Type 0} {Normal : P → Type 0} {no
   all-normal t (x ∷ xs) k j = all-normal (join t (of x)) xs (l.join_normal t (of x) k j.0) j.1
 
   pub all-has : (t : P) (xs : List X) → Normal t → EachOf (λ x. Normal (of x)) xs → (v : V) → Has v t ⊎ SomeOf (λ x. Has v (of x)) xs → Has v (joined_all join of t xs)
-  all-has t [] k j v (inl h) = h
-  all-has t [] k j v (inr h) = absurd h
-  all-has t (x ∷ xs) k j v h = all-has (join t (of x)) xs (l.join_normal t (of x) k j.0) j.1 v (elim h [
-    | inl y ↦ inl (l.join_left t (of x) k j.0 v y)
-    | inr y ↦ elim y [ inl z ↦ inl (l.join_right t (of x) k j.0 v z) | inr z ↦ inr z ]
-  ])
+  all-has t [] k j v h = grind arith
+  all-has t (x ∷ xs) k j v h = grind (arith, l.join_left t (of x) k j.0 v, l.join_right t (of x) k j.0 v, all-has (join t (of x)) xs (l.join_normal t (of x) k j.0) j.1 v)
 
   pub all-least : (t : P) (xs : List X) (u : P) → Normal t → EachOf (λ x. Normal (of x)) xs → Normal u → BelowBy Has t u → ((v : V) → SomeOf (λ x. Has v (of x)) xs → Has v u) → BelowBy Has (joined_all join of t xs) u
   all-least t [] u k j n f g = f

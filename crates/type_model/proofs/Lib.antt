@@ -5,7 +5,7 @@ pub mod CutLaws
 pub mod ElementLaws
 pub mod LatticeLaws
 pub mod LevelLaws
-mod LiftLaws
+pub mod LeastLaws
 pub mod ListLaws
 pub mod MadeLaws
 pub mod MoreLaws

@@ -1,6 +1,6 @@
 -- The laws of larger types: cut, or taken for the type of an element, they give larger types.
-use Rattle.std.proofs.Common.{ℕ, suc, ◌-◌, true, false, cond, inl, inr, List, [], ◌∷◌, Option, Some, None, arith}
-use Rattle.std.specs.Prelude.{nat_lt, slice_get}
+use Rattle.std.proofs.Common.{ℕ, suc, ◌-◌, cond, inl, inr, List, [], ◌∷◌, Option, Some, None, arith}
+use Rattle.std.specs.Prelude.{slice_get}
 use Rattle.std.specs.Ordering.{nat_cmp}
 use Rattle.type_model.specs.Values.{Value, tuple}
 use Rattle.type_model.specs.Tables.{find}
@@ -11,7 +11,6 @@ use Rattle.type_model.specs.Normal.{AreElements, NormalBody, NormalTuples, Norma
 use Rattle.type_model.specs.Cut.{cut}
 use Rattle.type_model.specs.Parts.{element_at, lifted, project_at}
 use Rattle.type_model.specs.Laws.{BelowBy, Laws}
-use Rattle.type_model.proofs.TableLaws.{some-none}
 use Rattle.type_model.proofs.RowLaws.{BelowEach}
 use Rattle.type_model.proofs.BodyLaws.{elements_normal, elements_above, elements_least, body_lattice}
 use Rattle.type_model.proofs.TupleLaws.{normal_at, to_size, not_all, tuples_lattice}
@@ -35,7 +34,7 @@ module _ {E : Type 0} {Has : Value → E → Type 0} {Normal : E → Type 0} {o 
   -- the least product that contains a body is below the one that contains a larger body
   body_rises : (n : ℕ) (b c : Option (Body E)) → NormalBody Normal o n b → NormalBody Normal o n c → BelowBy (HasBody Has) b c → (i : ℕ) → Rises (at_place l b i) (at_place l c i)
   body_rises n None c j k f i = tt
-  body_rises n (Some b) None j k f i = elim ((body_lattice l n).filled (Some b) j) [ inl z ↦ absurd (some-none b z) | inr v ↦ absurd (f v.0 v.1) ]
+  body_rises n (Some b) None j k f i = elim ((body_lattice l n).filled (Some b) j) [ inl z ↦ absurd cc | inr v ↦ absurd (f v.0 v.1) ]
   body_rises n (Some b) (Some c) j k f i = grind (arith, place_rises, elements_normal l, elements_least l, elements_above l)
 
   -- of long tuples it is told only whether there are tuples
@@ -45,10 +44,7 @@ module _ {E : Type 0} {Has : Value → E → Type 0} {Normal : E → Type 0} {o 
   long_rises (x ∷ m) (y ∷ w) j f = (l.any_normal, (l.any_normal, λ v h. h))
 
   sizes_rise : (m w : List (ℕ × Body E)) → NormalTuples Normal o (sizes m) → NormalTuples Normal o (sizes w) → BelowBy (HasTuple Has) (sizes m) (sizes w) → (n i : ℕ) → Rises (element_at o (sizes m) n i) (element_at o (sizes w) n i)
-  sizes_rise m w j k f n i = elim (nat_lt n 65) as (λ b. Rises (cond b (at_place l (find nat_cmp m n) i) (cond (is_empty m) None (Some o.any))) (cond b (at_place l (find nat_cmp w n) i) (cond (is_empty w) None (Some o.any)))) [
-    | true ↦ body_rises n (find nat_cmp m n) (find nat_cmp w n) (normal_at l m j.2 n) (normal_at l w k.2 n) (to_size l m w j.2 f n) i
-    | false ↦ long_rises m w j f
-  ]
+  sizes_rise m w j k f n i = grind (arith, body_rises n (find nat_cmp m n) (find nat_cmp w n) (normal_at l m j.2 n) (normal_at l w k.2 n) (to_size l m w j.2 f n) i, long_rises m w j f)
 
   to_any : (x : Option E) → Rises x x → Rises x (Some o.any)
   to_any None r = tt
@@ -67,9 +63,7 @@ cut-more e d s t j k f =
     c.least s (cut e d t) j (c.normal t k) (λ v h. c.above t k v (f v h))
 
 lifted_more : (d : ℕ) (x y : Option (TypeAt d)) → Rises (level_laws d) x y → BelowBy (HasAt (suc d)) (lifted d x) (lifted d y)
-lifted_more d None y r v h = absurd ((level_laws (suc d)).lattice.none_empty v h)
-lifted_more d (Some e) None r v h = absurd r
-lifted_more d (Some e) (Some g) r v h = cut-more d (suc d) e g r.0 r.1.0 r.1.1 v h
+lifted_more d x y r v h = grind (arith, cut-more d (suc d), (level_laws (suc d)).lattice.none_empty)
 
 pub project-more : (d : ℕ) (s t : TypeAt (suc d)) → NormalAt (suc d) s → NormalAt (suc d) t → BelowBy (HasAt (suc d)) s t → (n i : ℕ) → BelowBy (HasAt (suc d)) (project_at d s n i) (project_at d t n i)
 unfolding NormalAt

@@ -1,13 +1,12 @@
 -- The laws of products of element types, one for each place.
-use Rattle.std.specs.Prelude.{◌≡◌, ℕ, zero, suc, Bool, false, ◌||◌, List, [], ◌∷◌, length, Option, Some, None, refl}
-use Rattle.std.proofs.Common.{sym, ap, ◌∙◌, arith}
+use Rattle.std.proofs.Common.{sym, ap, ◌∙◌, arith, ◌≡◌, ◌↔◌, ℕ, zero, suc, false, List, [], ◌∷◌, length, Some, None, refl}
 use Rattle.type_model.specs.Values.{Value, Values, no_value, and_value, count}
 use Rattle.type_model.specs.Tables.{both_at, joined}
 use Rattle.type_model.specs.HasType.{HasEach, HasRow}
-use Rattle.type_model.specs.Operations.{Ops, zip, or_none, has_none, row_meet, row_join}
+use Rattle.type_model.specs.Operations.{Ops, zip, has_none, row_meet, row_join}
 use Rattle.type_model.specs.Normal.{AreElements, NormalRow}
 use Rattle.type_model.specs.Laws.{BelowBy, Lattice, Laws}
-use Rattle.type_model.proofs.LatticeLaws.{with_none}
+use Rattle.type_model.proofs.LeastLaws.{IsLeast, IsJust, InBoth, InEither, meet-just, lattice_of}
 use Rattle.type_model.proofs.CellLaws.{value_of, filled-not_none, element-join}
 
 -- place by place, each value of the one type is one of the other
@@ -23,16 +22,7 @@ length-zip f n (x ∷ xs) [] e g = g
 length-zip f zero (x ∷ xs) (y ∷ ys) e g = absurd (omega arith)
 length-zip f (suc n) (x ∷ xs) (y ∷ ys) e g = ap suc (length-zip f n xs ys (omega arith) (omega arith))
 
-pub neither : (a b : Bool) → (a || b) ≡ false → (a ≡ false) × (b ≡ false)
-neither a b h = grind arith
-
 module _ {E : Type 0} {Has : Value → E → Type 0} {Normal : E → Type 0} {o : Ops E} (l : Laws Has Normal o) where
-  abbrev HasR : Values → Option (List E) → Type 0
-  HasR = HasRow Has
-
-  abbrev Row : ℕ → Option (List E) → Type 0
-  Row = NormalRow Normal o
-
   abbrev Elements : List E → Type 0
   Elements = AreElements Normal o
 
@@ -56,11 +46,7 @@ module _ {E : Type 0} {Has : Value → E → Type 0} {Normal : E → Type 0} {o 
   pub each-below : (es fs : List E) → AreElements Normal o es → ((vs : Values) → HasEach Has vs es → HasEach Has vs fs) → BelowEach Has es fs
   each-below [] [] k f = tt
   each-below [] (g ∷ gs) k f = f no_value tt
-  each-below (e ∷ es) [] k f = let w = values_of (e ∷ es) k in take w.0 w.1
-    where
-      take : (vs : Values) → HasEach Has vs (e ∷ es) → ⊥
-      take no_value h = h
-      take (and_value v vs) h = f (and_value v vs) h
+  each-below (e ∷ es) [] k f = f (and_value (value_of l e k.0).0 (values_of es k.1).0) ((value_of l e k.0).1, (values_of es k.1).1)
   each-below (e ∷ es) (g ∷ gs) k f =
       let v = value_of l e k.0 in
       let w = values_of es k.1 in
@@ -82,71 +68,43 @@ module _ {E : Type 0} {Has : Value → E → Type 0} {Normal : E → Type 0} {o 
   meet_each_elements : (xs ys : List E) → Elements xs → Elements ys → has_none o (zip o.meet xs ys) ≡ false → Elements (zip o.meet xs ys)
   meet_each_elements [] ys j k e = tt
   meet_each_elements (x ∷ xs) [] j k e = tt
-  meet_each_elements (x ∷ xs) (y ∷ ys) j k e =
-      let p = neither (o.is_none (o.meet x y)) (has_none o (zip o.meet xs ys)) e in
-      ((l.lattice.meet_normal x y j.0.0 k.0.0, p.0), meet_each_elements xs ys j.1 k.1 p.1)
+  meet_each_elements (x ∷ xs) (y ∷ ys) j k e = grind (arith, meet_each_elements xs ys j.1 k.1, l.lattice.meet_normal x y j.0.0 k.0.0)
 
-  row_meet_normal : (n : ℕ) (es fs : List E) → Row n (Some es) → Row n (Some fs) → Row n (row_meet o es fs)
-  row_meet_normal n es fs j k = grind (arith, Row, length-zip, meet_each_elements)
+  meet_each : (vs : Values) (es fs : List E) → length es ≡ length fs → Elements es → Elements fs → HasEach Has vs (zip o.meet es fs) ↔ (HasEach Has vs es × HasEach Has vs fs)
+  meet_each vs [] [] e j k = (λ h. (h, h), λ h. h.0)
+  meet_each vs [] (y ∷ ys) e j k = absurd (omega arith)
+  meet_each vs (x ∷ xs) [] e j k = absurd (omega arith)
+  meet_each no_value (x ∷ xs) (y ∷ ys) e j k = (λ h. (h, h), λ h. h.0)
+  meet_each (and_value v vs) (x ∷ xs) (y ∷ ys) e j k =
+      let m = meet-just l.lattice x y j.0.0 k.0.0 in
+      let r = meet_each vs xs ys (omega arith) j.1 k.1 in
+      (λ h. let a = m.leave v h.0 in let b = r.0 h.1 in ((a.0, b.0), (a.1, b.1)), λ h. (m.enter v (h.0.0, h.1.0), r.1 (h.0.1, h.1.1)))
 
-  meet_each_in : (vs : Values) (es fs : List E) → Elements es → Elements fs → HasEach Has vs es → HasEach Has vs fs → HasEach Has vs (zip o.meet es fs)
-  meet_each_in no_value [] fs j k h g = tt
-  meet_each_in no_value (e ∷ es) fs j k h g = absurd h
-  meet_each_in (and_value v vs) [] fs j k h g = absurd h
-  meet_each_in (and_value v vs) (e ∷ es) [] j k h g = absurd g
-  meet_each_in (and_value v vs) (e ∷ es) (f ∷ fs) j k h g = grind (arith, l.lattice.meet_in, meet_each_in vs es fs j.1 k.1 h.1 g.1)
-
-  row_meet_in : (n : ℕ) (es fs : List E) → Row n (Some es) → Row n (Some fs) → (vs : Values) → HasEach Has vs es → HasEach Has vs fs → HasR vs (row_meet o es fs)
-  row_meet_in n es fs j k vs h g = grind (arith, meet_each_in, HasR, row_filled-not_none)
-
-  meet_each_out : (vs : Values) (es fs : List E) → length es ≡ length fs → Elements es → Elements fs → HasEach Has vs (zip o.meet es fs) → HasEach Has vs es × HasEach Has vs fs
-  meet_each_out vs [] [] e j k h = (h, h)
-  meet_each_out vs [] (y ∷ ys) e j k h = absurd (omega arith)
-  meet_each_out vs (x ∷ xs) [] e j k h = absurd (omega arith)
-  meet_each_out no_value (x ∷ xs) (y ∷ ys) e j k h = absurd h
-  meet_each_out (and_value v vs) (x ∷ xs) (y ∷ ys) e j k h =
-      let rest = meet_each_out vs xs ys (omega arith) j.1 k.1 h.1 in
-      ((l.lattice.meet_left x y j.0.0 k.0.0 v h.0, rest.0), (l.lattice.meet_right x y j.0.0 k.0.0 v h.0, rest.1))
-
-  meet_some : (b : Bool) (es : List E) (vs : Values) → HasR vs (or_none b es) → HasEach Has vs es
-  meet_some b es vs h = grind arith
+  row_meets : (n : ℕ) (es fs : List E) → NormalRow Normal o n (Some es) → NormalRow Normal o n (Some fs) → IsJust (HasRow Has) (NormalRow Normal o n) (InBoth (HasRow Has) (Some es) (Some fs)) (row_meet o es fs)
+  row_meets n es fs j k = record {
+    normal = grind (arith, length-zip, meet_each_elements es fs j.1 k.1);
+    enter = λ vs h. let z = (meet_each vs es fs (j.0 ∙ sym k.0) j.1 k.1).1 h in rw (row_filled-not_none vs (zip o.meet es fs) z) z;
+    leave = λ vs h. (meet_each vs es fs (j.0 ∙ sym k.0) j.1 k.1).0 (grind (arith, h));
+  }
 
   -- ---- the join
 
-  pub join_each_left : (es fs : List E) → length es ≡ length fs → AreElements Normal o es → AreElements Normal o fs → BelowEach Has es (row_join o es fs)
-  join_each_left [] fs e j k = tt
-  join_each_left (x ∷ xs) [] e j k = absurd (omega arith)
-  join_each_left (x ∷ xs) (y ∷ ys) e j k = (l.lattice.join_left x y j.0.0 k.0.0, join_each_left xs ys (omega arith) j.1 k.1)
+  -- the values of the join of two products of one size are those of the least product above both
+  each_joins : (es fs : List E) → length es ≡ length fs → Elements es → Elements fs → Elements (row_join o es fs) × BelowEach Has es (row_join o es fs) × BelowEach Has fs (row_join o es fs) × ((gs : List E) → Elements gs → BelowEach Has es gs → BelowEach Has fs gs → BelowEach Has (row_join o es fs) gs)
+  each_joins [] [] e j k = (tt, tt, tt, λ gs i f g. f)
+  each_joins [] (y ∷ ys) e j k = absurd (omega arith)
+  each_joins (x ∷ xs) [] e j k = absurd (omega arith)
+  each_joins (x ∷ xs) (y ∷ ys) e j k =
+      let r = each_joins xs ys (omega arith) j.1 k.1 in
+      ((element-join l x y j.0 k.0, r.0), (l.lattice.join_left x y j.0.0 k.0.0, r.1), (l.lattice.join_right x y j.0.0 k.0.0, r.2), least r.3)
+    where
+      least : ((gs : List E) → Elements gs → BelowEach Has xs gs → BelowEach Has ys gs → BelowEach Has (row_join o xs ys) gs) → (gs : List E) → Elements gs → BelowEach Has (x ∷ xs) gs → BelowEach Has (y ∷ ys) gs → BelowEach Has (row_join o (x ∷ xs) (y ∷ ys)) gs
+      least r [] i f g = f
+      least r (z ∷ zs) i f g = (l.lattice.join_least x y z j.0.0 k.0.0 i.0.0 f.0 g.0, r zs i.1 f.1 g.1)
 
-  pub join_each_right : (es fs : List E) → length es ≡ length fs → AreElements Normal o es → AreElements Normal o fs → BelowEach Has fs (row_join o es fs)
-  join_each_right [] [] e j k = tt
-  join_each_right [] (y ∷ ys) e j k = absurd (omega arith)
-  join_each_right (x ∷ xs) [] e j k = absurd (omega arith)
-  join_each_right (x ∷ xs) (y ∷ ys) e j k = (l.lattice.join_right x y j.0.0 k.0.0, join_each_right xs ys (omega arith) j.1 k.1)
-
-  pub join_each_least : (es fs gs : List E) → AreElements Normal o es → AreElements Normal o fs → AreElements Normal o gs → BelowEach Has es gs → BelowEach Has fs gs → BelowEach Has (row_join o es fs) gs
-  join_each_least [] fs gs i j k f g = f
-  join_each_least (x ∷ xs) [] [] i j k f g = absurd f
-  join_each_least (x ∷ xs) [] (z ∷ zs) i j k f g = absurd g
-  join_each_least (x ∷ xs) (y ∷ ys) [] i j k f g = absurd f
-  join_each_least (x ∷ xs) (y ∷ ys) (z ∷ zs) i j k f g = grind (arith, l.lattice.join_least, join_each_least xs ys zs i.1 j.1 k.1 f.1 g.1)
-
-  pub join_each_elements : (es fs : List E) → AreElements Normal o es → AreElements Normal o fs → AreElements Normal o (row_join o es fs)
-  join_each_elements [] fs j k = tt
-  join_each_elements (x ∷ xs) [] j k = tt
-  join_each_elements (x ∷ xs) (y ∷ ys) j k = (element-join l x y j.0 k.0, join_each_elements xs ys j.1 k.1)
+  row_joins : (n : ℕ) (es fs : List E) → NormalRow Normal o n (Some es) → NormalRow Normal o n (Some fs) → IsLeast (λ vs gs. HasRow Has vs (Some gs)) (λ gs. NormalRow Normal o n (Some gs)) (InEither (HasRow Has) (Some es) (Some fs)) (row_join o es fs)
+  row_joins n es fs j k = grind (arith, each_joins, length-zip, each-more, each-below)
 
   pub row_lattice : (n : ℕ) → Lattice (HasRow Has) (NormalRow Normal o n) None (both_at (row_meet o)) (joined (row_join o))
-  row_lattice n = with_none (record {
-    none_normal = tt;
-    none_empty = λ vs h. h;
-    value = λ es k. values_of es k.1;
-    same = λ es fs j k f g. each_same es fs j.1 k.1 (each-below es fs j.1 f) (each-below fs es k.1 g);
-    meet_normal = row_meet_normal n;
-    meet_in = row_meet_in n;
-    meet_out = λ es fs j k vs h. meet_each_out vs es fs (j.0 ∙ sym k.0) j.1 k.1 (meet_some (has_none o (zip o.meet es fs)) (zip o.meet es fs) vs h);
-    join_normal = λ es fs j k. (length-zip o.join n es fs j.0 k.0, join_each_elements es fs j.1 k.1);
-    join_left = λ es fs j k. each-more es (row_join o es fs) (join_each_left es fs (j.0 ∙ sym k.0) j.1 k.1);
-    join_right = λ es fs j k. each-more fs (row_join o es fs) (join_each_right es fs (j.0 ∙ sym k.0) j.1 k.1);
-    join_least = λ es fs gs i j k f g. each-more (row_join o es fs) gs (join_each_least es fs gs i.1 j.1 k.1 (each-below es gs i.1 f) (each-below fs gs j.1 g));
-  })
+  row_lattice n =
+      lattice_of tt (λ vs h. h) (λ es k. values_of es k.1) (λ es fs j k f g. each_same es fs j.1 k.1 (each-below es fs j.1 f) (each-below fs es k.1 g)) (row_meets n) (row_joins n)

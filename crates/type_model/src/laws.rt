@@ -25,6 +25,7 @@ pub fn type_laws()
 
 /// The cut of a type to a level is the least type of the level that has its values. To a level that
 /// isn't below it has no others.
+#[tactic(auto, using(crate::proofs::CutLaws::cut_lowering, crate::proofs::CutLaws::cut_exact))]
 pub fn cut_laws()
     ensures least { (e d : ℕ) → Lowering (HasAt e) (NormalAt e) (HasAt d) (NormalAt d) (cut e d) }
     ensures exact { (e d : ℕ) → e ≤ d → (t : TypeAt e) → NormalAt e t → (v : Value) → HasAt d v (cut e d t) → HasAt e v t }
@@ -75,6 +76,7 @@ pub fn list_laws()
 
 /// A smaller type has a lower rank, so from a type one can't go down more often than its rank says,
 /// and none of a level has a rank above `most_at`.
+#[tactic(auto, using(crate::proofs::RankLaws::ranks_of))]
 pub fn rank_laws()
     ensures lower { (d : ℕ) (s t : TypeAt d) → NormalAt d s → NormalAt d t → BelowBy (HasAt d) s t → (s ≡ t → ⊥) → rank d s < rank d t }
     ensures bound { (d n : ℕ) (t : TypeAt d) → NormalAt d t → FallsAt d n t → n ≤ rank d t }
@@ -85,6 +87,7 @@ pub fn rank_laws()
 /// its pairs, and has one value at each key. A map with one more pair is canonical again: it has the
 /// pair, and those of other keys. Where each canonical value of a type is one of another, each of its
 /// values is: canonical values tell types apart as well as all values do.
+#[tactic(auto, using(crate::proofs::Spellings::spelled_once, crate::proofs::CanonicalLaws::same_maps, crate::proofs::CanonicalLaws::one_value, crate::proofs::CanonicalLaws::put_ascends, crate::proofs::CanonicalLaws::put_parts, crate::proofs::CanonicalLaws::put_holds, crate::proofs::CanonicalLaws::canonical_below))]
 pub fn value_laws()
     ensures spelled { (v w : Value) → spelled v ≡ spelled w → v ≡ w }
     ensures maps { (ps qs : ValuePairs) → IsCanonical (map_value ps) → IsCanonical (map_value qs) → PairsBelow ps qs → PairsBelow qs ps → map_value ps ≡ map_value qs }

@@ -2,9 +2,4 @@ use Rattle.type_model.proofs.ElementLaws.{elements-normal, elements-have, elemen
 use Rattle.type_model.proofs.laws.element_laws.Goals as goal
 
 pub returns : goal.returns
-returns c = record {
-  normal = elements-normal;
-  above = elements-have;
-  least = elements-least;
-  more = elements-more;
-}
+returns c = assumption (elements-normal, elements-have, elements-least, elements-more)

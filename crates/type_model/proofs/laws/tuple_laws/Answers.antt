@@ -4,12 +4,4 @@ use Rattle.type_model.proofs.ElementLaws.{project-least}
 use Rattle.type_model.proofs.laws.tuple_laws.Goals as goal
 
 pub returns : goal.returns
-returns c = record {
-  normal = tuple-normal;
-  above = tuple-above;
-  least = tuple-least;
-  project = project-in;
-  only = tuple-only;
-  exact = tuple-exact;
-  project_least = project-least;
-}
+returns c = assumption (tuple-normal, tuple-above, tuple-least, project-in, tuple-only, tuple-exact, project-least)
