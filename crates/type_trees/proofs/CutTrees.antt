@@ -1,9 +1,8 @@
 -- The least type of another level, on the trees of the code.
-use Rattle.std.proofs.Common.{◌≡◌, ◌⊎◌, inl, inr, ℕ, zero, suc, ◌+◌, ◌-◌, ◌<◌, ◌≤◌, Bool, true, false, cond, List, [], ◌∷◌, ◌++◌, map, take, length, Some, refl, sym, ap, ◌∙◌, subst, true≢false, arith}
+use Rattle.std.proofs.Common.{[], ◌≡◌, ◌⊎◌, inl, inr, ℕ, zero, suc, ◌-◌, ◌<◌, ◌≤◌, true, false, List, ◌∷◌, length, Some, refl, sym, ap, ◌∙◌, subst, true≢false, arith}
 use Rattle.std.specs.Prelude.{not, slice_index_or}
-use Rattle.std.proofs.lemmas.List.{take_more, map_push}
 use Rattle.type_model.specs.Tables.{mapped}
-use Rattle.type_model.specs.Shapes.{TypeAt, Body, product, tags}
+use Rattle.type_model.specs.Shapes.{TypeAt, product, tags}
 use Rattle.type_model.specs.Operations.{ops, elements}
 use Rattle.type_model.specs.Normal.{AreElements, NormalRow, NormalParts, NormalAt}
 use Rattle.type_model.specs.Cut.{row_lower, cell_lower, body_lower, tuples_lower, parts_lower, cut}
@@ -15,9 +14,9 @@ use Rattle.type_trees.specs.declared.node.Node.TheVariants as v
 use Rattle.type_trees.specs.declared.node.PartsOf.{PartsOf}
 use Rattle.type_trees.specs.declared.node.SizeOf.{SizeOf}
 use Rattle.type_trees.specs.declared.node.BodyOf.{BodyOf}
-use Rattle.type_trees.specs.declared.node.BodyOf.TheVariants.{Product, Tags}
+use Rattle.type_trees.specs.declared.node.BodyOf.TheVariants.{Tags}
 use Rattle.type_trees.specs.declared.node.TagOf.{TagOf}
-use Rattle.type_trees.specs.View.{view, row_view, tags_view, body_view, sizes_view, tuples_view, cell_view, parts_view, Fits, EachNode, EachInTuples, EachInCell, RowFits, TagsFit, BodyFits, SizesFit, PartsFit}
+use Rattle.type_trees.specs.View.{view, row_view, tags_view, body_view, tuples_view, cell_view, parts_view, Fits, EachNode, EachInTuples, EachInCell, RowFits, TagsFit, BodyFits, SizesFit, PartsFit}
 use Rattle.type_trees.proofs.Views.{view_any, view_of, of_above, one_more, each_at}
 use Rattle.type_trees.proofs.Inclusions.{rest_fits as rest_of_tag, size_fits}
 
@@ -83,35 +82,32 @@ no_tags (suc d) h = absurd (omega arith)
 
 -- ---- the tuples of one size
 
-pub row_of : (d : ℕ) (b : BodyOf Node) (r : List Node) → b ≡ Product r → ((n : ℕ) × BodyFits d n b) → (n : ℕ) × RowFits d n r
-row_of d b r e k = grind arith
-
 -- tags stand after at least one element, and above level 0
 pub tags_fit : (d n : ℕ) (ts : List (TagOf Node)) → BodyFits d n (Tags ts) → ((m : ℕ) × TagsFit d m ts) × (0 < d)
 tags_fit d zero ts k = absurd k.normal
 tags_fit d (suc n) ts k = ((n, record { normal = k.normal.0; each = k.each }), tags_above d k.normal.2)
 
-pub tags_of : (d : ℕ) (b : BodyOf Node) (ts : List (TagOf Node)) → b ≡ Tags ts → ((n : ℕ) × BodyFits d n b) → ((m : ℕ) × TagsFit d m ts) × (0 < d)
-tags_of d b ts e k = tags_fit d k.0 ts (subst (BodyFits d k.0) e k.1)
+tags_both : (d : ℕ) (b : BodyOf Node) (ts : List (TagOf Node)) → b ≡ Tags ts → ((n : ℕ) × BodyFits d n b) → ((m : ℕ) × TagsFit d m ts) × (0 < d)
+tags_both d b ts e k = tags_fit d k.0 ts (subst (BodyFits d k.0) e k.1)
 
-pub product_fits : (d : ℕ) (b : BodyOf Node) (ts : List (TagOf Node)) (r : List Node) → b ≡ Tags ts → ((n : ℕ) × BodyFits d n b) → row_view d r ≡ elements (ops d) (tags (tags_view d ts)) → EachNode (Fits d) r → (n : ℕ) × RowFits d n r
-product_fits d b ts r e k q f =
+pub tags_of : (d : ℕ) (b : BodyOf Node) (ts us : List (TagOf Node)) → b ≡ Tags ts → us ≡ ts → ((n : ℕ) × BodyFits d n b) → (m : ℕ) × TagsFit d m us
+tags_of d b ts us e f k = subst (λ z. (m : ℕ) × TagsFit d m z) (sym f) (tags_both d b ts e k).0
+
+pub tags_stand_above : (d : ℕ) (b : BodyOf Node) (ts : List (TagOf Node)) → b ≡ Tags ts → ((n : ℕ) × BodyFits d n b) → 0 < d
+tags_stand_above d b ts e k = (tags_both d b ts e k).1
+
+pub product_fits : (d : ℕ) (b : BodyOf Node) (ts us : List (TagOf Node)) (r s : List Node) → b ≡ Tags ts → us ≡ ts → s ≡ r → ((n : ℕ) × BodyFits d n b) → row_view d r ≡ elements (ops d) (tags (tags_view d us)) → EachNode (Fits d) r → (m : ℕ) × RowFits d m s
+product_fits d b ts us r s e u t k q f =
     let l : BodyFits d k.0 (Tags ts) = subst (BodyFits d k.0) e k.1 in
-    (k.0, record { normal = subst (λ x. NormalRow (NormalAt d) (ops d) k.0 (Some x)) (sym q) (elements_normal (level_laws d) k.0 (tags (tags_view d ts)) l.normal); each = f })
+    (k.0, subst (RowFits d k.0) (sym t) (record { normal = subst (λ x. NormalRow (NormalAt d) (ops d) k.0 (Some x)) (sym q) (elements_normal (level_laws d) k.0 (tags (tags_view d us)) (subst (λ z. BodyFits d k.0 (Tags z)) (sym u) l).normal); each = f }))
 
 -- tags stay tags where there can be some, and else become a product
 module _ (e d : ℕ) where
-  abbrev lowered_tags : Bool → List (TagOf Node) → Body (TypeAt d)
-  lowered_tags h ts = cond h (tags (mapped (map (cut e d)) (tags_view e ts))) (product (map (cut e d) (elements (ops e) (tags (tags_view e ts)))))
-
-  tags_cut : (b : BodyOf Node) (ts : List (TagOf Node)) (h : Bool) → b ≡ Tags ts → (ops d).has_tags ≡ h → lowered_tags h ts ≡ body_lower (cut e d) (ops e) (ops d) (body_view e b)
-  tags_cut b ts h x q = ap (λ k. lowered_tags k ts) (sym q) ∙ ap (λ c. body_lower (cut e d) (ops e) (ops d) (body_view e c)) (sym x)
-
   pub tags_kept : (b : BodyOf Node) (ts us : List (TagOf Node)) → b ≡ Tags ts → 0 < d → tags_view d us ≡ mapped (row_lower (cut e d) (ops e) (ops d)) (tags_view e ts) → tags (tags_view d us) ≡ body_lower (cut e d) (ops e) (ops d) (body_view e b)
-  tags_kept b ts us x h q = ap tags q ∙ tags_cut b ts true x (above_tags d h)
+  tags_kept b ts us x h q = grind (arith, above_tags)
 
   pub tags_lost : (b : BodyOf Node) (ts : List (TagOf Node)) (r s : List Node) → b ≡ Tags ts → d ≤ 0 → row_view e r ≡ elements (ops e) (tags (tags_view e ts)) → row_view d s ≡ row_lower (cut e d) (ops e) (ops d) (row_view e r) → product (row_view d s) ≡ body_lower (cut e d) (ops e) (ops d) (body_view e b)
-  tags_lost b ts r s x h p q = ap product (q ∙ ap (map (cut e d)) p) ∙ tags_cut b ts false x (no_tags d h)
+  tags_lost b ts r s x h p q = grind (arith, no_tags)
 
 -- ---- the items of lists
 
@@ -120,47 +116,11 @@ elements_at d [] k i x h = grind arith
 elements_at d (n ∷ ns) k i x h = grind (arith, elements_at d ns)
 
 -- an element of a row has a value
-pub element_fits : (d : ℕ) (ns : List Node) → ((n : ℕ) × RowFits d n ns) → (i : ℕ) (x : Node) → i < length ns → x ≡ slice_index_or ns i x → Fits d x × ((ops d).is_none (view d x) ≡ false)
-element_fits d ns k i x h e = grind (arith, each_at, elements_at)
+pub element_fits : (d e : ℕ) (ns : List Node) → ((n : ℕ) × RowFits d n ns) → (i : ℕ) (x : Node) → i < length ns → x ≡ slice_index_or ns i x → Fits d x × ((1 ≤ e) ⊎ ((ops d).is_none (view d x) ≡ false))
+element_fits d e ns k i x h q = grind (arith, each_at, elements_at)
 
-pub rest_fits : (d : ℕ) (ts : List (TagOf Node)) → ((n : ℕ) × TagsFit d n ts) → (i : ℕ) (x : TagOf Node) → i < length ts → x ≡ slice_index_or ts i x → (n : ℕ) × RowFits d n x.rest
-rest_fits d ts k i x h e = (k.0, rest_of_tag d k.0 ts k.1 i x h e)
+pub rest_fits : (d : ℕ) (ts : List (TagOf Node)) → ((n : ℕ) × TagsFit d n ts) → (i : ℕ) (x : TagOf Node) (r : List Node) → i < length ts → x ≡ slice_index_or ts i x → r ≡ x.rest → (m : ℕ) × RowFits d m r
+rest_fits d ts k i x r h e f = (k.0, subst (RowFits d k.0) (sym f) (rest_of_tag d k.0 ts k.1 i x h e))
 
 pub body_fits : (d : ℕ) (ss : List (SizeOf Node)) → SizesFit d ss → (i : ℕ) (x : SizeOf Node) → i < length ss → x ≡ slice_index_or ss i x → (n : ℕ) × BodyFits d n x.body
 body_fits d ss k i x h e = (x.size, size_fits d ss k i x h e)
-
--- ---- one more item at the end
-
-module _ {A C : Type 0} (F : List A → List C) (f : A → C) where
-  -- goes over a list item by item
-  record ByItem : Type 0 where
-    empty : F [] ≡ []
-    more : (x : A) (xs : List A) → F (x ∷ xs) ≡ f x ∷ F xs
-
-  by_map : ByItem → (xs : List A) → F xs ≡ map f xs
-  by_map b [] = b.empty
-  by_map b (x ∷ xs) = b.more x xs ∙ ap (λ zs. f x ∷ zs) (by_map b xs)
-
-  by_push : ByItem → (xs : List A) (y : A) → F (xs ++ y ∷ []) ≡ F xs ++ f y ∷ []
-  by_push b xs y = by_map b (xs ++ y ∷ []) ∙ map_push f xs y ∙ ap (λ zs. zs ++ f y ∷ []) (sym (by_map b xs))
-
--- two lists that agree so far agree one item further
-one_further : {A B C : Type 0} (F : List A → List C) (f : A → C) (G : List B → List C) (g : B → C) → ByItem F f → ByItem G g → (xs : List A) (ys : List B) (i : ℕ) (x : A) (y : B) → i < length xs → x ≡ slice_index_or xs i x → G ys ≡ F (take i xs) → g y ≡ f x → G (ys ++ y ∷ []) ≡ F (take (i + 1) xs)
-one_further F f G g a b xs ys i x y h e q p =
-    by_push G g b ys y
-    ∙ ap (λ zs. zs ++ g y ∷ []) q
-    ∙ ap (λ z. F (take i xs) ++ z ∷ []) (p ∙ ap f e)
-    ∙ sym (ap F (take_more xs i x h) ∙ by_push F f a (take i xs) (slice_index_or xs i x))
-
-module _ (e d : ℕ) where
-  pub row_further : (xs ys : List Node) (i : ℕ) (x y : Node) → i < length xs → x ≡ slice_index_or xs i x → row_view d ys ≡ row_lower (cut e d) (ops e) (ops d) (row_view e (take i xs)) → view d y ≡ cut e d (view e x) → row_view d (ys ++ y ∷ []) ≡ row_lower (cut e d) (ops e) (ops d) (row_view e (take (i + 1) xs))
-  row_further =
-      one_further (λ xs. row_lower (cut e d) (ops e) (ops d) (row_view e xs)) (λ x. cut e d (view e x)) (row_view d) (view d) (record { empty = refl; more = λ x xs. refl }) (record { empty = refl; more = λ x xs. refl })
-
-  pub tags_further : (xs ys : List (TagOf Node)) (i : ℕ) (x y : TagOf Node) → i < length xs → x ≡ slice_index_or xs i x → tags_view d ys ≡ mapped (row_lower (cut e d) (ops e) (ops d)) (tags_view e (take i xs)) → y.atom ≡ x.atom → row_view d y.rest ≡ row_lower (cut e d) (ops e) (ops d) (row_view e x.rest) → tags_view d (ys ++ y ∷ []) ≡ mapped (row_lower (cut e d) (ops e) (ops d)) (tags_view e (take (i + 1) xs))
-  tags_further xs ys i x y h q k a p =
-      one_further (λ ts. mapped (row_lower (cut e d) (ops e) (ops d)) (tags_view e ts)) (λ t. (t.atom, row_lower (cut e d) (ops e) (ops d) (row_view e t.rest))) (tags_view d) (λ t. (t.atom, row_view d t.rest)) (record { empty = refl; more = λ t ts. refl }) (record { empty = refl; more = λ t ts. refl }) xs ys i x y h q k (ap (λ z. (z, row_view d y.rest)) a ∙ ap (λ z. (x.atom, z)) p)
-
-  pub sizes_further : (xs ys : List (SizeOf Node)) (i : ℕ) (x : SizeOf Node) (b : BodyOf Node) → i < length xs → x ≡ slice_index_or xs i x → sizes_view d ys ≡ mapped (body_lower (cut e d) (ops e) (ops d)) (sizes_view e (take i xs)) → body_view d b ≡ body_lower (cut e d) (ops e) (ops d) (body_view e x.body) → sizes_view d (ys ++ record { size = x.size; body = b } ∷ []) ≡ mapped (body_lower (cut e d) (ops e) (ops d)) (sizes_view e (take (i + 1) xs))
-  sizes_further xs ys i x b h q k p =
-      one_further (λ ss. mapped (body_lower (cut e d) (ops e) (ops d)) (sizes_view e ss)) (λ s. (s.size, body_lower (cut e d) (ops e) (ops d) (body_view e s.body))) (sizes_view d) (λ s. (s.size, body_view d s.body)) (record { empty = refl; more = λ s ss. refl }) (record { empty = refl; more = λ s ss. refl }) xs ys i x (record { size = x.size; body = b }) h q k (ap (λ z. (x.size, z)) p)

@@ -1,6 +1,6 @@
 -- The laws of inclusion between what trees stand for, part by part.
-use Rattle.std.proofs.Common.{◌≡◌, ℕ, zero, suc, ◌+◌, ◌-◌, ◌<◌, ◌≤◌, Bool, true, false, List, [], ◌∷◌, map, length, Option, Some, None, ◌↔◌, IsTrue, All, take, take_all, slice_index_or, refl, sym, ◌∙◌, subst, subst₂, inl, inr, true≢false, below_more, arith}
-use Rattle.std.proofs.lemmas.List.{get_or_default, length-map}
+use Rattle.std.proofs.Common.{[], ◌≡◌, ℕ, zero, suc, ◌+◌, ◌-◌, ◌<◌, ◌≤◌, Bool, true, false, List, ◌∷◌, map, length, Option, Some, None, ◌↔◌, IsTrue, All, take, take_all, slice_index_or, refl, sym, ◌∙◌, subst, subst₂, inl, inr, true≢false, arith}
+use Rattle.std.proofs.lemmas.List.{length-map}
 use Rattle.std.proofs.lemmas.List.Elements.{All-more}
 use Rattle.std.specs.Ordering.{nat_cmp}
 use Rattle.std.specs.Cmp.{nat_cmp_total}
@@ -12,7 +12,7 @@ use Rattle.type_model.specs.Shapes.{TypeAt, Body, Parts, tags, sizes}
 use Rattle.type_model.specs.Tables.{EachEntry, find}
 use Rattle.type_model.specs.HasType.{HasAt, HasParts, HasCell, HasRow, HasBody, HasTuple}
 use Rattle.type_model.specs.Operations.{ops, row_at}
-use Rattle.type_model.specs.Normal.{NormalAt, NormalRow, NormalRows, NormalBody, NormalSize}
+use Rattle.type_model.specs.Normal.{NormalAt, NormalRow, NormalBody, NormalSize}
 use Rattle.type_model.specs.Laws.{BelowBy}
 use Rattle.type_model.specs.ValueShapes.{Shape, leaf, pair, row, shape, value_of_shape, shape-value_of_shape, HasShape, has-shape, PlainBelow}
 use Rattle.type_model.proofs.TableLaws.{each_at, each_from, some-none}
@@ -54,7 +54,7 @@ failed r e h y = true≢false (sym (e.1 y) ∙ h)
 pub one_item_more : {X : Type 0} (P : X → Type 0) (xs : List X) (i : ℕ) (x : X) → i < length xs → x ≡ slice_index_or xs i x → All P (take i xs) → P x → All P (take (i + 1) xs)
 one_item_more P xs i x lt e h p = All-more P xs i x lt h (subst P e p)
 
-pub each_item : {X : Type 0} (P : X → Type 0) (xs : List X) (i : ℕ) → length xs ≤ i → All P (take i xs) → All P xs
+each_item : {X : Type 0} (P : X → Type 0) (xs : List X) (i : ℕ) → length xs ≤ i → All P (take i xs) → All P xs
 each_item P xs i le h = subst (All P) (take_all i xs le) h
 
 -- what holds of all items holds of each of their entries, and back
@@ -169,31 +169,13 @@ pub place_below : (d n : ℕ) (xs ys : List Node) → RowFits d n xs → BelowBy
 place_below d n xs ys k h i x y lt e f =
     subst₂ (λ s t. BelowBy (HasAt d) (view d s) (view d t)) (sym e) (sym f) (at_place d xs ys (each-below (level_laws d) (row_view d xs) (row_view d ys) k.normal.1 h) i lt x y)
 
--- one place more
-pub more_places : (d : ℕ) (xs ys : List Node) (i : ℕ) (x y : Node) → i < length xs → i < length ys → x ≡ slice_index_or xs i x → y ≡ slice_index_or ys i y → ((k : ℕ) → k < i → (z : Node) → BelowBy (HasAt d) (view d (slice_index_or xs k z)) (view d (slice_index_or ys k z))) → BelowBy (HasAt d) (view d x) (view d y) → (k : ℕ) → k < i + 1 → (z : Node) → BelowBy (HasAt d) (view d (slice_index_or xs k z)) (view d (slice_index_or ys k z))
-more_places d xs ys i x y lt less e f before here = grind (arith, below_more, slice_index_or, get_or_default)
-
 -- ---- the tuples of one size
-
--- a test of two products is one of the bodies
-pub products_tell : (d : ℕ) (a b : BodyOf Node) (xs ys : List Node) (r : Bool) → a ≡ of_body.Product xs → b ≡ of_body.Product ys → IsTrue r ↔ BelowBy (HasRow (HasAt d)) (Some (row_view d xs)) (Some (row_view d ys)) → IsTrue r ↔ BelowBy (HasBody (HasAt d)) (Some (body_view d a)) (Some (body_view d b))
-products_tell d a b xs ys r e f h = subst₂ (λ s t. IsTrue r ↔ BelowBy (HasBody (HasAt d)) (Some (body_view d s)) (Some (body_view d t))) (sym e) (sym f) h
-
-pub product_fits : (d n : ℕ) (a : BodyOf Node) (xs : List Node) → a ≡ of_body.Product xs → BodyFits d n a → RowFits d n xs
-product_fits d n a xs e k = let f : BodyFits d n (of_body.Product xs) = subst (BodyFits d n) e k in record { normal = f.normal.0; each = f.each }
 
 pub product_not_below : (d n : ℕ) (a b : BodyOf Node) (xs : List Node) (ts : List (TagOf Node)) → a ≡ of_body.Product xs → b ≡ of_body.Tags ts → BodyFits d n a → BodyFits d n b → BelowBy (HasBody (HasAt d)) (Some (body_view d a)) (Some (body_view d b)) → ⊥
 product_not_below d n a b xs ts e f j k h =
     let x : BodyFits d n (of_body.Product xs) = subst (BodyFits d n) e j in
     let y : BodyFits d n (of_body.Tags ts) = subst (BodyFits d n) f k in
     not_tags (level_laws d) n (row_view d xs) (tags_view d ts) x.normal y.normal (subst₂ (λ s t. BelowBy (HasBody (HasAt d)) (Some (body_view d s)) (Some (body_view d t))) e f h)
-
--- tags stand before at least one more element
-pub tags_fit : (d n : ℕ) (a b : BodyOf Node) (ts : List (TagOf Node)) → a ≡ of_body.Tags ts → BodyFits d n a → BodyFits d n b → (m : ℕ) × (TagsFit d m ts × BodyFits d (suc m) b)
-tags_fit d n a b ts e j k = grind arith
-
-pub tags_tell : (d : ℕ) (a b : BodyOf Node) (ts : List (TagOf Node)) (r : Bool) → a ≡ of_body.Tags ts → IsTrue r ↔ BelowBy (HasBody (HasAt d)) (Some (tags (tags_view d ts))) (Some (body_view d b)) → IsTrue r ↔ BelowBy (HasBody (HasAt d)) (Some (body_view d a)) (Some (body_view d b))
-tags_tell d a b ts r e h = subst (λ s. IsTrue r ↔ BelowBy (HasBody (HasAt d)) (Some (body_view d s)) (Some (body_view d b))) (sym e) h
 
 -- ---- tags
 
@@ -205,12 +187,12 @@ module _ (d : ℕ) (b : BodyOf Node) where
   abbrev EntryBelow : Name → List (TypeAt d) → Type 0
   EntryBelow a es = BelowBy (HasRow (HasAt d)) (Some es) (row_at (ops d) (body_view d b) a)
 
-  pub each_tag_below : (ts : List (TagOf Node)) → All TagBelow ts → BelowBy (HasBody (HasAt d)) (Some (tags (tags_view d ts))) (Some (body_view d b))
-  each_tag_below ts f = each_tag (level_laws d) (tags_view d ts) (body_view d b) (λ a. at (find name_cmp (tags_view d ts) a) a refl)
+  pub each_tag_below : (ts : List (TagOf Node)) (i : ℕ) → length ts ≤ i → All TagBelow (take i ts) → BelowBy (HasBody (HasAt d)) (Some (tags (tags_view d ts))) (Some (body_view d b))
+  each_tag_below ts i le f = each_tag (level_laws d) (tags_view d ts) (body_view d b) (λ a. at (find name_cmp (tags_view d ts) a) a refl)
     where
       at : (r : Option (List (TypeAt d))) (a : Name) → find name_cmp (tags_view d ts) a ≡ r → BelowBy (HasRow (HasAt d)) r (row_at (ops d) (body_view d b) a)
       at None a e = λ vs h. absurd h
-      at (Some es) a e = each_at name_total name_same EntryBelow (tags_view d ts) (each_entry (tag_entry d) EntryBelow ts f) a es e
+      at (Some es) a e = each_at name_total name_same EntryBelow (tags_view d ts) (each_entry (tag_entry d) EntryBelow ts (each_item TagBelow ts i le f)) a es e
 
   -- what the inclusion of tags owes one of them
   pub tag_below : (n : ℕ) (ts : List (TagOf Node)) → TagsFit d n ts → BelowBy (HasBody (HasAt d)) (Some (tags (tags_view d ts))) (Some (body_view d b)) → (i : ℕ) (t : TagOf Node) → i < length ts → t ≡ slice_index_or ts i t → TagBelow t
@@ -218,12 +200,8 @@ module _ (d : ℕ) (b : BodyOf Node) where
       let f = tag_of (level_laws d) (tags_view d ts) (body_view d b) h in
       subst TagBelow (sym e) (all_entries (tag_entry d) EntryBelow ts (each_from name_total name_same EntryBelow (tags_view d ts) k.normal.0 (λ a es q. subst (λ r. BelowBy (HasRow (HasAt d)) r (row_at (ops d) (body_view d b) a)) q (f a))) i t lt)
 
-rows_normal_at : (d n : ℕ) (ts : List (TagOf Node)) → NormalRows (NormalAt d) (ops d) n (tags_view d ts) → (i : ℕ) (t : TagOf Node) → i < length ts → NormalRow (NormalAt d) (ops d) n (Some (row_view d (slice_index_or ts i t).rest))
-rows_normal_at d n [] k i t h = grind arith
-rows_normal_at d n (s ∷ ss) k i t h = grind (arith, rows_normal_at d n ss)
-
 pub rest_fits : (d n : ℕ) (ts : List (TagOf Node)) → TagsFit d n ts → (i : ℕ) (t : TagOf Node) → i < length ts → t ≡ slice_index_or ts i t → RowFits d n t.rest
-rest_fits d n ts k i t lt e = subst (λ s. RowFits d n s.rest) (sym e) (record { normal = rows_normal_at d n ts k.normal.2 i t lt; each = tag_at (Fits d) ts k.each i t lt })
+rest_fits d n ts k i t lt e = subst (λ s. RowFits d n s.rest) (sym e) (record { normal = all_entries (tag_entry d) (λ a es. NormalRow (NormalAt d) (ops d) n (Some es)) ts k.normal.2 i t lt; each = tag_at (Fits d) ts k.each i t lt })
 
 -- what follows an atom in a body
 pub after_fits : (d n : ℕ) (b : BodyOf Node) (a : Name) (xs : List Node) → BodyFits d (suc n) b → Some (row_view d xs) ≡ row_at (ops d) (body_view d b) a → EachNode (Fits d) xs → RowFits d n xs
@@ -248,12 +226,12 @@ module _ (d : ℕ) (w : List (SizeOf Node)) where
   abbrev BodyBelow : ℕ → Body (TypeAt d) → Type 0
   BodyBelow n x = BelowBy (HasBody (HasAt d)) (Some x) (find nat_cmp (sizes_view d w) n)
 
-  pub each_size_below : (ss : List (SizeOf Node)) → All SizeBelow ss → BelowBy (HasTuple (HasAt d)) (sizes (sizes_view d ss)) (sizes (sizes_view d w))
-  each_size_below ss f vs = at (find nat_cmp (sizes_view d ss) (count vs)) refl
+  pub each_size_below : (ss : List (SizeOf Node)) (i : ℕ) → length ss ≤ i → All SizeBelow (take i ss) → BelowBy (HasTuple (HasAt d)) (sizes (sizes_view d ss)) (sizes (sizes_view d w))
+  each_size_below ss i le f vs = at (find nat_cmp (sizes_view d ss) (count vs)) refl
     where
       at : (r : Option (Body (TypeAt d))) → find nat_cmp (sizes_view d ss) (count vs) ≡ r → HasBody (HasAt d) vs r → HasBody (HasAt d) vs (find nat_cmp (sizes_view d w) (count vs))
       at None e h = absurd h
-      at (Some x) e h = each_at nat_cmp_total nat_cmp-IsAntisymmetric BodyBelow (sizes_view d ss) (each_entry (size_entry d) BodyBelow ss f) (count vs) x e vs h
+      at (Some x) e h = each_at nat_cmp_total nat_cmp-IsAntisymmetric BodyBelow (sizes_view d ss) (each_entry (size_entry d) BodyBelow ss (each_item SizeBelow ss i le f)) (count vs) x e vs h
 
   -- what the inclusion of sizes owes one of them
   pub size_below : (ss : List (SizeOf Node)) → SizesFit d ss → BelowBy (HasTuple (HasAt d)) (sizes (sizes_view d ss)) (sizes (sizes_view d w)) → (i : ℕ) (s : SizeOf Node) → i < length ss → s ≡ slice_index_or ss i s → SizeBelow s
@@ -279,9 +257,6 @@ size_tells d w s x r e f = subst (λ b. IsTrue r ↔ BelowBy (HasBody (HasAt d))
 
 -- ---- tuples
 
-pub below_all : (d : ℕ) (a b : TuplesOf Node) → b ≡ of_tuples.All → BelowBy (HasTuple (HasAt d)) (tuples_view d a) (tuples_view d b)
-below_all d a b e vs h = subst (λ s. HasTuple (HasAt d) vs (tuples_view d s)) (sym e) tt
-
 pub sizes_fit : (d : ℕ) (a : TuplesOf Node) (ss : List (SizeOf Node)) → a ≡ of_tuples.Sizes ss → TuplesFit d a → SizesFit d ss
 sizes_fit d a ss e k = let f : TuplesFit d (of_tuples.Sizes ss) = subst (TuplesFit d) e k in record { table = f.normal.0; normal = f.normal.2; each = f.each }
 
@@ -289,7 +264,3 @@ pub all_not_below : (d : ℕ) (a b : TuplesOf Node) (ss : List (SizeOf Node)) �
 all_not_below d a b ss e f k h =
     let g : TuplesFit d (of_tuples.Sizes ss) = subst (TuplesFit d) f k in
     not_all (level_laws d) (sizes_view d ss) g.normal (λ vs. subst₂ (λ s t. BelowBy (HasTuple (HasAt d)) (tuples_view d s) (tuples_view d t)) e f h vs tt)
-
--- a test of sizes is one of tuples
-pub sizes_tell : (d : ℕ) (a b : TuplesOf Node) (ss ws : List (SizeOf Node)) (r : Bool) → a ≡ of_tuples.Sizes ss → b ≡ of_tuples.Sizes ws → IsTrue r ↔ BelowBy (HasTuple (HasAt d)) (sizes (sizes_view d ss)) (sizes (sizes_view d ws)) → IsTrue r ↔ BelowBy (HasTuple (HasAt d)) (tuples_view d a) (tuples_view d b)
-sizes_tell d a b ss ws r e f h = subst₂ (λ s t. IsTrue r ↔ BelowBy (HasTuple (HasAt d)) (tuples_view d s) (tuples_view d t)) (sym e) (sym f) h

@@ -1,25 +1,21 @@
 -- What the joins of the code stand for, and that it fits.
-use Rattle.std.proofs.Common.{◌≡◌, ℕ, zero, suc, ◌+◌, ◌-◌, ◌<◌, ◌≤◌, true, false, List, [], ◌∷◌, ◌++◌, map, length, take, Some, slice_index_or, slice_set, refl, sym, ap, ◌∙◌, subst, true≢false, arith}
-use Rattle.std.specs.Prelude.{nat_lt}
+use Rattle.std.proofs.Common.{[], ◌≡◌, ℕ, zero, suc, ◌+◌, ◌-◌, ◌<◌, ◌≤◌, true, false, List, ◌∷◌, ◌++◌, map, length, take, drop, Some, slice_index_or, slice_set, refl, sym, ap, ◌∙◌, subst, true≢false, arith}
 use Rattle.std.specs.Ordering.{nat_cmp}
 use Rattle.std.specs.declared.cmp.Ordering.{Ordering}
 use Rattle.std.specs.FinSet.{nat_cmp-IsAntisymmetric}
 use Rattle.std.proofs.lemmas.Cmp.{nat_cmp_total}
-use Rattle.std.specs.List.{insert}
-use Rattle.std.proofs.lemmas.List.{take_more, take_all, map-append, length-map}
+use Rattle.std.proofs.lemmas.List.{take_more, append_assoc, map-append, length-map, at_drop_more}
 use Rattle.std.proofs.lemmas.Option.{slice_get-get_or}
-use borrow.Author.Tests.{ltb-true}
-use Rattle.type_sets.proofs.Truths.{is_false}
 use Rattle.type_sets.specs.Names.{Name, Names, name_cmp, every, none, are_listed, listed, or_else, or_else-yes}
 use Rattle.type_sets.proofs.NameLaws.{or_else-no, name_total, name_same}
 use Rattle.type_sets.specs.Numbers as numbers
 use Rattle.type_sets.specs.declared.bits.Bits.TheVariants.{No}
-use Rattle.type_model.specs.Shapes.{TypeAt, PlainParts, no_function, all_tuples, Body, product, tags}
-use Rattle.type_model.specs.Tables.{EachOf, keys, held, is_table, put, united}
-use Rattle.type_model.specs.Operations.{Ops, ops, zip, is_empty, row_join, rows_join, all_rows_join, tags_join, body_join, elements, capped_tags, capped_sizes, no_flags, of_plain, of_atoms, parts_join}
+use Rattle.type_model.specs.Shapes.{TypeAt, PlainParts, no_function, Body, tags}
+use Rattle.type_model.specs.Tables.{keys, held, is_table, put, united}
+use Rattle.type_model.specs.Operations.{ops, zip, is_empty, row_join, all_rows_join, tags_join, body_join, elements, no_flags, of_plain, of_atoms, parts_join}
 use Rattle.type_model.specs.Normal.{NormalAt, NormalRow, NormalRows, AreTags, NormalSize, NormalSizes, NormalParts}
 use Rattle.type_model.proofs.TableLaws.{same_some, table-united, each-take, each-united}
-use Rattle.type_model.proofs.RowLaws.{length-zip, row_lattice}
+use Rattle.type_model.proofs.RowLaws.{row_lattice}
 use Rattle.type_model.proofs.BodyLaws.{body_lattice, elements_normal}
 use Rattle.type_model.specs.HasType.{HasAt, HasRow}
 use Rattle.type_model.specs.Laws.{BelowBy}
@@ -33,53 +29,19 @@ use Rattle.type_trees.specs.declared.node.TagOf.{TagOf}
 use Rattle.type_trees.specs.declared.node.SizeOf.{SizeOf}
 use Rattle.type_trees.specs.declared.node.BodyOf.{BodyOf}
 use Rattle.type_trees.specs.declared.node.BodyOf.TheVariants.{Product, Tags}
-use Rattle.type_trees.specs.declared.node.TuplesOf.TheVariants.{Sizes}
-use Rattle.type_trees.specs.View.{view, row_view, tags_view, body_view, sizes_view, tuples_view, parts_view, tag_entry, size_entry, Fits, EachNode, EachTag, EachSize, RowFits, TagsFit, BodyFits, SizesFit, EachInParts, PartsFit}
-use Rattle.type_trees.specs.Places.{StandsAt, GoesAt}
+use Rattle.type_trees.specs.View.{view, row_view, tags_view, body_view, sizes_view, parts_view, size_entry, Fits, EachNode, EachTag, EachSize, RowFits, TagsFit, BodyFits, SizesFit, EachInParts, PartsFit}
+use Rattle.type_trees.specs.Places.{StandsAt}
 use Rattle.type_trees.proofs.Views.{fits_normal, view_any, view_of, one_more}
-use Rattle.type_trees.proofs.PlaceLaws.{atom_of}
-
--- ---- the views of lists
-
-length-tags_view : (d : ℕ) (ts : List (TagOf Node)) → length (tags_view d ts) ≡ length ts
-length-tags_view d ts = length-map ts (tag_entry d)
-
-length-sizes_view : (d : ℕ) (ss : List (SizeOf Node)) → length (sizes_view d ss) ≡ length ss
-length-sizes_view d ss = length-map ss (size_entry d)
-
-length-row_view : (d : ℕ) (es : List Node) → length (row_view d es) ≡ length es
-length-row_view d es = length-map es (view d)
-
-keys-tags_view : (d : ℕ) (ts : List (TagOf Node)) → keys (tags_view d ts) ≡ map atom_of ts
-keys-tags_view d [] = refl
-keys-tags_view d (t ∷ ts) = ap (λ ks. t.atom ∷ ks) (keys-tags_view d ts)
+use Rattle.type_trees.proofs.Inclusions.{size_fits}
 
 -- ---- too many tags and too many sizes
 
-not_fewer : (n k : ℕ) → k ≤ n → nat_lt n k ≡ false
-not_fewer n k h = is_false (nat_lt n k) (λ e. let less = ltb-true n k e in absurd (omega arith))
-
-pub few_sizes : (d : ℕ) (ss : List (SizeOf Node)) → length ss ≤ 8 → tuples_view d (Sizes ss) ≡ capped_sizes (ops d) (sizes_view d ss)
-few_sizes d ss h = grind (arith, length-sizes_view)
-
-pub many_sizes : (d : ℕ) (ss : List (SizeOf Node)) → 8 < length ss → all_tuples ≡ capped_sizes (ops d) (sizes_view d ss)
-many_sizes d ss h = grind (arith, not_fewer, length-sizes_view)
-
-pub few_tags : (d : ℕ) (ts : List (TagOf Node)) → length ts ≤ 13 → tags (tags_view d ts) ≡ capped_tags (ops d) (tags_view d ts)
-few_tags d ts h = grind (arith, length-tags_view)
-
-pub many_tags : (d : ℕ) (ts : List (TagOf Node)) (row : List Node) → 13 < length ts → row_view d row ≡ elements (ops d) (tags (tags_view d ts)) → product (row_view d row) ≡ capped_tags (ops d) (tags_view d ts)
-many_tags d ts row h e = grind (arith, not_fewer, length-tags_view)
-
 -- ---- the atoms of tags
 
-pub listed_atoms : (ts : List (TagOf Node)) (i : ℕ) (names : List Name) (s : Names) → length ts ≤ i → names ≡ map atom_of (take i ts) → are_listed names ≡ true → s ≡ listed names → (d : ℕ) → s ≡ or_else (keys (tags_view d ts)) every
-listed_atoms ts i names s h e l r d =
-    let same : names ≡ keys (tags_view d ts) = e ∙ ap (map atom_of) (take_all i ts h) ∙ sym (keys-tags_view d ts) in
-    r ∙ or_else-yes names none l ∙ sym (or_else-yes names every l) ∙ ap (λ ks. or_else ks every) same
+pub listed_yes : (xs : List Name) → are_listed xs ≡ true → or_else xs every ≡ listed xs
+listed_yes xs l = or_else-yes xs every l ∙ sym (or_else-yes xs none l)
 
-pub all_atoms : (ts : List (TagOf Node)) (i : ℕ) (names : List Name) (s : Names) → length ts ≤ i → names ≡ map atom_of (take i ts) → are_listed names ≡ false → s ≡ every → (d : ℕ) → s ≡ or_else (keys (tags_view d ts)) every
-all_atoms ts i names s h e l r d = grind (arith, atom_of, take_all, keys-tags_view, or_else-no)
+pub ruleset tag_names = (listed_yes, or_else-no)
 
 -- ---- items one by one
 
@@ -94,62 +56,27 @@ map_more f xs i x h e =
 
 -- ---- products, place by place
 
-zip_at : {A : Type 0} (f : A → A → A) (xs ys : List A) (i : ℕ) (x y e : A) → length xs ≡ length ys → i < length xs → slice_index_or xs i x ≡ x → slice_index_or ys i y ≡ y → slice_index_or (zip f xs ys) i e ≡ f x y
-zip_at f [] x2 i x y e l h p q = grind arith
-zip_at f (a ∷ xs) x2 i x y e l h p q = grind (arith, zip_at f xs)
+-- what stands from an index on
+pub drop_item : {A : Type 0} (xs : List A) (i : ℕ) (x : A) → i < length xs → x ≡ slice_index_or xs i x → drop i xs ≡ x ∷ drop (i + 1) xs
+drop_item xs i x h e = at_drop_more (λ l. l) xs i x h ∙ ap (λ y. y ∷ drop (i + 1) xs) (sym e)
 
-pub row_step : (d : ℕ) (a b out new : List Node) (i : ℕ) (x y j : Node) → length a ≡ length b → i < length a → x ≡ slice_index_or a i x → y ≡ slice_index_or b i y → view d j ≡ (ops d).join (view d x) (view d y) → row_view d out ≡ take i (row_join (ops d) (row_view d a) (row_view d b)) → new ≡ out ++ j ∷ [] → row_view d new ≡ take (i + 1) (row_join (ops d) (row_view d a) (row_view d b))
-row_step d a b out new i x y j l h p q e v n =
-    let one : length (row_view d a) ≡ length a = length-row_view d a in
-    let two : length (row_view d b) ≡ length b = length-row_view d b in
-    let whole : length (row_join (ops d) (row_view d a) (row_view d b)) ≡ length a = length-zip (ops d).join (length a) (row_view d a) (row_view d b) one (two ∙ sym l) in
-    ap (row_view d) n
-    ∙ map-append (view d) out (j ∷ [])
-    ∙ (λ k. v k ++ e k ∷ [])
-    ∙ ap (λ z. take i (row_join (ops d) (row_view d a) (row_view d b)) ++ z ∷ []) (sym (zip_at (ops d).join (row_view d a) (row_view d b) i (view d x) (view d y) (view d x) (one ∙ l ∙ sym two) (omega arith) (map_at (view d) a i x h p) (map_at (view d) b i y (omega arith) q)))
-    ∙ sym (take_more (row_join (ops d) (row_view d a) (row_view d b)) i (view d x) (omega arith))
-
-pub row_end : (d : ℕ) (a b out : List Node) (i : ℕ) → length a ≡ length b → length a ≤ i → row_view d out ≡ take i (row_join (ops d) (row_view d a) (row_view d b)) → row_view d out ≡ row_join (ops d) (row_view d a) (row_view d b)
-row_end d a b out i l h v = grind (arith, length-row_view, length-zip, take_all)
+-- of the images of items, where one item is added last
+map_done : {A B : Type 0} (f : A → B) (new out : List A) (x : A) (later : List B) → new ≡ out ++ x ∷ [] → map f new ++ later ≡ map f out ++ (f x ∷ later)
+map_done f new out x later e = ap (λ xs. map f xs ++ later) e ∙ ap (λ m. m ++ later) (map-append f out (x ∷ [])) ∙ append_assoc (map f out) (f x ∷ []) later
 
 -- products of as many types are of one length
 pub same_length : (d n : ℕ) (a b : List Node) → RowFits d n a → RowFits d n b → length a ≡ length b
-same_length d n a b j k = grind (arith, length-row_view)
+same_length d n a b j k = grind (arith, length-map)
+
+-- one place more, and no change to the whole
+pub row_more : (d n : ℕ) (f : TypeAt d → TypeAt d → TypeAt d) (a b out new : List Node) (i : ℕ) (x y m : Node) → RowFits d n a → RowFits d n b → i < length a → x ≡ slice_index_or a i x → y ≡ slice_index_or b i y → view d m ≡ f (view d x) (view d y) → new ≡ out ++ m ∷ [] → row_view d new ++ zip f (row_view d (drop (i + 1) a)) (row_view d (drop (i + 1) b)) ≡ row_view d out ++ zip f (row_view d (drop i a)) (row_view d (drop i b))
+row_more d n f a b out new i x y m j k h p q e g = grind (arith, same_length, drop_item, map_done)
 
 -- ---- the type of the atoms of tags
 
 pub atoms_value : (t : Node) (s : Names) (q : PlainParts) (ts : List (TagOf Node)) → q ≡ record { atoms = s; ints = numbers.none; bits = No; flags = no_flags; functions = no_function } → ((d : ℕ) → view (suc d) t ≡ of_plain (ops d) q) → ((d : ℕ) → s ≡ or_else (keys (tags_view d ts)) every) → (d : ℕ) → view (suc d) t ≡ (ops (suc d)).of_names (keys (tags_view (suc d) ts))
 unfolding ops
 atoms_value t s q ts e f g d = f d ∙ ap (of_plain (ops d)) e ∙ ap (of_atoms (ops d)) (g (suc d))
-
--- ---- the least product that contains some tags
-
-rows_join-more : {E : Type 0} (o : Ops E) (es : List E) (rows : List (List E)) (fs : List E) → rows_join o es (rows ++ fs ∷ []) ≡ row_join o (rows_join o es rows) fs
-rows_join-more o es [] fs = refl
-rows_join-more o es (gs ∷ rows) fs = rows_join-more o (row_join o es gs) rows fs
-
-held-append : {K X : Type 0} (m w : List (K × X)) → held (m ++ w) ≡ held m ++ held w
-held-append [] w = refl
-held-append (e ∷ m) w = ap (λ xs. e.1 ∷ xs) (held-append m w)
-
-all_rows-more : {E : Type 0} (o : Ops E) (m : List (Name × List E)) (e : Name × List E) → is_empty m ≡ false → all_rows_join o (held (m ++ e ∷ [])) ≡ row_join o (all_rows_join o (held m)) e.1
-all_rows-more x0 x1 x2 x3 = grind (arith, held-append, rows_join-more)
-
-take-filled : {A : Type 0} (i : ℕ) (xs : List A) → 1 ≤ i → 1 ≤ length xs → is_empty (take i xs) ≡ false
-take-filled x0 x1 x2 x3 = grind arith
-
-filled-length : {A : Type 0} (xs : List A) → is_empty xs ≡ false → 1 ≤ length xs
-filled-length x0 x1 = grind arith
-
-pub rests_step : (d : ℕ) (ts : List (TagOf Node)) (i : ℕ) (t : TagOf Node) (out new : List Node) → 1 ≤ i → i < length ts → t ≡ slice_index_or ts i t → row_view d out ≡ all_rows_join (ops d) (held (take i (tags_view d ts))) → row_view d new ≡ row_join (ops d) (row_view d out) (row_view d t.rest) → row_view d new ≡ all_rows_join (ops d) (held (take (i + 1) (tags_view d ts)))
-rests_step d ts i t out new g h e v n =
-    n
-    ∙ ap (λ es. row_join (ops d) es (row_view d t.rest)) v
-    ∙ sym (all_rows-more (ops d) (take i (tags_view d ts)) (t.atom, row_view d t.rest) (take-filled i (tags_view d ts) g (omega (arith, length-tags_view d ts))))
-    ∙ sym (ap (λ m. all_rows_join (ops d) (held m)) (map_more (tag_entry d) ts i t h e))
-
-pub rests_end : (d : ℕ) (ts : List (TagOf Node)) (i : ℕ) (out : List Node) → length ts ≤ i → row_view d out ≡ all_rows_join (ops d) (held (take i (tags_view d ts))) → row_view d out ≡ all_rows_join (ops d) (held (tags_view d ts))
-rests_end d ts i out h v = grind (arith, take_all, length-tags_view)
 
 -- ---- what is joined fits
 
@@ -175,16 +102,8 @@ module _ (d : ℕ) where
   row-join : (n : ℕ) (es fs : List (TypeAt d)) → Row n es → Row n fs → Row n (row_join (ops d) es fs)
   row-join n es fs j k = (row_lattice (level_laws d) n).join_normal (Some es) (Some fs) j k
 
-  rows-joined : (n : ℕ) (es : List (TypeAt d)) (m : List (Name × List (TypeAt d))) → Row n es → Rows n m → Row n (rows_join (ops d) es (held m))
-  rows-joined n es [] j k = j
-  rows-joined n es (e ∷ m) j k = rows-joined n (row_join (ops d) es e.1) m (row-join n es e.1 j k.0) k.1
-
-  all_rows-joined : (n : ℕ) (m : List (Name × List (TypeAt d))) → is_empty m ≡ false → Rows n m → Row n (all_rows_join (ops d) (held m))
-  all_rows-joined n [] e k = absurd (true≢false e)
-  all_rows-joined n (x ∷ m) e k = rows-joined n x.1 m k.0 k.1
-
-  pub rests_fit : (n : ℕ) (ts : List (TagOf Node)) (i : ℕ) (out : List Node) → TagsFit d n ts → 1 ≤ i → row_view d out ≡ all_rows_join (ops d) (held (take i (tags_view d ts))) → EachNode (Fits d) out → RowFits d n out
-  rests_fit n ts i out k g v e = grind (arith, filled-length, Row, all_rows-joined, take-filled, each-take)
+  pub joined_fits : (n : ℕ) (a b j : List Node) → RowFits d n a → RowFits d n b → row_view d j ≡ row_join (ops d) (row_view d a) (row_view d b) → EachNode (Fits d) j → RowFits d n j
+  joined_fits n a b j k m v e = record { normal = subst (Row n) (sym v) (row-join n (row_view d a) (row_view d b) k.normal m.normal); each = e }
 
   -- ---- a tag among others
 
@@ -225,11 +144,6 @@ module _ (d : ℕ) where
     each = e;
   }
 
-map-insert : {A B : Type 0} (f : A → B) (xs : List A) (i : ℕ) (x : A) → map f (insert xs i x) ≡ insert (map f xs) i (f x)
-map-insert f xs zero x = refl
-map-insert f [] (suc i) x = refl
-map-insert f (y ∷ ys) (suc i) x = ap (λ zs. f y ∷ zs) (map-insert f ys i x)
-
 map-slice_set : {A B : Type 0} (f : A → B) (xs : List A) (i : ℕ) (x : A) → map f (slice_set xs i x) ≡ slice_set (map f xs) i (f x)
 map-slice_set f [] i x = grind arith
 map-slice_set f (y ∷ ys) i x = grind (arith, map-slice_set f ys)
@@ -240,54 +154,37 @@ united-append : {K X : Type 0} (R : K → K → Ordering) (j : X → X → X) (m
 united-append R j m [] z = refl
 united-append R j m (e ∷ w) z = united-append R j (put R j e.0 e.1 m) w z
 
+-- an item is read whole or in part
+same_item : {A : Type 0} (xs : List A) (i : ℕ) (x y : A) → i < length xs → x ≡ slice_index_or xs i x → y ≡ slice_index_or xs i y → x ≡ y
+same_item [] i x y h e f = grind arith
+same_item (z ∷ xs) i x y h e f = grind (arith, same_item xs)
+
 module _ {A K X : Type 0} (R : K → K → Ordering) (j : X → X → X) (entry : A → K × X) where
   -- the first list with the entries of so many items of the second, and with one more
   pub entries_step : (a b out new : List A) (i : ℕ) (x : A) → i < length b → x ≡ slice_index_or b i x → map entry out ≡ united R j (map entry a) (take i (map entry b)) → map entry new ≡ put R j (entry x).0 (entry x).1 (map entry out) → map entry new ≡ united R j (map entry a) (take (i + 1) (map entry b))
   entries_step a b out new i x h e v n = grind (arith, united-append R j, map_more entry)
-
-  pub entries_end : (a b out : List A) (i : ℕ) → length b ≤ i → map entry out ≡ united R j (map entry a) (take i (map entry b)) → map entry out ≡ united R j (map entry a) (map entry b)
-  entries_end a b out i h v = v ∙ ap (united R j (map entry a)) (take_all i (map entry b) (omega (arith, length-map b entry)))
-
-  -- an item whose key isn't there
-  pub entry_missing : (xs new : List A) (i : ℕ) (x u : A) → GoesAt R (entry x).0 (map entry xs) i → u ≡ x → new ≡ insert xs i u → map entry new ≡ put R j (entry x).0 (entry x).1 (map entry xs)
-  entry_missing xs new i x u g e n = ap (map entry) n ∙ ap (λ w. map entry (insert xs i w)) e ∙ map-insert entry xs i x ∙ sym (g j (entry x).1)
 
   -- what stands at the place of a key
   entry_there : (xs : List A) (i : ℕ) (k : K) (there : A) (s : StandsAt R k (map entry xs) i) → i < length xs → there ≡ slice_index_or xs i there → entry there ≡ (k, s.0)
   entry_there xs i k there s h e = grind (arith, same_some, map_at entry, slice_get-get_or, length-map)
 
   -- and one whose key is there, so that what is held is joined
-  pub entry_found : (xs : List A) (i : ℕ) (x there new : A) → StandsAt R (entry x).0 (map entry xs) i → i < length xs → there ≡ slice_index_or xs i there → (entry new).0 ≡ (entry there).0 → (entry new).1 ≡ j (entry there).1 (entry x).1 → map entry (slice_set xs i new) ≡ put R j (entry x).0 (entry x).1 (map entry xs)
-  entry_found xs i x there new s h e k v =
+  pub entry_found : (xs ys : List A) (i : ℕ) (x there read new : A) → ys ≡ xs → StandsAt R (entry x).0 (map entry ys) i → i < length ys → there ≡ slice_index_or xs i there → read ≡ slice_index_or xs i read → (entry new).0 ≡ (entry there).0 → (entry new).1 ≡ j (entry read).1 (entry x).1 → map entry (slice_set xs i new) ≡ put R j (entry x).0 (entry x).1 (map entry xs)
+  entry_found xs ys i x there read new g t l e f k v =
+      let s : StandsAt R (entry x).0 (map entry xs) i = subst (λ zs. StandsAt R (entry x).0 (map entry zs) i) g t in
+      let h : i < length xs = subst (λ zs. i < length zs) g l in
       let same = entry_there xs i (entry x).0 there s h e in
       map-slice_set entry xs i new
-      ∙ (λ n. slice_set (map entry xs) i (k n, v n))
+      ∙ (λ n. slice_set (map entry xs) i (k n, (v ∙ ap (λ y. j (entry y).1 (entry x).1) (same_item xs i read there h f e)) n))
       ∙ (λ n. slice_set (map entry xs) i ((same n).0, j (same n).1 (entry x).1))
       ∙ sym (s.1.1 j (entry x).1)
 
--- ---- what is put into a list
-
--- an item is read whole or in part
-pub same_item : {A : Type 0} (xs : List A) (i : ℕ) (x y : A) → i < length xs → x ≡ slice_index_or xs i x → y ≡ slice_index_or xs i y → x ≡ y
-same_item [] i x y h e f = grind arith
-same_item (z ∷ xs) i x y h e f = grind (arith, same_item xs)
-
-module _ {A : Type 0} (Q : A → Type 0) where
-  each-insert : (xs : List A) (i : ℕ) (x : A) → EachOf Q xs → Q x → EachOf Q (insert xs i x)
-  each-insert xs zero x k p = (p, k)
-  each-insert [] (suc i) x k p = (p, tt)
-  each-insert (y ∷ ys) (suc i) x k p = (k.0, each-insert ys i x k.1 p)
-
-  pub each-set : (xs : List A) (i : ℕ) (x : A) → EachOf Q xs → Q x → EachOf Q (slice_set xs i x)
-  each-set [] i x k p = grind arith
-  each-set (y ∷ ys) i x k p = grind (arith, each-set ys)
-
-  pub missing_each : (xs new : List A) (i : ℕ) (x u : A) → EachOf Q xs → Q x → u ≡ x → new ≡ insert xs i u → EachOf Q new
-  missing_each xs new i x u k p e n = subst (EachOf Q) (sym n) (subst (λ w. EachOf Q (insert xs i w)) (sym e) (each-insert xs i x k p))
-
 -- the size that stands at the place is equal
-pub size_same : (d : ℕ) (ss : List (SizeOf Node)) (i k : ℕ) (there : SizeOf Node) → StandsAt nat_cmp k (sizes_view d ss) i → i < length ss → there ≡ slice_index_or ss i there → there.size ≡ k
-size_same d ss i k there s h e = ap (λ (x : ℕ × Body (TypeAt d)). x.0) (entry_there nat_cmp (body_join (ops d)) (size_entry d) ss i k there s h e)
+pub size_there : (d k : ℕ) (ss rs : List (SizeOf Node)) (i : ℕ) (there : SizeOf Node) → SizesFit d ss → rs ≡ ss → StandsAt nat_cmp k (sizes_view d rs) i → i < length rs → there ≡ slice_index_or ss i there → BodyFits d k there.body
+size_there d k ss rs i there fit same s h e =
+    let t : StandsAt nat_cmp k (sizes_view d ss) i = subst (λ xs. StandsAt nat_cmp k (sizes_view d xs) i) same s in
+    let l : i < length ss = subst (λ xs. i < length xs) same h in
+    subst (λ n. BodyFits d n there.body) (ap (λ (x : ℕ × Body (TypeAt d)). x.0) (entry_there nat_cmp (body_join (ops d)) (size_entry d) ss i k there t l e)) (size_fits d ss fit i there l e)
 
 -- ---- bodies
 
@@ -303,11 +200,11 @@ body_is d n b c e k = subst (BodyFits d n) e k
 tags_part : (d n : ℕ) (ts : List (TagOf Node)) → BodyFits d n (Tags ts) → (m : ℕ) × ((n ≡ suc m) × (TagsFit d m ts × (0 < d)))
 tags_part x0 x1 x2 x3 = grind (arith, tags_above)
 
-pub tags_of_body : (d n : ℕ) (b : BodyOf Node) (ts : List (TagOf Node)) → BodyFits d n b → b ≡ Tags ts → ((m : ℕ) × TagsFit d m ts) × (0 < d)
-tags_of_body d n b ts k e = grind (arith, tags_part, body_is)
+pub tags_of_body : (d n : ℕ) (b : BodyOf Node) (ts us : List (TagOf Node)) → BodyFits d n b → b ≡ Tags ts → us ≡ ts → ((m : ℕ) × TagsFit d m us) × (0 < d)
+tags_of_body d n b ts us k e f = grind (arith, tags_part, body_is)
 
-pub tags_of_bodies : (d n : ℕ) (b c : BodyOf Node) (ts us : List (TagOf Node)) → BodyFits d n b → BodyFits d n c → b ≡ Tags ts → c ≡ Tags us → (m : ℕ) × (TagsFit d m ts × TagsFit d m us)
-tags_of_bodies d n b c ts us j k e f = grind (arith, tags_part, body_is)
+pub tags_of_bodies : (d n : ℕ) (b c : BodyOf Node) (ts us vs ws : List (TagOf Node)) → BodyFits d n b → BodyFits d n c → b ≡ Tags ts → c ≡ Tags us → vs ≡ ts → ws ≡ us → (m : ℕ) × (TagsFit d m vs × TagsFit d m ws)
+tags_of_bodies d n b c ts us vs ws j k e f g h = grind (arith, tags_part, body_is)
 
 pub product_of_body : (d n : ℕ) (b : BodyOf Node) (es : List Node) → BodyFits d n b → b ≡ Product es → RowFits d n es
 product_of_body d n b es k e = grind (arith, body_is)
@@ -366,6 +263,3 @@ made_above d a b r p q j e f h m = grind (arith, view_of)
 pub made_join : (d : ℕ) (a b r : Node) (p q j : PartsOf Node) → 1 ≤ d → a ≡ v.Of p → b ≡ v.Of q → PartsFit (d - 1) j → parts_view (d - 1) j ≡ parts_join (ops (d - 1)) (parts_view (d - 1) p) (parts_view (d - 1) q) → ((e : ℕ) → PartsFit e j → view (suc e) r ≡ parts_view e j) → view d r ≡ (ops d).join (view d a) (view d b)
 made_join d a b r p q j h e f k m g =
     subst (λ n. view n r ≡ (ops n).join (view n a) (view n b)) (sym (one_more d h)) (made_above (d - 1) a b r p q j e f m (g (d - 1) k))
-
-pub made_fit : (d : ℕ) (r : Node) (j : PartsOf Node) → 1 ≤ d → PartsFit (d - 1) j → ((e : ℕ) → PartsFit e j → Fits (suc e) r) → Fits d r
-made_fit d r j h k g = subst (λ n. Fits n r) (sym (one_more d h)) (g (d - 1) k)

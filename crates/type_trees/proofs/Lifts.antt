@@ -1,5 +1,5 @@
 -- A tree that stands for a type stands for the same type at each higher level.
-use Rattle.std.proofs.Common.{◌≡◌, ℕ, zero, suc, ◌≤◌, List, [], ◌∷◌, Option, None, refl, sym, ap, ◌∙◌, subst, arith}
+use Rattle.std.proofs.Common.{[], ◌≡◌, ℕ, zero, suc, ◌≤◌, List, ◌∷◌, Option, None, refl, sym, ap, ◌∙◌, subst, arith}
 use Rattle.type_model.specs.Tables.{mapped}
 use Rattle.type_model.specs.Shapes.{Cell, Tuples, all_tuples, Parts, TypeAt}
 use Rattle.type_model.specs.HasType.{HasAt}

@@ -1,5 +1,5 @@
 -- What the trees of one part stand for, at every level.
-use Rattle.std.proofs.Common.{◌≡◌, ℕ, suc, ◌≤◌, Bool, false, List, [], ◌∷◌, length, Option, Some, None, refl, sym, ap, ◌∙◌, subst, arith}
+use Rattle.std.proofs.Common.{[], ◌≡◌, ℕ, suc, ◌≤◌, Bool, false, List, ◌∷◌, ◌++◌, length, Option, Some, None, refl, sym, ap, ◌∙◌, subst, arith}
 use borrow.Author.Tests.{lt-ltb}
 use Rattle.std.proofs.lemmas.List.{length-map}
 use Rattle.type_model.specs.declared.limits.TheConstants.{MAX_ELEMENTS}
@@ -47,16 +47,16 @@ every_tuple_value t q e f d = view_of t (record { plain = q; cell = None; tuples
 pub every_tuple_fits : (t : Node) (q : PlainParts) → t ≡ v.Of (record { plain = q; cell = None; tuples = All }) → q ≡ plain_none → (d : ℕ) → Fits (suc d) t
 every_tuple_fits t q e f d = without_list t (record { plain = q; cell = None; tuples = All }) e refl d (of_tuples (ops d) all_tuples) (tuple_parts q f d) (tt, tt, tt) tt
 
-size_parts : (q : PlainParts) (ss : List (SizeOf Node)) (s : SizeOf Node) → q ≡ plain_none → ss ≡ s ∷ [] → (d : ℕ) → parts_view d (record { plain = q; cell = None; tuples = Sizes ss }) ≡ of_tuples (ops d) (sizes ((s.size, body_view d s.body) ∷ []))
-size_parts q ss s e f d = λ n. record { plain = e n; cell = None; tuples = sizes (sizes_view d (f n)) }
+size_parts : (q : PlainParts) (ss rs : List (SizeOf Node)) (n : ℕ) (b : BodyOf Node) → q ≡ plain_none → rs ≡ [] → ss ≡ rs ++ record { size = n; body = b } ∷ [] → (d : ℕ) → parts_view d (record { plain = q; cell = None; tuples = Sizes ss }) ≡ of_tuples (ops d) (sizes ((n, body_view d b) ∷ []))
+size_parts q ss rs n b e f g d = grind arith
 
-pub size_value : (t : Node) (q : PlainParts) (ss : List (SizeOf Node)) (s : SizeOf Node) → t ≡ v.Of (record { plain = q; cell = None; tuples = Sizes ss }) → q ≡ plain_none → ss ≡ s ∷ [] → (d : ℕ) → view (suc d) t ≡ of_tuples (ops d) (sizes ((s.size, body_view d s.body) ∷ []))
-size_value t q ss s i e f d = view_of t (record { plain = q; cell = None; tuples = Sizes ss }) i d ∙ size_parts q ss s e f d
+pub size_value : (t : Node) (q : PlainParts) (ss rs : List (SizeOf Node)) (n : ℕ) (b : BodyOf Node) → t ≡ v.Of (record { plain = q; cell = None; tuples = Sizes ss }) → q ≡ plain_none → rs ≡ [] → ss ≡ rs ++ record { size = n; body = b } ∷ [] → (d : ℕ) → view (suc d) t ≡ of_tuples (ops d) (sizes ((n, body_view d b) ∷ []))
+size_value t q ss rs n b i e f g d = view_of t (record { plain = q; cell = None; tuples = Sizes ss }) i d ∙ size_parts q ss rs n b e f g d
 
-pub size_fits : (t : Node) (q : PlainParts) (ss : List (SizeOf Node)) (s : SizeOf Node) → t ≡ v.Of (record { plain = q; cell = None; tuples = Sizes ss }) → q ≡ plain_none → ss ≡ s ∷ [] → (d : ℕ) → s.size ≤ MAX_ELEMENTS → BodyFits d s.size s.body → Fits (suc d) t
-size_fits t q ss s i e f d few k =
-    without_list t (record { plain = q; cell = None; tuples = Sizes ss }) i refl d (of_tuples (ops d) (sizes ((s.size, body_view d s.body) ∷ []))) (size_parts q ss s e f d)
-    (tt, tt, (refl, refl, ((lt-ltb s.size 65 (omega (arith, few)), k.normal), tt))) (subst (EachSize (Fits d)) (sym f) (k.each, tt))
+pub size_fits : (t : Node) (q : PlainParts) (ss rs : List (SizeOf Node)) (n : ℕ) (b : BodyOf Node) → t ≡ v.Of (record { plain = q; cell = None; tuples = Sizes ss }) → q ≡ plain_none → rs ≡ [] → ss ≡ rs ++ record { size = n; body = b } ∷ [] → (d : ℕ) → n ≤ MAX_ELEMENTS → BodyFits d n b → Fits (suc d) t
+size_fits t q ss rs n b i e f g d few k =
+    without_list t (record { plain = q; cell = None; tuples = Sizes ss }) i refl d (of_tuples (ops d) (sizes ((n, body_view d b) ∷ []))) (size_parts q ss rs n b e f g d)
+    (tt, tt, (refl, refl, ((lt-ltb n 65 (omega (arith, few)), k.normal), tt))) (grind arith)
 
 list_parts : (q : PlainParts) (ss : List (SizeOf Node)) (c e : Node) (p : Bool) → q ≡ plain_none → ss ≡ [] → c ≡ e → (d : ℕ) → parts_view d (record { plain = q; cell = Some (record { element = c; is_proper = p }); tuples = Sizes ss }) ≡ of_list (ops d) (view d e) p
 list_parts q ss c e p f g h d = λ n. record { plain = f n; cell = Some (record { element = view d (h n); is_proper = p }); tuples = sizes (sizes_view d (g n)) }

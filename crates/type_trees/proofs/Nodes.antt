@@ -1,5 +1,5 @@
 -- What the code asks of one tree and of its parts.
-use Rattle.std.proofs.Common.{◌≡◌, ℕ, zero, suc, ◌+◌, ◌<◌, Bool, true, false, cond, ◌&&◌, List, [], ◌∷◌, Some, None, length, is_some, refl, sym, ap, ◌∙◌, arith, true≢false, add-one}
+use Rattle.std.proofs.Common.{[], ◌≡◌, ℕ, zero, suc, ◌+◌, ◌<◌, Bool, true, false, cond, ◌&&◌, List, ◌∷◌, Some, None, length, is_some, refl, sym, ap, ◌∙◌, arith, true≢false, add-one}
 use Rattle.std.specs.Prelude.{◌↔◌, IsTrue, slice_index_or, drop}
 use Rattle.std.specs.Ordering.{eq_by_cmp}
 use Rattle.std.proofs.Math.Seq.{drop-cons}
@@ -8,7 +8,6 @@ use Rattle.type_sets.specs.Names as names
 use Rattle.type_sets.proofs.Truths.{is_false}
 use Rattle.type_sets.proofs.AscendingLaws.{is_it, itself}
 use Rattle.type_sets.proofs.NameLaws.{name_total, name_same}
-use Rattle.type_model.specs.Values.{atom}
 use Rattle.type_model.specs.Tables.{find}
 use Rattle.type_model.specs.Operations.{ops, plain_all, parts_any, is_atoms, is_empty, no_cell, is_only_atoms}
 use Rattle.type_model.proofs.LevelLaws.{level_laws}

@@ -6,7 +6,7 @@ use Rattle.std.proofs.Math.Bool.{beq}
 use Rattle.std.proofs.lemmas.Bool.Decides.{Decides-and, Decides-at, Decides-eqb, Decides-like}
 use borrow.Author.Tests.{eqb-true, eq-eqb}
 use Rattle.type_sets.specs.Names as names
-use Rattle.type_sets.specs.Names.{Name, Names, some, every}
+use Rattle.type_sets.specs.Names.{Name, Names, every}
 use Rattle.type_sets.specs.Numbers as numbers
 use Rattle.type_sets.specs.Numbers.{Numbers}
 use Rattle.type_sets.specs.BitLengths as bit_lengths
@@ -33,13 +33,14 @@ use Rattle.type_trees.specs.declared.plain.FunSet.TheVariants as fun
 use Rattle.type_trees.specs.contracts.plain.FunSetPartialEq.TheImpl as fun_eq
 use Rattle.type_trees.specs.Plains.{flags_of, functions_of}
 
--- ---- a test of two parts, the second of which is looked at where the first holds
+-- ---- a test of several parts, each of which is looked at where the one before holds
 
-pub then_both : {P Q : Type 0} (a b v : Bool) → IsTrue a ↔ P → a ≡ true → IsTrue b ↔ Q → v ≡ b → IsTrue v ↔ (P × Q)
-then_both a b v p e q f = (λ h. (p.0 e, q.0 (sym f ∙ h)), λ h. f ∙ q.1 h.1)
+both_tell : {P Q : Type 0} (a v : Bool) → IsTrue a ↔ P → (a ≡ true → IsTrue v ↔ Q) → (a ≡ false → v ≡ false) → IsTrue v ↔ (P × Q)
+both_tell true v p f g = (λ h. (p.0 refl, (f refl).0 h), λ h. (f refl).1 h.1)
+both_tell false v p f g = (λ h. absurd (true≢false (sym h ∙ g refl)), λ h. absurd (true≢false (sym (p.1 h.0))))
 
-pub else_both : {P Q : Type 0} (a v : Bool) → IsTrue a ↔ P → a ≡ false → v ≡ a → IsTrue v ↔ (P × Q)
-else_both a v p e f = (λ h. absurd (true≢false (sym h ∙ f ∙ e)), λ h. f ∙ p.1 h.0)
+pub five_tell : {P Q R S T : Type 0} (a v w x y : Bool) → IsTrue a ↔ P → (a ≡ true → IsTrue v ↔ Q) → (a ≡ false → v ≡ false) → (v ≡ true → IsTrue w ↔ R) → (v ≡ false → w ≡ false) → (w ≡ true → IsTrue x ↔ S) → (w ≡ false → x ≡ false) → (x ≡ true → IsTrue y ↔ T) → (x ≡ false → y ≡ false) → IsTrue y ↔ ((((P × Q) × R) × S) × T)
+five_tell a v w x y p f g h i j k l m = both_tell x y (both_tell w x (both_tell v w (both_tell a v p f g) h i) j k) l m
 
 -- ---- inclusion
 
@@ -87,17 +88,8 @@ every-below f g b d e =
     let u = every_below (functions_of f) (functions_of g) (ap functions_of d) in
     (λ h. u.0 (t.0 h), λ h. t.1 (u.1 h))
 
-abbrev pub AtomsAndIntsBelow : PlainParts → PlainParts → Type 0
-AtomsAndIntsBelow p q = names.Below p.atoms q.atoms × numbers.Below p.ints q.ints
-
-abbrev pub AndBitsBelow : PlainParts → PlainParts → Type 0
-AndBitsBelow p q = AtomsAndIntsBelow p q × bit_lengths.Below p.bits q.bits
-
-abbrev pub AndFlagsBelow : PlainParts → PlainParts → Type 0
-AndFlagsBelow p q = AndBitsBelow p q × FlagsBelow p.flags q.flags
-
 abbrev pub PartsBelow : PlainParts → PlainParts → Type 0
-PartsBelow p q = AndFlagsBelow p q × FunctionsBelow p.functions q.functions
+PartsBelow p q = (((names.Below p.atoms q.atoms × numbers.Below p.ints q.ints) × bit_lengths.Below p.bits q.bits) × FlagsBelow p.flags q.flags) × FunctionsBelow p.functions q.functions
 
 parts-below : (p q : PlainParts) → PartsBelow p q → PlainBelow p q
 parts-below x0 x1 x2 x3 = grind arith
@@ -131,17 +123,8 @@ atoms_all x0 x1 x2 x3 x4 = grind (arith, some-none)
 pub bits_all : (s : Bits) (b : Bool) → b ≡ (bits.ghosts).eq s Any → IsTrue b ↔ (s ≡ Any)
 bits_all x0 x1 x2 = grind arith
 
-abbrev pub AtomsAndIntsAll : PlainParts → Type 0
-AtomsAndIntsAll p = (p.atoms ≡ every) × (p.ints ≡ numbers.all)
-
-abbrev pub AndBitsAll : PlainParts → Type 0
-AndBitsAll p = AtomsAndIntsAll p × (p.bits ≡ Any)
-
-abbrev pub AndFlagsAll : PlainParts → Type 0
-AndFlagsAll p = AndBitsAll p × (p.flags ≡ all_flags)
-
 abbrev pub PartsAll : PlainParts → Type 0
-PartsAll p = AndFlagsAll p × (p.functions ≡ all_functions)
+PartsAll p = ((((p.atoms ≡ every) × (p.ints ≡ numbers.all)) × (p.bits ≡ Any)) × (p.flags ≡ all_flags)) × (p.functions ≡ all_functions)
 
 pub plain_is_all : (p s : PlainParts) (b : Bool) → p ≡ s → IsTrue b ↔ PartsAll p → IsTrue b ↔ (s ≡ plain_all)
 plain_is_all p s b d h = grind (arith, Decides-like)

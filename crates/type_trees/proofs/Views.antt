@@ -1,5 +1,5 @@
 -- What the trees of the code stand for, one level at a time.
-use Rattle.std.proofs.Common.{◌≡◌, ℕ, zero, suc, ◌-◌, ◌<◌, ◌≤◌, Bool, true, false, List, [], ◌∷◌, ◌++◌, Option, is_some, refl, sym, ap, ◌∙◌, subst, true≢false, arith}
+use Rattle.std.proofs.Common.{[], ◌≡◌, ℕ, zero, suc, ◌-◌, ◌<◌, ◌≤◌, Bool, true, false, List, ◌∷◌, ◌++◌, Option, is_some, refl, sym, ap, ◌∙◌, subst, true≢false, arith}
 use Rattle.std.specs.Prelude.{◌↔◌, IsTrue, slice_index_or, length}
 use Rattle.type_model.specs.Tables.{EachOf}
 use Rattle.type_model.specs.Shapes.{TypeAt}
@@ -85,6 +85,9 @@ one_more d h = omega arith
 pub below_fits : (t : Node) (p : PartsOf Node) → t ≡ v.Of p → (d : ℕ) → Fits d t → PartsFit (d - 1) p
 below_fits t p e zero h = absurd (let f = of_above t p e zero h in omega arith)
 below_fits t p e (suc d) h = subst (λ n. PartsFit n p) (one_less d) (fits_of t p e d h).0
+
+pub part_fits : (t : Node) (p : PartsOf Node) → t ≡ v.Of p → (d e : ℕ) → Fits d t → e ≡ d - 1 → PartsFit e p
+part_fits t p e d n h s = subst (λ n. PartsFit n p) (sym s) (below_fits t p e d h)
 
 -- a tree that stands for a type stands for one in normal form
 pub fits_normal : (d : ℕ) (t : Node) → Fits d t → NormalAt d (view d t)

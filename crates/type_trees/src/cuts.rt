@@ -15,6 +15,7 @@ use type_sets::SharedList;
 /// The least type of level `to` that has the values of a type of level `from`. For level 0 the type
 /// has to have a value.
 #[cycle(cuts)]
+#[tactic(auto, using(crate::proofs::Views::any_fits, crate::proofs::Views::of_above, crate::proofs::CutTrees::any_cut, crate::proofs::CutTrees::zero_cut, crate::proofs::CutTrees::of_cut))]
 pub fn cut(alloc: Global, from: u32, to: u32, t: &Node) -> Result<Node, Memory>
     requires fits { Fits from t.now }
     requires filled { (1 ≤ to) ⊎ ((ops from).is_none (view from t.now) ≡ false) }
@@ -111,6 +112,7 @@ fn cut_tags(
 
 // Tags become a product where there can be none.
 #[cycle(cuts)]
+#[tactic(auto, using(crate::proofs::CutTrees::tags_kept, crate::proofs::CutTrees::tags_lost))]
 fn cut_body(alloc: Global, from: u32, to: u32, body: &BodyOf<Node>) -> Result<BodyOf<Node>, Memory>
     requires { (n : ℕ) × BodyFits from n body.now }
     ensures value { IfOk result (λ c. body_view to c ≡ body_lower (levels.cut from to) (ops from) (ops to) (body_view from body.now)) }
@@ -130,6 +132,7 @@ fn cut_body(alloc: Global, from: u32, to: u32, body: &BodyOf<Node>) -> Result<Bo
 }
 
 #[cycle(cuts)]
+#[tactic(auto, using(crate::proofs::CutTrees::body_fits))]
 fn cut_sizes(
     alloc: Global,
     from: u32,

@@ -61,6 +61,7 @@ fn leq_cell(level: u32, a: &Option<CellOf<Node>>, b: &Option<CellOf<Node>>) -> b
 
 // Whether each type of a product is below the one at its place.
 #[cycle(inclusion)]
+#[tactic(auto, using(crate::proofs::Inclusions::granted, crate::proofs::Inclusions::row_below))]
 pub fn leq_row(level: u32, a: &[Node], b: &[Node]) -> bool
     requires { (n : ℕ) × (RowFits level n a.now × RowFits level n b.now) }
     ensures { IsTrue result ↔ BelowBy (HasRow (HasAt level)) (Some (row_view level a.now)) (Some (row_view level b.now)) }

@@ -20,6 +20,7 @@ use type_sets::{AtomSet, MAX_MEMBERS, SharedList};
 
 /// The least type that contains both. Where one is part of the other, the other is shared.
 #[cycle(joins)]
+#[tactic(auto, using(crate::proofs::Views::of_above, crate::proofs::JoinLaws::any_left, crate::proofs::JoinLaws::any_right, crate::proofs::JoinLaws::joined_below, crate::proofs::JoinLaws::joined_above))]
 pub fn join(alloc: Global, level: u32, a: &Node, b: &Node) -> Result<Node, Memory>
     requires a { Fits level a.now }
     requires b { Fits level b.now }
@@ -93,6 +94,7 @@ fn join_cell(
 
 // The types of two products, place by place.
 #[cycle(joins)]
+#[tactic(auto, using(crate::proofs::JoinLaws::row_more))]
 fn join_row(alloc: Global, level: u32, a: &[Node], b: &[Node]) -> Result<List<Node>, Memory>
     requires { (n : ℕ) × (RowFits level n a.now × RowFits level n b.now) }
     ensures value { IfOk result (λ j. row_view level j ≡ row_join (ops level) (row_view level a.now) (row_view level b.now)) }
@@ -145,6 +147,7 @@ fn join_rests(alloc: Global, level: u32, tags: &[TagOf<Node>]) -> Result<List<No
 
 // The element types of the least product that contains the tags, of which there is one at least.
 #[cycle(joins)]
+#[tactic(auto, using(crate::proofs::JoinLaws::tags_elements))]
 pub fn elements_of_tags(
     alloc: Global,
     level: u32,
@@ -208,6 +211,7 @@ fn put_tag(
 
 // The tags of both, and what follows them joined. There may be too many.
 #[cycle(joins)]
+#[tactic(auto, using(crate::proofs::JoinLaws::entries_step))]
 fn join_tags(
     alloc: Global,
     level: u32,
@@ -297,6 +301,7 @@ fn put_size(
 
 // The tuples of the sizes of both. There may be too many sizes.
 #[cycle(joins)]
+#[tactic(auto, using(crate::proofs::JoinLaws::entries_step))]
 fn join_sizes(
     alloc: Global,
     level: u32,

@@ -13,6 +13,7 @@ use type_model::MAX_ELEMENTS;
 use type_sets::SharedList;
 
 /// These plain values and nothing else. Takes no memory.
+#[tactic(auto, using(crate::proofs::MadeTrees::plain_fits, crate::proofs::MadeTrees::plain_value))]
 pub fn plain_alone(plain: Plain) -> Node
     requires { NormalFunctions plain.functions }
     ensures fits { (d : ℕ) → Fits (suc d) result }
@@ -26,6 +27,7 @@ pub fn plain_alone(plain: Plain) -> Node
 }
 
 /// Every tuple. Takes no memory.
+#[tactic(auto, using(crate::proofs::MadeTrees::every_tuple_fits, crate::proofs::MadeTrees::every_tuple_value))]
 pub fn every_tuple() -> Node
     ensures fits { (d : ℕ) → Fits (suc d) result }
     ensures value { (d : ℕ) → view (suc d) result ≡ of_tuples (ops d) all_tuples }
@@ -38,6 +40,7 @@ pub fn every_tuple() -> Node
 }
 
 /// The lists of an element type.
+#[tactic(auto, using(crate::proofs::MadeTrees::list_fits, crate::proofs::MadeTrees::list_value))]
 pub fn lists_of(alloc: Global, element: Node, is_proper: bool) -> Result<Node, Memory>
     ensures fits { IfOk result (λ t. (d : ℕ) → Fits d element → (ops d).is_none (view d element) ≡ false → Fits (suc d) t) }
     ensures value { IfOk result (λ t. (d : ℕ) → view (suc d) t ≡ of_list (ops d) (view d element) is_proper) }
@@ -53,6 +56,7 @@ pub fn lists_of(alloc: Global, element: Node, is_proper: bool) -> Result<Node, M
 }
 
 /// The tuples of one size.
+#[tactic(auto, using(crate::proofs::MadeTrees::size_fits, crate::proofs::MadeTrees::size_value))]
 pub fn tuples_of(alloc: Global, size: u8, body: BodyOf<Node>) -> Result<Node, Memory>
     ensures fits { IfOk result (λ t. (d : ℕ) → size ≤ MAX_ELEMENTS → BodyFits d size body → Fits (suc d) t) }
     ensures value { IfOk result (λ t. (d : ℕ) → view (suc d) t ≡ of_tuples (ops d) (sizes ((size, body_view d body) ∷ []))) }

@@ -16,6 +16,7 @@ use type_sets::SharedList;
 
 /// The type whose values are those of both. Where one is part of the other it is shared.
 #[cycle(meets)]
+#[tactic(auto, using(crate::proofs::Views::of_above, crate::proofs::MeetViews::meet_of_any, crate::proofs::MeetViews::meet_with_any, crate::proofs::MeetViews::meet_of_parts, crate::proofs::MeetViews::met_below, crate::proofs::MeetViews::met_above))]
 pub fn meet(alloc: Global, level: u32, a: &Node, b: &Node) -> Result<Node, Memory>
     requires a { Fits level a.now }
     requires b { Fits level b.now }
@@ -85,6 +86,7 @@ fn meet_cell(
 }
 
 // The lists of an element type, of which there are none where it has no value.
+#[tactic(auto, using(crate::proofs::Views::fits_normal))]
 fn some_cell(alloc: Global, element: Node, is_proper: bool) -> Result<Option<CellOf<Node>>, Memory>
     ensures value { IfOk result (λ m. (d : ℕ) → Fits d element → cell_view d m ≡ or_none ((ops d).is_none (view d element)) (record { element = view d element; is_proper = is_proper })) }
     ensures fits { IfOk result (λ m. (d : ℕ) → Fits d element → CellFits d m) }
@@ -101,6 +103,7 @@ fn some_cell(alloc: Global, element: Node, is_proper: bool) -> Result<Option<Cel
 
 // The types of two products, place by place: none where some place has no value.
 #[cycle(meets)]
+#[tactic(auto, using(crate::proofs::JoinLaws::row_more, crate::proofs::MeetViews::row_none, crate::proofs::MeetViews::filled_more, crate::proofs::Views::each_more))]
 fn meet_row(alloc: Global, level: u32, a: &[Node], b: &[Node]) -> Result<Option<List<Node>>, Memory>
     requires { (n : ℕ) × (RowFits level n a.now × RowFits level n b.now) }
     ensures value { IfOk result (λ m. option_map (row_view level) m ≡ row_meet (ops level) (row_view level a.now) (row_view level b.now)) }

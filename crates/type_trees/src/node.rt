@@ -63,6 +63,7 @@ pub struct TagOf<E> {
 pub fn discard(_t: Node) {}
 
 /// Whether the type has no value.
+#[tactic(auto, using(crate::proofs::Views::any_has))]
 pub fn is_none(t: &Node) -> bool
     ensures { (d : ℕ) → Fits d t.now → result ≡ (ops d).is_none (view d t.now) }
 {
@@ -80,6 +81,7 @@ fn has_no_part(parts: &PartsOf<Node>) -> bool
 }
 
 /// Whether the type has the atom.
+#[tactic(auto, using(crate::proofs::Nodes::any_has_atom, crate::proofs::Nodes::of_has_atom))]
 pub fn has_atom(t: &Node, atom: &Shared<Atom>) -> bool
     ensures { (d : ℕ) → Fits d t.now → result ≡ (ops d).has_atom (view d t.now) atom.now }
 {
@@ -90,6 +92,7 @@ pub fn has_atom(t: &Node, atom: &Shared<Atom>) -> bool
 }
 
 /// The atoms of a type that has at most thirteen of them and nothing else.
+#[tactic(auto, using(crate::proofs::Nodes::any_only, crate::proofs::Nodes::of_not_only))]
 pub fn only_atoms(t: &Node) -> Option<&[Shared<Atom>]>
     ensures { (d : ℕ) → Fits d t.now → option_copied result ≡ (ops d).only (view d t.now) }
 {
@@ -159,6 +162,7 @@ fn rest_of_product<'a>(row: &'a [Node], atom: &Shared<Atom>) -> Option<&'a [Node
 }
 
 /// What stands after a tag.
+#[tactic(auto, using(crate::proofs::Nodes::tag_found, crate::proofs::Nodes::tag_passed))]
 pub fn find_tag<'a>(tags: &'a [TagOf<Node>], atom: &Atom) -> Option<&'a [Node]>
     ensures value { (d : ℕ) → option_map (row_view d) (option_copied result) ≡ find name_cmp (tags_view d tags.now) atom.now }
     ensures each { (d : ℕ) → EachTag (Fits d) tags.now → IfSome result (λ r. EachNode (Fits d) r.now) }
@@ -172,6 +176,7 @@ pub fn find_tag<'a>(tags: &'a [TagOf<Node>], atom: &Atom) -> Option<&'a [Node]>
 }
 
 /// The type of these parts: every value where all of them are full.
+#[tactic(auto, using(crate::proofs::Views::any_fits, crate::proofs::Views::view_any, crate::proofs::Views::of_fits, crate::proofs::Views::view_of, crate::proofs::Nodes::any_is_full))]
 pub fn made(parts: PartsOf<Node>) -> Node
     ensures fits { (d : ℕ) → PartsFit d parts → Fits (suc d) result }
     ensures value { (d : ℕ) → PartsFit d parts → view (suc d) result ≡ parts_view d parts }
@@ -185,6 +190,7 @@ pub fn made(parts: PartsOf<Node>) -> Node
 }
 
 // Whether every value is there.
+#[tactic(auto, using(crate::proofs::Nodes::open_cell, crate::proofs::Nodes::full_parts))]
 fn is_full(parts: &PartsOf<Node>) -> bool
     ensures { (d : ℕ) → PartsFit d parts.now → IsTrue result ↔ (parts_view d parts.now ≡ parts_any (ops d)) }
 {

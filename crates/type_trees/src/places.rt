@@ -11,6 +11,7 @@ use std::cmp::Ordering;
 use type_kinds::{Atom, Memory, Shared};
 
 /// Where the tag with this atom is, or, as an error, where one would go.
+#[tactic(auto, using(crate::proofs::PlaceLaws::places, crate::proofs::PlaceLaws::compared))]
 pub fn place_of_tag(tags: &[TagOf<Node>], atom: &Shared<Atom>) -> Result<usize, usize>
     ensures found_within { IfOk result (λ at. at < length tags.now) }
     ensures found { IfOk result (λ at. (d : ℕ) → StandsAt name_cmp atom.now (tags_view d tags.now) at) }
@@ -28,6 +29,7 @@ pub fn place_of_tag(tags: &[TagOf<Node>], atom: &Shared<Atom>) -> Result<usize, 
 }
 
 /// Where the size is, or, as an error, where it would go.
+#[tactic(auto, using(crate::proofs::PlaceLaws::places))]
 pub fn place_of_size(sizes: &[SizeOf<Node>], size: u8) -> Result<usize, usize>
     ensures found_within { IfOk result (λ at. at < length sizes.now) }
     ensures found { IfOk result (λ at. (d : ℕ) → StandsAt nat_cmp size (sizes_view d sizes.now) at) }

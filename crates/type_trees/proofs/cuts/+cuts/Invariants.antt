@@ -1,4 +1,4 @@
-use Rattle.std.proofs.Common.{◌≡◌, ◌+◌, ◌*◌, take}
+use Rattle.std.proofs.Common.{◌≡◌, ◌+◌, ◌*◌, ◌++◌, drop}
 use Rattle.type_model.specs.Cut.{row_lower, body_lower}
 use Rattle.type_model.specs.Cut as levels
 use Rattle.type_model.specs.Operations.{ops}
@@ -30,20 +30,21 @@ decreases-cut_tuples l = 10 * l.from + 5
 abbrev pub decreases-cut_parts : goal.decreases-cut_parts
 decreases-cut_parts l = 10 * l.from + 6
 
+-- what is cut so far, and what is to come, make the whole
 abbrev pub invariant-cut_row-loop-element : goal.invariant-cut_row-loop-element
 invariant-cut_row-loop-element l = record {
-  value : row_view l.to l.out ≡ row_lower (levels.cut l.from l.to) (ops l.from) (ops l.to) (row_view l.from (take l.element-index l.row));
+  value : row_view l.to l.out ++ row_lower (levels.cut l.from l.to) (ops l.from) (ops l.to) (row_view l.from (drop l.element-index l.row)) ≡ row_lower (levels.cut l.from l.to) (ops l.from) (ops l.to) (row_view l.from l.row);
   each : EachNode (Fits l.to) l.out;
 }
 
 abbrev pub invariant-cut_sizes-loop-size : goal.invariant-cut_sizes-loop-size
 invariant-cut_sizes-loop-size l = record {
-  value : sizes_view l.to l.out ≡ mapped (body_lower (levels.cut l.from l.to) (ops l.from) (ops l.to)) (sizes_view l.from (take l.size-index l.sizes));
+  value : sizes_view l.to l.out ++ mapped (body_lower (levels.cut l.from l.to) (ops l.from) (ops l.to)) (sizes_view l.from (drop l.size-index l.sizes)) ≡ mapped (body_lower (levels.cut l.from l.to) (ops l.from) (ops l.to)) (sizes_view l.from l.sizes);
   each : EachSize (Fits l.to) l.out;
 }
 
 abbrev pub invariant-cut_tags-loop-tag : goal.invariant-cut_tags-loop-tag
 invariant-cut_tags-loop-tag l = record {
-  value : tags_view l.to l.out ≡ mapped (row_lower (levels.cut l.from l.to) (ops l.from) (ops l.to)) (tags_view l.from (take l.tag-index l.tags));
+  value : tags_view l.to l.out ++ mapped (row_lower (levels.cut l.from l.to) (ops l.from) (ops l.to)) (tags_view l.from (drop l.tag-index l.tags)) ≡ mapped (row_lower (levels.cut l.from l.to) (ops l.from) (ops l.to)) (tags_view l.from l.tags);
   each : EachTag (Fits l.to) l.out;
 }

@@ -1,8 +1,8 @@
-use Rattle.std.proofs.Common.{◌≡◌, ◌+◌, ◌*◌, take}
+use Rattle.std.proofs.Common.{◌≡◌, ℕ, ◌+◌, ◌*◌, ◌++◌, take, drop}
 use Rattle.std.specs.Ordering.{nat_cmp}
-use Rattle.type_model.specs.Operations.{ops, row_join, all_rows_join, tags_join, body_join}
+use Rattle.type_model.specs.Operations.{ops, row_join, rows_join, all_rows_join, tags_join, body_join}
 use Rattle.type_model.specs.Tables.{held, united}
-use Rattle.type_trees.specs.View.{Fits, row_view, tags_view, sizes_view, EachNode, EachTag, EachSize}
+use Rattle.type_trees.specs.View.{Fits, row_view, tags_view, sizes_view, EachNode, EachTag, EachSize, RowFits, TagsFit}
 use Rattle.type_trees.proofs.joins.+joins.Given as goal
 
 abbrev pub decreases-join : goal.decreases-join
@@ -53,13 +53,14 @@ decreases-join_tuples l = 10 * l.level + 8
 -- what has been joined so far
 abbrev pub invariant-join_row-loop-i : goal.invariant-join_row-loop-i
 invariant-join_row-loop-i l = record {
-  value : row_view l.level l.out ≡ take l.i (row_join (ops l.level) (row_view l.level l.a) (row_view l.level l.b));
+  value : row_view l.level l.out ++ row_join (ops l.level) (row_view l.level (drop l.i l.a)) (row_view l.level (drop l.i l.b)) ≡ row_join (ops l.level) (row_view l.level l.a) (row_view l.level l.b);
   each : EachNode (Fits l.level) l.out;
 }
 
 abbrev pub invariant-join_rests-loop-i : goal.invariant-join_rests-loop-i
 invariant-join_rests-loop-i l = record {
-  value : row_view l.level l.out ≡ all_rows_join (ops l.level) (held (take l.i (tags_view l.level l.tags)));
+  value : rows_join (ops l.level) (row_view l.level l.out) (held (tags_view l.level (drop l.i l.tags))) ≡ all_rows_join (ops l.level) (held (tags_view l.level l.tags));
+  fits : (n : ℕ) → TagsFit l.level n l.tags → RowFits l.level n l.out;
   each : EachNode (Fits l.level) l.out;
 }
 
