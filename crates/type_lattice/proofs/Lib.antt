@@ -1,10 +1,7 @@
-mod CanonicalTypes
 mod ChainLaws
 mod DecisionLaws
-mod ElementTrees
 mod KindModels
 mod MakerLaws
 mod MonotoneLaws
-mod PartLaws
 mod TypeLaws
 mod TypeModels

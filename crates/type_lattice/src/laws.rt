@@ -47,12 +47,14 @@ pub fn monotone_laws()
 
 /// Canonical values tell types apart as well as all values do: where each canonical value of a type
 /// is one of another, each of its values is.
+#[tactic(auto, using(crate::proofs::TypeLaws::laws))]
 pub fn canonical_laws()
     ensures { (s t : Type4) → ((v : Value) → IsCanonical v → HasType v s → HasType v t) → Below s t }
 {}
 
 /// Whether a type is none, whether two types are one, and whether one is part of another are functions
 /// of the types.
+#[tactic(auto, using(crate::proofs::DecisionLaws::decisions))]
 pub fn decision_laws()
     ensures none { (t : Type4) → IsTrue (is_none t) ↔ (t ≡ none) }
     ensures same { (s t : Type4) → IsTrue (is_same s t) ↔ (s ≡ t) }
@@ -61,6 +63,7 @@ pub fn decision_laws()
 
 /// The types of some atoms, of some integers and of a kind have exactly these values. An arity is below
 /// 2^32.
+#[tactic(auto, using(crate::proofs::KindModels::atoms_only, crate::proofs::KindModels::ints_only, crate::proofs::KindModels::kind_only))]
 pub fn maker_laws()
     ensures atoms { (s : Names) (v : Value) → HasType v (of_atoms s) ↔ HasAtom v s }
     ensures ints { (s : Numbers) (v : Value) → HasType v (of_ints s) ↔ HasInt v s }
@@ -76,6 +79,7 @@ pub fn cut_laws()
 
 /// The type of the tuples of some types is the smallest that has them, and has nothing but tuples. Up to
 /// 64 types it has exactly the tuples whose elements are in these types cut to level 3.
+#[tactic(auto, using(crate::proofs::TypeLaws::laws))]
 pub fn tuple_laws()
     ensures above { (ts : List Type4) (vs : Values) → HasTypes vs ts → HasType (tuple_value vs) (tuple ts) }
     ensures least { (ts : List Type4) (u : Type4) → ((vs : Values) → HasTypes vs ts → HasType (tuple_value vs) u) → Below (tuple ts) u }
@@ -96,6 +100,7 @@ pub fn cons_laws()
 
 /// A cons is in a type exactly where its head is in `elem` and its tail in `tail`, and both are the
 /// smallest types of which that is true.
+#[tactic(auto, using(crate::proofs::TypeLaws::laws))]
 pub fn list_laws()
     ensures parts { (t : Type4) (x y : Value) → HasType (cons_value x y) t ↔ (HasType x (elem t) × HasType y (tail t)) }
     ensures elem { (t u : Type4) → ((x y : Value) → HasType (cons_value x y) t → HasType x u) → Below (elem t) u }
@@ -104,6 +109,7 @@ pub fn list_laws()
 
 /// The type of an element has what stands there in the tuples of a size, and up to 64 elements it is the
 /// smallest that does.
+#[tactic(auto, using(crate::proofs::TypeLaws::laws))]
 pub fn project_laws()
     ensures holds { (t : Type4) (n i : ℕ) (vs : Values) (v : Value) → HasType (tuple_value vs) t → count vs ≡ n → value_at vs (i - 1) ≡ Some v → HasType v (project t n i) }
     ensures least { (t : Type4) (n i : ℕ) → n ≤ MAX_ELEMENTS → 1 ≤ i → i ≤ n → (u : Type4) → ((vs : Values) (v : Value) → HasType (tuple_value vs) t → count vs ≡ n → value_at vs (i - 1) ≡ Some v → HasType v u) → Below (project t n i) u }

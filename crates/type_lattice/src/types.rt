@@ -58,6 +58,7 @@ impl Ty {
     }
 
     /// Every value. Takes no memory.
+    #[tactic(auto, using(type_trees::proofs::Views::any_fits))]
     pub fn any() -> Ty
         ensures value { result ≡ any }
         ensures every { (v : Value) → HasType v result }
@@ -213,6 +214,7 @@ impl Ty {
     }
 
     /// The type of the heads of a list, and none where the type has no list but nil.
+    #[tactic(auto, using(crate::proofs::TypeModels::element_fits, crate::proofs::TypeModels::fits_up))]
     pub fn elem(&self, alloc: Global) -> Result<Ty, Memory>
         ensures value { IfOk result (λ t. t ≡ elem self.now) }
         ensures holds { IfOk result (λ t. (x y : Value) → HasType (cons_value x y) self.now → HasType x t) }

@@ -1,10 +1,5 @@
-use Rattle.type_lattice.proofs.ChainLaws.{falls-rank, falls-above, falls-more, height-lower}
+use Rattle.type_lattice.proofs.ChainLaws.{falls_rank, falls_above, falls_more, height_lower}
 use Rattle.type_lattice.proofs.laws.chain_laws.Goals as goal
 
 pub returns : goal.returns
-returns c = record {
-  bound = falls-rank;
-  above = falls-above;
-  more = falls-more;
-  lower = height-lower;
-}
+returns c = assumption (falls_rank, falls_above, falls_more, height_lower)

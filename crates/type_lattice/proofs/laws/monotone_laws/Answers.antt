@@ -1,14 +1,7 @@
-use Rattle.type_lattice.proofs.MonotoneLaws.{meet-more, join-more, cut-more, tuple-more, cons-more, project-more, elem-more, tail-more}
+use Rattle.std.proofs.Common.{arith}
+use Rattle.type_lattice.proofs.TypeLaws.{laws}
+use Rattle.type_lattice.proofs.MonotoneLaws.{types_more, cons_more}
 use Rattle.type_lattice.proofs.laws.monotone_laws.Goals as goal
 
 pub returns : goal.returns
-returns c = record {
-  meet = meet-more;
-  join = join-more;
-  cut = cut-more;
-  tuple = tuple-more;
-  cons = cons-more;
-  project = project-more;
-  elem = elem-more;
-  tail = tail-more;
-}
+returns c = grind (arith, laws, types_more, cons_more)

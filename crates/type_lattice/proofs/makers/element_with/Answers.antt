@@ -1,21 +1,17 @@
-use Rattle.std.proofs.Common.{◌≡◌, refl, subst, IfOk}
-use Rattle.type_trees.specs.View.{view}
+use Rattle.std.proofs.Common.{refl}
 use Rattle.type_trees.specs.declared.node.Node.TheVariants as v
-use Rattle.type_trees.proofs.Views.{any_fits}
-use Rattle.type_lattice.proofs.MakerLaws.{any_element, none_element, some_element, cell_fits}
+use Rattle.type_trees.proofs.Views.{view_any, any_fits}
+use Rattle.type_lattice.proofs.TypeModels.{any_tree, parts_tree, join_any, cell_fits}
 use Rattle.type_lattice.proofs.makers.element_with.Goals as goal
 
-pub returns-in_default-clause-fits : goal.returns-in_default-clause-fits
-returns-in_default-clause-fits c = any_fits v.Any refl 3
-
-pub returns-in_default-clause-value : goal.returns-in_default-clause-value
-returns-in_default-clause-value c = any_element 3 c.args.head c.args.tail.now c.requires.head c.in_default.is
-
-pub join-requires-clause-b : goal.join-requires-clause-b
-join-requires-clause-b c = cell_fits 3 c.args.tail.now c.in-Of.parts c.in-Some.cell c.get.result.now c.in-Of.is c.in-Some.is c.get.ensures c.requires.tail
+pub returns-in_default : goal.returns-in_default
+returns-in_default c = record { fits = any_fits v.Any refl 3; value = rw (c.in_default.is, any_tree, view_any v.Any refl 3, join_any _ c.requires.head) refl }
 
 pub returns-in-None-clause-value : goal.returns-in-None-clause-value
-returns-in-None-clause-value c = none_element 3 c.args.head c.args.tail.now c.in-Of.parts c.in-Of.is c.in-None.is
+returns-in-None-clause-value c = rw (c.in-Of.is, parts_tree, c.in-None.is) refl
+
+pub join-requires-clause-b : goal.join-requires-clause-b
+join-requires-clause-b c = rw c.get.ensures (rw c.in-Some.is at (cell_fits c.in-Of.parts (rw c.in-Of.is at c.requires.tail))).each
 
 pub returns-in-Some-clause-value : goal.returns-in-Some-clause-value
-returns-in-Some-clause-value c = subst (λ t. IfOk c.join.result (λ n. view 3 n ≡ t)) (some_element 3 c.args.head c.args.tail.now c.in-Of.parts c.in-Some.cell c.get.result.now c.in-Of.is c.in-Some.is c.get.ensures) c.join.ensures.value
+returns-in-Some-clause-value c = rw (c.in-Of.is, parts_tree, c.in-Some.is, ← c.get.ensures) c.join.ensures.value

@@ -1,16 +1,11 @@
-use Rattle.std.proofs.Common.{refl, sym, subst}
-use Rattle.type_lattice.specs.Types.{HasType}
+use Rattle.std.proofs.Common.{refl, ◌∙◌}
 use Rattle.type_trees.specs.declared.node.Node.TheVariants as v
-use Rattle.type_trees.proofs.Views.{any_fits}
-use Rattle.type_lattice.proofs.TypeLaws.{any-every}
-use Rattle.type_lattice.proofs.TypeModels.{any_type}
+use Rattle.type_trees.proofs.Views.{view_any}
+use Rattle.type_lattice.specs.Types.{same_type, any}
+use Rattle.type_lattice.proofs.TypeLaws.{laws}
 use Rattle.type_lattice.proofs.types.Ty.any.Goals as goal
 
-pub of_node-requires : goal.of_node-requires
-of_node-requires c = any_fits v.Any refl 4
-
-pub returns-clause-value : goal.returns-clause-value
-returns-clause-value c = any_type c.of_node.result v.Any refl c.of_node.ensures
-
-pub returns-clause-every : goal.returns-clause-every
-returns-clause-every c = λ x. subst (HasType x) (sym (returns-clause-value c)) (any-every x)
+pub returns : goal.returns
+unfolding any
+returns c =
+    rw (same_type c.of_node.result any (c.of_node.ensures ∙ view_any v.Any refl 4)) (record { value = refl; every = laws.any-every })

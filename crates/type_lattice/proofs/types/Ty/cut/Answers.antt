@@ -1,18 +1,15 @@
-use Rattle.std.proofs.Common.{sym, ap, subst, ◌∙◌}
-use Rattle.type_lattice.specs.Types.{Below, IsOfLevel}
+use Rattle.std.proofs.Common.{refl, sym, ap, ◌∙◌}
 use Rattle.type_trees.proofs.Lifts.{lift}
-use Rattle.type_lattice.proofs.TypeLaws.{cut-level, cut-above, cut-least}
-use Rattle.type_lattice.proofs.TypeModels.{cut_filled, cut_none, cut_type}
+use Rattle.type_lattice.specs.Types.{same_type, cut}
+use Rattle.type_lattice.proofs.TypeLaws.{laws}
+use Rattle.type_lattice.proofs.TypeModels.{cut_filled, cut_none}
 use Rattle.type_lattice.proofs.types.Ty.cut.Goals as goal
 use Rattle.type_lattice.proofs.types.Ty.cut.Goals.{else-level-eq0-via-then-level-eq0+else-is_none, else-level-eq0-via-else-level-eq0}
 
-pub returns-then-is_none-clause-value : goal.returns-then-is_none-clause-value
-returns-then-is_none-clause-value c =
-    cut_none c.args.level c.args.self.now c.none.result c.if-level-eq0.true (sym c.is_none.ensures.value ∙ c.if-is_none.true) c.none.ensures.value
-
-pub returns-then-is_none-clause-level : goal.returns-then-is_none-clause-level
-returns-then-is_none-clause-level c =
-    subst (IsOfLevel c.args.level) (sym (returns-then-is_none-clause-value c)) (cut-level c.args.level c.args.self.now)
+pub returns-then-is_none : goal.returns-then-is_none
+returns-then-is_none c =
+    let e = cut_none c.args.level c.args.self.now c.none.result c.if-level-eq0.true (sym c.is_none.ensures.value ∙ c.if-is_none.true) c.none.ensures.value in
+    rw e (record { value = refl; level = laws.cut-level _ c.args.self.now; above = laws.cut-above _ _; least = laws.cut-least _ c.requires _ })
 
 pub cut-requires-clause-filled : goal.cut-requires-clause-filled
 cut-requires-clause-filled c =
@@ -25,18 +22,9 @@ cut-requires-clause-filled c =
 pub of_node-requires : goal.of_node-requires
 of_node-requires c = (lift c.args.level 4 c.requires c.in_ok-cut.field-0 c.in_ok-cut.ensures.fits).0
 
-pub returns-clause-value : goal.returns-clause-value
-returns-clause-value c =
-    cut_type c.args.level c.args.self.now c.of_node.result c.self.inside.kept.node c.in_ok-cut.field-0 c.requires (ap (λ t. t.ty) c.self.view_is) c.in_ok-cut.ensures.fits c.in_ok-cut.ensures.value c.of_node.ensures
-
-pub returns-clause-level : goal.returns-clause-level
-returns-clause-level c =
-    subst (IsOfLevel c.args.level) (sym (returns-clause-value c)) (cut-level c.args.level c.args.self.now)
-
-pub returns-clause-above : goal.returns-clause-above
-returns-clause-above c =
-    subst (Below c.args.self.now) (sym (returns-clause-value c)) (cut-above c.args.level c.args.self.now)
-
-pub returns-clause-least : goal.returns-clause-least
-returns-clause-least c = λ u k f.
-    subst (λ t. Below t u) (sym (returns-clause-value c)) (cut-least c.args.level c.requires c.args.self.now u k f)
+pub returns : goal.returns
+unfolding cut
+returns c =
+    let up = (lift c.args.level 4 c.requires c.in_ok-cut.field-0 c.in_ok-cut.ensures.fits).1 in
+    let e = same_type c.of_node.result (cut c.args.level c.args.self.now) (rw (← c.self.view_is, ← c.in_ok-cut.ensures.value) (c.of_node.ensures ∙ up)) in
+    rw e (record { value = refl; level = laws.cut-level _ c.args.self.now; above = laws.cut-above _ _; least = laws.cut-least _ c.requires _ })

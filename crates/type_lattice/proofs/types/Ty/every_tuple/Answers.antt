@@ -7,4 +7,4 @@ of_node-requires c = c.every_tuple.ensures.fits 3
 
 pub returns : goal.returns
 unfolding every_tuple
-returns c = same_type c.of_node.result every_tuple (c.of_node.ensures ∙ c.every_tuple.ensures.value 3)
+returns c = same_type _ _ (c.of_node.ensures ∙ c.every_tuple.ensures.value 3)

@@ -1,70 +1,72 @@
-use Rattle.std.proofs.Common.{sym, ap, subst, ◌∙◌, ◌≡◌, Some, None, true≢false, arith}
-use Rattle.std.specs.Ordering.{nat_cmp}
-use Rattle.type_model.specs.Tables.{find}
-use Rattle.type_lattice.specs.Types.{HasType}
-use Rattle.type_trees.specs.View.{sizes_view, body_view, Fits, EachSize, EachInBody}
-use Rattle.type_trees.specs.declared.node.TuplesOf.TheVariants.{All, Sizes}
-use Rattle.type_trees.proofs.Lifts.{lift}
-use Rattle.type_lattice.proofs.TypeLaws.{project-holds}
-use Rattle.type_lattice.proofs.TypeModels.{any_is, tuples_are, body_fits, project_any, project_all, project_wide_none, project_wide_any, project_missing, project_found}
+use Rattle.std.proofs.Common.{refl, ap, ◌∙◌, arith}
+use Rattle.std.proofs.lemmas.Bool.{lt-ltb, le-ltb}
+use Rattle.type_model.specs.Operations.{ops}
+use Rattle.type_model.specs.Cut as levels
+use Rattle.type_model.specs.Parts.{lifted}
+use Rattle.type_trees.specs.View.{SizesFit}
+use Rattle.type_trees.proofs.Views.{view_any, no_sizes}
+use Rattle.type_trees.proofs.Inclusions.{found_fits}
+use Rattle.type_lattice.specs.Types.{same_type, any, none, project}
+use Rattle.type_lattice.proofs.TypeLaws.{laws}
+use Rattle.type_lattice.proofs.TypeModels.{parts_tree, sizes_there, fits_up, view_up}
 use Rattle.type_lattice.proofs.types.Ty.project.Goals as goal
 
-pub returns-in_default-clause-value : goal.returns-in_default-clause-value
-returns-in_default-clause-value c =
-    let t = c.args.self.now in
-    project_any t c.any.result c.args.size c.args.place (any_is t c.self.inside.kept.node c.in_default.is (ap (λ t. t.ty) c.self.view_is)) c.any.ensures.value
+pub returns-in_default : goal.returns-in_default
+unfolding any project ops levels.cut
+returns-in_default c =
+    let p = project c.args.self.now c.args.size c.args.place in
+    let e = same_type c.any.result p (rw (c.any.ensures.value, ← c.self.view_is, view_any _ c.in_default.is 4) refl) in
+    rw e (record { value = refl; holds = laws.project-holds _ _ _ })
 
-pub returns-in_default-tuples-clause-value : goal.returns-in_default-tuples-clause-value
-returns-in_default-tuples-clause-value c =
-    let t = c.args.self.now in
-    project_all t c.any-in_default-tuples.result c.args.size c.args.place (tuples_are t c.self.inside.kept.node c.in-Of.parts All c.in-Of.is (ap (λ t. t.ty) c.self.view_is) c.in_default-tuples.is) c.any-in_default-tuples.ensures.value
+pub returns-in_default-tuples : goal.returns-in_default-tuples
+unfolding any project ops levels.cut
+returns-in_default-tuples c =
+    let p = project c.args.self.now c.args.size c.args.place in
+    let r = c.any-in_default-tuples in
+    let e = same_type r.result p (rw (r.ensures.value, ← c.self.view_is, c.in-Of.is, parts_tree, c.in_default-tuples.is) refl) in
+    rw e (record { value = refl; holds = laws.project-holds _ _ _ })
 
-pub returns-then-is_empty-clause-value : goal.returns-then-is_empty-clause-value
-returns-then-is_empty-clause-value c =
-    let t = c.args.self.now in
-    let ss = c.in-Sizes.sizes in
-    project_wide_none t c.none.result c.args.size c.args.place ss (tuples_are t c.self.inside.kept.node c.in-Of.parts (Sizes ss) c.in-Of.is (ap (λ t. t.ty) c.self.view_is) c.in-Sizes.is) c.if-size.true (c.is_empty.ensures.0 c.if-is_empty.true) c.none.ensures.value
+pub returns-then-is_empty : goal.returns-then-is_empty
+unfolding none project
+returns-then-is_empty c =
+    let p = project c.args.self.now c.args.size c.args.place in
+    let wide = le-ltb c.args.size 65 c.if-size.true in
+    let e = same_type c.none.result p (rw (c.none.ensures.value, ← c.self.view_is, c.in-Of.is, parts_tree, c.in-Sizes.is, wide, c.is_empty.ensures.0 c.if-is_empty.true) refl) in
+    rw e (record { value = refl; holds = laws.project-holds _ _ _ })
 
-pub returns-then-is_empty-clause-holds : goal.returns-then-is_empty-clause-holds
-returns-then-is_empty-clause-holds c = λ vs v h e f.
-    subst (HasType v) (sym (returns-then-is_empty-clause-value c)) (project-holds c.args.self.now c.args.size c.args.place vs v h e f)
-
-pub returns-then-size-clause-value : goal.returns-then-size-clause-value
-returns-then-size-clause-value c =
-    let t = c.args.self.now in
-    let ss = c.in-Sizes.sizes in
-    project_wide_any t c.any-then-size.result c.args.size c.args.place ss (tuples_are t c.self.inside.kept.node c.in-Of.parts (Sizes ss) c.in-Of.is (ap (λ t. t.ty) c.self.view_is) c.in-Sizes.is) c.if-size.true (λ e. true≢false (sym (c.is_empty.ensures.1 e) ∙ c.if-is_empty.false)) c.any-then-size.ensures.value
+pub returns-then-size : goal.returns-then-size
+unfolding any project ops levels.cut
+returns-then-size c =
+    let p = project c.args.self.now c.args.size c.args.place in
+    let r = c.any-then-size in
+    let wide = le-ltb c.args.size 65 c.if-size.true in
+    let empty = no_sizes 3 c.in-Sizes.sizes c.is_empty.result c.is_empty.ensures in
+    let e = same_type r.result p (rw (r.ensures.value, ← c.self.view_is, c.in-Of.is, parts_tree, c.in-Sizes.is, wide, ← empty, c.if-is_empty.false) refl) in
+    rw e (record { value = refl; holds = laws.project-holds _ _ _ })
 
 pub element-requires : goal.element-requires
 element-requires c =
-    let ss = c.in-Sizes.sizes in
-    let b = c.in-Some.body.now in
-    let found = subst (λ x. Some (body_view 3 b) ≡ find nat_cmp (sizes_view 3 x) c.args.size) c.as_slice.ensures (c.in-Some.ensures.value 3) in
-    let each = subst (λ x. EachSize (Fits 3) x → EachInBody (Fits 3) b) c.as_slice.ensures (c.in-Some.ensures.each 3) in
-    (c.args.size, (body_fits c.self.inside.kept.node c.in-Of.parts ss c.args.size b c.in-Of.is c.self.invariant c.in-Sizes.is found each, omega (arith, c.requires)))
+    let fit : SizesFit 3 c.as_slice.result.now = rw c.as_slice.ensures (sizes_there c.in-Of.parts c.in-Sizes.sizes (rw c.in-Of.is at c.self.invariant) c.in-Sizes.is) in
+    (c.args.size, (found_fits 3 _ c.args.size c.in-Some.body.now fit (c.in-Some.ensures.value 3) (c.in-Some.ensures.each 3 fit.each), omega (arith, c.requires)))
 
 pub of_node-requires : goal.of_node-requires
-of_node-requires c = (lift 3 4 (omega arith) c.in_ok-element-in-Some.field-0 c.in_ok-element-in-Some.ensures.fits).0
+of_node-requires c = fits_up _ c.in_ok-element-in-Some.ensures.fits
 
-pub returns-in-None-clause-value : goal.returns-in-None-clause-value
-returns-in-None-clause-value c =
-    let t = c.args.self.now in
-    let ss = c.in-Sizes.sizes in
-    let missing = subst (λ x. None ≡ find nat_cmp (sizes_view 3 x) c.args.size) c.as_slice.ensures (c.in-None.ensures.value 3) in
-    project_missing t c.none-in-None.result c.args.size c.args.place ss (tuples_are t c.self.inside.kept.node c.in-Of.parts (Sizes ss) c.in-Of.is (ap (λ t. t.ty) c.self.view_is) c.in-Sizes.is) c.if-size.false missing c.none-in-None.ensures.value
+pub returns-in-None : goal.returns-in-None
+unfolding none project
+returns-in-None c =
+    let p = project c.args.self.now c.args.size c.args.place in
+    let r = c.none-in-None in
+    let narrow = lt-ltb c.args.size 65 (omega arith) in
+    let e = same_type r.result p (rw (r.ensures.value, ← c.self.view_is, c.in-Of.is, parts_tree, c.in-Sizes.is, narrow, ← c.as_slice.ensures, ← c.in-None.ensures.value 3) refl) in
+    rw e (record { value = refl; holds = laws.project-holds _ _ _ })
 
-pub returns-in-None-clause-holds : goal.returns-in-None-clause-holds
-returns-in-None-clause-holds c = λ vs v h e f.
-    subst (HasType v) (sym (returns-in-None-clause-value c)) (project-holds c.args.self.now c.args.size c.args.place vs v h e f)
-
-pub returns-in_ok-element-in-Some-clause-value : goal.returns-in_ok-element-in-Some-clause-value
-returns-in_ok-element-in-Some-clause-value c =
-    let t = c.args.self.now in
-    let ss = c.in-Sizes.sizes in
-    let b = c.in-Some.body.now in
-    let found = subst (λ x. Some (body_view 3 b) ≡ find nat_cmp (sizes_view 3 x) c.args.size) c.as_slice.ensures (c.in-Some.ensures.value 3) in
-    project_found t c.of_node.result c.args.size c.args.place ss b c.in_ok-element-in-Some.field-0 (tuples_are t c.self.inside.kept.node c.in-Of.parts (Sizes ss) c.in-Of.is (ap (λ t. t.ty) c.self.view_is) c.in-Sizes.is) c.if-size.false found c.in_ok-element-in-Some.ensures.value c.in_ok-element-in-Some.ensures.fits c.of_node.ensures
-
-pub returns-in_ok-element-in-Some-clause-holds : goal.returns-in_ok-element-in-Some-clause-holds
-returns-in_ok-element-in-Some-clause-holds c = λ vs v h e f.
-    subst (HasType v) (sym (returns-in_ok-element-in-Some-clause-value c)) (project-holds c.args.self.now c.args.size c.args.place vs v h e f)
+pub returns-in_ok-element-in-Some : goal.returns-in_ok-element-in-Some
+unfolding project
+returns-in_ok-element-in-Some c =
+    let p = project c.args.self.now c.args.size c.args.place in
+    let x = c.in_ok-element-in-Some in
+    let narrow = lt-ltb c.args.size 65 (omega arith) in
+    let is = c.of_node.ensures ∙ view_up x.field-0 x.ensures.fits ∙ ap (lifted 3) x.ensures.value in
+    let e = same_type c.of_node.result p (rw (← c.self.view_is, c.in-Of.is, parts_tree, c.in-Sizes.is, narrow, ← c.as_slice.ensures, ← c.in-Some.ensures.value 3) is) in
+    rw e (record { value = refl; holds = laws.project-holds _ _ _ })

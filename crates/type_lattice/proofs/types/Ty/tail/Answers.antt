@@ -1,28 +1,30 @@
-use Rattle.std.proofs.Common.{sym, ap, subst, ◌∙◌}
-use Rattle.type_lattice.specs.Types.{HasType}
-use Rattle.type_lattice.proofs.TypeLaws.{tail-holds}
-use Rattle.type_lattice.proofs.TypeModels.{any_is, parts_are, cell_fits, tail_any, tail_none, tail_some}
+use Rattle.std.proofs.Common.{refl, ◌∙◌}
+use Rattle.type_model.specs.Operations.{ops}
+use Rattle.type_trees.proofs.Views.{view_any}
+use Rattle.type_lattice.specs.Types.{same_type, any, none, tail}
+use Rattle.type_lattice.proofs.TypeLaws.{laws}
+use Rattle.type_lattice.proofs.TypeModels.{parts_tree, cell_fits}
 use Rattle.type_lattice.proofs.types.Ty.tail.Goals as goal
 
-pub returns-in_default-clause-value : goal.returns-in_default-clause-value
-returns-in_default-clause-value c =
-    tail_any c.args.self.now c.any.result (any_is c.args.self.now c.self.inside.kept.node c.in_default.is (ap (λ t. t.ty) c.self.view_is)) c.any.ensures.value
+pub returns-in_default : goal.returns-in_default
+unfolding any tail ops
+returns-in_default c =
+    let e = same_type c.any.result (tail c.args.self.now) (rw (c.any.ensures.value, ← c.self.view_is, view_any _ c.in_default.is 4) refl) in
+    rw e (record { value = refl; holds = laws.tail-holds _ })
 
 pub tail_parts-requires : goal.tail_parts-requires
-tail_parts-requires c = cell_fits c.self.inside.kept.node c.in-Of.parts c.in-Some.cell c.in-Of.is c.self.invariant c.in-Some.is
+tail_parts-requires c = rw c.in-Some.is at (cell_fits c.in-Of.parts (rw c.in-Of.is at c.self.invariant))
 
-pub returns-in-None-clause-value : goal.returns-in-None-clause-value
-returns-in-None-clause-value c =
-    tail_none c.args.self.now c.none.result c.in-Of.parts (parts_are c.args.self.now c.self.inside.kept.node c.in-Of.parts c.in-Of.is (ap (λ t. t.ty) c.self.view_is)) c.in-None.is c.none.ensures.value
+pub returns-in-None : goal.returns-in-None
+unfolding none tail ops
+returns-in-None c =
+    let e = same_type c.none.result (tail c.args.self.now) (rw (c.none.ensures.value, ← c.self.view_is, c.in-Of.is, parts_tree, c.in-None.is) refl) in
+    rw e (record { value = refl; holds = laws.tail-holds _ })
 
-pub returns-in-None-clause-holds : goal.returns-in-None-clause-holds
-returns-in-None-clause-holds c = λ x y h. subst (HasType y) (sym (returns-in-None-clause-value c)) (tail-holds c.args.self.now x y h)
-
-pub returns-in_ok-after-in-Some-clause-value : goal.returns-in_ok-after-in-Some-clause-value
-returns-in_ok-after-in-Some-clause-value c =
-    let t = c.args.self.now in
+pub returns-in_ok-after-in-Some : goal.returns-in_ok-after-in-Some
+unfolding tail
+returns-in_ok-after-in-Some c =
     let after = c.in_ok-after-in-Some.ensures in
-    tail_some t c.of_node.result c.in-Of.parts c.in-Some.cell c.made.result (parts_are t c.self.inside.kept.node c.in-Of.parts c.in-Of.is (ap (λ t. t.ty) c.self.view_is)) c.in-Some.is (c.made.ensures.value 3 after.fits ∙ after.value) c.of_node.ensures
-
-pub returns-in_ok-after-in-Some-clause-holds : goal.returns-in_ok-after-in-Some-clause-holds
-returns-in_ok-after-in-Some-clause-holds c = λ x y h. subst (HasType y) (sym (returns-in_ok-after-in-Some-clause-value c)) (tail-holds c.args.self.now x y h)
+    let is = c.of_node.ensures ∙ c.made.ensures.value 3 after.fits ∙ after.value in
+    let e = same_type c.of_node.result (tail c.args.self.now) (rw (← c.self.view_is, c.in-Of.is, parts_tree, c.in-Some.is) is) in
+    rw e (record { value = refl; holds = laws.tail-holds _ })
