@@ -1,10 +1,7 @@
 mod Adding
 mod LeafLaws
-mod LeafOnce
 mod Prints
 mod TextOnce
-mod TypeStarts
-mod WholeTexts
 mod WordLaws
 mod WordReads
 mod WordStarts

@@ -1,287 +1,195 @@
--- What the reader of types rests on: the trees that it makes, and how a text that is read goes on.
-use Rattle.std.proofs.Common.{◌≡◌, inl, inr, ℕ, zero, suc, ◌<◌, ◌^◌, true, false, List, [], ◌∷◌, ◌++◌, map, drop, Option, Some, None, MatchOption, IfSome, is_some, Bor, refl, sym, ap, ◌∙◌, subst, arith, append_assoc, true≢false}
-use Rattle.std.specs.Prelude.{codes, nat_le, ◌==◌, ◌&&◌}
+-- What the reader of types rests on: how the text of a type begins, by which `any()`, `none()` and words are told apart, how a
+-- text that is read goes on, and the trees that are made.
+use Rattle.std.proofs.Common.{◌≡◌, inl, inr, ℕ, zero, suc, Bool, true, false, List, [], ◌∷◌, ◌++◌, map, drop, Option, None, MatchOption, IfSome, is_some, Bor, refl, sym, ap, ◌∙◌, subst, arith, append_assoc, true≢false}
+use Rattle.std.specs.Prelude.{codes}
 use Rattle.std.specs.Option.{IsSomeAnd}
-use Rattle.std.specs.Fmt.{decimal}
-use borrow.Author.Tests.{ltb-true, leb-true, eqb-true}
-use Rattle.type_sets.proofs.Truths.{first, second, either}
-use Rattle.std.proofs.lemmas.List.{append-nil, map-append}
-use Rattle.type_model.specs.Shapes.{of_arity, TypeAt}
-use Rattle.type_model.specs.Operations.{ops}
+use Rattle.std.proofs.lemmas.List.{map-append}
+use Rattle.type_model.specs.Shapes.{TypeAt}
+use Rattle.type_kinds.specs.Quoted.{quoted}
+use Rattle.type_sets.specs.Names as names
+use Rattle.type_model.specs.Operations.{ops, of_atoms}
 use Rattle.type_model.specs.Normal.{IsElement, AreElements, NormalAt}
 use Rattle.type_trees.specs.declared.node.Node.{Node}
 use Rattle.type_trees.specs.declared.node.Node.TheVariants as v
 use Rattle.type_trees.specs.View.{view, row_view, Fits}
-use Rattle.type_trees.proofs.Views.{fits_normal, view_any}
-use Rattle.type_text.specs.Texts.{after, separated, text_at}
+use Rattle.type_trees.proofs.Views.{fits_normal, view_any, each_more}
+use Rattle.type_text.specs.Texts.{after, separated, is_any, text_at}
 use Rattle.type_text.specs.Words.{WordStop, TypeStop}
-use Rattle.type_text.specs.Starts.{is_number, begins_number, Lacks, NoTypeName}
-use Rattle.type_text.specs.WordTypes.{of_functions, Named, every_atom, every_float, whole_bits, every_bits, every_pid, every_port, every_reference, every_map, every_function, empty_list, every_tuple, name_of, IsWord, AreWords, spelled, joined_with, WordsOf}
+use Rattle.type_text.specs.Starts.{begins_number, Lacks, NoTypeName}
+use Rattle.type_text.specs.WordTypes.{IsWord, AreWords, spelled, joined_with, WordsOf}
+use Rattle.type_text.proofs.WordStarts.{Unlike, unlike_word, number-start, some_start}
+use Rattle.type_text.proofs.WordLaws.{words_of}
 use Rattle.type_text.proofs.Prints.{any_is_all}
-use Rattle.type_text.proofs.LeafLaws.{word_stop}
-use Rattle.type_text.proofs.WordStarts.{IsNumberStart, NoStart, is_number-true, at_arity, some_start}
-use Rattle.type_text.proofs.TypeStarts.{at_any, at_none, at_words, not_at_zero, not_at_end}
+use Rattle.type_sets.proofs.Truths.{decided}
+use Rattle.type_model.proofs.LevelLaws.{level_laws}
+
+-- ---- how the text of a type begins
+
+-- the first word, the later ones, and what stands behind them
+pub words-text : (d : ℕ) (t : TypeAt (suc d)) (s : WordsOf d t) (rest : List ℕ) → text_at (suc d) t ++ rest ≡ s.word ++ (after (codes " | ") (spelled s.later) ++ rest)
+words-text d t s rest = ap (λ x. x ++ rest) s.written ∙ append_assoc s.word (after (codes " | ") (spelled s.later)) rest
+
+-- the three ways to write a type, which may be any or none
+pub data Way {T : Type 0} (any none t : T) (text : List ℕ) (is_any is_none : Bool) : Type 0 where
+  as_any : t ≡ any → text ≡ codes "any()" → Way any none t text is_any is_none
+  as_none : t ≡ none → text ≡ codes "none()" → Way any none t text is_any is_none
+  as_words : is_any ≡ false → is_none ≡ false → Unlike text → Way any none t text is_any is_none
+
+pub way : (d : ℕ) (t : TypeAt d) → NormalAt d t → Way (ops d).any (ops d).none t (text_at d t) (is_any d t) ((ops d).is_none t)
+unfolding ops
+way zero true k = as_any refl refl
+way zero false k = as_none refl refl
+way (suc d) t k = elim (decided (is_any (suc d) t)) [
+  | inl a ↦ as_any (any_is_all (suc d) t a) (grind arith)
+  | inr a ↦ elim (decided ((ops (suc d)).is_none t)) [
+    | inl n ↦ as_none ((level_laws (suc d)).none-is_none t n) (grind arith)
+    | inr n ↦ let s = words_of d t k a n in as_words a n (subst Unlike (sym s.written) (unlike_word s.word s.first s.is_word (after (codes " | ") (spelled s.later))))
+  ]
+]
+
+module _ {T : Type 0} {any none t : T} {x : List ℕ} {a n : Bool} (w : Way any none t x a n) where
+  pub at_any : (rest more : List ℕ) → x ++ rest ≡ codes "any()" ++ more → (t ≡ any) × (more ≡ rest)
+  at_any rest more e = grind arith
+
+  pub at_none : (rest more : List ℕ) → x ++ rest ≡ codes "none()" ++ more → (t ≡ none) × (more ≡ rest)
+  at_none rest more e = grind arith
+
+  -- no type begins with what ends a tuple
+  pub not_at_end : (now rest : List ℕ) → now ≡ x ++ rest → Lacks now (codes "}")
+  not_at_end now rest is more e = grind arith
+
+  pub way_once : {s : T} {y : List ℕ} {b m : Bool} → Way any none s y b m → (r q : List ℕ) → (a ≡ false → n ≡ false → b ≡ false → m ≡ false → (t ≡ s) × (r ≡ q)) → x ++ r ≡ y ++ q → (t ≡ s) × (r ≡ q)
+  way_once v r q both e = grind arith
 
 -- ---- what is found
 
-pub found_none : {A : Type 0} (P : A → Type 0) (o : Option A) → o ≡ None → MatchOption o ⊥ P → ⊥
-found_none P o e m = subst (λ x. MatchOption x ⊥ P) e m
-
-pub found_some : {A : Type 0} (P : A → Type 0) (o : Option A) (x : A) → o ≡ Some x → MatchOption o ⊥ P → P x
-found_some P o x e m = subst (λ y. MatchOption y ⊥ P) e m
-
-pub if_found : {A : Type 0} (P : A → Type 0) (o : Option A) (x : A) → o ≡ Some x → IfSome o P → P x
-if_found P o x e m = subst (λ y. IfSome y P) e m
-
 -- a tree for a type, and what stands behind its text
-abbrev pub Found : (d : ℕ) → TypeAt d → List ℕ → Option (Node × Bor (List ℕ)) → Type 0
-Found d t rest o = MatchOption o ⊥ (λ p. (view d p.0 ≡ t) × (p.1.now ≡ rest))
-
-pub found_as : (d : ℕ) (t u : TypeAt d) (rest : List ℕ) (o : Option (Node × Bor (List ℕ))) → t ≡ u → Found d t rest o → Found d u rest o
-found_as d t u rest o e m = subst (λ x. Found d x rest o) e m
-
-pub found_at : (d : ℕ) (f : (e : ℕ) → TypeAt (suc e)) (rest : List ℕ) (o : Option (Node × Bor (List ℕ))) → MatchOption o ⊥ (λ p. ((e : ℕ) → view (suc e) p.0 ≡ f e) × (p.1.now ≡ rest)) → Found (suc d) (f d) rest o
-found_at d f rest o h = grind arith
-
--- ---- the functions of one arity
-
-pub record ArityRead (d : ℕ) (u : TypeAt (suc d)) (more rest : List ℕ) : Type 0 where
-  pub arity : ℕ
-  pub small : arity < 2 ^ 32
-  pub text : more ≡ decimal arity ++ 41 ∷ rest
-  pub is : u ≡ of_functions (ops d) (of_arity arity)
-
-pub arity_read : (d : ℕ) (w : List ℕ) (u : TypeAt (suc d)) → IsWord d w u → (now rest more : List ℕ) → now ≡ w ++ rest → now ≡ codes "fun(" ++ more → Lacks now (codes "fun()") → ArityRead d u more rest
-arity_read d w u i now rest more a b not =
-    let s = at_arity w u i now rest more a b not in
-    record { arity = s.0; small = ltb-true s.0 (2 ^ 32) s.1.0; text = s.1.1.0; is = s.1.1.1 }
+abbrev pub Found : (d : ℕ) → Option (Node × Bor (List ℕ)) → TypeAt d → List ℕ → Type 0
+Found d o t rest = MatchOption o ⊥ (λ p. (view d p.0 ≡ t) × (p.1.now ≡ rest))
 
 -- ---- words in a row
 
--- what is still to be read of a type, where some words are read and joined: other words, and what stands behind them
-pub record WordsLeft (d : ℕ) (t : Node) (left : List ℕ) (whole : TypeAt (suc d)) (rest : List ℕ) : Type 0 where
-  pub more : List (List ℕ × TypeAt (suc d))
-  pub words : AreWords d more
-  pub text : left ≡ after (codes " | ") (spelled more) ++ rest
-  pub all : joined_with (ops (suc d)).join (view (suc d) t) more ≡ whole
+module _ (d : ℕ) where
+  -- words, each after a separator, and what stands behind them
+  abbrev pub words_text : List (List ℕ × TypeAt (suc d)) → List ℕ → List ℕ
+  words_text ps r = after (codes " | ") (spelled ps) ++ r
 
--- the word behind a separator
-pub record NextWord (d : ℕ) (t : Node) (next : List ℕ) (whole : TypeAt (suc d)) (rest : List ℕ) : Type 0 where
-  pub word : List ℕ
-  pub type : TypeAt (suc d)
-  pub later : List (List ℕ × TypeAt (suc d))
-  pub behind : List ℕ
-  pub is_word : IsWord d word type
-  pub words : AreWords d later
-  pub stop : WordStop behind
-  pub text : next ≡ word ++ behind
-  pub behind_is : behind ≡ after (codes " | ") (spelled later) ++ rest
-  pub all : joined_with (ops (suc d)).join ((ops (suc d)).join (view (suc d) t) type) later ≡ whole
+  pub words_stop : (ps : List (List ℕ × TypeAt (suc d))) (r : List ℕ) → TypeStop r → WordStop (words_text ps r)
+  words_stop [] r k = grind arith
+  words_stop (p ∷ ps) r k = refl
 
-pub no_bar : (rest next : List ℕ) → TypeStop rest → rest ≡ codes " | " ++ next → ⊥
-no_bar rest next k e = true≢false (sym (subst TypeStop e k))
+  -- each way to read a text as such words has Q
+  abbrev pub EachWords : List ℕ → (List (List ℕ × TypeAt (suc d)) → List ℕ → Type 0) → Type 0
+  EachWords now Q = (ps : List (List ℕ × TypeAt (suc d))) (r : List ℕ) → AreWords d ps → TypeStop r → now ≡ words_text ps r → Q ps r
 
-pub words_stop : {T : Type 0} (ps : List (List ℕ × T)) (rest : List ℕ) → TypeStop rest → WordStop (after (codes " | ") (spelled ps) ++ rest)
-words_stop [] rest k = word_stop rest k
-words_stop (p ∷ ps) rest k = refl
+  -- behind a separator there is one word more
+  pub next_word : (now next : List ℕ) → now ≡ codes " | " ++ next → (Q : List (List ℕ × TypeAt (suc d)) → List ℕ → Type 0)
+      → ((w : List ℕ) (u : TypeAt (suc d)) (ps : List (List ℕ × TypeAt (suc d))) (r : List ℕ) → IsWord d w u → AreWords d ps → TypeStop r → next ≡ w ++ words_text ps r → Q ((w, u) ∷ ps) r) → EachWords now Q
+  next_word now next is Q f [] r k stop text = absurd (true≢false (sym (subst TypeStop (sym text ∙ is) stop)))
+  next_word now next is Q f (p ∷ ps) r k stop text = f p.0 p.1 ps r k.0 k.1 stop (ap (drop 3) (sym is ∙ text) ∙ append_assoc p.0 (after (codes " | ") (spelled ps)) r)
 
-pub next_word : (d : ℕ) (t : Node) (left : List ℕ) (whole : TypeAt (suc d)) (rest next : List ℕ) → WordsLeft d t left whole rest → TypeStop rest → left ≡ codes " | " ++ next → NextWord d t next whole rest
-next_word d t left whole rest next s stop is = by s.more s.words s.text s.all
-  where
-    by : (ps : List (List ℕ × TypeAt (suc d))) → AreWords d ps → left ≡ after (codes " | ") (spelled ps) ++ rest → joined_with (ops (suc d)).join (view (suc d) t) ps ≡ whole → NextWord d t next whole rest
-    by [] words text all = absurd (no_bar rest next stop (sym text ∙ is))
-    by (p ∷ ps) words text all = record {
-      word = p.0;
-      type = p.1;
-      later = ps;
-      behind = after (codes " | ") (spelled ps) ++ rest;
-      is_word = words.0;
-      words = words.1;
-      stop = words_stop ps rest stop;
-      text = ap (drop 3) (sym is ∙ text) ∙ append_assoc p.0 (after (codes " | ") (spelled ps)) rest;
-      behind_is = refl;
-      all = all;
-    }
+  pub no_word : (now : List ℕ) → Lacks now (codes " | ") → (Q : List (List ℕ × TypeAt (suc d)) → List ℕ → Type 0) → ((r : List ℕ) → TypeStop r → now ≡ r → Q [] r) → EachWords now Q
+  no_word now lacks Q f [] r k stop text = f r stop text
+  no_word now lacks Q f (p ∷ ps) r k stop text = absurd (lacks _ text)
 
-pub words_further : (d : ℕ) (t other j : Node) (next left : List ℕ) (whole : TypeAt (suc d)) (rest : List ℕ) → (s : NextWord d t next whole rest) → view (suc d) other ≡ s.type → left ≡ s.behind → view (suc d) j ≡ (ops (suc d)).join (view (suc d) t) (view (suc d) other) → WordsLeft d j left whole rest
-words_further d t other j next left whole rest s e f g = record {
-  more = s.later;
-  words = s.words;
-  text = f ∙ s.behind_is;
-  all = ap (λ u. joined_with (ops (suc d)).join u s.later) (g ∙ ap ((ops (suc d)).join (view (suc d) t)) e) ∙ s.all;
-}
+  -- what a reader owes that joins a type with those of the words to come
+  abbrev pub MoreRead : Node → List ℕ → Option (Node × Bor (List ℕ)) → Type 0
+  MoreRead t now o = EachWords now (λ ps r. Found (suc d) o (joined_with (ops (suc d)).join (view (suc d) t) ps) r)
 
-pub words_end : (d : ℕ) (t : Node) (left : List ℕ) (whole : TypeAt (suc d)) (rest : List ℕ) → WordsLeft d t left whole rest → Lacks left (codes " | ") → (view (suc d) t ≡ whole) × (left ≡ rest)
-words_end d t left whole rest s lacks = by s.more s.text s.all
-  where
-    by : (ps : List (List ℕ × TypeAt (suc d))) → left ≡ after (codes " | ") (spelled ps) ++ rest → joined_with (ops (suc d)).join (view (suc d) t) ps ≡ whole → (view (suc d) t ≡ whole) × (left ≡ rest)
-    by [] text all = (all, text)
-    by (p ∷ ps) text all = absurd (lacks ((p.0 ++ after (codes " | ") (spelled ps)) ++ rest) text)
+  -- it owes so much where it has read one word
+  pub word_further : (t j : Node) (now next left : List ℕ) (o : Option (Node × Bor (List ℕ))) → now ≡ codes " | " ++ next
+      → ((w r : List ℕ) (u : TypeAt (suc d)) → IsWord d w u → WordStop r → next ≡ w ++ r → ((ops (suc d)).join (view (suc d) t) u ≡ view (suc d) j) × (left ≡ r)) → MoreRead j left o → MoreRead t now o
+  word_further t j now next left o is word f = next_word now next is _ (λ w u ps r k ks stop text.
+      let read = word w (words_text ps r) u k (words_stop ps r stop) text in
+      subst (λ s. Found (suc d) o (joined_with (ops (suc d)).join s ps) r) (sym read.0) (f ps r ks stop read.1))
 
 -- ---- element types in a row
 
-pub record ElementsLeft (d : ℕ) (row : List Node) (left : List ℕ) (whole : List (TypeAt d)) (rest : List ℕ) : Type 0 where
-  pub more : List (TypeAt d)
-  pub elements : AreElements (NormalAt d) (ops d) more
-  pub text : left ≡ after (codes ",") (map (text_at d) more) ++ (codes "}" ++ rest)
-  pub all : row_view d row ++ more ≡ whole
+module _ (d : ℕ) where
+  -- element types, each after a comma, up to the closing bracket, and what stands behind it
+  abbrev pub row_text : List (TypeAt d) → List ℕ → List ℕ
+  row_text es r = after (codes ",") (map (text_at d) es) ++ (codes "}" ++ r)
 
--- the first of those that are to come
-pub record NextElement (d : ℕ) (row : List Node) (next : List ℕ) (whole : List (TypeAt d)) (rest : List ℕ) : Type 0 where
-  pub type : TypeAt d
-  pub later : List (TypeAt d)
-  pub behind : List ℕ
-  pub element : IsElement (NormalAt d) (ops d) type
-  pub elements : AreElements (NormalAt d) (ops d) later
-  pub stop : TypeStop behind
-  pub text : next ≡ text_at d type ++ behind
-  pub behind_is : behind ≡ after (codes ",") (map (text_at d) later) ++ (codes "}" ++ rest)
-  pub all : row_view d row ++ (type ∷ later) ≡ whole
+  pub row_stop : (es : List (TypeAt d)) (r : List ℕ) → TypeStop (row_text es r)
+  row_stop [] r = refl
+  row_stop (e ∷ es) r = refl
 
-pub elements_stop : (d : ℕ) (es : List (TypeAt d)) (rest : List ℕ) → TypeStop (after (codes ",") (map (text_at d) es) ++ (codes "}" ++ rest))
-elements_stop d [] rest = refl
-elements_stop d (e ∷ es) rest = refl
+  abbrev pub EachRow : List ℕ → (List (TypeAt d) → List ℕ → Type 0) → Type 0
+  EachRow now Q = (es : List (TypeAt d)) (r : List ℕ) → AreElements (NormalAt d) (ops d) es → now ≡ row_text es r → Q es r
 
-pub no_comma : (rest next : List ℕ) → 125 ∷ rest ≡ 44 ∷ next → ⊥
-no_comma rest next e = grind arith
+  pub next_element : (now next : List ℕ) → now ≡ codes "," ++ next → (Q : List (TypeAt d) → List ℕ → Type 0)
+      → ((e : TypeAt d) (es : List (TypeAt d)) (r : List ℕ) → IsElement (NormalAt d) (ops d) e → AreElements (NormalAt d) (ops d) es → next ≡ text_at d e ++ row_text es r → Q (e ∷ es) r) → EachRow now Q
+  next_element now next is Q f [] r k text = grind arith
+  next_element now next is Q f (e ∷ es) r k text = f e es r k.0 k.1 (ap (drop 1) (sym is ∙ text) ∙ append_assoc (text_at d e) (after (codes ",") (map (text_at d) es)) (codes "}" ++ r))
 
--- where an element type comes first
-next_of : (d : ℕ) (row : List Node) (t : TypeAt d) (es whole : List (TypeAt d)) (next rest : List ℕ) → IsElement (NormalAt d) (ops d) t → AreElements (NormalAt d) (ops d) es → next ≡ (text_at d t ++ after (codes ",") (map (text_at d) es)) ++ (codes "}" ++ rest) → row_view d row ++ (t ∷ es) ≡ whole → NextElement d row next whole rest
-next_of d row t es whole next rest j k text all = record {
-  type = t;
-  later = es;
-  behind = after (codes ",") (map (text_at d) es) ++ (codes "}" ++ rest);
-  element = j;
-  elements = k;
-  stop = elements_stop d es rest;
-  text = text ∙ append_assoc (text_at d t) (after (codes ",") (map (text_at d) es)) (codes "}" ++ rest);
-  behind_is = refl;
-  all = all;
-}
+  pub no_element : (now : List ℕ) → Lacks now (codes ",") → (Q : List (TypeAt d) → List ℕ → Type 0) → ((r : List ℕ) → now ≡ codes "}" ++ r → Q [] r) → EachRow now Q
+  no_element now lacks Q f [] r k text = f r text
+  no_element now lacks Q f (e ∷ es) r k text = absurd (lacks _ text)
 
-pub next_element : (d : ℕ) (row : List Node) (left : List ℕ) (whole : List (TypeAt d)) (rest next : List ℕ) → ElementsLeft d row left whole rest → left ≡ codes "," ++ next → NextElement d row next whole rest
-next_element d row left whole rest next s is = by s.more s.elements s.text s.all
-  where
-    by : (es : List (TypeAt d)) → AreElements (NormalAt d) (ops d) es → left ≡ after (codes ",") (map (text_at d) es) ++ (codes "}" ++ rest) → row_view d row ++ es ≡ whole → NextElement d row next whole rest
-    by [] k text all = absurd (no_comma rest next (sym text ∙ is))
-    by (t ∷ es) k text all = next_of d row t es whole next rest k.0 k.1 (ap (drop 1) (sym is ∙ text)) all
+  -- before the first there is no comma
+  pub whole_row : (now : List ℕ) → Lacks now (codes "}") → (Q : List (TypeAt d) → List ℕ → Type 0) → EachRow (codes "," ++ now) Q → (es : List (TypeAt d)) (r : List ℕ) → AreElements (NormalAt d) (ops d) es → now ≡ separated (codes ",") (map (text_at d) es) ++ (codes "}" ++ r) → Q es r
+  whole_row now lacks Q f [] r k text = absurd (lacks r text)
+  whole_row now lacks Q f (e ∷ es) r k text = f (e ∷ es) r k (ap (λ t. 44 ∷ t) text)
 
-pub first_element : (d : ℕ) (now : List ℕ) (es : List (TypeAt d)) (rest : List ℕ) → AreElements (NormalAt d) (ops d) es → now ≡ separated (codes ",") (map (text_at d) es) ++ (codes "}" ++ rest) → Lacks now (codes "}") → NextElement d [] now es rest
-first_element d now [] rest k text lacks = absurd (lacks rest text)
-first_element d now (t ∷ es) rest k text lacks = next_of d [] t es (t ∷ es) now rest k.0 k.1 text refl
+  pub no_row : (now : List ℕ) (es : List (TypeAt d)) (r more : List ℕ) → AreElements (NormalAt d) (ops d) es → now ≡ separated (codes ",") (map (text_at d) es) ++ (codes "}" ++ r) → now ≡ codes "}" ++ more → ([] ≡ es) × (more ≡ r)
+  no_row now [] r more k text is = (refl, ap (drop 1) (sym is ∙ text))
+  no_row now (e ∷ es) r more k text is = absurd (not_at_end (way d e k.0.0) now (row_text es r) (text ∙ append_assoc (text_at d e) (after (codes ",") (map (text_at d) es)) (codes "}" ++ r)) more is)
 
-pub no_element : (d : ℕ) (now : List ℕ) (es : List (TypeAt d)) (rest more : List ℕ) → AreElements (NormalAt d) (ops d) es → now ≡ separated (codes ",") (map (text_at d) es) ++ (codes "}" ++ rest) → now ≡ codes "}" ++ more → ([] ≡ es) × (more ≡ rest)
-no_element d now [] rest more k text is = (refl, ap (drop 1) (sym is ∙ text))
-no_element d now (t ∷ es) rest more k text is =
-    absurd (not_at_end d t k.0.0 now (after (codes ",") (map (text_at d) es) ++ (codes "}" ++ rest)) (text ∙ append_assoc (text_at d t) (after (codes ",") (map (text_at d) es)) (codes "}" ++ rest)) more is)
+  -- what a reader owes that adds the element types to come to others
+  abbrev pub RowRead : List Node → List ℕ → Option (List Node × Bor (List ℕ)) → Type 0
+  RowRead row now o = EachRow now (λ es r. MatchOption o ⊥ (λ p. (row_view d p.0 ≡ row_view d row ++ es) × (p.1.now ≡ r)))
 
-pub elements_further : (d : ℕ) (row new : List Node) (n : Node) (next left : List ℕ) (whole : List (TypeAt d)) (rest : List ℕ) → (s : NextElement d row next whole rest) → new ≡ row ++ n ∷ [] → view d n ≡ s.type → left ≡ s.behind → ElementsLeft d new left whole rest
-elements_further d row new n next left whole rest s e f g = record {
-  more = s.later;
-  elements = s.elements;
-  text = g ∙ s.behind_is;
-  all = grind (arith, map-append, append_assoc);
-}
-
-pub elements_end : (d : ℕ) (row : List Node) (left : List ℕ) (whole : List (TypeAt d)) (rest : List ℕ) → ElementsLeft d row left whole rest → Lacks left (codes ",") → (row_view d row ≡ whole) × (left ≡ codes "}" ++ rest)
-elements_end d row left whole rest s lacks = by s.more s.text s.all
-  where
-    by : (es : List (TypeAt d)) → left ≡ after (codes ",") (map (text_at d) es) ++ (codes "}" ++ rest) → row_view d row ++ es ≡ whole → (row_view d row ≡ whole) × (left ≡ codes "}" ++ rest)
-    by [] text all = (sym (append-nil (row_view d row)) ∙ all, text)
-    by (t ∷ es) text all = absurd (lacks ((text_at d t ++ after (codes ",") (map (text_at d) es)) ++ (codes "}" ++ rest)) text)
-
-elements_last : (d : ℕ) (row : List Node) (n : Node) → AreElements (NormalAt d) (ops d) (row_view d row) → IsElement (NormalAt d) (ops d) (view d n) → AreElements (NormalAt d) (ops d) (row_view d (row ++ n ∷ []))
-elements_last d [] n k h = (h, tt)
-elements_last d (m ∷ row) n k h = (k.0, elements_last d row n k.1 h)
+  pub element_further : (row new : List Node) (n : Node) (now next left : List ℕ) (o : Option (List Node × Bor (List ℕ))) → now ≡ codes "," ++ next → new ≡ row ++ n ∷ []
+      → ((e : TypeAt d) (r : List ℕ) → IsElement (NormalAt d) (ops d) e → TypeStop r → next ≡ text_at d e ++ r → (view d n ≡ e) × (left ≡ r)) → RowRead new left o → RowRead row now o
+  element_further row new n now next left o is longer element f = next_element now next is _ (λ e es r k ks text.
+      let read = element e (row_text es r) k (row_stop es r) text in
+      subst (λ xs. MatchOption o ⊥ (λ p. (row_view d p.0 ≡ xs) × (p.1.now ≡ r))) (grind (arith, longer, read.0, map-append, append_assoc)) (f es r ks read.1))
 
 pub elements_more : (d : ℕ) (row new : List Node) (n : Node) → new ≡ row ++ n ∷ [] → AreElements (NormalAt d) (ops d) (row_view d row) → Fits d n → (ops d).is_none (view d n) ≡ false → AreElements (NormalAt d) (ops d) (row_view d new)
-elements_more d row new n e k h some = subst (λ ns. AreElements (NormalAt d) (ops d) (row_view d ns)) (sym e) (elements_last d row n k (fits_normal d n h, some))
+elements_more d row new n e k h some =
+    each_more (IsElement (NormalAt d) (ops d)) (row_view d new) (row_view d row) (view d n) (ap (row_view d) e ∙ map-append (view d) row (n ∷ [])) k (fits_normal d n h, some)
 
 -- ---- a whole type
 
 -- what a reader of types owes: it gives the type that the text begins with, and what stands behind
 abbrev pub TypeRead : (d : ℕ) → List ℕ → Option (Node × Bor (List ℕ)) → Type 0
-TypeRead d now o = (t : TypeAt d) (rest : List ℕ) → NormalAt d t → (ops d).is_none t ≡ false → TypeStop rest → now ≡ text_at d t ++ rest → Found d t rest o
+TypeRead d now o = (t : TypeAt d) (rest : List ℕ) → NormalAt d t → (ops d).is_none t ≡ false → TypeStop rest → now ≡ text_at d t ++ rest → Found d o t rest
 
-pub any_read : (d : ℕ) (now more : List ℕ) (n : Node) → n ≡ v.Any → now ≡ codes "any()" ++ more → (t : TypeAt d) (rest : List ℕ) → NormalAt d t → now ≡ text_at d t ++ rest → (view d n ≡ t) × (more ≡ rest)
-any_read d now more n e is t rest k text = let s = at_any d t k now rest more text is in (view_any n e d ∙ sym (any_is_all d t s.0), s.1)
-
--- a type that has a value isn't written `none()`
-lacks_none : (d : ℕ) (t : TypeAt d) → NormalAt d t → (ops d).is_none t ≡ false → (now rest : List ℕ) → now ≡ text_at d t ++ rest → Lacks now (codes "none()")
-lacks_none d t k some now rest text more is = true≢false (sym (at_none d t k now rest more text is).0 ∙ some)
+pub any_read : (d : ℕ) (now more : List ℕ) → now ≡ codes "any()" ++ more → (t : TypeAt d) (rest : List ℕ) → NormalAt d t → now ≡ text_at d t ++ rest → (view d v.Any ≡ t) × (more ≡ rest)
+any_read d now more is t rest k text = let s = at_any (way d t k) rest more (sym text ∙ is) in (view_any v.Any refl d ∙ sym s.0, s.1)
 
 pub zero_read : (d : ℕ) → d ≡ 0 → (now : List ℕ) → Lacks now (codes "any()") → (t : TypeAt d) (rest : List ℕ) → NormalAt d t → (ops d).is_none t ≡ false → now ≡ text_at d t ++ rest → ⊥
-zero_read zero e now any t rest k some text = not_at_zero t now rest text any (lacks_none 0 t k some now rest text)
+unfolding ops
+zero_read zero e now any t rest k some text = grind arith
 zero_read (suc d) e now any t rest k some text = omega (arith, e)
 
 -- the first word of a type, and the others
-type_words : (e : ℕ) (now : List ℕ) → Lacks now (codes "any()") → (t : TypeAt (suc e)) (rest : List ℕ) → NormalAt (suc e) t → (ops (suc e)).is_none t ≡ false → now ≡ text_at (suc e) t ++ rest → (s : WordsOf e t) × (now ≡ s.word ++ (after (codes " | ") (spelled s.later) ++ rest))
-type_words e now any t rest k some text =
-    let s = at_words e t k now rest text any (lacks_none (suc e) t k some now rest text) in
-    (s, text ∙ ap (λ x. x ++ rest) s.written ∙ append_assoc s.word (after (codes " | ") (spelled s.later)) rest)
+type_words : (e : ℕ) (now : List ℕ) → Lacks now (codes "any()") → (t : TypeAt (suc e)) (rest : List ℕ) → NormalAt (suc e) t → (ops (suc e)).is_none t ≡ false → now ≡ text_at (suc e) t ++ rest → (s : WordsOf e t) × (now ≡ s.word ++ words_text e s.later rest)
+type_words e now any t rest k some text = elim (way (suc e) t k) [
+  | as_any a is ↦ absurd (any rest (text ∙ ap (λ x. x ++ rest) is))
+  | as_none n is ↦ absurd (true≢false (sym ((level_laws (suc e)).is_none-none) ∙ ap (ops (suc e)).is_none (sym n) ∙ some))
+  | as_words a n u ↦ let s = words_of e t k a n in (s, text ∙ words-text e t s rest)
+]
 
-pub no_word_read : (e : ℕ) (now : List ℕ) → Lacks now (codes "any()") → ((w rest : List ℕ) (u : TypeAt (suc e)) → IsWord e w u → WordStop rest → now ≡ w ++ rest → ⊥) → (t : TypeAt (suc e)) (rest : List ℕ) → NormalAt (suc e) t → (ops (suc e)).is_none t ≡ false → TypeStop rest → now ≡ text_at (suc e) t ++ rest → ⊥
+pub no_word_read : (e : ℕ) (now : List ℕ) → Lacks now (codes "any()") → ((w rest : List ℕ) (u : TypeAt (suc e)) → IsWord e w u → WordStop rest → now ≡ w ++ rest → ⊥) → TypeRead (suc e) now None
 no_word_read e now any word t rest k some stop text =
     let s = type_words e now any t rest k some text in
-    word s.0.word (after (codes " | ") (spelled s.0.later) ++ rest) s.0.first s.0.is_word (words_stop s.0.later rest stop) s.1
+    word s.0.word _ s.0.first s.0.is_word (words_stop e s.0.later rest stop) s.1
 
 pub words_read : (e : ℕ) (now : List ℕ) (first : Node) (left : List ℕ) (o : Option (Node × Bor (List ℕ))) → Lacks now (codes "any()")
-    → ((w rest : List ℕ) (u : TypeAt (suc e)) → IsWord e w u → WordStop rest → now ≡ w ++ rest → (view (suc e) first ≡ u) × (left ≡ rest))
-    → ((later : List (List ℕ × TypeAt (suc e))) (rest : List ℕ) → AreWords e later → TypeStop rest → left ≡ after (codes " | ") (spelled later) ++ rest → MatchOption o ⊥ (λ p. (view (suc e) p.0 ≡ joined_with (ops (suc e)).join (view (suc e) first) later) × (p.1.now ≡ rest)))
-    → TypeRead (suc e) now o
+    → ((w rest : List ℕ) (u : TypeAt (suc e)) → IsWord e w u → WordStop rest → now ≡ w ++ rest → (view (suc e) first ≡ u) × (left ≡ rest)) → MoreRead e first left o → TypeRead (suc e) now o
 words_read e now first left o any word more t rest k some stop text =
     let s = type_words e now any t rest k some text in
-    grind (arith, word, words_stop, stop, more)
+    let read = word s.0.word _ s.0.first s.0.is_word (words_stop e s.0.later rest stop) s.1 in
+    subst (λ x. Found (suc e) o x rest) (ap (λ u. joined_with (ops (suc e)).join u s.0.later) read.0 ∙ s.0.together) (more s.0.later rest s.0.are_words stop read.1)
 
--- ---- one word
+-- ---- one word, by its start
 
-pub quote_there : (now : List ℕ) (o : Option (Bor (List ℕ))) → is_some o ≡ true → IfSome o (λ left. now ≡ codes "'" ++ left.now) → (more : List ℕ) × (now ≡ codes "'" ++ more)
-quote_there now o h k = grind arith
+module _ (d : ℕ) (w : List ℕ) (u : TypeAt (suc d)) (i : IsWord d w u) (now rest : List ℕ) (is : now ≡ w ++ rest) (r : Option (Node × Bor (List ℕ))) where
+  pub atom_found : (o : Option (Bor (List ℕ))) → is_some o ≡ true → IfSome o (λ left. now ≡ codes "'" ++ left.now)
+      → ((a q : List ℕ) → now ≡ quoted a ++ q → MatchOption r ⊥ (λ p. ((e : ℕ) → view (suc e) p.0 ≡ of_atoms (ops e) (names.listed (a ∷ []))) × (p.1.now ≡ q))) → Found (suc d) r u rest
+  atom_found o some begins read = grind (arith, number-start)
 
-pub no_quote : (now : List ℕ) (o : Option (Bor (List ℕ))) → is_some o ≡ false → ((rest : List ℕ) → now ≡ codes "'" ++ rest → IsSomeAnd o (λ left. left.now ≡ rest)) → Lacks now (codes "'")
-no_quote now None e h = h
-no_quote now (Some x) e h = absurd (true≢false e)
-
-pub number_there : (now : List ℕ) → begins_number now ≡ true → (b : ℕ) × ((more : List ℕ) × ((now ≡ b ∷ more) × IsNumberStart b))
-number_there [] e = absurd (true≢false (sym e))
-number_there (b ∷ more) e = (b, (more, (refl, number_start-is b e)))
-  where
-    number_start-is : (b : ℕ) → is_number b ≡ true → IsNumberStart b
-    number_start-is b e = elim (either (b == 45) (nat_le 48 b && nat_le b 57) e) [
-      | inl x ↦ inl (eqb-true b 45 x)
-      | inr x ↦ inr (leb-true 48 b (first (nat_le 48 b) (nat_le b 57) x), leb-true b 57 (second (nat_le 48 b) (nat_le b 57) x))
-    ]
-
-pub no_number_there : (now : List ℕ) → begins_number now ≡ false → (b : ℕ) (more : List ℕ) → now ≡ b ∷ more → IsNumberStart b → ⊥
-no_number_there now e b more is start = true≢false (sym (is_number-true b start) ∙ sym (ap begins_number is) ∙ e)
-
--- the name of a word that begins with nothing else
-pub no_start : (now : List ℕ) → Lacks now (codes "'") → begins_number now ≡ false → Lacks now (codes "{") → Lacks now (codes "cons(") → Lacks now (codes "cons_any(") → NoTypeName now → NoStart now
-no_start now quote number brace proper any name = record {
-  number = no_number_there now number;
-  quote = quote;
-  brace = brace;
-  named = of_name;
-  every_int = name.interval.every;
-  range = name.interval.range;
-  arity = name.function.arity;
-  proper_list = proper;
-  any_list = any;
-}
-  where
-    of_name : (k : Named) → Lacks now (name_of k)
-    of_name every_atom = name.every_atom
-    of_name every_float = name.flag.float
-    of_name whole_bits = name.bits.whole
-    of_name every_bits = name.bits.every
-    of_name every_pid = name.flag.pid
-    of_name every_port = name.flag.port
-    of_name every_reference = name.flag.reference
-    of_name every_map = name.flag.map
-    of_name every_function = name.function.every
-    of_name empty_list = name.flag.nil
-    of_name every_tuple = name.every_tuple
-
-pub name_found : (d : ℕ) (w rest : List ℕ) (u : TypeAt (suc d)) → IsWord d w u → (now : List ℕ) → now ≡ w ++ rest → (o : Option (Node × Bor (List ℕ))) → (NoTypeName now → NoStart now) → MatchOption o (NoTypeName now) (λ p. (view (suc d) p.0 ≡ u) × (p.1.now ≡ rest)) → Found (suc d) u rest o
-name_found d w rest u i now e None f m = some_start w u i now rest e (f m)
-name_found d w rest u i now e (Some p) f m = m
+  pub name_found : (o : Option (Bor (List ℕ))) → is_some o ≡ false → ((q : List ℕ) → now ≡ codes "'" ++ q → IsSomeAnd o (λ left. left.now ≡ q)) → begins_number now ≡ false → Lacks now (codes "{") → Lacks now (codes "cons(") → Lacks now (codes "cons_any(")
+      → MatchOption r (NoTypeName now) (λ p. (view (suc d) p.0 ≡ u) × (p.1.now ≡ rest)) → Found (suc d) r u rest
+  name_found o none quote number brace proper any read = grind (arith, some_start w u i now rest is number (λ q e. grind (arith, quote q e)) brace proper any)

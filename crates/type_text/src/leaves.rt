@@ -13,6 +13,7 @@ use type_kinds::{Atom, Bytes, Memory, digits_len, parse_decimal};
 use type_sets::{High, Low};
 
 /// What stands behind a word, where the text begins with it.
+#[tactic(auto, using(crate::proofs::LeafLaws::words_in_front))]
 pub fn after_word<'a>(text: &'a [u8], word: &[u8]) -> Option<&'a [u8]>
     ensures complete { (rest : List ℕ) → text.now ≡ word.now ++ rest → IsSomeAnd result (λ left. left.now ≡ rest) }
     ensures exact { IfSome result (λ left. text.now ≡ word.now ++ left.now) }
@@ -22,6 +23,7 @@ pub fn after_word<'a>(text: &'a [u8], word: &[u8]) -> Option<&'a [u8]>
 }
 
 /// An atom in quotes.
+#[tactic(auto, using(crate::proofs::LeafLaws::atom_further, crate::proofs::LeafLaws::atom_ends))]
 pub fn read_quoted(alloc: Global, text: &[u8]) -> Result<Option<(Atom, &[u8])>, Memory>
     ensures complete { IfOk result (λ read. (atom rest : List ℕ) → text.now ≡ quoted atom ++ rest → IsSomeAnd read (λ p. (p.0 ≡ atom) × (p.1.now ≡ rest))) }
     ensures shorter { IfOk result (λ read. IfSome read (λ p. length p.1.now < length text.now)) }
@@ -96,6 +98,7 @@ fn octal_digit(text: &[u8]) -> Option<(u8, &[u8])>
 }
 
 /// An integer of magnitude below 2^127.
+#[tactic(auto, using(crate::proofs::LeafLaws::number_no_minus, std::proofs::lemmas::Bool::Decides::nat_tests))]
 pub fn read_integer(text: &[u8]) -> Option<(i128, &[u8])>
     ensures complete { (n : ℤ) (rest : List ℕ) → IsTrue (is_narrow n) → WordStop rest → text.now ≡ signed_decimal n ++ rest → IsSomeAnd result (λ p. (p.0 ≡ n) × (p.1.now ≡ rest)) }
     ensures narrow { IfSome result (λ p. IsTrue (is_narrow p.0)) }
@@ -134,6 +137,7 @@ pub fn read_arity(text: &[u8]) -> Option<(u32, &[u8])>
 }
 
 // A number below 2^127.
+#[tactic(auto, using(crate::proofs::LeafLaws::no_digits, type_kinds::proofs::DigitLaws::number_in_front, type_kinds::proofs::DigitLaws::front_digits))]
 fn read_natural(text: &[u8]) -> Option<(u128, &[u8])>
     ensures complete { (n : ℕ) (rest : List ℕ) → n < 2 ^ 127 → WordStop rest → text.now ≡ decimal n ++ rest → IsSomeAnd result (λ p. (p.0 ≡ n) × (p.1.now ≡ rest)) }
     ensures narrow { IfSome result (λ p. p.0 < 2 ^ 127) }

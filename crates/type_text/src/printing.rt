@@ -14,6 +14,7 @@ use type_trees::{BodyOf, CellOf, FunSet, Node, Plain, SizeOf, TagOf, TuplesOf, i
 
 /// Appends the text of the type: `none()`, `any()`, or what its parts have with ` | ` between, part by
 /// part. A type has one text. If allocation fails `out` is as before.
+#[tactic(auto, unfolding(crate::specs::Texts::text_of))]
 pub fn print(t: &Ty, out: &mut Bytes) -> Result<(), Memory>
     ensures ok { OnOk result (out.new ≡ out.old ++ text_of t.now) }
     ensures err { OnErr result (out.new ≡ out.old) }
@@ -24,6 +25,7 @@ pub fn print(t: &Ty, out: &mut Bytes) -> Result<(), Memory>
 }
 
 // Appends the text of the type that the tree stands for.
+#[tactic(auto, using(type_trees::proofs::Views::of_above, crate::proofs::Prints::each_below, type_trees::proofs::Views::view_any, crate::proofs::Prints::any_text, crate::proofs::Prints::text_of_none, std::proofs::lemmas::Result::on_ok_weaker))]
 #[cycle(print)]
 fn append_type(level: u32, t: &Node, out: &mut Bytes) -> Result<(), Memory>
     requires { Fits level t.now }
@@ -88,6 +90,7 @@ fn append_tuples(
 }
 
 // Appends the words of the tuples of these sizes.
+#[tactic(auto, using(crate::proofs::Adding::still_front))]
 #[cycle(print)]
 fn append_sizes(
     level: u32,
@@ -137,6 +140,7 @@ fn append_product(level: u32, row: &[Node], some: &mut bool, out: &mut Bytes) ->
 }
 
 // Appends a word for each tag.
+#[tactic(auto, using(crate::proofs::Adding::still_front))]
 #[cycle(print)]
 fn append_tags(
     level: u32,

@@ -41,6 +41,7 @@ pub fn read(alloc: Global, text: &[u8]) -> Result<Ty, TextFault>
 }
 
 // The type that the whole text is, where it is the text of one. Other texts may be read too.
+#[tactic(auto, using(crate::proofs::TextOnce::some_read))]
 fn whole(alloc: Global, text: &[u8]) -> Result<Option<Ty>, Memory>
     ensures { IfOk result (λ r. (t : Type4) → text.now ≡ text_of t → r ≡ Some t) }
 {

@@ -27,6 +27,7 @@ use type_trees::{
 };
 
 /// The type of a level, which has a value, that the text begins with, and what is left.
+#[tactic(auto, using(type_trees::proofs::Views::any_fits))]
 #[cycle(words)]
 pub fn read_type<'a>(
     alloc: Global,
@@ -89,6 +90,7 @@ fn joined(alloc: Global, level: u32, a: Node, b: Node) -> Result<Node, Memory>
 }
 
 // The type of one word, whose elements are of the level.
+#[tactic(auto, using(crate::proofs::WordStarts::words_apart))]
 #[cycle(words)]
 fn read_word<'a>(
     alloc: Global,
@@ -196,6 +198,7 @@ fn read_tuple<'a>(
 fn discard_row(_row: List<Node>) {}
 
 // The tuples of these element types.
+#[tactic(auto, using(type_trees::proofs::MadeTrees::row_body))]
 fn tuples_with(alloc: Global, level: u32, row: List<Node>) -> Result<Node, Memory>
     requires few { length row ≤ MAX_ELEMENTS }
     requires each { EachNode (Fits level) row }
@@ -209,6 +212,7 @@ fn tuples_with(alloc: Global, level: u32, row: List<Node>) -> Result<Node, Memor
 }
 
 // Element types up to the closing bracket, which is gone then too.
+#[tactic(auto, using(crate::proofs::WordReads::elements_more, type_trees::proofs::Views::each_more))]
 #[cycle(words)]
 fn read_row<'a>(
     alloc: Global,
@@ -289,6 +293,7 @@ fn read_number(text: &[u8]) -> Option<(Node, &[u8])>
 }
 
 // A word that begins with a name, or the empty list.
+#[tactic(auto, using(crate::proofs::WordStarts::words_apart))]
 fn read_name(text: &[u8]) -> Option<(Node, &[u8])>
     ensures fits { IfSome result (λ p. (d : ℕ) → Fits (suc d) p.0) }
     ensures shorter { IfSome result (λ p. length p.1.now ≤ length text.now) }
@@ -314,6 +319,7 @@ fn read_name(text: &[u8]) -> Option<(Node, &[u8])>
 }
 
 // A part that is no or yes.
+#[tactic(auto, using(crate::proofs::WordStarts::words_apart))]
 fn read_flags(text: &[u8]) -> Option<(FlagSet, &[u8])>
     ensures shorter { IfSome result (λ p. length p.1.now ≤ length text.now) }
     ensures complete { (d : ℕ) (w rest : List ℕ) (u : TypeAt (suc d)) → IsWord d w u → text.now ≡ w ++ rest → MatchOption result (NoFlag text.now) (λ p. (of_flags (ops d) (flags_of p.0) ≡ u) × (p.1.now ≡ rest)) }
@@ -352,6 +358,7 @@ fn read_flags(text: &[u8]) -> Option<(FlagSet, &[u8])>
 }
 
 // Some bits.
+#[tactic(auto, using(crate::proofs::WordStarts::words_apart))]
 fn read_bits(text: &[u8]) -> Option<(Bits, &[u8])>
     ensures shorter { IfSome result (λ p. length p.1.now ≤ length text.now) }
     ensures complete { (d : ℕ) (w rest : List ℕ) (u : TypeAt (suc d)) → IsWord d w u → text.now ≡ w ++ rest → MatchOption result (NoBits text.now) (λ p. (of_bits (ops d) p.0 ≡ u) × (p.1.now ≡ rest)) }
@@ -364,6 +371,7 @@ fn read_bits(text: &[u8]) -> Option<(Bits, &[u8])>
 }
 
 // Every function, or those of one arity.
+#[tactic(auto, using(crate::proofs::WordStarts::words_apart))]
 fn read_functions(text: &[u8]) -> Option<(FunSet, &[u8])>
     ensures normal { IfSome result (λ p. NormalFunctions (functions_of p.0)) }
     ensures shorter { IfSome result (λ p. length p.1.now ≤ length text.now) }
@@ -379,6 +387,7 @@ fn read_functions(text: &[u8]) -> Option<(FunSet, &[u8])>
 }
 
 // The integers of an interval.
+#[tactic(auto, using(crate::proofs::WordStarts::words_apart))]
 fn read_interval(text: &[u8]) -> Option<(IntSet, &[u8])>
     ensures shorter { IfSome result (λ p. length p.1.now ≤ length text.now) }
     ensures complete { (d : ℕ) (w rest : List ℕ) (u : TypeAt (suc d)) → IsWord d w u → text.now ≡ w ++ rest → MatchOption result (NoInterval text.now) (λ p. (of_ints (ops d) p.0 ≡ u) × (p.1.now ≡ rest)) }
