@@ -5,7 +5,8 @@ use Rattle.da_shelf.specs.Counts.{Rose}
 use Rattle.da_shelf.specs.Told.{Files, appended, IsFrontAppended}
 use Rattle.analysis.specs.declared.refusals.Device.TheVariants.{Read, Write}
 use Rattle.dialyze.specs.declared.status.Status.{Status}
-use Rattle.dialyze.specs.declared.status.Status.TheVariants.{DeviceFault, Memory, Usage}
+use Rattle.dialyze.specs.declared.status.Status.TheVariants.{DeviceFault, Memory, Usage, Warnings}
+use Rattle.dialyze.specs.Causes.{WritesNothingFalse}
 use Rattle.dialyze.specs.Lines.{too_many}
 use Rattle.dialyze.specs.Words.{IsNoCommand}
 use Rattle.dialyze.proofs.Numbers.{number_by, not_other, not_many, start_late}
@@ -28,6 +29,19 @@ outcome_of h (unread start at file a c d) = absurd (subst IsAnswer a h)
 pub answers_it : (words : List (List ℕ)) (told : Option Files) (b n : ℕ) (status : Status) (output : List ℕ) (before now : Option (List ℕ)) → Intended words told b n status output → now ≡ appended before output → IsAnswer status → IfSome told (λ held. Answers words held status before now)
 answers_it words None b n status output before now h w a = tt
 answers_it words (Some held) b n status output before now h w a = record { output = output; outcome = outcome_of a h; written = w }
+
+-- what is written is true of runs
+sound_of : {words : List (List ℕ)} {held : Files} {status : Status} {output : List ℕ} (before now : Option (List ℕ)) → Outcome words (Some held) status output → now ≡ appended before output → status ≡ Warnings → WritesNothingFalse words held before now
+sound_of before now (usage a c d) w e = let k = sym a ∙ e in absurd cc
+sound_of before now (many a c d) w e = let k = sym a ∙ e in absurd cc
+sound_of before now (faulty start files at file fault a c d f g) w e = let k = sym a ∙ e in absurd cc
+sound_of before now (twice start files first second file other a c d f g h) w e = let k = sym a ∙ e in absurd cc
+sound_of before now (clean start files reports a c d f g) w e = let k = sym a ∙ e in absurd cc
+sound_of before now (warned start files reports a n c f g) w e = record { start = start; files = files; checks = f; modules = g.modules; read = g.read; names = g.names; reports = reports; analysed = g.analysed; written = w ∙ ap (appended before) c; sound = g.sound }
+
+pub sound_it : (words : List (List ℕ)) (told : Option Files) (b n : ℕ) (status : Status) (output : List ℕ) (before now : Option (List ℕ)) → Intended words told b n status output → now ≡ appended before output → status ≡ Warnings → IfSome told (λ held. WritesNothingFalse words held before now)
+sound_it words None b n status output before now h w e = tt
+sound_it words (Some held) b n status output before now h w e = sound_of before now (outcome_of (subst IsAnswer (sym e) tt) h) w e
 
 -- ---- by the words alone, also where the shelf doesn't tell what it holds
 

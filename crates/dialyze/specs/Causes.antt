@@ -1,11 +1,14 @@
 -- When each answer comes.
-use Rattle.std.specs.Prelude.{◌≡◌, ℕ, ◌+◌, List, Some}
+use Rattle.std.specs.Prelude.{◌≡◌, ℕ, ◌+◌, List, Option, Some}
+use Rattle.std.specs.List.{concat}
 use Rattle.core_ast.specs.Model as m
-use Rattle.da_shelf.specs.Told.{Files}
+use Rattle.da_shelf.specs.Told.{Files, appended}
 use Rattle.analysis.specs.declared.refusals.RefusalName.{RefusalName}
 use Rattle.analysis.specs.declared.refusals.RefusalName.TheVariants as r
 use Rattle.analysis.specs.Reading.{HoldsAt, IsMissingAt}
+use Rattle.analysis.specs.Reports.{IsAnalysis}
 use Rattle.dialyze.specs.Outcome.{Checks, ReadsAll, HaveOwnNames, IsDuplicate}
+use Rattle.dialyze.specs.Truths.{NothingIsFalse}
 
 -- The word at this position names a file, all files before it are read, and it isn't held.
 pub record NamesMissing (words : List (List ℕ)) (held : Files) (word : ℕ) : Type 0 where
@@ -46,6 +49,20 @@ pub record NamesModules (words : List (List ℕ)) (held : Files) : Type 0 where
   pub modules : List m.Module
   pub read : ReadsAll (Some held) files modules
   pub names : HaveOwnNames modules
+
+-- The words name files that are all read, their modules have names of their own, the reports on them were written, and nothing that
+-- these report is false of a run of the modules, but for unknown functions, which say nothing of runs.
+pub record WritesNothingFalse (words : List (List ℕ)) (held : Files) (written_before written_now : Option (List ℕ)) : Type 0 where
+  pub start : ℕ
+  pub files : List (List ℕ)
+  pub checks : Checks words start files
+  pub modules : List m.Module
+  pub read : ReadsAll (Some held) files modules
+  pub names : HaveOwnNames modules
+  pub reports : List (List ℕ)
+  pub analysed : IsAnalysis modules reports
+  pub written : written_now ≡ appended written_before (concat reports)
+  pub sound : NothingIsFalse modules
 
 -- The steps of reading a file, each of which may refuse it.
 pub data Step : Type 0 where

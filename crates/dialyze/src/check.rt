@@ -8,7 +8,7 @@ ghost use Rattle.analysis.specs.Words.{texts};
 ghost use Rattle.dialyze.specs.Words.{IsNoCommand};
 ghost use Rattle.dialyze.specs.Lines.{refused, too_many, duplicate};
 ghost use Rattle.dialyze.specs.Outcome.{Answers, ChecksTooMany, FailsToRead, FailsToWrite, IsAnswer, IsPossible};
-ghost use Rattle.dialyze.specs.Causes.{NamesMissing, NamesSource, NamesTwice, NamesModules, length, tokens, grammar, scopes, step_of};
+ghost use Rattle.dialyze.specs.Causes.{NamesMissing, NamesSource, NamesTwice, NamesModules, WritesNothingFalse, length, tokens, grammar, scopes, step_of};
 
 use crate::answer::{Answer, intended};
 use crate::status::Status;
@@ -49,6 +49,9 @@ pub fn dialyze<R: Threads + Wait + Sync, F: Shelf, K: Sink, G: Gate + Sync>(
 ) -> Status
     // The headline: the status, and the bytes written, are those of the words and of what is held.
     ensures outcome { IsAnswer result → IfSome (F.held shelf.old) (λ held. Answers (texts words.now) held result (K.written out.old) (K.written out.new)) }
+
+    // Nothing that is reported is false of a run.
+    ensures sound { result ≡ Status.Warnings → IfSome (F.held shelf.old) (λ held. WritesNothingFalse (texts words.now) held (K.written out.old) (K.written out.new)) }
 
     // When each answer comes.
     ensures usage { IsAnswer result → (result ≡ Status.Usage) ↔ IsNoCommand (texts words.now) }

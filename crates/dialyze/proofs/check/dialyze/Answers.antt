@@ -1,12 +1,16 @@
 use Rattle.std.proofs.Common.{◌∙◌, ap}
 use Rattle.da_shelf.specs.Told.{appended}
-use Rattle.dialyze.proofs.CheckExits.{answers_it, usage_it, too_many_it, possible_it}
+use Rattle.dialyze.proofs.CheckExits.{answers_it, sound_it, usage_it, too_many_it, possible_it}
 use Rattle.dialyze.proofs.Causes as causes
 use Rattle.dialyze.proofs.check.dialyze.Goals as goal
 
 pub returns-in-Ok-give-clause-outcome : goal.returns-in-Ok-give-clause-outcome
 returns-in-Ok-give-clause-outcome g c =
     answers_it _ _ _ _ _ c.in-Ok.answer.output _ _ c.in-Ok.ensures.intended (c.in-Ok-give.ensures.all ∙ ap (appended (g.K.Sink.written c.args.out.now)) c.as_slice.ensures)
+
+pub returns-in-Ok-give-clause-sound : goal.returns-in-Ok-give-clause-sound
+returns-in-Ok-give-clause-sound g c =
+    λ e. sound_it _ _ _ _ _ c.in-Ok.answer.output _ _ c.in-Ok.ensures.intended (c.in-Ok-give.ensures.all ∙ ap (appended (g.K.Sink.written c.args.out.now)) c.as_slice.ensures) e
 
 pub returns-in-Ok-give-clause-usage : goal.returns-in-Ok-give-clause-usage
 returns-in-Ok-give-clause-usage g c = λ a. usage_it _ _ _ _ _ _ c.in-Ok.ensures.intended a
