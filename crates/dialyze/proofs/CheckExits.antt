@@ -37,7 +37,13 @@ sound_of before now (many a c d) w e = let k = sym a ∙ e in absurd cc
 sound_of before now (faulty start files at file fault a c d f g) w e = let k = sym a ∙ e in absurd cc
 sound_of before now (twice start files first second file other a c d f g h) w e = let k = sym a ∙ e in absurd cc
 sound_of before now (clean start files reports a c d f g) w e = let k = sym a ∙ e in absurd cc
-sound_of before now (warned start files reports a n c f g) w e = record { start = start; files = files; checks = f; modules = g.modules; read = g.read; names = g.names; reports = reports; analysed = g.analysed; written = w ∙ ap (appended before) c; sound = g.sound }
+sound_of before now (warned start files reports a n c f g) w e = record {
+  named = record { start = start; files = files; checks = f; modules = g.modules; read = g.read; names = g.names };
+  reports = reports;
+  analysed = g.analysed;
+  written = w ∙ ap (appended before) c;
+  sound = g.sound;
+}
 
 pub sound_it : (words : List (List ℕ)) (told : Option Files) (b n : ℕ) (status : Status) (output : List ℕ) (before now : Option (List ℕ)) → Intended words told b n status output → now ≡ appended before output → status ≡ Warnings → IfSome told (λ held. WritesNothingFalse words held before now)
 sound_it words None b n status output before now h w e = tt

@@ -53,16 +53,11 @@ pub record NamesModules (words : List (List ℕ)) (held : Files) : Type 0 where
 -- The words name files that are all read, their modules have names of their own, the reports on them were written, and nothing that
 -- these report is false of a run of the modules, but for unknown functions, which say nothing of runs.
 pub record WritesNothingFalse (words : List (List ℕ)) (held : Files) (written_before written_now : Option (List ℕ)) : Type 0 where
-  pub start : ℕ
-  pub files : List (List ℕ)
-  pub checks : Checks words start files
-  pub modules : List m.Module
-  pub read : ReadsAll (Some held) files modules
-  pub names : HaveOwnNames modules
+  pub named : NamesModules words held
   pub reports : List (List ℕ)
-  pub analysed : IsAnalysis modules reports
+  pub analysed : IsAnalysis named.modules reports
   pub written : written_now ≡ appended written_before (concat reports)
-  pub sound : NothingIsFalse modules
+  pub sound : NothingIsFalse named.modules
 
 -- The steps of reading a file, each of which may refuse it.
 pub data Step : Type 0 where
