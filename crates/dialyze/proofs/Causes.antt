@@ -21,7 +21,7 @@ use Rattle.analysis.specs.Sources.{of_the_whole, scan_refusal, parse_refusal, ru
 use Rattle.dialyze.specs.declared.status.Status.{Status}
 use Rattle.dialyze.specs.declared.status.Status.TheVariants.{Clean, Warnings}
 use Rattle.dialyze.specs.Lines.{refused, duplicate}
-use Rattle.dialyze.specs.Outcome.{Checks, ReadsAll, HaveOwnNames, module_names, IsDuplicate, Outcome, usage, many, faulty, twice, clean, warned, Intended, IsAnswer}
+use Rattle.dialyze.specs.Outcome.{Checks, ReadsAll, HaveOwnNames, module_names, Outcome, usage, many, faulty, twice, clean, warned, Intended, IsAnswer}
 use Rattle.dialyze.specs.Causes.{NamesMissing, NamesSource, NamesTwice, NamesModules, Step, holding, length, tokens, grammar, scopes, step_of}
 use Rattle.dialyze.proofs.CheckExits.{outcome_of}
 use Rattle.dialyze.proofs.Numbers.{number_by, word_by, other_by, one_fault_of, one_word, not_other, one_files, not_many}
