@@ -1,13 +1,13 @@
 -- The laws of the lists of a type, told by an element type and by how they end.
 use Rattle.std.proofs.Common.{sym, ◌∙◌, true≢false, subst, arith, inl, inr, ◌≡◌, ◌↔◌, true, false, ◌&&◌, Option, Some, None, refl, []}
-use Rattle.type_sets.proofs.Truths.{is_false}
+use Rattle.type_sets.proofs.Truths.{is_false, is_true}
 use Rattle.type_model.specs.Values.{Value, atom, nil, Values, no_value, and_value, heads}
 use Rattle.type_model.specs.Shapes.{Cell}
 use Rattle.type_model.specs.HasType.{HasAll, HasCell}
 use Rattle.type_model.specs.Operations.{Ops, cell_meet, cell_join}
 use Rattle.type_model.specs.Normal.{IsElement, NormalCell}
 use Rattle.type_model.specs.Laws.{BelowBy, Lattice, Laws}
-use Rattle.type_model.proofs.LeastLaws.{is_true, IsLeast, IsJust, InBoth, InEither, meet-just, lattice_of}
+use Rattle.type_model.proofs.LeastLaws.{IsLeast, IsJust, InBoth, InEither, meet-just, lattice_of}
 
 module _ {E : Type 0} {Has : Value → E → Type 0} {Normal : E → Type 0} {o : Ops E} (l : Laws Has Normal o) where
   -- ---- element types

@@ -4,6 +4,7 @@ use Rattle.std.specs.FinSet.{IsAntisymmetric}
 use Rattle.std.proofs.lemmas.List.{length-map}
 use Rattle.type_sets.specs.Names.{Name, name_cmp}
 use Rattle.type_sets.proofs.NameLaws.{name_total, name_same}
+use Rattle.type_sets.proofs.Truths.{is_true}
 use Rattle.type_model.specs.Values.{Value, atom, nil, cons, tuple, Values, no_value, and_value, count, heads}
 use Rattle.type_model.specs.Tables.{EachEntry, mapped, find, held, put, united}
 use Rattle.type_model.specs.Shapes.{Cell, Body, product, tags, Tuples, sizes, all_tuples, Parts, TypeAt}
@@ -13,7 +14,7 @@ use Rattle.type_model.specs.Normal.{NormalCell, AreElements, NormalRow, NormalBo
 use Rattle.type_model.specs.Cut.{cell_lower, body_lower, tuples_lower, parts_lower, cut}
 use Rattle.type_model.specs.Laws.{Laws, Lowering}
 use Rattle.type_model.proofs.TableLaws as tables
-use Rattle.type_model.proofs.LeastLaws.{is_true, IsLeast, some_least}
+use Rattle.type_model.proofs.LeastLaws.{IsLeast, some_least}
 use Rattle.type_model.proofs.CellLaws.{value_of, filled-not_none, all-more}
 use Rattle.type_model.proofs.RowLaws.{values_of, count_each, row_lattice}
 use Rattle.type_model.proofs.BodyLaws.{only_above, not_in_tags, rows_at, rows_from, row_at_is, row_at_normal, by_tag, each_tag, elements_normal, elements_above, count_body, body_value, tag_value, LeastRow, LeastBody, product_least, body_lattice}

@@ -9,10 +9,6 @@ use Rattle.type_model.specs.Laws.{BelowBy, Lattice}
 use Rattle.type_model.proofs.TableLaws.{met_with-both_at, find-chosen, find-united, length-within, find-again}
 use Rattle.type_model.proofs.LatticeLaws.{with_none, SomeOf, all-normal, all-has, all-least}
 
--- a test that can't be false is true
-pub is_true : (b : Bool) → (b ≡ false → ⊥) → b ≡ true
-is_true b h = grind arith
-
 -- an option that can hold nothing holds nothing
 pub none_held : {X : Type 0} (x : Option X) → ((y : X) → x ≡ Some y → ⊥) → x ≡ None
 none_held x h = grind arith

@@ -1,6 +1,6 @@
 -- The laws of types made of types: of tuples and of lists, and of the elements, heads and tails that these have.
 use Rattle.std.proofs.Common.{◌≡◌, ◌⊎◌, ℕ, suc, ◌-◌, Bool, true, false, cond, ◌&&◌, inl, inr, List, [], ◌∷◌, length, Option, Some, None, refl, sym, ap, ◌∙◌, subst, arith, ◌↔◌, nat_lt, slice_get, nat_cmp}
-use Rattle.type_sets.proofs.Truths.{second}
+use Rattle.type_sets.proofs.Truths.{second, is_true}
 use Rattle.type_model.specs.Values.{Value, atom, nil, cons, tuple, Values, no_value, and_value, count, heads, end_of}
 use Rattle.type_model.specs.Tables.{find}
 use Rattle.type_model.specs.Shapes.{Cell, Body, Tuples, sizes, all_tuples, Parts, TypeAt}
@@ -16,7 +16,7 @@ use Rattle.type_model.proofs.BodyLaws.{body_of_in, body_of_out, body_of_normal, 
 use Rattle.type_model.proofs.TupleLaws.{normal_at, small_at, tuples_lattice}
 use Rattle.type_model.proofs.PartsLaws.{next_laws}
 use Rattle.type_model.proofs.LevelLaws.{level_laws}
-use Rattle.type_model.proofs.LeastLaws.{is_true, IsLeast, less-least, cond_least, join-least, itself-least}
+use Rattle.type_model.proofs.LeastLaws.{IsLeast, less-least, cond_least, join-least, itself-least}
 use Rattle.type_model.proofs.CutLaws.{cut_lowering, cut_exact}
 
 -- ---- tuples

@@ -19,9 +19,6 @@ in_second a b h = grind arith
 pub either : (a b : Bool) → (a || b) ≡ true → (a ≡ true) ⊎ (b ≡ true)
 either a b h = grind arith
 
-pub and_itself : (a : Bool) → (a && a) ≡ a
-and_itself a = grind arith
-
 pub and_true : (a : Bool) → (a && true) ≡ a
 and_true a = grind arith
 
@@ -38,3 +35,7 @@ decided a = grind arith
 -- a test that can't be true is false
 pub is_false : (a : Bool) → (a ≡ true → ⊥) → a ≡ false
 is_false a h = grind arith
+
+-- a test that can't be false is true
+pub is_true : (a : Bool) → (a ≡ false → ⊥) → a ≡ true
+is_true a h = grind arith
