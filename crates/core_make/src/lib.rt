@@ -1,0 +1,8 @@
+//! Modules of any number, to try the program on: for each number the same real work for everybody.
+#![tactic(auto)]
+
+mod modules;
+#[cfg(test)]
+mod tests;
+
+pub use modules::{MOST_MODULES, make};
