@@ -6,10 +6,10 @@ use Rattle.core_scan.specs.declared.token.Token.{Token}
 use Rattle.core_scan.specs.declared.token.ScanFault.{ScanFault}
 use Rattle.core_scan.specs.Bytes.{start, past}
 use Rattle.core_scan.specs.Lexed.{Lexed, FirstFault}
-use Rattle.core_grammar.specs.declared.fault.ParseFault.{ParseFault}
-use Rattle.core_grammar.specs.declared.fault.ParseFault.TheVariants as p
-use Rattle.core_grammar.specs.Spells.{SpellsTo, SpellsModule}
-use Rattle.core_grammar.specs.Begins.{IsModule, Refused, depth_limit}
+use Rattle.core_parse_grammar.specs.declared.fault.ParseFault.{ParseFault}
+use Rattle.core_parse_grammar.specs.declared.fault.ParseFault.TheVariants as p
+use Rattle.core_parse_grammar.specs.Spells.{SpellsTo, SpellsModule}
+use Rattle.core_parse_grammar.specs.Begins.{IsModule, Refused, depth_limit}
 use Rattle.core_scope.specs.declared.fault.Break.{Break}
 use Rattle.core_scope.specs.Breaks.{module_breaks}
 use Rattle.core_scope.specs.Accepted.{FirstBreak}
@@ -37,7 +37,7 @@ module _ (lexed_once : (place : Place) (bytes : List ℕ) (ts us : List Token) �
   pub one_module : {most : ℕ} {bytes : List ℕ} {x y : m.Module} → IsSource most bytes x → IsSource most bytes y → x ≡ y
   one_module a b = same_module a.scanned b.scanned a.spelled b.spelled
 
-  -- a fault that names a refusal isn't want of memory
+  -- a fault that names a refusal isn't `Memory`
   named_parse : {cause : ParseFault} {fault : SourceFault} → parse_refusal cause ≡ Some fault → cause ≢ p.Memory
   named_parse e h = let k : None ≡ Some _ = ap parse_refusal (sym h) ∙ e in absurd cc
 

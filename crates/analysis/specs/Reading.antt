@@ -1,30 +1,28 @@
--- What reading files gives, one after another, each wholly before the next: their modules, or the first refusal.
-use Rattle.std.specs.Prelude.{◌≡◌, ℕ, ◌+◌, List, [], ◌∷◌, length, map, take, slice_get, Option, Some}
-use Rattle.core_ast.specs.Model as m
-use Rattle.core_scope.specs.Checked.{tree_of}
+-- What reading files gives, one after another, each wholly before the next: their sources, or the first refusal.
+use Rattle.std.specs.Prelude.{◌≡◌, ℕ, ◌+◌, List, [], ◌∷◌, length, take, slice_get, Option, Some}
 use Rattle.da_shelf.specs.Counts.{Rose}
 use Rattle.da_shelf.specs.Told.{Files, Holds, Lacks}
-use Rattle.analysis.specs.declared.reading.Source.{Source}
+use Rattle.table_keep.specs.Model.{Source}
 use Rattle.analysis.specs.declared.reading.ReadFault.{ReadFault}
 use Rattle.analysis.specs.declared.reading.ReadFault.TheVariants.{Refused, Failed, Memory}
 use Rattle.analysis.specs.declared.refusals.SourceFault.{SourceFault}
 use Rattle.analysis.specs.Refusals.{missing}
-use Rattle.analysis.specs.Sources.{room, IsSource, IsAtFault}
+use Rattle.analysis.specs.Sources.{room, IsTextOf, IsAtFault}
 
--- The files are held, and what they hold is the source of these modules. Before them so many bytes were read, and with them as
--- many as the last number says.
-abbrev pub AreRead : (told : Option Files) → (before : ℕ) → (files : List (List ℕ)) → List m.Module → (after : ℕ) → Type 0
+-- The files are held, and what they hold is the text of these sources. Before them `before` bytes were read, and with
+-- them `after`.
+abbrev pub AreRead : (told : Option Files) → (before : ℕ) → (files : List (List ℕ)) → List Source → (after : ℕ) → Type 0
 AreRead told before [] [] after = after ≡ before
-AreRead told before [] (x ∷ xs) after = ⊥
+AreRead told before [] (s ∷ ss) after = ⊥
 AreRead told before (file ∷ files) [] after = ⊥
-AreRead told before (file ∷ files) (x ∷ xs) after =
-    (bytes : List ℕ) × Holds told file bytes × IsSource (room before) bytes x × AreRead told (before + length bytes) files xs after
+AreRead told before (file ∷ files) (s ∷ ss) after =
+    (bytes : List ℕ) × Holds told file bytes × IsTextOf (room before) bytes s × AreRead told (before + length bytes) files ss after
 
--- All files before the one at this position were read, so many bytes.
+-- All files before the one at this position were read, `before` bytes in all.
 pub record IsReached (told : Option Files) (files : List (List ℕ)) (at : ℕ) (file : List ℕ) (before : ℕ) : Type 0 where
   pub there : slice_get files at ≡ Some file
-  pub modules : List m.Module
-  pub read : AreRead told 0 (take at files) modules before
+  pub sources : List Source
+  pub read : AreRead told 0 (take at files) sources before
 
 -- The file at this position is reached and isn't held.
 pub record IsMissingAt (told : Option Files) (files : List (List ℕ)) (at : ℕ) : Type 0 where
@@ -46,10 +44,6 @@ pub record HoldsAt (told : Option Files) (files : List (List ℕ)) (at : ℕ) (I
 pub data RefusedAt (told : Option Files) (files : List (List ℕ)) (at : ℕ) (fault : SourceFault) : Type 0 where
   not_held : fault ≡ missing → IsMissingAt told files at → RefusedAt told files at fault
   at_fault : HoldsAt told files at (λ most bytes. IsAtFault most bytes fault) → RefusedAt told files at fault
-
--- the modules of sources
-abbrev pub trees_of : List Source → List m.Module
-trees_of sources = map (λ (s : Source). tree_of s.checked) sources
 
 -- What a fault says of files whose first is the word at the position `first`: the word is that of the file, and it can't be read
 -- by this fault; or it is reached, and the shelf has counted that it failed.

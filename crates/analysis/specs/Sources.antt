@@ -7,15 +7,17 @@ use Rattle.core_scan.specs.declared.token.ScanFault.{ScanFault}
 use Rattle.core_scan.specs.declared.token.ScanFault.TheVariants as s
 use Rattle.core_scan.specs.Bytes.{start, past}
 use Rattle.core_scan.specs.Lexed.{Lexed, FirstFault}
-use Rattle.core_grammar.specs.declared.fault.ParseFault.{ParseFault}
-use Rattle.core_grammar.specs.declared.fault.ParseFault.TheVariants as p
-use Rattle.core_grammar.specs.Begins.{IsModule}
-use Rattle.core_grammar.specs.Begins as grammar
+use Rattle.core_parse_grammar.specs.declared.fault.ParseFault.{ParseFault}
+use Rattle.core_parse_grammar.specs.declared.fault.ParseFault.TheVariants as p
+use Rattle.core_parse_grammar.specs.Begins.{IsModule}
+use Rattle.core_parse_grammar.specs.Begins as grammar
 use Rattle.core_scope.specs.declared.fault.Break.{Break}
 use Rattle.core_scope.specs.declared.fault.ScopeRule.{ScopeRule}
 use Rattle.core_scope.specs.declared.fault.ScopeRule.TheVariants.{BoundVariables, DistinctVariables, DefinedFunctions, DistinctFunctions, DefinedExports, Degrees}
 use Rattle.core_scope.specs.Breaks.{module_breaks}
 use Rattle.core_scope.specs.Accepted.{FirstBreak}
+use Rattle.sha2.specs.Sha256.{sha256}
+use Rattle.table_keep.specs.Model.{Source}
 use Rattle.analysis.specs.declared.source.TheConstants.{LONGEST_SOURCE, MOST_BYTES}
 use Rattle.analysis.specs.declared.refusals.RefusalName.{RefusalName}
 use Rattle.analysis.specs.declared.refusals.RefusalName.TheVariants as r
@@ -55,34 +57,39 @@ break_refusal b = at (rule_name b.rule) b.place
 
 -- ---- what the bytes of a source are
 
--- How many bytes a source may have, where those before it have so many: 16 MiB, and 64 MiB with those before it.
+-- How many bytes a source may have, where those before it have `before` bytes: 16 MiB, and 64 MiB with those before it.
 abbrev pub room : ℕ → ℕ
 room before = min LONGEST_SOURCE (MOST_BYTES - before)
 
--- The bytes are at most so many, and these are their tokens.
+-- There are at most `most` bytes, and these are their tokens.
 pub record Scanned (most : ℕ) (bytes : List ℕ) (tokens : List Token) : Type 0 where
   pub short : length bytes ≤ most
   pub lexed : Lexed start bytes tokens
 
--- The bytes are the source of the module: they are at most so many, their tokens spell it, and it is accepted.
+-- The bytes are the source of the module: they are at most `most`, their tokens spell it, and it is accepted.
 pub record IsSource (most : ℕ) (bytes : List ℕ) (x : m.Module) : Type 0 where
   pub tokens : List Token
   pub scanned : Scanned most bytes tokens
   pub spelled : IsModule tokens x
   pub sound : module_breaks x ≡ []
 
--- The bytes are more.
+-- The bytes are the text of the source: the source of its module, with their digest.
+pub record IsTextOf (most : ℕ) (bytes : List ℕ) (s : Source) : Type 0 where
+  pub source : IsSource most bytes s.tree
+  pub digest : s.digest ≡ sha256 bytes
+
+-- There are more bytes.
 abbrev pub IsTooLong : (most : ℕ) → List ℕ → SourceFault → Type 0
 IsTooLong most bytes fault = (most < length bytes) × (fault ≡ of_the_whole r.TooLong)
 
--- The bytes are at most so many, and this names their first fault as a text of tokens.
+-- There are at most `most` bytes, and this names their first fault as a text of tokens.
 pub record IsNotScanned (most : ℕ) (bytes : List ℕ) (fault : SourceFault) : Type 0 where
   pub short : length bytes ≤ most
   pub cause : ScanFault
   pub first : FirstFault start bytes cause
   pub named : scan_refusal cause ≡ Some fault
 
--- The bytes have tokens, and this names the first place at which no module goes on, or the first node too deep.
+-- The bytes have tokens, and this names the first unexpected token or end, or the first node too deep.
 pub record IsNotParsed (most : ℕ) (bytes : List ℕ) (fault : SourceFault) : Type 0 where
   pub tokens : List Token
   pub scanned : Scanned most bytes tokens

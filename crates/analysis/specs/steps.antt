@@ -1,2 +1,8 @@
 pub mod Refusing
 pub mod ReadingSteps
+pub mod Entering
+pub mod Deciding
+pub mod Making
+pub mod Adding
+pub mod Members
+pub mod Keyed

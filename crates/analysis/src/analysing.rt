@@ -1,24 +1,31 @@
-//! The analysis of modules together, by any number of workers.
+//! The analysis of modules together with a table between runs, by any number of workers.
 ghost use Rattle.std.specs.Prelude.{◌≡◌, ℕ, ◌<◌, ◌≤◌, ◌^◌, length, map, IfOk, IfErr, OnOk};
 ghost use Rattle.core_scope.specs.Checked.{module_of, tree_of};
 ghost use Rattle.core_scope.specs.Sets.{StandsEarlier};
 ghost use Rattle.call_graph.specs.Calls.{functions_of};
-ghost use Rattle.analysis.specs.Reports.{IsAnalysis, IsSetFault};
+ghost use Rattle.cons_tree.specs.Callees.{found};
+ghost use Rattle.table_keep.specs.Model.{entries_so, sources_so};
+ghost use Rattle.sound_laws_kept.specs.Solving.{IsWritten};
+ghost use Rattle.analysis.specs.Reports.{IsSetFault};
+ghost use Rattle.analysis.specs.steps.Deciding.{AreDecided};
 
-use crate::reports::reports_on;
-use core_scope::{AsChecked, SetFault, check_set};
+use crate::new_table::{new_entries, reports_of};
+use crate::waves::{Decided, decide_all};
+use core_scope::{SetFault, check_set};
 use da_shelf::Gate;
 use std::alloc::Global;
 use std::sync::Wait;
 use std::thread::Threads;
+use table_file::Table;
+use table_keep::Source;
 use type_kinds::{Bytes, List, Memory};
-use whole_crew::solve_modules_by;
 
-/// The analysis of modules: the report on each in the order handed in, a line a finding, and how many functions
-/// they define.
+/// The analysis of modules: the report on each in the order passed, a line a finding, the new table, and how many
+/// functions the modules define.
 #[derive(Drop)]
 pub struct Analysis {
     pub reports: List<Bytes>,
+    pub table: Table,
     pub functions: u32,
 }
 
@@ -31,53 +38,103 @@ pub enum Fault {
     Memory,
 }
 
-/// Analyses modules together: the functions of all are solved component by component, each after those that it calls,
-/// by so many workers, of which the caller is one; and then each module is reported on. The answer is a function of the
-/// modules. Each component is solved between `enter` and `leave` of the gate. The call may wait for workers.
+/// Analyses modules together, with the table of an earlier run: an entry is kept where the modules of its group and what
+/// they use are unchanged, and its report is the one that it has. The functions of all other modules are solved component
+/// by component, each after those that it calls, by `workers` workers, of which the caller is one; and then each of these
+/// modules is reported on. The answer is a function of the modules and the table. Each component is solved between
+/// `enter` and `leave` of the gate. The call may wait for workers.
 ///
-/// `Set`: two modules have one name.
-pub fn analyse<R: Threads + Wait + Sync, S: AsChecked, G: Gate + Sync>(
+/// `Set`: two modules have the same name.
+pub fn analyse<R: Threads + Wait + Sync, G: Gate + Sync>(
     rt: &R,
     alloc: Global,
-    mods: &[S],
+    sources: &[Source],
+    table: &Table,
     workers: u32,
     gate: &G,
 ) -> Result<Analysis, Fault>
-    requires few { length mods.now < 2 ^ 32 }
+    requires few { length sources.now < 2 ^ 32 }
     requires least { 1 ≤ workers }
     requires most { workers ≤ 64 }
-    ensures distinct { OnOk result ((j : ℕ) → j < length mods.now → StandsEarlier (map (λ s. (module_of (S.stands_for s)).name) mods.now) j → ⊥) }
-    ensures reports { IfOk result (λ analysis. IsAnalysis (map (λ s. tree_of (S.stands_for s)) mods.now) analysis.reports) }
-    ensures functions { IfOk result (λ analysis. analysis.functions ≡ length (functions_of (map (λ s. tree_of (S.stands_for s)) mods.now))) }
-    ensures set { IfErr result (IsSetFault (map (λ s. (module_of (S.stands_for s)).name) mods.now)) }
+    ensures distinct { OnOk result ((j : ℕ) → j < length sources.now → StandsEarlier (map (λ s. (module_of s.checked).name) sources.now) j → ⊥) }
+    ensures written { IfOk result (λ analysis. IsWritten (entries_so table.now) (sources_so sources.now) analysis.reports (entries_so analysis.table)) }
+    ensures functions { IfOk result (λ analysis. analysis.functions ≡ length (functions_of (map (λ s. tree_of s.checked) sources.now))) }
+    ensures set { IfErr result (IsSetFault (map (λ s. (module_of s.checked).name) sources.now)) }
 {
-    if let Err(fault) = check_set(mods) {
+    if let Err(fault) = check_set(sources) {
         return Err(Fault::Set(fault));
     }
-    match analysis_of(rt, alloc, mods, workers, gate) {
+    match analysis_of(rt, alloc, sources, table, workers, gate) {
         Ok(analysis) => Ok(analysis),
         Err(Memory) => Err(Fault::Memory),
     }
 }
 
+// How many functions modules define. `Memory`: there are 2^32 or more.
+fn functions_count(sources: &[Source]) -> Result<u32, Memory>
+    ensures { IfOk result (λ count. count ≡ length (functions_of (map (λ s. tree_of s.checked) sources.now))) }
+{
+    let mut count: u32 = 0;
+    for source in sources {
+        let defs = source.checked.module().defs.len();
+        if defs > (u32::MAX - count) as usize {
+            return Err(Memory);
+        }
+        count += defs as u32;
+    }
+    Ok(count)
+}
+
 // The analysis of modules with distinct names.
-fn analysis_of<R: Threads + Wait + Sync, S: AsChecked, G: Gate + Sync>(
+fn analysis_of<R: Threads + Wait + Sync, G: Gate + Sync>(
     rt: &R,
     alloc: Global,
-    mods: &[S],
+    sources: &[Source],
+    table: &Table,
     workers: u32,
     gate: &G,
 ) -> Result<Analysis, Memory>
     requires least { 1 ≤ workers }
     requires most { workers ≤ 64 }
-    requires distinct { (j : ℕ) → j < length mods.now → StandsEarlier (map (λ s. (module_of (S.stands_for s)).name) mods.now) j → ⊥ }
-    ensures reports { IfOk result (λ analysis. IsAnalysis (map (λ s. tree_of (S.stands_for s)) mods.now) analysis.reports) }
-    ensures functions { IfOk result (λ analysis. analysis.functions ≡ length (functions_of (map (λ s. tree_of (S.stands_for s)) mods.now))) }
+    requires distinct { (j : ℕ) → j < length sources.now → StandsEarlier (map (λ s. (module_of s.checked).name) sources.now) j → ⊥ }
+    ensures written { IfOk result (λ analysis. IsWritten (entries_so table.now) (sources_so sources.now) analysis.reports (entries_so analysis.table)) }
+    ensures functions { IfOk result (λ analysis. analysis.functions ≡ length (functions_of (map (λ s. tree_of s.checked) sources.now))) }
 {
-    let solved = solve_modules_by(rt, alloc, mods, workers, gate)?;
-    let reports = reports_on(alloc, mods, &solved.known)?;
+    let functions = functions_count(sources)?;
+    let decided = decide_all(rt, alloc, sources, table, workers, gate)?;
+    let written = write(alloc, sources, table, &decided);
+    discard_decided(decided);
+    let Written { reports, table } = written?;
     Ok(Analysis {
         reports,
-        functions: solved.functions,
+        table,
+        functions,
     })
 }
+
+// The reports on modules, and the new table.
+#[derive(Drop)]
+struct Written {
+    reports: List<Bytes>,
+    table: Table,
+}
+
+// What is written of modules by what is decided of all groups.
+fn write(
+    alloc: Global,
+    sources: &[Source],
+    table: &Table,
+    decided: &Decided,
+) -> Result<Written, Memory>
+    requires distinct { (j : ℕ) → j < length sources.now → StandsEarlier (map (λ s. (module_of s.checked).name) sources.now) j → ⊥ }
+    requires decided { AreDecided (entries_so table.now) (sources_so sources.now) (found decided.now.known) decided.now.changed decided.now.lines }
+    ensures { IfOk result (λ written. IsWritten (entries_so table.now) (sources_so sources.now) written.reports (entries_so written.table)) }
+{
+    let entries = new_entries(alloc, sources, table, decided)?;
+    let reports = reports_of(alloc, sources, &entries)?;
+    let table = entries.into_table(alloc)?;
+    Ok(Written { reports, table })
+}
+
+// Drops what was decided.
+fn discard_decided(_decided: Decided) {}

@@ -1,34 +1,20 @@
 //! Files are read one after another, each wholly before the next: its bytes, tokens, tree and scopes.
 ghost use Rattle.std.specs.Prelude.{◌≡◌, ℕ, ◌+◌, ◌-◌, ◌<◌, ◌≤◌, ◌^◌, List, ◌++◌, ◌∷◌, [], length, map, drop, slice_index_or, IfOk, IfErr, OnOk, OnErr};
-ghost use Rattle.core_scope.specs.Checked.{tree_of};
 ghost use Rattle.da_shelf.specs.Counts.{Rose};
 ghost use Rattle.da_shelf.specs.Told.{Holds};
-ghost use Rattle.analysis.specs.Reading.{AreRead, Fails, trees_of};
-ghost use Rattle.analysis.specs.Sources.{room, IsSource};
+ghost use Rattle.table_keep.specs.Model.{source_so, sources_so};
+ghost use Rattle.analysis.specs.Reading.{AreRead, Fails};
+ghost use Rattle.analysis.specs.Sources.{room, IsTextOf};
 ghost use Rattle.analysis.specs.Words.{texts};
 ghost use Rattle.analysis.specs.steps.ReadingSteps.{FailsBytes, FailsOne, IsReadAs};
 
 use crate::refusals::{MISSING, SourceFault};
 use crate::source::{MOST_BYTES, SourceError, accepted, room_after};
-use core_scope::{AsChecked, Checked, discard_checked};
 use da_shelf::{Shelf, ShelfFault};
 use std::alloc::Global;
+use table_file::digest_of;
+use table_keep::{Source, discard_source};
 use type_kinds::{List, Memory};
-
-/// An accepted module, and how many bytes its text has.
-#[derive(Drop)]
-pub struct Source {
-    pub checked: Checked,
-    pub length: u64,
-}
-
-impl AsChecked for Source {
-    ghost stands_for = { λ source. source.checked };
-
-    fn checked(&self) -> &Checked {
-        &self.checked
-    }
-}
 
 /// Why files aren't read to sources. The number is the position of the file among the words.
 #[derive(Clone, Copy, Debug, PartialEq, Eq)]
@@ -41,7 +27,7 @@ pub enum ReadFault {
     Memory,
 }
 
-/// Gives sources up.
+/// Drops sources.
 pub fn discard_sources(sources: List<Source>) {
     let mut sources = sources;
     while let Some(source) = sources.pop() {
@@ -49,13 +35,8 @@ pub fn discard_sources(sources: List<Source>) {
     }
 }
 
-fn discard_source(source: Source) {
-    let Source { checked, length: _ } = source;
-    discard_checked(checked);
-}
-
 /// Reads the files that the words from the position `first` on name, each wholly before the next, and gives
-/// their modules in this order. A source may have 16 MiB, and all that were read 64 MiB together.
+/// their sources in this order. A source may have 16 MiB, and all that were read 64 MiB together.
 ///
 /// `Refused`: this file is the first that isn't held, or whose bytes are too many or the source of no module.
 /// `Failed`: the shelf failed at this file, and has counted it; all before it were read.
@@ -67,9 +48,10 @@ pub fn read_sources<F: Shelf>(
 ) -> Result<List<Source>, ReadFault>
     requires within { first < length words.now }
     requires few { length words.now < 2 ^ 32 }
-    ensures sources { IfOk result (λ sources. (after : ℕ) × AreRead (F.held shelf.old) 0 (drop first (texts words.now)) (trees_of sources) after) }
+    ensures sources { IfOk result (λ sources. (after : ℕ) × AreRead (F.held shelf.old) 0 (drop first (texts words.now)) (sources_so sources) after) }
     ensures fault { IfErr result (λ fault. Fails (F.held shelf.old) (drop first (texts words.now)) first (F.read_faults shelf.old) (F.read_faults shelf.new) fault) }
     ensures held { F.held shelf.new ≡ F.held shelf.old }
+    ensures replaces { F.replace_faults shelf.new ≡ F.replace_faults shelf.old }
     ensures counted { F.read_faults shelf.old ≤ F.read_faults shelf.new }
 {
     let mut sources = List::new(alloc);
@@ -94,9 +76,10 @@ fn read_all<F: Shelf>(
 ) -> Result<(), ReadFault>
     requires few { first + length files.now < 2 ^ 32 }
     requires empty { sources.old ≡ [] }
-    ensures sources { OnOk result ((after : ℕ) × AreRead (F.held shelf.old) 0 (texts files.now) (trees_of sources.new) after) }
+    ensures sources { OnOk result ((after : ℕ) × AreRead (F.held shelf.old) 0 (texts files.now) (sources_so sources.new) after) }
     ensures fault { IfErr result (λ fault. Fails (F.held shelf.old) (texts files.now) first (F.read_faults shelf.old) (F.read_faults shelf.new) fault) }
     ensures held { F.held shelf.new ≡ F.held shelf.old }
+    ensures replaces { F.replace_faults shelf.new ≡ F.replace_faults shelf.old }
     ensures counted { F.read_faults shelf.old ≤ F.read_faults shelf.new }
 {
     let mut before = 0;
@@ -122,7 +105,7 @@ fn add_source(sources: &mut List<Source>, source: Source) -> Result<(), ReadFaul
     }
 }
 
-// Reads one file, where so many bytes were read before.
+// Reads one file, where `before` bytes were read before it.
 fn read_source<F: Shelf>(
     alloc: Global,
     file: &str,
@@ -135,6 +118,7 @@ fn read_source<F: Shelf>(
     ensures bounded { IfOk result (λ source. before + source.length ≤ MOST_BYTES) }
     ensures fault { IfErr result (FailsOne (F.held shelf.old) file.now word before (F.read_faults shelf.old) (F.read_faults shelf.new)) }
     ensures held { F.held shelf.new ≡ F.held shelf.old }
+    ensures replaces { F.replace_faults shelf.new ≡ F.replace_faults shelf.old }
     ensures counted { F.read_faults shelf.old ≤ F.read_faults shelf.new }
 {
     match shelf.read(file) {
@@ -148,7 +132,7 @@ fn read_source<F: Shelf>(
 // The source that bytes are.
 fn source_of(alloc: Global, bytes: &[u8], word: u32, before: usize) -> Result<Source, ReadFault>
     requires { before ≤ MOST_BYTES }
-    ensures source { IfOk result (λ source. IsSource (room before) bytes.now (tree_of source.checked)) }
+    ensures source { IfOk result (λ source. IsTextOf (room before) bytes.now (source_so source)) }
     ensures length { IfOk result (λ source. source.length ≡ length bytes.now) }
     ensures bounded { IfOk result (λ source. before + source.length ≤ MOST_BYTES) }
     ensures fault { IfErr result (FailsBytes bytes.now word before) }
@@ -156,6 +140,7 @@ fn source_of(alloc: Global, bytes: &[u8], word: u32, before: usize) -> Result<So
     match accepted(alloc, bytes, room_after(before)) {
         Ok(checked) => Ok(Source {
             checked,
+            digest: digest_of(bytes),
             length: bytes.len() as u64,
         }),
         Err(SourceError::AtFault(fault)) => Err(ReadFault::Refused(word, fault)),

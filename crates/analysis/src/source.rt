@@ -1,5 +1,6 @@
 // From the bytes of a file to an accepted module.
-ghost use Rattle.std.specs.Prelude.{◌≡◌, ◌≤◌, IfOk, IfErr};
+ghost use Rattle.std.specs.Prelude.{◌≡◌, ◌≤◌, length, IfOk, IfErr};
+ghost use Rattle.table_keep.specs.Few.{HasAtMost};
 ghost use Rattle.core_scope.specs.Checked.{tree_of};
 ghost use Rattle.analysis.specs.Sources.{scan_refusal, parse_refusal, room, IsSource};
 ghost use Rattle.analysis.specs.steps.Refusing.{scope_refusal, told, Refuses};
@@ -9,6 +10,7 @@ use core_parse::{ParseFault, lexed_weight, parse};
 use core_scan::{ScanFault, end_place, scan};
 use core_scope::{Checked, ScopeFault, check};
 use std::alloc::Global;
+use table_keep::spelled_laws;
 use type_kinds::Place;
 
 /// The most bytes that a source may have, 16 MiB.
@@ -26,7 +28,7 @@ pub enum SourceError {
     Memory,
 }
 
-/// How many bytes a source may have, where those before it have so many.
+/// How many bytes a source may have, where those before it have `before` bytes.
 pub fn room_after(before: usize) -> usize
     ensures value { result ≡ room before }
     ensures bounded { result ≤ LONGEST_SOURCE }
@@ -34,10 +36,11 @@ pub fn room_after(before: usize) -> usize
     LONGEST_SOURCE.min(MOST_BYTES.saturating_sub(before))
 }
 
-/// The accepted module that bytes, at most so many, are the source of, or their fault.
+/// The accepted module that bytes, at most `most`, are the source of, or their fault.
 pub fn accepted(alloc: Global, bytes: &[u8], most: usize) -> Result<Checked, SourceError>
     requires { most ≤ LONGEST_SOURCE }
     ensures source { IfOk result (λ checked. IsSource most bytes.now (tree_of checked)) }
+    ensures few { IfOk result (λ checked. HasAtMost (tree_of checked) (length bytes.now)) }
     ensures fault { IfErr result (λ error. Refuses most bytes.now error) }
 {
     if bytes.len() > most {
@@ -51,6 +54,7 @@ pub fn accepted(alloc: Global, bytes: &[u8], most: usize) -> Result<Checked, Sou
         Err(fault) => return Err(of_scan(fault)),
     };
     lexed_weight();
+    spelled_laws();
     let module = match parse(alloc, tokens.as_slice(), end_place(bytes)) {
         Ok(module) => module,
         Err(fault) => return Err(of_parse(fault)),

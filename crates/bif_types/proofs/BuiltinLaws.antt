@@ -3,8 +3,8 @@
 use Rattle.std.proofs.Common.{◌≡◌, ℕ, zero, suc, ℤ, pos, Bool, true, ◌||◌, List, [], ◌∷◌, Option, Some, None, length, inl, inr, refl, sym, ap, ◌∙◌, subst}
 use Rattle.std.specs.Prelude.{nat_abs}
 use Rattle.type_kinds.specs.declared.atom.Atom.{Atom}
-use Rattle.type_model.specs.Parts.{value_at}
-use Rattle.type_model.specs.Values.{Value, int, Values, no_value, and_value, count}
+use Rattle.type_lattice_model.specs.Parts.{value_at}
+use Rattle.type_lattice_model.specs.Values.{Value, int, Values, no_value, and_value, count}
 use Rattle.type_lattice.specs.Kinds.{HasArity}
 use Rattle.type_lattice.specs.Types.{HasType}
 use Rattle.cons_tree.specs.Environments.{Assignment}
@@ -59,10 +59,10 @@ satisfied f b value args quiet a e h =
 the_one : (w v : Value) → Some w ≡ Some v → w ≡ v
 the_one w v e = cc
 
-at_place : (es : Values) (n : ℕ) (v c : Value) → value_at es n ≡ Some v → HoldsClosure c v → HoldClosure c es
-at_place no_value n v c e i = absurd cc
-at_place (and_value w ws) zero v c e i = inl (subst (HoldsClosure c) (sym (the_one w v e)) i)
-at_place (and_value w ws) (suc n) v c e i = inr (at_place ws n v c e i)
+at_position : (es : Values) (n : ℕ) (v c : Value) → value_at es n ≡ Some v → HoldsClosure c v → HoldClosure c es
+at_position no_value n v c e i = absurd cc
+at_position (and_value w ws) zero v c e i = inl (subst (HoldsClosure c) (sym (the_one w v e)) i)
+at_position (and_value w ws) (suc n) v c e i = inr (at_position ws n v c e i)
 
 told : (v c : Value) (P : Type 0) → Tells v P → HoldsClosure c v → ⊥
 told v c P (inl h) i = subst (HoldsClosure c) h.1 i
@@ -80,7 +80,7 @@ held_by r.Abs f vs v c e (inl h) i = absurd (subst (HoldsClosure c) h.1.1 i)
 held_by r.Abs f vs v c e (inr h) i = absurd (subst (HoldsClosure c) h.1.1.1 i)
 held_by r.Head f vs v c e h i = subst (HoldClosure c) (sym h.1) (inl (inl i))
 held_by r.Tail f vs v c e h i = subst (HoldClosure c) (sym h.1) (inl (inr i))
-held_by r.Element f vs v c e h i = subst (HoldClosure c) (sym h.1.1.0) (inr (inl (at_place h.1.0 h.0 v c h.1.1.1 i)))
+held_by r.Element f vs v c e h i = subst (HoldClosure c) (sym h.1.1.0) (inr (inl (at_position h.1.0 h.0 v c h.1.1.1 i)))
 held_by (r.Test t) f vs v c e h i = absurd (told v c (HasType h.0 (type_of t)) h.1.1 i)
 held_by (r.TestSome t) f vs v c e h i = absurd (told v c (HasType h.0 (type_of t) × HasArity h.0 h.1.0) h.1.1.1 i)
 held_by r.Same f vs v c e h i = absurd (told v c (h.0 ≡ h.1.0) h.1.1.1 i)

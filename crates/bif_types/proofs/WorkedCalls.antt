@@ -1,11 +1,11 @@
 -- Calls worked by hand.
 use Rattle.std.proofs.Common.{◌≡◌, ℤ, pos, List, [], ◌∷◌, Some, None, inl, inr, ◌⊎◌, refl, ap, ◌∙◌}
 use Rattle.std.specs.Prelude.{codes}
-use Rattle.type_sets.specs.Numbers as numbers
-use Rattle.type_sets.specs.declared.ends.Low.TheVariants.{Min}
-use Rattle.type_sets.specs.declared.ends.High.TheVariants.{Max}
+use Rattle.type_kinds_sets.specs.Numbers as numbers
+use Rattle.type_kinds_sets.specs.declared.ends.Low.TheVariants.{Min}
+use Rattle.type_kinds_sets.specs.declared.ends.High.TheVariants.{Max}
 use Rattle.type_kinds.specs.declared.atom.Atom.{Atom}
-use Rattle.type_model.specs.Values.{Value, int, float}
+use Rattle.type_lattice_model.specs.Values.{Value, int, float}
 use Rattle.type_lattice.specs.Types.{HasType}
 use Rattle.cons_tree.specs.Facts.{TypeFacts}
 use Rattle.cons_tree.specs.Named.{integers, floats}

@@ -1,9 +1,9 @@
 -- The types that the table of built-in functions names.
 use Rattle.std.specs.Prelude.{true, false}
-use Rattle.type_sets.specs.Names as names
-use Rattle.type_sets.specs.Numbers as numbers
-use Rattle.type_sets.specs.declared.ends.Low.TheVariants.{Zero, One}
-use Rattle.type_sets.specs.declared.ends.High.TheVariants.{Byte, Unicode, Max}
+use Rattle.type_kinds_sets.specs.Names as names
+use Rattle.type_kinds_sets.specs.Numbers as numbers
+use Rattle.type_kinds_sets.specs.declared.ends.Low.TheVariants.{Zero, One}
+use Rattle.type_kinds_sets.specs.declared.ends.High.TheVariants.{Byte, Unicode, Max}
 use Rattle.type_lattice.specs.Types.{Type4, any, join, cons, of_atoms, of_ints}
 use Rattle.type_lattice.specs.Kinds.{of_kind}
 use Rattle.type_lattice.specs.declared.kinds.Kind.TheVariants as kind

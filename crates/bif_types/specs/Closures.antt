@@ -1,7 +1,7 @@
 -- The closures that a value holds: itself, or one that an element, a key or a value of it holds. What a closure has captured
 -- doesn't count.
 use Rattle.std.specs.Prelude.{◌≡◌, ◌⊎◌}
-use Rattle.type_model.specs.Values.{Value, cons, tuple, map, closure, Values, no_value, and_value, ValuePairs, no_pair, and_pair}
+use Rattle.type_lattice_model.specs.Values.{Value, cons, tuple, map, closure, Values, no_value, and_value, ValuePairs, no_pair, and_pair}
 
 abbrev mutual
   pub HoldsClosure : Value → Value → Type 0

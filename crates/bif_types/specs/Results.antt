@@ -1,9 +1,9 @@
 -- What a call of a function of the module `erlang` may give. It says no more than this: the call may raise at any arguments.
 use Rattle.std.specs.Prelude.{◌≡◌, ◌⊎◌, ℕ, zero, suc, ℤ, pos, ◌+ℤ◌, ◌-ℤ◌, ◌*ℤ◌, neg_ℤ, nat_abs, int_div, int_rem, Bool, true, false, ◌||◌, List, [], ◌∷◌, Option, Some, None, codes, bytes_eq, if◌then◌else◌}
 use Rattle.type_kinds.specs.declared.atom.Atom.{Atom}
-use Rattle.type_sets.specs.Names.{Name}
-use Rattle.type_model.specs.Parts.{value_at}
-use Rattle.type_model.specs.Values.{Value, int, float, cons, tuple, Values, no_value, and_value, count}
+use Rattle.type_kinds_sets.specs.Names.{Name}
+use Rattle.type_lattice_model.specs.Parts.{value_at}
+use Rattle.type_lattice_model.specs.Values.{Value, int, float, cons, tuple, Values, no_value, and_value, count}
 use Rattle.type_lattice.specs.Kinds.{HasArity}
 use Rattle.type_lattice.specs.Types.{HasType, HasTypes}
 use Rattle.cons_tree.specs.Satisfied.{IsFloat, HaveFloat, Tells, Denies}
@@ -95,6 +95,6 @@ abbrev pub is_exact_row : Option Bif → Atom → Bool
 is_exact_row None f = false
 is_exact_row (Some b) f = is_exact_rule b.rule || is_division f
 
--- the function with so many arguments gives exactly what Erlang's does
+-- the function with n arguments gives exactly what Erlang's does
 abbrev pub is_exact : Atom → ℕ → Bool
 is_exact f n = is_exact_row (looked_up f n) f

@@ -13,7 +13,7 @@ pub record Named : Type 0 where
   pub name : Atom
   pub bif : Bif
 
--- The places of the arguments: those behind the last hold `Any`.
+-- The positions of the arguments: those behind the last hold `Any`.
 abbrev pub padded : List ArgKind → List ArgKind
 padded [] = a.Any ∷ a.Any ∷ a.Any ∷ []
 padded (x ∷ []) = x ∷ a.Any ∷ a.Any ∷ []

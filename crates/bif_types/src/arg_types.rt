@@ -2,17 +2,17 @@
 ghost use Rattle.std.specs.Prelude.{◌≡◌, ◌<◌, ◌^◌, ◌∷◌, [], IfOk, IsTrue, length};
 ghost use Rattle.type_lattice.specs.Kinds.{asks_proper};
 ghost use Rattle.type_lattice.specs.Types.{cons, join, of_atoms, of_ints};
-ghost use Rattle.type_sets.specs.Ends.{is_range};
-ghost use Rattle.type_sets.specs.Names.{listed};
-ghost use Rattle.type_sets.specs.Numbers.{range};
+ghost use Rattle.type_kinds_sets.specs.Ends.{is_range};
+ghost use Rattle.type_kinds_sets.specs.Names.{listed};
+ghost use Rattle.type_kinds_sets.specs.Numbers.{range};
 ghost use Rattle.cons_tree.specs.Named.{integers, floats, truths as both_truths};
 ghost use Rattle.bif_types.specs.ArgTypes.{type_of, just_nil, characters as all_characters, bytes as all_bytes};
 
 use crate::bif::ArgKind;
 use std::alloc::Global;
 use type_kinds::{Atom, Memory};
+use type_kinds_sets::{AtomSet, High, IntSet, Low};
 use type_lattice::{Ends, Kind, Ty};
-use type_sets::{AtomSet, High, IntSet, Low};
 
 impl ArgKind {
     /// The type that it names. `Memory` comes if allocation fails.

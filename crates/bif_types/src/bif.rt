@@ -60,7 +60,7 @@ pub enum Rule {
     Head,
     /// The tail of the list.
     Tail,
-    /// The element of the second argument, a tuple, at the place that the first one says.
+    /// The element of the second argument, a tuple, at the position that the first one says.
     Element,
     /// Whether the argument is of the type.
     Test(ArgKind),
@@ -75,7 +75,7 @@ pub enum Rule {
 }
 
 /// A built-in function: what its arguments may be, how many they are, and how its result comes of
-/// them. The places of `args` from `arity` on hold `Any`.
+/// them. The positions of `args` from `arity` on hold `Any`.
 #[derive(Clone, Copy, Debug, PartialEq, Eq)]
 pub struct Bif {
     pub args: [ArgKind; 3],

@@ -5,7 +5,7 @@ use crate::bif::Bif;
 use crate::rows::{Row, conversions, of_one, of_three, of_two, type_tests, without_arguments};
 use type_kinds::Atom;
 
-/// The built-in function of the module `erlang` with this name and so many arguments, or `None` where
+/// The built-in function of the module `erlang` with this name and `arity` arguments, or `None` where
 /// the table has none. Takes no memory.
 pub fn lookup(name: &Atom, arity: u32) -> Option<Bif>
     ensures { result ≡ looked_up name.now arity }

@@ -1,7 +1,7 @@
 //! What holds of the built-in functions, as a function that does nothing: who calls it has its clauses.
 ghost use Rattle.std.specs.Prelude.{◌≡◌, ℕ, pos, Bool, true, List, Some, codes, length};
 ghost use Rattle.type_kinds.specs.declared.atom.Atom.{Atom};
-ghost use Rattle.type_model.specs.Values.{Value, Values, count, int};
+ghost use Rattle.type_lattice_model.specs.Values.{Value, Values, count, int};
 ghost use Rattle.cons_tree.specs.Environments.{Assignment};
 ghost use Rattle.cons_tree.specs.Satisfied.{SatPart, values_of};
 ghost use Rattle.bif_types.specs.declared.bif.Bif.{Bif};

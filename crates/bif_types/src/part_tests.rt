@@ -8,8 +8,8 @@ use std::alloc::Global;
 use std::process::Abort;
 use std::test::Fail;
 use type_kinds::{Atom, Memory};
+use type_kinds_sets::{AtomSet, High, IntSet, Low};
 use type_lattice::{Ends, Kind, Ty};
-use type_sets::{AtomSet, High, IntSet, Low};
 
 const SLOTS: [u64; 3] = [4, 2, 9];
 
@@ -108,7 +108,7 @@ fn is_transfer(alloc: Global, transfer: &Transfer, rule: Rule) -> Result<bool, M
     }
 }
 
-// Whether the types are those of the first so many arguments.
+// Whether the types are those of arguments of these kinds, one by one.
 fn are_types(alloc: Global, types: &[Ty], kinds: &[ArgKind]) -> Result<bool, Memory> {
     if types.len() != kinds.len() {
         return Ok(false);

@@ -1,8 +1,11 @@
 -- How tables are built: what each round keeps, and what stands at the end.
-use Rattle.std.proofs.Common.{◌≡◌, ℕ, zero, suc, ◌+◌, ◌<◌, ◌≤◌, ◌||◌, Bool, true, false, if◌then◌else◌, List, [], ◌∷◌, ◌++◌, length, drop, get_or, map, refl, sym, ap, ◌∙◌, subst, arith, add-one, drop-cons, length-append}
+use Rattle.std.proofs.Common.{◌≡◌, ℕ, suc, ◌+◌, ◌<◌, ◌≤◌, ◌||◌, Bool, true, false, if◌then◌else◌, List, [], ◌∷◌, ◌++◌, length, drop, get_or, map, refl, sym, ap, ◌∙◌, subst, arith, length-append}
 use Rattle.std.specs.List.{list_any}
 use Rattle.std.specs.Cmp.Lexicographic.{bytes_decides}
 use Rattle.std.proofs.lemmas.List.Folds.{list_any-append}
+use Rattle.std.proofs.Math.Bool.{or-false}
+use Rattle.std.proofs.lemmas.List.{drop_all}
+use Rattle.type_kinds.proofs.Lists.{drop_next}
 use Rattle.indexmap.specs.IndexMap.{insert_entry}
 use Rattle.indexmap.specs.IndexSet.{insert_key}
 use Rattle.type_kinds.specs.declared.atom.Atom.{Atom}
@@ -23,15 +26,6 @@ use Rattle.call_graph.specs.steps.Building.{Entries, function_key, entry_of, ins
 use Rattle.call_graph.proofs.Lookups.{inserted_all}
 use Rattle.call_graph.proofs.DistinctKeys.{modules, names, keys_stand_once}
 use Rattle.call_graph.proofs.Tables.{table_answers}
-
-pub next_item : {X : Type 0} (xs : List X) (i : ℕ) (x : X) → i < length xs → x ≡ get_or xs i x → drop i xs ≡ x ∷ drop (i + 1) xs
-next_item xs i x within is = drop-cons xs i x within ∙ ap (λ y. y ∷ drop (suc i) xs) (sym is) ∙ ap (λ n. x ∷ drop n xs) (sym (add-one i))
-
-pub drop_past : {X : Type 0} (xs : List X) (i : ℕ) → length xs ≤ i → drop i xs ≡ []
-drop_past [] zero h = refl
-drop_past [] (suc i) h = refl
-drop_past (x ∷ xs) zero h = absurd (omega (arith, h))
-drop_past (x ∷ xs) (suc i) h = drop_past xs i (omega (arith, h))
 
 -- ---- functions of one module
 
@@ -67,10 +61,6 @@ or_assoc : (a b c : Bool) → ((a || b) || c) ≡ (a || (b || c))
 or_assoc true b c = refl
 or_assoc false b c = refl
 
-or_false : (a : Bool) → (a || false) ≡ a
-or_false true = refl
-or_false false = refl
-
 inserted_name : (ks : List Atom) (k h : Atom) → list_any (same_atom h) (insert_key same_atom ks k) ≡ (list_any (same_atom h) ks || same_atom h k)
 inserted_name ks k h = by (list_any (same_atom k) ks) refl
   where
@@ -78,11 +68,11 @@ inserted_name ks k h = by (list_any (same_atom k) ks) refl
     there true e t =
         let any : list_any (same_atom h) ks ≡ true = subst (λ x. list_any (same_atom x) ks ≡ true) (sym ((bytes_decides h k).0 e)) t in
         any ∙ sym (ap (λ b. b || true) any)
-    there false e t = sym (or_false (list_any (same_atom h) ks))
+    there false e t = sym (or-false (list_any (same_atom h) ks))
 
     by : (b : Bool) → list_any (same_atom k) ks ≡ b → list_any (same_atom h) (if b then ks else ks ++ k ∷ []) ≡ (list_any (same_atom h) ks || same_atom h k)
     by true e = there (same_atom h k) refl e
-    by false e = list_any-append (same_atom h) ks (k ∷ []) ∙ ap (λ b. list_any (same_atom h) ks || b) (or_false (same_atom h k))
+    by false e = list_any-append (same_atom h) ks (k ∷ []) ∙ ap (λ b. list_any (same_atom h) ks || b) (or-false (same_atom h k))
 
 -- ---- all modules
 
@@ -106,7 +96,7 @@ module _ {S : Type 0} (stands_for : S → Checked) where
       let rest : List S = drop (i + 1) ss in
       let fs : List ModuleFunction = module_functions x in
       let gs : List ModuleFunction = functions_of (modules stands_for rest) in
-      let split : modules stands_for (drop i ss) ≡ x ∷ modules stands_for rest = ap (modules stands_for) (next_item ss i s within is) ∙ ap (λ y. y ∷ modules stands_for rest) (sym tree_is) in
+      let split : modules stands_for (drop i ss) ≡ x ∷ modules stands_for rest = ap (modules stands_for) (drop_next ss i s within is) ∙ ap (λ y. y ∷ modules stands_for rest) (sym tree_is) in
       let functions : functions_of (modules stands_for (drop i ss)) ≡ fs ++ gs = ap functions_of split in
       record {
         entries =
@@ -123,10 +113,10 @@ module _ {S : Type 0} (stands_for : S → Checked) where
   pub sources_exit : (t : FunctionTable) (ss : List S) (i : ℕ) → length ss ≤ i → ((j : ℕ) → j < length ss → StandsEarlier (map (λ s. (module_of (stands_for s)).name) ss) j → ⊥) → Kept ss i t → IsTableOf (modules stands_for ss) t
   sources_exit t ss i past distinct kept =
       let xs : List m.Module = modules stands_for ss in
-      let none : drop i ss ≡ [] = drop_past ss i past in
+      let none : drop i ss ≡ [] = drop_all i ss past in
       let once = keys_stand_once stands_for ss distinct in
       let entries : t.functions.entries ≡ numbered 0 (functions_of xs) =
       ap (λ l. inserted t.functions.entries t.count (functions_of (modules stands_for l))) (sym none) ∙ kept.entries ∙ inserted_all (functions_of xs) once in
       let count : t.count ≡ length (functions_of xs) = (let e : t.count + length (functions_of (modules stands_for (drop i ss))) ≡ t.count + 0 = ap (λ l. t.count + length (functions_of (modules stands_for l))) none in let b = kept.count in omega (arith, e, b)) in
       table_answers xs t entries once
-      (λ h. sym (or_false (list_any (same_atom h) t.modules.keys)) ∙ ap (λ l. list_any (same_atom h) t.modules.keys || list_any (same_atom h) (names (modules stands_for l))) (sym none) ∙ kept.modules h) count
+      (λ h. sym (or-false (list_any (same_atom h) t.modules.keys)) ∙ ap (λ l. list_any (same_atom h) t.modules.keys || list_any (same_atom h) (names (modules stands_for l))) (sym none) ∙ kept.modules h) count

@@ -2,18 +2,19 @@
 use Rattle.std.proofs.Common.{◌≡◌, ◌↔◌, ℕ, ◌+◌, ◌<◌, ◌⊎◌, inl, inr, List, [], ◌∷◌, ◌++◌, Option, Some, None, Contains, length, slice_get, false, refl, sym, ap, subst, arith}
 use Rattle.std.proofs.lemmas.List.Elements.{Contains-append_left, Contains-append_right, Contains-append_cases}
 use Rattle.std.proofs.lemmas.Option.{slice_get_within}
+use Rattle.type_kinds.proofs.Lists.{contains_none, contains_first, contains_cases}
 use Rattle.type_kinds.specs.declared.atom.Atom.{Atom}
 use Rattle.core_ast.specs.declared.syntax.Mark.{Mark}
 use Rattle.core_ast.specs.Model as m
 use Rattle.call_graph.specs.declared.table.FunctionTable.{FunctionTable}
 use Rattle.call_graph.specs.declared.table.Resolved.{Resolved}
-use Rattle.call_graph.specs.declared.table.Resolved.TheVariants.{BuiltIn, NotHandedIn, NotExported, Function}
+use Rattle.call_graph.specs.declared.table.Resolved.TheVariants.{BuiltIn, NotPassed, NotExported, Function}
 use Rattle.call_graph.specs.Targets.{CallTarget, targets}
 use Rattle.call_graph.specs.Targets.CallTarget.{defined, inner, remote}
 use Rattle.call_graph.specs.Calls.{ModuleFunction, functions_of, GoesTo, Calls}
 use Rattle.call_graph.specs.Tables.{own_number, resolved, IsTableOf}
 use Rattle.call_graph.specs.steps.Walking.{reached_number, listed, callee, callees, callees_in, PairsFrom}
-use Rattle.call_graph.proofs.Lookups.{contains_first, contains_cases, contains_none, At, at_from, at_zero}
+use Rattle.call_graph.proofs.Lookups.{At, at_from, at_zero}
 
 -- ---- the functions that targets are
 
@@ -35,7 +36,7 @@ callees_among table home (t ∷ ts) j h = elim (Contains-append_cases (callee ta
 
 pub among_callees : (table : FunctionTable) (home : Atom) (ts : List CallTarget) (j : ℕ) (t : CallTarget) → Contains ts t → Contains (callee table home t) j → Contains (callees table home ts) j
 among_callees table home [] j t h c = absurd (contains_none t h)
-among_callees table home (s ∷ ts) j t h c = elim (contains_cases s ts t h) [
+among_callees table home (s ∷ ts) j t h c = elim (contains_cases s t ts h) [
   | inl e ↦ Contains-append_left (callee table home s) (callees table home ts) j (subst (λ u. Contains (callee table home u) j) (sym e) c)
   | inr d ↦ Contains-append_right (callee table home s) (callees table home ts) j (among_callees table home ts j t d c)
 ]
@@ -44,16 +45,16 @@ among_callees table home (s ∷ ts) j t h c = elim (contains_cases s ts t h) [
 
 listed_is : (o : Option ℕ) (j : ℕ) → Contains (listed o) j → o ≡ Some j
 listed_is None j h = absurd (contains_none j h)
-listed_is (Some k) j h = elim (contains_cases k [] j h) [
+listed_is (Some k) j h = elim (contains_cases k j [] h) [
   | inl e ↦ ap Some e
   | inr c ↦ absurd (contains_none j c)
 ]
 
 reached_is : (r : Resolved) (j : ℕ) → Contains (reached_number r) j → r ≡ Function j
 reached_is BuiltIn j h = absurd (contains_none j h)
-reached_is NotHandedIn j h = absurd (contains_none j h)
+reached_is NotPassed j h = absurd (contains_none j h)
 reached_is NotExported j h = absurd (contains_none j h)
-reached_is (Function k) j h = elim (contains_cases k [] j h) [
+reached_is (Function k) j h = elim (contains_cases k j [] h) [
   | inl e ↦ ap Function e
   | inr c ↦ absurd (contains_none j c)
 ]

@@ -1,6 +1,9 @@
 -- Accepted modules with distinct names have no two functions of one key.
-use Rattle.std.proofs.Common.{◌≡◌, ℕ, suc, ◌<◌, inl, inr, List, [], ◌∷◌, ◌++◌, Some, Contains, length, map, slice_get, refl, sym, ap, subst, arith}
+use Rattle.std.proofs.Common.{◌≡◌, ℕ, suc, ◌<◌, inl, inr, List, [], ◌∷◌, ◌++◌, Contains, length, map, refl, sym, ap, subst, arith}
 use Rattle.std.proofs.lemmas.List.Elements.{Contains-append_cases}
+use Rattle.std.proofs.lemmas.List.{map-append}
+use Rattle.core_scope.proofs.NameLaws.{none_earlier}
+use Rattle.type_kinds.proofs.Lists.{contains_none, contains_first, contains_later, contains_cases}
 use Rattle.type_kinds.specs.declared.atom.Atom.{Atom}
 use Rattle.core_ast.specs.declared.syntax.FunName.{FunName}
 use Rattle.core_ast.specs.Model as m
@@ -13,24 +16,6 @@ use Rattle.call_graph.specs.declared.keys.FunctionKey.{FunctionKey}
 use Rattle.call_graph.specs.Calls.{functions_in, module_functions, functions_of}
 use Rattle.call_graph.specs.Tables.{key_of}
 use Rattle.call_graph.specs.steps.Building.{function_key}
-use Rattle.call_graph.proofs.Lookups.{contains_first, contains_later, contains_cases, contains_none}
-
--- ---- names that stand once
-
--- At a place of the list there is the item.
-place_of : {X : Type 0} (xs : List X) (x : X) → Contains xs x → (k : ℕ) × (k < length xs) × (slice_get xs k ≡ Some x)
-place_of [] x h = absurd (contains_none x h)
-place_of (y ∷ ys) x h = elim (contains_cases y ys x h) [
-  | inl e ↦ (0, omega arith, ap Some e)
-  | inr c ↦ (let r = place_of ys x c in (suc r.0, omega (arith, r.1), r.2))
-]
-
-pub none_earlier : (names : List Atom) → ((j : ℕ) → j < length names → StandsEarlier names j → ⊥) → Distinct names
-none_earlier [] h = tt
-none_earlier (x ∷ xs) h = (
-  λ c. (let r = place_of xs x c in h (suc r.0) (omega (arith, r.1)) (0, omega arith, sym r.2)),
-  none_earlier xs (λ j within before. h (suc j) (omega (arith, within)) (suc before.0, omega (arith, before.1), before.2)),
-)
 
 -- ---- keys
 
@@ -41,19 +26,15 @@ distinct_append (x ∷ xs) ys d e apart = (
     | inl h ↦ d.0 h
     | inr h ↦ apart x (contains_first x xs) h
   ],
-  distinct_append xs ys d.1 e (λ y h k. apart y (contains_later x xs y h) k),
+  distinct_append xs ys d.1 e (λ y h k. apart y (contains_later x y xs h) k),
 )
-
-mapped_append : {X Y : Type 0} (v : X → Y) (xs ys : List X) → map v (xs ++ ys) ≡ map v xs ++ map v ys
-mapped_append v [] ys = refl
-mapped_append v (x ∷ xs) ys = ap (λ l. v x ∷ l) (mapped_append v xs ys)
 
 -- A key among those of a module has its name, and the rest is a name that is defined.
 key_in : (home : Atom) (exports : List FunName) (ds : m.Defs) (q : FunctionKey) → Contains (map function_key (functions_in home exports ds)) q → (f : FunName) × Contains (defined_names ds) f × (key_of home f ≡ q)
 key_in home exports m.no_def q h = absurd (contains_none q h)
-key_in home exports (m.and_def f i xs t ds) q h = elim (contains_cases (key_of home f) (map function_key (functions_in home exports ds)) q h) [
+key_in home exports (m.and_def f i xs t ds) q h = elim (contains_cases (key_of home f) q (map function_key (functions_in home exports ds)) h) [
   | inl e ↦ (f, contains_first f (defined_names ds), e)
-  | inr c ↦ (let r = key_in home exports ds q c in (r.0, contains_later f (defined_names ds) r.0 r.1, r.2))
+  | inr c ↦ (let r = key_in home exports ds q c in (r.0, contains_later f r.0 (defined_names ds) r.1, r.2))
 ]
 
 same_name : (home : Atom) (f g : FunName) → key_of home f ≡ key_of home g → f ≡ g
@@ -73,9 +54,9 @@ names xs = map (λ x. x.name) xs
 home_of_key : (xs : List m.Module) (q : FunctionKey) → Contains (map function_key (functions_of xs)) q → Contains (names xs) q.home
 home_of_key [] q h = absurd (contains_none q h)
 home_of_key (x ∷ xs) q h =
-    elim (Contains-append_cases (map function_key (module_functions x)) (map function_key (functions_of xs)) q (subst (λ l. Contains l q) (mapped_append function_key (module_functions x) (functions_of xs)) h)) [
+    elim (Contains-append_cases (map function_key (module_functions x)) (map function_key (functions_of xs)) q (subst (λ l. Contains l q) (map-append function_key (module_functions x) (functions_of xs)) h)) [
       | inl c ↦ (let r = key_in x.name x.exports x.defs q c in subst (Contains (x.name ∷ names xs)) (ap (λ k. k.home) r.2) (contains_first x.name (names xs)))
-      | inr c ↦ contains_later x.name (names xs) q.home (home_of_key xs q c)
+      | inr c ↦ contains_later x.name q.home (names xs) (home_of_key xs q c)
     ]
 
 -- Each module defines each of its names once.
@@ -86,7 +67,7 @@ DefineOnce (x ∷ xs) = Distinct (defined_names x.defs) × DefineOnce xs
 pub distinct_keys : (xs : List m.Module) → Distinct (names xs) → DefineOnce xs → Distinct (map function_key (functions_of xs))
 distinct_keys [] d once = tt
 distinct_keys (x ∷ xs) d once =
-    subst Distinct (sym (mapped_append function_key (module_functions x) (functions_of xs)))
+    subst Distinct (sym (map-append function_key (module_functions x) (functions_of xs)))
     (distinct_append (map function_key (module_functions x)) (map function_key (functions_of xs)) (distinct_in x.name x.exports x.defs once.0) (distinct_keys xs d.1 once.1) (λ q here there.
     let r = key_in x.name x.exports x.defs q here in
     d.0 (subst (Contains (names xs)) (sym (ap (λ k. k.home) r.2)) (home_of_key xs q there))))

@@ -1,6 +1,7 @@
 -- The walk through expressions: what each way out of it says.
 use Rattle.std.proofs.Common.{◌≡◌, ℕ, List, ◌++◌, Option, None, Some, OnOk, take, length, sym, ap, ◌∙◌, subst}
 use Rattle.std.proofs.Math.Seq.{take-append_seam}
+use Rattle.std.proofs.lemmas.Result.{on_ok_weaker}
 use Rattle.type_kinds.specs.declared.atom.Atom.{Atom}
 use Rattle.core_ast.specs.declared.syntax.FunName.{FunName}
 use Rattle.core_ast.specs.declared.syntax.FunOf.{FunOf}
@@ -23,7 +24,7 @@ use Rattle.core_scope.specs.Names.{defined_names}
 use Rattle.call_graph.specs.declared.walk.CallWalk.{CallWalk}
 use Rattle.call_graph.specs.Targets.{CallTarget, applied, called, targets_of, targets, all_targets, pair_targets, segment_targets, step_targets, clause_targets, def_targets}
 use Rattle.call_graph.specs.steps.Walking.{noting, defining}
-use Rattle.call_graph.proofs.Notes.{Answer, Part, on_ok, next_step, noted_none, with_locals}
+use Rattle.call_graph.proofs.Notes.{Answer, Part, next_step, noted_none, with_locals}
 
 module _ (w0 : CallWalk) (e : Expr) where
   -- the state after all targets in a tree
@@ -47,46 +48,46 @@ module _ (w0 : CallWalk) (e : Expr) where
 
   module _ (r : Answer) (w1 : CallWalk) where
     pub fun_exit : (x : FunOf Expr) → e.form ≡ f.Fun x → OnOk r (w1 ≡ noting w0 (targets w0.locals (tree x.body))) → OnOk r (w1 ≡ noting w0 (targets w0.locals (tree e)))
-    fun_exit x is = on_ok r (λ one. one ∙ ap after (sym (fun_tree e x is)))
+    fun_exit x is = on_ok_weaker r (λ one. one ∙ ap after (sym (fun_tree e x is)))
 
     pub tuple_exit : (xs : List Expr) → e.form ≡ f.Tuple xs → OnOk r (w1 ≡ noting w0 (all_targets w0.locals (all_trees xs))) → OnOk r (w1 ≡ noting w0 (targets w0.locals (tree e)))
-    tuple_exit xs is = on_ok r (λ one. one ∙ ap after (sym (tuple_tree e xs is)))
+    tuple_exit xs is = on_ok_weaker r (λ one. one ∙ ap after (sym (tuple_tree e xs is)))
 
     pub values_exit : (xs : List Expr) → e.form ≡ f.Values xs → OnOk r (w1 ≡ noting w0 (all_targets w0.locals (all_trees xs))) → OnOk r (w1 ≡ noting w0 (targets w0.locals (tree e)))
-    values_exit xs is = on_ok r (λ one. one ∙ ap after (sym (values_tree e xs is)))
+    values_exit xs is = on_ok_weaker r (λ one. one ∙ ap after (sym (values_tree e xs is)))
 
     pub primop_exit : (x : Atom) (xs : List Expr) → e.form ≡ f.Primop x xs → OnOk r (w1 ≡ noting w0 (all_targets w0.locals (all_trees xs))) → OnOk r (w1 ≡ noting w0 (targets w0.locals (tree e)))
-    primop_exit x xs is = on_ok r (λ one. one ∙ ap after (sym (primop_tree e x xs is)))
+    primop_exit x xs is = on_ok_weaker r (λ one. one ∙ ap after (sym (primop_tree e x xs is)))
 
     pub binary_exit : (ss : List Segment) → e.form ≡ f.Binary ss → OnOk r (w1 ≡ noting w0 (segment_targets w0.locals (all_segments ss))) → OnOk r (w1 ≡ noting w0 (targets w0.locals (tree e)))
-    binary_exit ss is = on_ok r (λ one. one ∙ ap after (sym (binary_tree e ss is)))
+    binary_exit ss is = on_ok_weaker r (λ one. one ∙ ap after (sym (binary_tree e ss is)))
 
     pub catch_exit : (x : Expr) → e.form ≡ f.Catch x → OnOk r (w1 ≡ noting w0 (targets w0.locals (tree x))) → OnOk r (w1 ≡ noting w0 (targets w0.locals (tree e)))
-    catch_exit x is = on_ok r (λ one. one ∙ ap after (sym (catch_tree e x is)))
+    catch_exit x is = on_ok_weaker r (λ one. one ∙ ap after (sym (catch_tree e x is)))
 
     pub try_exit : (x : TryOf Expr) → e.form ≡ f.Try x → OnOk r (w1 ≡ noting w0 (targets w0.locals (tree x.arg) ++ targets w0.locals (tree x.body) ++ targets w0.locals (tree x.handler))) → OnOk r (w1 ≡ noting w0 (targets w0.locals (tree e)))
-    try_exit x is = on_ok r (λ one. one ∙ ap after (sym (try_tree e x is)))
+    try_exit x is = on_ok_weaker r (λ one. one ∙ ap after (sym (try_tree e x is)))
 
     -- forms with two parts and more
     module _ (w2 : CallWalk) where
       pub listed_exit : (xs : List Expr) (x : Expr) → e.form ≡ f.Listed xs x → w1 ≡ noting w0 (all_targets w0.locals (all_trees xs)) → OnOk r (w2 ≡ noting w1 (targets w1.locals (tree x))) → OnOk r (w2 ≡ noting w0 (targets w0.locals (tree e)))
-      listed_exit xs x is one = on_ok r (λ two. next_step w0 w1 w2 (all_targets w0.locals (all_trees xs)) (λ fs. targets fs (tree x)) one two ∙ ap after (sym (listed_tree e xs x is)))
+      listed_exit xs x is one = on_ok_weaker r (λ two. next_step w0 w1 w2 (all_targets w0.locals (all_trees xs)) (λ fs. targets fs (tree x)) one two ∙ ap after (sym (listed_tree e xs x is)))
 
       pub updated_map_exit : (ps qs : List MapPair) (o : Option Expr) (x y : Expr) → e.form ≡ f.Map ps o → qs ≡ ps → w1 ≡ noting w0 (pair_targets w0.locals (all_pairs qs)) → o ≡ Some x → y ≡ x → OnOk r (w2 ≡ noting w1 (targets w1.locals (tree y))) → OnOk r (w2 ≡ noting w0 (targets w0.locals (tree e)))
-      updated_map_exit ps qs o x y is pairs_are one some same = on_ok r (λ two. next_step w0 w1 w2 (pair_targets w0.locals (all_pairs qs)) (λ fs. targets fs (tree y)) one two
+      updated_map_exit ps qs o x y is pairs_are one some same = on_ok_weaker r (λ two. next_step w0 w1 w2 (pair_targets w0.locals (all_pairs qs)) (λ fs. targets fs (tree y)) one two
           ∙ ap (λ z. noting w0 (pair_targets w0.locals (all_pairs z) ++ targets w0.locals (tree y))) pairs_are ∙ ap (λ z. noting w0 (pair_targets w0.locals (all_pairs ps) ++ targets w0.locals (tree z))) same
           ∙ ap after (sym (updated_map_tree e ps x (is ∙ ap (f.Map ps) some))))
 
       pub chain_exit : (ss : List (StepOf Expr)) (x : Expr) → e.form ≡ f.Chain ss x → w1 ≡ noting w0 (step_targets w0.locals (all_steps ss)) → OnOk r (w2 ≡ noting w1 (targets w1.locals (tree x))) → OnOk r (w2 ≡ noting w0 (targets w0.locals (tree e)))
-      chain_exit ss x is one = on_ok r (λ two. next_step w0 w1 w2 (step_targets w0.locals (all_steps ss)) (λ fs. targets fs (tree x)) one two ∙ ap after (sym (chain_tree e ss x is)))
+      chain_exit ss x is one = on_ok_weaker r (λ two. next_step w0 w1 w2 (step_targets w0.locals (all_steps ss)) (λ fs. targets fs (tree x)) one two ∙ ap after (sym (chain_tree e ss x is)))
 
       pub case_exit : (x : Expr) (cs : List Clause) → e.form ≡ f.Case x cs → w1 ≡ noting w0 (targets w0.locals (tree x)) → OnOk r (w2 ≡ noting w1 (clause_targets w1.locals (all_clauses cs))) → OnOk r (w2 ≡ noting w0 (targets w0.locals (tree e)))
-      case_exit x cs is one = on_ok r (λ two. next_step w0 w1 w2 (targets w0.locals (tree x)) (λ fs. clause_targets fs (all_clauses cs)) one two ∙ ap after (sym (case_tree e x cs is)))
+      case_exit x cs is one = on_ok_weaker r (λ two. next_step w0 w1 w2 (targets w0.locals (tree x)) (λ fs. clause_targets fs (all_clauses cs)) one two ∙ ap after (sym (case_tree e x cs is)))
 
       module _ (w3 : CallWalk) where
         pub apply_exit : (x : Expr) (xs : List Expr) → e.form ≡ f.Apply x xs → ((n : ℕ) → w1 ≡ noting w0 (targets_of (applied w0.locals n (local_name (tree x))))) → w2 ≡ noting w1 (targets w1.locals (tree x)) → OnOk r (w3 ≡ noting w2 (all_targets w2.locals (all_trees xs)))
             → OnOk r (w3 ≡ noting w0 (targets w0.locals (tree e)))
-        apply_exit x xs is one two = on_ok r (λ three.
+        apply_exit x xs is one two = on_ok_weaker r (λ three.
             let own : Part = λ fs. targets_of (applied fs (how_many (all_trees xs)) (local_name (tree x))) in
             next_step w0 w2 w3 (own w0.locals ++ targets w0.locals (tree x)) (λ fs. all_targets fs (all_trees xs)) (next_step w0 w1 w2 (own w0.locals) (λ fs. targets fs (tree x)) (one (how_many (all_trees xs))) two) three
             ∙ ap after (sym (apply_tree e x xs is)))
@@ -109,7 +110,7 @@ letrec_exit w0 w1 w2 w3 e ds ds1 ds2 x x1 around fs is at first_are one second_a
 -- A call, whose parts the code reads anew.
 pub call_exit : (r : Answer) (w0 w1 w2 w3 w4 : CallWalk) (e x y : Expr) (xs : List Expr) (x1 y1 x2 y2 : Expr) (as1 : List Expr) (n : ℕ) → e.form ≡ f.Call x y xs → x1 ≡ x → y1 ≡ y → n ≡ length xs → w1 ≡ noting w0 (targets_of (called n (literal_atom (tree x1)) (literal_atom (tree y1))))
     → x2 ≡ x → w2 ≡ noting w1 (targets w1.locals (tree x2)) → y2 ≡ y → w3 ≡ noting w2 (targets w2.locals (tree y2)) → as1 ≡ xs → OnOk r (w4 ≡ noting w3 (all_targets w3.locals (all_trees as1))) → OnOk r (w4 ≡ noting w0 (targets w0.locals (tree e)))
-call_exit r w0 w1 w2 w3 w4 e x y xs x1 y1 x2 y2 as1 n is home_is name_is count one home_again two name_again three args_are = on_ok r (λ four.
+call_exit r w0 w1 w2 w3 w4 e x y xs x1 y1 x2 y2 as1 n is home_is name_is count one home_again two name_again three args_are = on_ok_weaker r (λ four.
     let own : ℕ → Expr → Expr → List CallTarget = λ k a b. targets_of (called k (literal_atom (tree a)) (literal_atom (tree b))) in
     let count1 : n ≡ how_many (all_trees xs) = count ∙ sym (how_many-length xs) in
     let here : List CallTarget = own (how_many (all_trees xs)) x y in
@@ -124,7 +125,7 @@ call_exit r w0 w1 w2 w3 w4 e x y xs x1 y1 x2 y2 as1 n is home_is name_is count o
 -- A `receive`.
 pub receive_exit : (r : Answer) (w0 w1 w2 w3 : CallWalk) (e : Expr) (cs : List Clause) (x y : Expr) (cs1 : List Clause) (x1 y1 : Expr) → e.form ≡ f.Receive cs x y → cs1 ≡ cs → w1 ≡ noting w0 (clause_targets w0.locals (all_clauses cs1)) → x1 ≡ x → w2 ≡ noting w1 (targets w1.locals (tree x1)) → y1 ≡ y
     → OnOk r (w3 ≡ noting w2 (targets w2.locals (tree y1))) → OnOk r (w3 ≡ noting w0 (targets w0.locals (tree e)))
-receive_exit r w0 w1 w2 w3 e cs x y cs1 x1 y1 is clauses_are one timeout_is two action_is = on_ok r (λ three.
+receive_exit r w0 w1 w2 w3 e cs x y cs1 x1 y1 is clauses_are one timeout_is two action_is = on_ok_weaker r (λ three.
     next_step w0 w2 w3 (clause_targets w0.locals (all_clauses cs1) ++ targets w0.locals (tree x1)) (λ fs. targets fs (tree y1)) (next_step w0 w1 w2 (clause_targets w0.locals (all_clauses cs1)) (λ fs. targets fs (tree x1)) one two) three
     ∙ ap (λ z. noting w0 (clause_targets w0.locals (all_clauses z) ++ targets w0.locals (tree x1) ++ targets w0.locals (tree y1))) clauses_are
     ∙ ap (λ z. noting w0 (clause_targets w0.locals (all_clauses cs) ++ targets w0.locals (tree z) ++ targets w0.locals (tree y1))) timeout_is
@@ -134,7 +135,7 @@ receive_exit r w0 w1 w2 w3 e cs x y cs1 x1 y1 is clauses_are one timeout_is two 
 -- The parts of a `try`.
 pub try_parts_exit : (r : Answer) (w0 w1 w2 w3 : CallWalk) (x : TryOf Expr) (arg body handler : Expr) → arg ≡ x.arg → w1 ≡ noting w0 (targets w0.locals (tree arg)) → body ≡ x.body → w2 ≡ noting w1 (targets w1.locals (tree body)) → handler ≡ x.handler
     → OnOk r (w3 ≡ noting w2 (targets w2.locals (tree handler))) → OnOk r (w3 ≡ noting w0 (targets w0.locals (tree x.arg) ++ targets w0.locals (tree x.body) ++ targets w0.locals (tree x.handler)))
-try_parts_exit r w0 w1 w2 w3 x arg body handler arg_is one body_is two handler_is = on_ok r (λ three.
+try_parts_exit r w0 w1 w2 w3 x arg body handler arg_is one body_is two handler_is = on_ok_weaker r (λ three.
     next_step w0 w2 w3 (targets w0.locals (tree arg) ++ targets w0.locals (tree body)) (λ fs. targets fs (tree handler)) (next_step w0 w1 w2 (targets w0.locals (tree arg)) (λ fs. targets fs (tree body)) one two) three
     ∙ ap (λ z. noting w0 (targets w0.locals (tree z) ++ targets w0.locals (tree body) ++ targets w0.locals (tree handler))) arg_is
     ∙ ap (λ z. noting w0 (targets w0.locals (tree x.arg) ++ targets w0.locals (tree z) ++ targets w0.locals (tree handler))) body_is

@@ -1,7 +1,7 @@
 -- The loops that add pairs: what each round keeps.
-use Rattle.std.proofs.Common.{◌≡◌, ◌↔◌, ℕ, ◌+◌, ◌<◌, ◌≤◌, ◌⊎◌, inl, inr, List, [], ◌∷◌, ◌++◌, Contains, length, drop, get_or, map, sym, ap, ◌∙◌, subst, add-one, drop-cons, length-append}
-use Rattle.std.specs.Prelude.{slice_index}
-use Rattle.std.proofs.lemmas.List.{map-append}
+use Rattle.std.proofs.Common.{◌≡◌, ◌↔◌, ℕ, ◌+◌, ◌<◌, ◌≤◌, ◌⊎◌, inl, inr, List, [], ◌∷◌, ◌++◌, Contains, length, drop, get_or, map, sym, ap, ◌∙◌, subst, add-one, length-append}
+use Rattle.std.proofs.lemmas.List.{map-append, append_assoc, append-nil, drop_all}
+use Rattle.type_kinds.proofs.Lists.{drop_next, contains_none, contains_first, contains_later, contains_cases}
 use Rattle.components.specs.Graph.{Leads}
 use Rattle.type_kinds.specs.declared.atom.Atom.{Atom}
 use Rattle.core_ast.specs.declared.syntax.FunName.{FunName}
@@ -19,10 +19,8 @@ use Rattle.call_graph.specs.Calls.{ModuleFunction, functions_in, module_function
 use Rattle.call_graph.specs.Tables.{IsTableOf}
 use Rattle.call_graph.specs.Outside.{Called}
 use Rattle.call_graph.specs.steps.Walking.{callees, callees_in, all_missed, missed_in, PairsFrom}
-use Rattle.call_graph.proofs.Notes.{append_assoc, append_nil, with_notes}
-use Rattle.call_graph.proofs.Lookups.{contains_first, contains_later, contains_cases, contains_none}
+use Rattle.call_graph.proofs.Notes.{with_notes}
 use Rattle.call_graph.proofs.DistinctKeys.{modules}
-use Rattle.call_graph.proofs.Built.{next_item, drop_past}
 use Rattle.call_graph.proofs.CalledFunctions.{pairs_are_calls, pairs_split, pairs_joined}
 
 abbrev pub Graph : Type 0
@@ -42,11 +40,11 @@ pairs_round g h from cs rest c is added i j = (there, back)
       | inl old ↦ inl old
       | inr new ↦ inr (new.0, subst (λ l. Contains l j) (sym is) (subst (λ k. Contains (c ∷ rest) k) (sym new.1) (contains_first c rest)))
     ]
-    there (inr b) = inr (b.0, subst (λ l. Contains l j) (sym is) (contains_later c rest j b.1))
+    there (inr b) = inr (b.0, subst (λ l. Contains l j) (sym is) (contains_later c j rest b.1))
 
     back : WithLeft g from cs i j → WithLeft h from rest i j
     back (inl a) = inl ((added i j).1 (inl a))
-    back (inr b) = elim (contains_cases c rest j (subst (λ l. Contains l j) is b.1)) [
+    back (inr b) = elim (contains_cases c j rest (subst (λ l. Contains l j) is b.1)) [
       | inl e ↦ inl ((added i j).1 (inr (b.0, sym e)))
       | inr d ↦ inr (b.0, d)
     ]
@@ -120,9 +118,6 @@ pub next_function : (home : Atom) (exports : List FunName) (ds : List (FunDefOf 
     → functions_in home exports (all_defs (drop i ds)) ≡ record { home = home; exports = exports; name = d.name; mark = d.mark; params = d.fun.params; body = tree d.fun.body } ∷ functions_in home exports (all_defs (drop (i + 1) ds))
 next_function home exports ds i d within is = ap (functions_in home exports) (all_defs-next ds i d within ∙ ap (λ x. m.and_def x.name x.mark x.fun.params (tree x.fun.body) (all_defs (drop (i + 1) ds))) (sym is))
 
-pub next_value : (xs : List ℕ) (i : ℕ) → i < length xs → drop i xs ≡ slice_index xs i ∷ drop (i + 1) xs
-next_value xs i within = drop-cons xs i 0 within ∙ ap (λ n. slice_index xs i ∷ drop n xs) (sym (add-one i))
-
 -- ---- the functions of one module
 
 abbrev pub function_at : Atom → List FunName → FunDefOf Expr → ModuleFunction
@@ -142,7 +137,7 @@ some_more v done new goal fs gs rest split added before =
 
 -- No function is left.
 pub all_added : {X Y : Type 0} (v : X → Y) (done goal : List Y) (fs : List X) → fs ≡ [] → done ++ map v fs ≡ goal → done ≡ goal
-all_added v done goal fs none before = sym (append_nil done) ∙ ap (λ l. done ++ map v l) (sym none) ∙ before
+all_added v done goal fs none before = sym (append-nil done) ∙ ap (λ l. done ++ map v l) (sym none) ∙ before
 
 -- ---- what the walk through a body finds
 
@@ -178,7 +173,7 @@ module_round g h first t n start home exports ds i d cs within is cs_are added b
 
 module _ {S : Type 0} (stands_for : S → Checked) where
   pub next_module : (ss : List S) (i : ℕ) (s : S) (x : m.Module) → i < length ss → s ≡ get_or ss i s → x ≡ tree_of (stands_for s) → functions_of (modules stands_for (drop i ss)) ≡ module_functions x ++ functions_of (modules stands_for (drop (i + 1) ss))
-  next_module ss i s x within is tree_is = ap functions_of (ap (modules stands_for) (next_item ss i s within is) ∙ ap (λ y. y ∷ modules stands_for (drop (i + 1) ss)) (sym tree_is))
+  next_module ss i s x within is tree_is = ap functions_of (ap (modules stands_for) (drop_next ss i s within is) ∙ ap (λ y. y ∷ modules stands_for (drop (i + 1) ss)) (sym tree_is))
 
   pub graph_round : (g h : Graph) (t u : FunctionTable) (n k : ℕ) (ss : List S) (i : ℕ) (s : S) (x : m.Module) → i < length ss → s ≡ get_or ss i s → x ≡ tree_of (stands_for s) → u ≡ t → k ≡ n + length (module_functions x)
       → ((a b : ℕ) → Leads h a b ↔ (Leads g a b ⊎ PairsFrom t n (module_functions x) a b))
@@ -198,4 +193,4 @@ module _ {S : Type 0} (stands_for : S → Checked) where
   pub graph_exit : (g : Graph) (t : FunctionTable) (n : ℕ) (ss : List S) (i : ℕ) → length ss ≤ i → IsTableOf (modules stands_for ss) t
       → ((a b : ℕ) → WithPairs g t n (functions_of (modules stands_for (drop i ss))) a b ↔ PairsFrom t 0 (functions_of (modules stands_for ss)) a b) → (a b : ℕ) → Leads g a b ↔ Calls (modules stands_for ss) a b
   graph_exit g t n ss i past table pairs a b =
-      both_ways (none_left g t n (functions_of (modules stands_for (drop i ss))) a b (ap (λ l. functions_of (modules stands_for l)) (drop_past ss i past))) (both_ways (pairs a b) (pairs_are_calls (modules stands_for ss) t table a b))
+      both_ways (none_left g t n (functions_of (modules stands_for (drop i ss))) a b (ap (λ l. functions_of (modules stands_for l)) (drop_all i ss past))) (both_ways (pairs a b) (pairs_are_calls (modules stands_for ss) t table a b))

@@ -2,7 +2,9 @@
 use Rattle.std.proofs.Common.{◌≡◌, ℕ, zero, suc, ◌+◌, ◌⊎◌, inl, inr, Bool, true, false, cond, ◌&&◌, List, [], ◌∷◌, ◌++◌, Some, None, Contains, map, slice_get, nat_eq, eqb-true, eq-eqb, refl, sym, ap, ◌∙◌, subst, arith}
 use Rattle.std.specs.Cmp.Lexicographic.{bytes_decides}
 use Rattle.std.specs.Map.{lookup}
-use Rattle.std.proofs.lemmas.List.Elements.{Contains-append_left, Contains-append_right, Contains-append_cases, Contains-push, Contains-push_cases}
+use Rattle.std.proofs.lemmas.Bool.{and_parts}
+use Rattle.std.proofs.lemmas.List.{append_assoc, append-nil}
+use Rattle.type_kinds.proofs.Lists.{contains_none, contains_first, contains_later, contains_cases}
 use Rattle.indexmap.specs.IndexMap.{insert_entry}
 use Rattle.core_scope.specs.Names.{Distinct, same_atom}
 use Rattle.call_graph.specs.declared.keys.FunctionKey.{FunctionKey}
@@ -10,42 +12,13 @@ use Rattle.call_graph.specs.declared.table.FunctionEntry.{FunctionEntry}
 use Rattle.call_graph.specs.Calls.{ModuleFunction}
 use Rattle.call_graph.specs.Tables.{same_key}
 use Rattle.call_graph.specs.steps.Building.{Entries, function_key, entry_of, inserted, numbered}
-use Rattle.call_graph.proofs.Notes.{append_assoc, append_nil}
-
--- ---- what a list contains
-
-pub contains_first : {X : Type 0} (x : X) (xs : List X) → Contains (x ∷ xs) x
-contains_first x xs = Contains-append_left (x ∷ []) xs x (Contains-push [] x)
-
-pub contains_later : {X : Type 0} (x : X) (xs : List X) (y : X) → Contains xs y → Contains (x ∷ xs) y
-contains_later x xs y h = Contains-append_right (x ∷ []) xs y h
-
-pub contains_cases : {X : Type 0} (x : X) (xs : List X) (y : X) → Contains (x ∷ xs) y → (x ≡ y) ⊎ Contains xs y
-contains_cases x xs y h = by (Contains-append_cases (x ∷ []) xs y h)
-  where
-    none : Contains [] y → ⊥
-    none c = absurd (omega (arith, c.1))
-
-    by : Contains (x ∷ []) y ⊎ Contains xs y → (x ≡ y) ⊎ Contains xs y
-    by (inr c) = inr c
-    by (inl c) = elim (Contains-push_cases [] x y c) [
-      | inl d ↦ absurd (none d)
-      | inr e ↦ inl e
-    ]
-
-pub contains_none : {X : Type 0} (y : X) → Contains [] y → ⊥
-contains_none y c = absurd (omega (arith, c.1))
 
 -- ---- keys
 
-pub both_true : (s t : Bool) → (s && t) ≡ true → (s ≡ true) × (t ≡ true)
-both_true true t h = (refl, h)
-both_true false t h = absurd cc
-
 pub key_is : (k l : FunctionKey) → same_key k l ≡ true → k ≡ l
 key_is k l h =
-    let outer = both_true (same_atom k.home l.home && same_atom k.name l.name) (nat_eq k.arity l.arity) h in
-    let inner = both_true (same_atom k.home l.home) (same_atom k.name l.name) outer.0 in
+    let outer = and_parts (same_atom k.home l.home && same_atom k.name l.name) (nat_eq k.arity l.arity) h in
+    let inner = and_parts (same_atom k.home l.home) (same_atom k.name l.name) outer.0 in
     let home : k.home ≡ l.home = (bytes_decides k.home l.home).0 inner.0 in
     let name : k.name ≡ l.name = (bytes_decides k.name l.name).0 inner.1 in
     let arity : k.arity ≡ l.arity = eqb-true k.arity l.arity outer.1 in
@@ -87,13 +60,13 @@ at_zero fs j g h =
 pub at_contained : (n : ℕ) (fs : List ModuleFunction) (j : ℕ) (g : ModuleFunction) → At n fs j g → Contains fs g
 at_contained n [] j g h = absurd h
 at_contained n (f ∷ fs) j g (inl h) = subst (λ x. Contains (x ∷ fs) g) (sym h.1) (contains_first g fs)
-at_contained n (f ∷ fs) j g (inr h) = contains_later f fs g (at_contained (n + 1) fs j g h)
+at_contained n (f ∷ fs) j g (inr h) = contains_later f g fs (at_contained (n + 1) fs j g h)
 
 pub contains_mapped : {X Y : Type 0} (v : X → Y) (xs : List X) (x : X) → Contains xs x → Contains (map v xs) (v x)
 contains_mapped v [] x h = absurd (contains_none x h)
-contains_mapped v (y ∷ ys) x h = elim (contains_cases y ys x h) [
+contains_mapped v (y ∷ ys) x h = elim (contains_cases y x ys h) [
   | inl e ↦ subst (λ z. Contains (v z ∷ map v ys) (v x)) (sym e) (contains_first (v x) (map v ys))
-  | inr c ↦ contains_later (v y) (map v ys) (v x) (contains_mapped v ys x c)
+  | inr c ↦ contains_later (v y) (v x) (map v ys) (contains_mapped v ys x c)
 ]
 
 -- ---- look-ups
@@ -148,12 +121,12 @@ absent_pushed (e ∷ es) q k v h d = by (λ none. absent_pushed es q k v none d)
 
 -- Functions whose keys are new and distinct stand behind what was there.
 pub inserted_new : (es : Entries) (n : ℕ) (fs : List ModuleFunction) → ((q : FunctionKey) → Contains (map function_key fs) q → lookup (same_key q) es ≡ None) → Distinct (map function_key fs) → inserted es n fs ≡ es ++ numbered n fs
-inserted_new es n [] new d = sym (append_nil es)
+inserted_new es n [] new d = sym (append-nil es)
 inserted_new es n (f ∷ fs) new d =
     let k : FunctionKey = function_key f in
     let e : FunctionEntry = entry_of n f in
     let later : (q : FunctionKey) → Contains (map function_key fs) q → lookup (same_key q) (es ++ (k, e) ∷ []) ≡ None =
-    λ q c. absent_pushed es q k e (new q (contains_later k (map function_key fs) q c)) (λ same. d.0 (subst (Contains (map function_key fs)) same c)) in
+    λ q c. absent_pushed es q k e (new q (contains_later k q (map function_key fs) c)) (λ same. d.0 (subst (Contains (map function_key fs)) same c)) in
     ap (λ z. inserted z (n + 1) fs) (insert_absent es k e (new k (contains_first k (map function_key fs)))) ∙ inserted_new (es ++ (k, e) ∷ []) (n + 1) fs later d.1 ∙ append_assoc es ((k, e) ∷ []) (numbered (n + 1) fs)
 
 pub inserted_all : (fs : List ModuleFunction) → Distinct (map function_key fs) → inserted [] 0 fs ≡ numbered 0 fs

@@ -1,5 +1,7 @@
 -- The state of the walk: what steps one after another come to.
-use Rattle.std.proofs.Common.{◌≡◌, ℕ, List, [], ◌∷◌, ◌++◌, Result, Ok, Err, OnOk, refl, sym, ap, ◌∙◌}
+use Rattle.std.proofs.Common.{◌≡◌, ℕ, List, [], ◌∷◌, ◌++◌, Result, OnOk, refl, sym, ap, ◌∙◌}
+use Rattle.std.proofs.lemmas.List.{append_assoc, append-nil}
+use Rattle.std.proofs.lemmas.Result.{on_ok_weaker}
 use Rattle.type_kinds.specs.declared.atom.Atom.{Atom}
 use Rattle.type_kinds.specs.declared.memory.Memory.{Memory}
 use Rattle.core_ast.specs.declared.syntax.FunName.{FunName}
@@ -8,14 +10,6 @@ use Rattle.call_graph.specs.declared.walk.CallWalk.{CallWalk}
 use Rattle.call_graph.specs.Targets.{CallTarget}
 use Rattle.call_graph.specs.Outside.{Called}
 use Rattle.call_graph.specs.steps.Walking.{callee, callees, missed, all_missed, noting}
-
-pub append_assoc : {X : Type 0} (xs ys zs : List X) → (xs ++ ys) ++ zs ≡ xs ++ (ys ++ zs)
-append_assoc [] ys zs = refl
-append_assoc (x ∷ xs) ys zs = ap (λ l. x ∷ l) (append_assoc xs ys zs)
-
-pub append_nil : {X : Type 0} (xs : List X) → xs ++ [] ≡ xs
-append_nil [] = refl
-append_nil (x ∷ xs) = ap (λ l. x ∷ l) (append_nil xs)
 
 pub callees-append : (table : FunctionTable) (home : Atom) (ps qs : List CallTarget) → callees table home (ps ++ qs) ≡ callees table home ps ++ callees table home qs
 callees-append table home [] qs = refl
@@ -41,20 +35,16 @@ noted_twice w ps qs =
     (append_assoc w.outside (all_missed w.table ps) (all_missed w.table qs) ∙ ap (λ l. w.outside ++ l) (sym (all_missed-append w.table ps qs)))
 
 pub noted_none : (w : CallWalk) → w ≡ noting w []
-noted_none w = sym (same_notes w (append_nil w.callees) (append_nil w.outside))
+noted_none w = sym (same_notes w (append-nil w.callees) (append-nil w.outside))
 
 -- One target met.
 pub noted_one : (w : CallWalk) (t : CallTarget) → with_notes w (w.callees ++ callee w.table w.home t) (w.outside ++ missed w.table t) ≡ noting w (t ∷ [])
-noted_one w t = same_notes w (ap (λ l. w.callees ++ l) (sym (append_nil (callee w.table w.home t)))) (ap (λ l. w.outside ++ l) (sym (append_nil (missed w.table t))))
+noted_one w t = same_notes w (ap (λ l. w.callees ++ l) (sym (append-nil (callee w.table w.home t)))) (ap (λ l. w.outside ++ l) (sym (append-nil (missed w.table t))))
 
 -- ---- steps one after another
 
 abbrev pub Answer : Type 0
 Answer = Result (Unit {0}) Memory
-
-pub on_ok : (r : Answer) {A B : Type 0} → (A → B) → OnOk r A → OnOk r B
-on_ok (Ok x) f h = f h
-on_ok (Err x) f h = tt
 
 -- What a part has, by the names of the `letrec` functions around it.
 abbrev pub Part : Type 0
@@ -65,7 +55,7 @@ pub next_step : (w0 w1 w2 : CallWalk) (before : List CallTarget) (part : Part) �
 next_step w0 w1 w2 before part one two = two ∙ ap (λ w. noting w (part w.locals)) one ∙ noted_twice w0 before (part w0.locals)
 
 pub last_step : (r : Answer) (w0 w1 w2 : CallWalk) (before : List CallTarget) (part : Part) → w1 ≡ noting w0 before → OnOk r (w2 ≡ noting w1 (part w1.locals)) → OnOk r (w2 ≡ noting w0 (before ++ part w0.locals))
-last_step r w0 w1 w2 before part one = on_ok r (λ two. next_step w0 w1 w2 before part one two)
+last_step r w0 w1 w2 before part one = on_ok_weaker r (λ two. next_step w0 w1 w2 before part one two)
 
 -- One round of a loop: what is met here, and what is left.
 pub round : (w w1 goal : CallWalk) (here rest whole : Part) → w1 ≡ noting w (here w.locals) → whole w.locals ≡ here w.locals ++ rest w.locals → noting w (whole w.locals) ≡ goal → noting w1 (rest w1.locals) ≡ goal

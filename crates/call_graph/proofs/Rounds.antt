@@ -1,5 +1,6 @@
 -- The loops of the walk: what each round keeps.
 use Rattle.std.proofs.Common.{◌≡◌, ℕ, ◌+◌, ◌<◌, List, [], ◌∷◌, ◌++◌, length, drop, get_or, refl, sym, ap, ◌∙◌}
+use Rattle.std.proofs.lemmas.List.{append_assoc}
 use Rattle.core_ast.specs.declared.syntax.FunName.{FunName}
 use Rattle.core_ast.specs.declared.syntax.Expr.{Expr}
 use Rattle.core_ast.specs.declared.syntax.Pattern.{Pattern}
@@ -19,7 +20,7 @@ use Rattle.core_scope.specs.Names.{defined_names}
 use Rattle.call_graph.specs.declared.walk.CallWalk.{CallWalk}
 use Rattle.call_graph.specs.Targets.{targets, all_targets, pair_targets, segment_targets, step_targets, clause_targets, def_targets, pattern_targets, patterns_targets, pat_pair_targets, pat_segment_targets}
 use Rattle.call_graph.specs.steps.Walking.{noting, defining, step_expression}
-use Rattle.call_graph.proofs.Notes.{Part, next_step, round, append_assoc, with_locals}
+use Rattle.call_graph.proofs.Notes.{Part, next_step, round, with_locals}
 
 pub all_round : (w w1 goal : CallWalk) (es : List Expr) (i : ℕ) (e : Expr) → i < length es → e ≡ get_or es i e → w1 ≡ noting w (targets w.locals (tree e)) → noting w (all_targets w.locals (all_trees (drop i es))) ≡ goal → noting w1 (all_targets w1.locals (all_trees (drop (i + 1) es))) ≡ goal
 all_round w w1 goal es i e within is step before =

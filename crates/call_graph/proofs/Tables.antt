@@ -1,37 +1,36 @@
 -- A table whose entries are those of the functions of modules answers as it is to.
-use Rattle.std.proofs.Common.{◌≡◌, ℕ, zero, suc, ◌⊎◌, inl, inr, ◌||◌, ◌&&◌, Bool, true, false, if◌then◌else◌, List, [], ◌∷◌, Option, Some, None, Contains, length, map, slice_get, nat_eq, eqb-true, eq-eqb, refl, sym, ap, ◌∙◌, subst, arith}
+use Rattle.std.proofs.Common.{◌≡◌, ℕ, inl, inr, ◌||◌, Bool, true, false, if◌then◌else◌, List, [], ◌∷◌, Option, Some, None, Contains, length, map, slice_get, refl, sym, ap, ◌∙◌, subst, arith}
 use Rattle.std.specs.List.{list_any}
 use Rattle.std.specs.Map.{lookup}
 use Rattle.std.specs.Cmp.Lexicographic.{bytes_decides}
 use Rattle.std.proofs.lemmas.List.Elements.{Contains-append_cases}
+use Rattle.std.proofs.lemmas.Bool.{or_right}
+use Rattle.core_scope.proofs.NameLaws.{not_same, has_contained, contained_has}
+use Rattle.type_kinds.proofs.Lists.{contains_none, contains_first, contains_at, contains_later, contains_cases}
 use Rattle.indexmap.proofs.CallerLemmas.{Contains-list_any}
 use Rattle.type_kinds.specs.declared.atom.Atom.{Atom}
 use Rattle.core_ast.specs.declared.syntax.FunName.{FunName}
 use Rattle.core_ast.specs.Model as m
 use Rattle.core_scope.specs.Asks.{erlang}
-use Rattle.core_scope.specs.Names.{Distinct, same_atom, same_function, has_function}
+use Rattle.core_scope.specs.Names.{Distinct, same_atom, has_function}
 use Rattle.call_graph.specs.declared.keys.FunctionKey.{FunctionKey}
 use Rattle.call_graph.specs.declared.table.FunctionEntry.{FunctionEntry}
 use Rattle.call_graph.specs.declared.table.FunctionTable.{FunctionTable}
 use Rattle.call_graph.specs.declared.table.Resolved.{Resolved}
-use Rattle.call_graph.specs.declared.table.Resolved.TheVariants.{BuiltIn, NotHandedIn, NotExported, Function}
+use Rattle.call_graph.specs.declared.table.Resolved.TheVariants.{BuiltIn, NotPassed, NotExported, Function}
 use Rattle.call_graph.specs.Calls.{ModuleFunction, functions_in, module_functions, functions_of}
 use Rattle.call_graph.specs.Tables.{key_of, same_key, entry_at, number_in, own_number, reached, resolved, IsReached, IsTableOf}
 use Rattle.call_graph.specs.steps.Building.{function_key, entry_of, numbered}
-use Rattle.call_graph.proofs.Lookups.{contains_first, contains_later, contains_cases, contains_none, both_true, Finds, look_up_finds, found_by_key, at_from, at_zero}
+use Rattle.call_graph.proofs.Lookups.{Finds, look_up_finds, found_by_key, at_from, at_zero}
 use Rattle.call_graph.proofs.DistinctKeys.{names}
 
 -- ---- tests of names
 
-pub or_true : (a b : Bool) → b ≡ true → (a || b) ≡ true
-or_true true b e = refl
-or_true false b e = e
-
 any_contained : (xs : List Atom) (x : Atom) → Contains xs x → list_any (same_atom x) xs ≡ true
 any_contained [] x h = absurd (contains_none x h)
-any_contained (y ∷ ys) x h = elim (contains_cases y ys x h) [
+any_contained (y ∷ ys) x h = elim (contains_cases y x ys h) [
   | inl e ↦ ap (λ b. b || list_any (same_atom x) ys) ((bytes_decides x y).1 (sym e))
-  | inr c ↦ or_true (same_atom x y) (list_any (same_atom x) ys) (any_contained ys x c)
+  | inr c ↦ or_right (same_atom x y) (list_any (same_atom x) ys) (any_contained ys x c)
 ]
 
 contained_any : (xs : List Atom) (x : Atom) → list_any (same_atom x) xs ≡ true → Contains xs x
@@ -40,38 +39,11 @@ contained_any xs x h = Contains-list_any same_atom (λ a b e. (bytes_decides a b
 pub other_atom : (x y : Atom) → same_atom x y ≡ false → x ≡ y → ⊥
 other_atom x y h e = absurd (let t : same_atom x y ≡ true = (bytes_decides x y).1 e in cc)
 
-pub not_same : (x y : Atom) → (x ≡ y → ⊥) → same_atom x y ≡ false
-not_same x y d = by (same_atom x y) refl
-  where
-    by : (b : Bool) → same_atom x y ≡ b → same_atom x y ≡ false
-    by true e = absurd (d ((bytes_decides x y).0 e))
-    by false e = e
-
-pub function_is : (f g : FunName) → same_function f g ≡ true → f ≡ g
-function_is f g h =
-    let b = both_true (same_atom f.name g.name) (nat_eq f.arity g.arity) h in
-    let n : f.name ≡ g.name = (bytes_decides f.name g.name).0 b.0 in
-    let a : f.arity ≡ g.arity = eqb-true f.arity g.arity b.1 in
-    λ i. record { name = n i; arity = a i }
-
-pub function_itself : (f : FunName) → same_function f f ≡ true
-function_itself f = ap (λ s. s && nat_eq f.arity f.arity) ((bytes_decides f.name f.name).1 refl) ∙ eq-eqb f.arity f.arity refl
-
-pub has_contained : (fs : List FunName) (f : FunName) → Contains fs f → has_function fs f ≡ true
-has_contained [] f h = absurd (contains_none f h)
-has_contained (g ∷ gs) f h = elim (contains_cases g gs f h) [
-  | inl e ↦ ap (λ b. b || has_function gs f) (subst (λ x. same_function f x ≡ true) (sym e) (function_itself f))
-  | inr c ↦ or_true (same_function f g) (has_function gs f) (has_contained gs f c)
-]
-
-pub contained_has : (fs : List FunName) (f : FunName) → has_function fs f ≡ true → Contains fs f
-contained_has fs f h = Contains-list_any same_function function_is fs f h
-
 -- ---- the homes of functions
 
 home_in : (home : Atom) (exports : List FunName) (ds : m.Defs) (g : ModuleFunction) → Contains (functions_in home exports ds) g → g.home ≡ home
 home_in home exports m.no_def g h = absurd (contains_none g h)
-home_in home exports (m.and_def f i xs t ds) g h = elim (contains_cases (record { home = home; exports = exports; name = f; mark = i; params = xs; body = t }) (functions_in home exports ds) g h) [
+home_in home exports (m.and_def f i xs t ds) g h = elim (contains_cases (record { home = home; exports = exports; name = f; mark = i; params = xs; body = t }) g (functions_in home exports ds) h) [
   | inl e ↦ ap (λ x. x.home) (sym e)
   | inr c ↦ home_in home exports ds g c
 ]
@@ -80,13 +52,8 @@ home_of : (xs : List m.Module) (g : ModuleFunction) → Contains (functions_of x
 home_of [] g h = absurd (contains_none g h)
 home_of (x ∷ xs) g h = elim (Contains-append_cases (module_functions x) (functions_of xs) g h) [
   | inl c ↦ subst (Contains (x.name ∷ names xs)) (sym (home_in x.name x.exports x.defs g c)) (contains_first x.name (names xs))
-  | inr c ↦ contains_later x.name (names xs) g.home (home_of xs g c)
+  | inr c ↦ contains_later x.name g.home (names xs) (home_of xs g c)
 ]
-
-pub at_contains : {X : Type 0} (xs : List X) (j : ℕ) (x : X) → slice_get xs j ≡ Some x → Contains xs x
-at_contains [] j x h = absurd cc
-at_contains (y ∷ ys) zero x h = subst (λ z. Contains (z ∷ ys) x) (let e : x ≡ y = cc in e) (contains_first x ys)
-at_contains (y ∷ ys) (suc j) x h = contains_later y ys x (at_contains ys j x h)
 
 -- ---- keys and answers
 
@@ -103,12 +70,12 @@ exported_number e j h = by e.exported refl h
     by true x h = (x, cc)
     by false x h = absurd cc
 
--- What is reached in a module that was handed in.
-handed_in : (r : Resolved) (o : Option FunctionEntry) → reached o ≡ r → (r ≡ NotHandedIn → ⊥) × (r ≡ BuiltIn → ⊥)
+-- What is reached in a module that was passed.
+handed_in : (r : Resolved) (o : Option FunctionEntry) → reached o ≡ r → (r ≡ NotPassed → ⊥) × (r ≡ BuiltIn → ⊥)
 handed_in r None h = (λ e. absurd cc, λ e. absurd cc)
 handed_in r (Some e) h = by e.exported h
   where
-    by : (b : Bool) → (if b then Function e.number else NotExported) ≡ r → (r ≡ NotHandedIn → ⊥) × (r ≡ BuiltIn → ⊥)
+    by : (b : Bool) → (if b then Function e.number else NotExported) ≡ r → (r ≡ NotPassed → ⊥) × (r ≡ BuiltIn → ⊥)
     by true h = (λ e. absurd cc, λ e. absurd cc)
     by false h = (λ e. absurd cc, λ e. absurd cc)
 
@@ -141,7 +108,7 @@ module _ (xs : List m.Module) (table : FunctionTable) (entries : table.functions
   reaches_is : (home : Atom) (f : FunName) (j : ℕ) → resolved table home f ≡ Function j → (g : ModuleFunction) × (slice_get (functions_of xs) j ≡ Some g) × IsReached home f g
   reaches_is home f j h = by (same_atom home erlang) refl (list_any (same_atom home) table.modules.keys) (entry_at table (key_of home f)) refl h
     where
-      by : (a : Bool) → same_atom home erlang ≡ a → (b : Bool) (o : Option FunctionEntry) → entry_at table (key_of home f) ≡ o → (if a then BuiltIn else if b then reached o else NotHandedIn) ≡ Function j
+      by : (a : Bool) → same_atom home erlang ≡ a → (b : Bool) (o : Option FunctionEntry) → entry_at table (key_of home f) ≡ o → (if a then BuiltIn else if b then reached o else NotPassed) ≡ Function j
           → (g : ModuleFunction) × (slice_get (functions_of xs) j ≡ Some g) × IsReached home f g
       by true a b o is h = absurd cc
       by false a false o is h = absurd cc
@@ -158,14 +125,14 @@ module _ (xs : List m.Module) (table : FunctionTable) (entries : table.functions
       let g : ModuleFunction = h.0 in
       let r = h.2 in
       let here : entry_at table (key_of home f) ≡ Some (entry_of j g) = ap (entry_at table) (sym (key_named home f g r.0 r.3)) ∙ there j g h.1 in
-      let listed : list_any (same_atom home) table.modules.keys ≡ true = modules home ∙ any_contained (names xs) home (subst (Contains (names xs)) r.0 (home_of xs g (at_contains (functions_of xs) j g h.1))) in
+      let listed : list_any (same_atom home) table.modules.keys ≡ true = modules home ∙ any_contained (names xs) home (subst (Contains (names xs)) r.0 (home_of xs g (contains_at (functions_of xs) j g h.1))) in
       let exported : has_function g.exports g.name ≡ true = has_contained g.exports g.name (subst (Contains g.exports) (sym r.3) r.2) in
-      ap (λ a. if a then BuiltIn else if list_any (same_atom home) table.modules.keys then reached (entry_at table (key_of home f)) else NotHandedIn) (not_same home erlang r.1)
-      ∙ ap (λ b. if b then reached (entry_at table (key_of home f)) else NotHandedIn) listed ∙ ap reached here ∙ ap (λ b. if b then Function j else NotExported) exported
+      ap (λ a. if a then BuiltIn else if list_any (same_atom home) table.modules.keys then reached (entry_at table (key_of home f)) else NotPassed) (not_same home erlang r.1)
+      ∙ ap (λ b. if b then reached (entry_at table (key_of home f)) else NotPassed) listed ∙ ap reached here ∙ ap (λ b. if b then Function j else NotExported) exported
 
   -- what a module's name answers: `erlang` or not, and whether it is among the modules
   abbrev answer : Bool → Bool → Option FunctionEntry → Resolved
-  answer a b o = if a then BuiltIn else if b then reached o else NotHandedIn
+  answer a b o = if a then BuiltIn else if b then reached o else NotPassed
 
   built_in_is : (home : Atom) (f : FunName) → resolved table home f ≡ BuiltIn → home ≡ erlang
   built_in_is home f h = by (same_atom home erlang) refl (list_any (same_atom home) table.modules.keys) h
@@ -178,19 +145,19 @@ module _ (xs : List m.Module) (table : FunctionTable) (entries : table.functions
   built_in_of : (home : Atom) (f : FunName) → home ≡ erlang → resolved table home f ≡ BuiltIn
   built_in_of home f e = ap (λ a. answer a (list_any (same_atom home) table.modules.keys) (entry_at table (key_of home f))) ((bytes_decides home erlang).1 e)
 
-  elsewhere_is : (home : Atom) (f : FunName) → resolved table home f ≡ NotHandedIn → (home ≡ erlang → ⊥) × (Contains (names xs) home → ⊥)
+  elsewhere_is : (home : Atom) (f : FunName) → resolved table home f ≡ NotPassed → (home ≡ erlang → ⊥) × (Contains (names xs) home → ⊥)
   elsewhere_is home f h = by (same_atom home erlang) refl (list_any (same_atom home) table.modules.keys) refl h
     where
-      by : (a : Bool) → same_atom home erlang ≡ a → (b : Bool) → list_any (same_atom home) table.modules.keys ≡ b → answer a b (entry_at table (key_of home f)) ≡ NotHandedIn → (home ≡ erlang → ⊥) × (Contains (names xs) home → ⊥)
+      by : (a : Bool) → same_atom home erlang ≡ a → (b : Bool) → list_any (same_atom home) table.modules.keys ≡ b → answer a b (entry_at table (key_of home f)) ≡ NotPassed → (home ≡ erlang → ⊥) × (Contains (names xs) home → ⊥)
       by true a b l h = absurd cc
-      by false a true l h = absurd ((handed_in NotHandedIn (entry_at table (key_of home f)) h).0 refl)
+      by false a true l h = absurd ((handed_in NotPassed (entry_at table (key_of home f)) h).0 refl)
       by false a false l h = (other_atom home erlang a, λ c. absurd (let t : list_any (same_atom home) table.modules.keys ≡ true = modules home ∙ any_contained (names xs) home c in cc))
 
-  elsewhere_of : (home : Atom) (f : FunName) → (home ≡ erlang → ⊥) × (Contains (names xs) home → ⊥) → resolved table home f ≡ NotHandedIn
+  elsewhere_of : (home : Atom) (f : FunName) → (home ≡ erlang → ⊥) × (Contains (names xs) home → ⊥) → resolved table home f ≡ NotPassed
   elsewhere_of home f d =
       ap (λ a. answer a (list_any (same_atom home) table.modules.keys) (entry_at table (key_of home f))) (not_same home erlang d.0) ∙ by (list_any (same_atom home) table.modules.keys) refl
     where
-      by : (b : Bool) → list_any (same_atom home) table.modules.keys ≡ b → answer false b (entry_at table (key_of home f)) ≡ NotHandedIn
+      by : (b : Bool) → list_any (same_atom home) table.modules.keys ≡ b → answer false b (entry_at table (key_of home f)) ≡ NotPassed
       by true l = absurd (d.1 (contained_any (names xs) home (sym (modules home) ∙ l)))
       by false l = refl
 

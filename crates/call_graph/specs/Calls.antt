@@ -27,7 +27,7 @@ functions_in home exports (m.and_def f i xs t ds) = record { home = home; export
 abbrev pub module_functions : m.Module → List ModuleFunction
 module_functions x = functions_in x.name x.exports x.defs
 
--- The functions of modules: the modules in the order handed in, each module's functions in that of the text.
+-- The functions of modules: the modules in the order passed, each module's functions in that of the text.
 abbrev pub functions_of : List m.Module → List ModuleFunction
 functions_of [] = []
 functions_of (x ∷ xs) = module_functions x ++ functions_of xs

@@ -1,5 +1,5 @@
 -- The table of functions: what a look-up answers, and what a table of modules has.
-use Rattle.std.specs.Prelude.{◌≡◌, ◌≢◌, ◌↔◌, ◌⊎◌, ℕ, Bool, ◌&&◌, if◌then◌else◌, Option, Some, None, List, map, length, Contains, slice_get, nat_eq}
+use Rattle.std.specs.Prelude.{◌≡◌, ◌≢◌, ◌↔◌, ℕ, Bool, ◌&&◌, if◌then◌else◌, Option, Some, None, List, map, length, Contains, slice_get, nat_eq}
 use Rattle.std.specs.List.{list_any}
 use Rattle.std.specs.Map.{lookup}
 use Rattle.type_kinds.specs.declared.atom.Atom.{Atom}
@@ -11,7 +11,7 @@ use Rattle.call_graph.specs.declared.keys.FunctionKey.{FunctionKey}
 use Rattle.call_graph.specs.declared.table.FunctionEntry.{FunctionEntry}
 use Rattle.call_graph.specs.declared.table.FunctionTable.{FunctionTable}
 use Rattle.call_graph.specs.declared.table.Resolved.{Resolved}
-use Rattle.call_graph.specs.declared.table.Resolved.TheVariants.{BuiltIn, NotHandedIn, NotExported, Function}
+use Rattle.call_graph.specs.declared.table.Resolved.TheVariants.{BuiltIn, NotPassed, NotExported, Function}
 use Rattle.call_graph.specs.Calls.{ModuleFunction, functions_of}
 
 -- ---- look-ups
@@ -37,10 +37,11 @@ abbrev pub reached : Option FunctionEntry → Resolved
 reached None = NotExported
 reached (Some e) = if e.exported then Function e.number else NotExported
 
--- What a call by literal module and name reaches. The module `erlang` is the built-in functions, and never one of those handed in.
+-- What a call by literal module and name reaches. The module `erlang` is the built-in functions, and never one of those
+-- passed.
 abbrev pub resolved : FunctionTable → (home : Atom) → FunName → Resolved
 resolved table home f =
-    if same_atom home erlang then BuiltIn else if list_any (same_atom home) table.modules.keys then reached (entry_at table (key_of home f)) else NotHandedIn
+    if same_atom home erlang then BuiltIn else if list_any (same_atom home) table.modules.keys then reached (entry_at table (key_of home f)) else NotPassed
 
 -- ---- the table of modules
 
@@ -54,4 +55,4 @@ pub record IsTableOf (xs : List m.Module) (table : FunctionTable) : Type 0 where
   pub own : (home : Atom) (f : FunName) (j : ℕ) → (own_number table home f ≡ Some j) ↔ ((g : ModuleFunction) × (slice_get (functions_of xs) j ≡ Some g) × (g.home ≡ home) × (g.name ≡ f))
   pub reaches : (home : Atom) (f : FunName) (j : ℕ) → (resolved table home f ≡ Function j) ↔ ((g : ModuleFunction) × (slice_get (functions_of xs) j ≡ Some g) × IsReached home f g)
   pub built_in : (home : Atom) (f : FunName) → (resolved table home f ≡ BuiltIn) ↔ (home ≡ erlang)
-  pub elsewhere : (home : Atom) (f : FunName) → (resolved table home f ≡ NotHandedIn) ↔ ((home ≢ erlang) × (Contains (map (λ x. x.name) xs) home → ⊥))
+  pub elsewhere : (home : Atom) (f : FunName) → (resolved table home f ≡ NotPassed) ↔ ((home ≢ erlang) × (Contains (map (λ x. x.name) xs) home → ⊥))

@@ -10,9 +10,9 @@ use Rattle.core_scope.specs.Asks.{function_name}
 
 -- What an application of a function's name or a call by literal names goes to.
 pub data CallTarget : Type 0 where
-  -- a function that the module defines, with so many arguments, which may be another number than its arity
+  -- a function that the module defines, with `count` arguments, which may be another number than its arity
   defined : FunName → (count : ℕ) → CallTarget
-  -- a function of a `letrec` around it, with so many arguments
+  -- a function of a `letrec` around it, with `count` arguments
   inner : FunName → (count : ℕ) → CallTarget
   -- a function of a module, by the module's name and its own, which has the number of arguments as its arity
   remote : Atom → FunName → CallTarget

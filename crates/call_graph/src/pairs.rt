@@ -20,7 +20,7 @@ use core_scope::AsChecked;
 use std::alloc::Global;
 use type_kinds::{Atom, Bytes, List, Memory};
 
-/// What functions of modules call. They are numbered from 0: the modules in the order handed in, each module's
+/// What functions of modules call. They are numbered from 0: the modules in the order passed, each module's
 /// functions in the order of its text.
 #[derive(Drop)]
 pub struct AllCalls {
@@ -31,7 +31,7 @@ pub struct AllCalls {
 }
 
 /// Which functions of modules with distinct names call which. The nodes are the functions, numbered from 0: the
-/// modules in the order handed in, each module's functions in the order of its text. There is a pair from one
+/// modules in the order passed, each module's functions in the order of its text. There is a pair from one
 /// function to another exactly where the first, in its body at any depth, applies the second's name, with any
 /// number of arguments, or calls it by literal module and name and its module exports it; a call into the module
 /// `erlang` gives no pair.
@@ -46,9 +46,9 @@ pub fn graph<S: AsChecked>(alloc: Global, mods: &[S]) -> Result<Graph, Memory>
     Ok(calls.graph)
 }
 
-/// The graph of `graph`, and beside it for each function, by its number, the calls in its body, at any depth, by
-/// literal module and name that go to none of the functions, in the order of the text: the module isn't handed
-/// in, or it doesn't export such a function. Calls into the module `erlang` are left out.
+/// The graph of `graph`, and for each function, by its number, the calls in its body, at any depth, by
+/// literal module and name that go to none of the functions, in the order of the text: the module isn't among
+/// those passed, or it doesn't export such a function. Calls into the module `erlang` are left out.
 ///
 /// `Memory`: as of `graph`.
 pub fn all_calls<S: AsChecked>(alloc: Global, mods: &[S]) -> Result<AllCalls, Memory>

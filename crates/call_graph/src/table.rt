@@ -31,17 +31,17 @@ pub struct FunctionEntry {
 /// What a call by literal module and name reaches.
 #[derive(Clone, Copy, Debug, PartialEq, Eq)]
 pub enum Resolved {
-    /// The module `erlang`, whose functions are the built-in ones, also where a module of that name was handed in.
+    /// The module `erlang`, whose functions are the built-in ones, also where a module of that name was passed.
     BuiltIn,
-    /// Another module that isn't among those that were handed in.
-    NotHandedIn,
-    /// A module that was handed in and doesn't export such a function.
+    /// Another module that isn't among those that were passed.
+    NotPassed,
+    /// A module that was passed and doesn't export such a function.
     NotExported,
     /// The function of this number.
     Function(u32),
 }
 
-/// The functions of modules, numbered from 0: the modules in the order handed in, each module's functions in
+/// The functions of modules, numbered from 0: the modules in the order passed, each module's functions in
 /// the order of its text. A look-up is one in a hash table.
 #[derive(Drop)]
 pub struct FunctionTable {
@@ -51,7 +51,7 @@ pub struct FunctionTable {
     count: u32,
 }
 
-/// Gives a table up.
+/// Drops a table.
 pub fn discard_table(_table: FunctionTable) {}
 
 /// The table of the functions of modules with distinct names. `Memory`: allocation failed, or there are 2^32
@@ -153,7 +153,7 @@ impl FunctionTable {
         }
     }
 
-    /// What a call by literal module and name reaches, with so many arguments. `Memory`: allocation failed.
+    /// What a call by literal module and name reaches, with `count` arguments. `Memory`: allocation failed.
     pub fn called(&self, home: &Atom, name: &Atom, count: usize) -> Result<Resolved, Memory>
         ensures { IfOk result (λ to. to ≡ resolved self.now home.now (function_name name.now count)) }
     {
@@ -161,7 +161,7 @@ impl FunctionTable {
             return Ok(Resolved::BuiltIn);
         }
         if !self.modules.contains(home) {
-            return Ok(Resolved::NotHandedIn);
+            return Ok(Resolved::NotPassed);
         }
         let key = FunctionKey::new(self.alloc, home, name, count)?;
         match self.functions.get(&key) {

@@ -100,7 +100,7 @@ impl CallWalk {
         self.note(number)
     }
 
-    /// Notes what a call of this module and name reaches, with so many arguments, or that it reaches nothing.
+    /// Notes what a call of this module and name reaches, with `count` arguments, or that it reaches nothing.
     pub fn note_called(&mut self, home: &Expr, name: &Expr, count: usize) -> Result<(), Memory>
         ensures { OnOk result (self.new ≡ noting self.old (targets_of (called count (literal_atom (tree home.now)) (literal_atom (tree name.now))))) }
     {
@@ -112,7 +112,7 @@ impl CallWalk {
         };
         match self.table.called(home, name, count)? {
             Resolved::Function(number) => self.note(Some(number)),
-            Resolved::NotHandedIn | Resolved::NotExported => self.note_outside(home, name, count),
+            Resolved::NotPassed | Resolved::NotExported => self.note_outside(home, name, count),
             Resolved::BuiltIn => Ok(()),
         }
     }

@@ -8,7 +8,7 @@ use Rattle.cons_tree.specs.declared.parts.Part.{Part}
 use Rattle.cons_tree.specs.declared.parts.Sig.{Sig}
 use Rattle.cons_solve.specs.Environments.{solution}
 use Rattle.cons_gen.specs.Made.{definition_constraint, definition_slots}
-use Rattle.cons_rows.specs.Passes.{Knowledge}
+use Rattle.cons_gen_rows.specs.Passes.{Knowledge}
 use Rattle.comp_rounds.specs.Rounds.{Function, arity, inferred, solved, signature_in}
 
 pub inferred_is : (P : Knowledge) (g : Function) (k : Cons Part) (n m : ℕ) (env : Env) (sig : Sig) → k ≡ definition_constraint P g.home g.parameters g.body → n ≡ definition_slots g.parameters g.body → env ≡ env_of (solution k (replicate n any)) → m ≡ arity g → ((s : State) → env ≡ env_of s → sig ≡ signature_in m s) → sig ≡ inferred P g

@@ -12,3 +12,4 @@ mod Steps
 mod Taking
 mod Widening
 mod SameMembers
+pub mod SameCallees

@@ -1,6 +1,9 @@
 -- Names of functions, and what a function with its summary is under them.
-use Rattle.std.proofs.Common.{◌≡◌, Bool, true, false, cond, ◌&&◌, ◌||◌, List, [], ◌∷◌, ◌++◌, Ok, Err, OnOk, Result, refl, sym, ap, ap₂, ◌∙◌, subst, true≢false}
-use Rattle.type_sets.proofs.Truths.{both, first, second, or_false}
+use Rattle.std.proofs.Common.{◌≡◌, Bool, true, false, cond, ◌&&◌, ◌||◌, List, [], ◌∷◌, ◌++◌, refl, sym, ap, ap₂, ◌∙◌, subst, true≢false}
+use Rattle.std.proofs.lemmas.Bool.{and_from}
+use Rattle.std.proofs.Math.Bool.{or-false}
+use Rattle.comp_rounds.proofs.SameCallees.{pointwise}
+use Rattle.type_kinds.proofs.Truths.{first, second}
 use Rattle.type_kinds.specs.declared.atom.Atom.{Atom}
 use Rattle.core_ast.specs.declared.syntax.Expr.{Expr}
 use Rattle.core_ast.specs.declared.syntax.FunDefOf.{FunDefOf}
@@ -13,7 +16,6 @@ use Rattle.cons_tree.proofs.NameLaws.{home_is, home_itself, name_is, name_itself
 use Rattle.comp_rounds.specs.declared.members.Member.{Member}
 use Rattle.comp_rounds.specs.Members.{function_of}
 use Rattle.comp_rounds.specs.Rounds.{Function, Callees, arity, is_named, is_member, callee_of, with_callee, with_function}
-use Rattle.comp_rounds.proofs.Knowing as knowing
 
 named_is : (home h : Atom) (name f : FunName) → (same_home h home && same_name f name) ≡ true → (h ≡ home) × (f ≡ name)
 named_is home h name f e =
@@ -22,7 +24,7 @@ named_is home h name f e =
 not_named : (home h : Atom) (name f : FunName) → (same_home h home && same_name f name) ≡ false → (h ≡ home) × (f ≡ name) → ⊥
 not_named home h name f e same =
     true≢false
-    (sym (both (same_home home home) (same_name name name) (home_itself home) (name_itself name))
+    (sym (and_from (same_home home home) (same_name name name) (home_itself home) (name_itself name))
     ∙ ap (λ k. same_home k home && same_name name name) (sym same.0)
     ∙ ap (λ n. same_home h home && same_name n name) (sym same.1)
     ∙ e)
@@ -43,7 +45,7 @@ callee_fits x s c d is same takes =
 -- one callee was set and all others are as before
 pub set_callee : (old new : Callees) (home : Atom) (name : FunName) (callee : Callee) → new home name ≡ callee → ((h : Atom) (f : FunName) → ((h ≡ home) × (f ≡ name) → ⊥) → new h f ≡ old h f) → new ≡ with_callee old home name callee
 set_callee old new home name callee set others =
-    knowing.pointwise new (with_callee old home name callee) (λ h f. by h f (same_home h home && same_name f name) refl)
+    pointwise new (with_callee old home name callee) (λ h f. by h f (same_home h home && same_name f name) refl)
   where
     by : (h : Atom) (f : FunName) (b : Bool) → (same_home h home && same_name f name) ≡ b → new h f ≡ cond b callee (old h f)
     by h f true e = ap (λ k. new k f) (named_is home h name f e).0 ∙ ap (new home) (named_is home h name f e).1 ∙ set
@@ -53,14 +55,10 @@ pub set_function : (old new : Callees) (g : Function) (s : Summary) (callee : Ca
 set_function old new g s callee name is same set others =
     set_callee old new g.home name callee set others ∙ ap₂ (with_callee old g.home) same is
 
-pub on_both : {A E P Q R : Type 0} (r : Result A E) → OnOk r P → OnOk r Q → (P → Q → R) → OnOk r R
-on_both (Ok x) p q f = f p q
-on_both (Err x) p q f = tt
-
 -- ---- members
 
 member_append : (gs : List Function) (g : Function) (h : Atom) (f : FunName) → is_member (gs ++ g ∷ []) h f ≡ (is_member gs h f || is_named g h f)
-member_append [] g h f = sym (or_false (is_named g h f))
+member_append [] g h f = or-false (is_named g h f)
 member_append (k ∷ ks) g h f = ap (λ b. is_named k h f || b) (member_append ks g h f) ∙ or_assoc (is_named k h f) (is_member ks h f) (is_named g h f)
   where
     or_assoc : (a b c : Bool) → (a || (b || c)) ≡ ((a || b) || c)
@@ -80,7 +78,7 @@ member_more old new gs g name same were added others h f = by (is_named g h f) r
         ap (λ k. new k f) (named_is g.home h g.name f e).0 ∙ ap (new g.home) ((named_is g.home h g.name f e).1 ∙ sym same) ∙ added
         ∙ or_true (is_member gs h f) ∙ ap (λ b. is_member gs h f || b) (sym e)
     by false e =
-        others h f (λ k. not_named g.home h g.name f e (k.0, k.1 ∙ same)) ∙ were h f ∙ or_false (is_member gs h f)
+        others h f (λ k. not_named g.home h g.name f e (k.0, k.1 ∙ same)) ∙ were h f ∙ sym (or-false (is_member gs h f))
         ∙ ap (λ b. is_member gs h f || b) (sym e)
 
 pub same_members : (names : Atom → FunName → Bool) (gs ks : List Function) → ((h : Atom) (f : FunName) → names h f ≡ is_member gs h f) → gs ≡ ks → names ≡ is_member ks

@@ -32,7 +32,7 @@ module _ (outside : Callees) (gs : List Function) where
   abbrev pub Known : Callees → Type 0
   Known now = (ss : List Summary) → length ss ≡ length gs → with_summaries now gs ss ≡ with_summaries outside gs ss
 
-  -- later summaries stand in place of those of a round
+  -- later summaries stand in position of those of a round
   pub still_known : (now new : Callees) (sigs : List Sig) → Known now → new ≡ with_signatures now gs sigs → Known new
   still_known now new sigs known e ss l =
       ap (λ c. with_summaries c gs ss) e ∙ overwritten gs ss (map of_one sigs) now l ∙ known ss l

@@ -1,5 +1,5 @@
 -- Members of the same home and definition, both exported or neither, are one.
-use Rattle.std.proofs.Common.{◌≡◌, ℕ, length}
+use Rattle.std.proofs.Common.{◌≡◌, length}
 use Rattle.std.specs.Coded.{Coded-set, coded_ℕ}
 use mathlib.Core.HLevel.{is_prop→PathP}
 use mathlib.Core.Logic.{∥∥₁_prop}

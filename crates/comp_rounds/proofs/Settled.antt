@@ -1,7 +1,7 @@
 -- Where no function gives more than its signature, no later round changes anything.
 use Rattle.std.proofs.Common.{◌≡◌, ℕ, zero, suc, ◌+◌, ◌≤◌, ◌-◌, Bool, true, false, cond, List, [], ◌∷◌, length, refl, sym, ap, ◌∙◌, true≢false, arith}
 use Rattle.std.specs.Prelude.{nat_lt}
-use Rattle.type_sets.proofs.Truths.{first, second}
+use Rattle.type_kinds.proofs.Truths.{first, second}
 use Rattle.cons_tree.specs.Facts.{TypeFacts}
 use Rattle.cons_tree.specs.declared.parts.Sig.{Sig}
 use Rattle.comp_rounds.specs.Rounds.{Function, Callees, next_signature, all_next, joined_rounds, given, after_rounds}

@@ -1,24 +1,18 @@
 -- Signatures of the same types are one, and how they are made of their types.
 use Rattle.std.proofs.Common.{◌≡◌, ℕ, zero, suc, Bool, true, false, cond, not, ◌&&◌, ◌||◌, List, [], ◌∷◌, length, map, replicate, refl, sym, ap, ◌∙◌, subst, true≢false}
-use Rattle.std.specs.Prelude.{IsTrue}
-use Rattle.std.specs.Coded.{Coded-set, coded_bool}
-use mathlib.Core.HLevel.{is_prop→PathP}
-use Rattle.type_sets.proofs.Truths.{both, first, second, and_none, is_false}
-use Rattle.type_model.specs.Values.{nil}
+use Rattle.std.proofs.lemmas.Bool.{false_from_ne_true, and_from}
+use Rattle.std.proofs.Math.Bool.{and-false}
+use Rattle.std.proofs.lemmas.List.{length-replicate}
+use Rattle.cons_tree.proofs.Copied.{same_signature}
+use Rattle.type_kinds.proofs.Truths.{first, second}
+use Rattle.type_lattice_model.specs.Values.{nil}
 use Rattle.type_lattice.specs.Types.{Type4, HasType, Below, none, any, is_none, join}
 use Rattle.type_lattice.specs.Inclusion.{leq}
 use Rattle.cons_tree.specs.Facts.{TypeFacts}
-use Rattle.cons_tree.specs.Signatures.{has_none, all_none, agree, agreed}
+use Rattle.cons_tree.specs.Signatures.{has_none, all_none, agreed}
 use Rattle.cons_tree.specs.declared.parts.Sig.{Sig}
 use Rattle.comp_rounds.specs.Agreeing.{none_is_none}
 use Rattle.comp_rounds.specs.Signatures.{nothing, signature, signature_by, anything, joins, are_below, join_of, is_below, all_below}
-
-pub same_signature : (s t : Sig) → s.args ≡ t.args → s.result ≡ t.result → s ≡ t
-same_signature s t e f = λ i. record {
-  args = e i;
-  result = f i;
-  agreed = is_prop→PathP (λ j. IsTrue (agree (f j ∷ e j))) (λ j. Coded-set coded_bool (agree (f j ∷ e j)) true) s.agreed t.agreed i;
-}
 
 -- ---- the types of a signature
 
@@ -61,13 +55,9 @@ signature_length r ts = by (has_none (r ∷ ts)) refl
     by true e = many (length ts)
     by false e = refl
 
-pub replicate_length : (n : ℕ) (t : Type4) → length (replicate n t) ≡ n
-replicate_length zero t = refl
-replicate_length (suc n) t = ap suc (replicate_length n t)
-
 pub anything_length : (n : ℕ) → length (anything n).args ≡ n
 unfolding anything
-anything_length n = signature_length _ _ ∙ replicate_length n _
+anything_length n = signature_length _ _ ∙ length-replicate n _
 
 nothing_is : (ts : List Type4) → signature none ts ≡ nothing (length ts)
 unfolding signature
@@ -78,7 +68,7 @@ nothing_is ts = by (has_none (none ∷ ts)) refl
     by false e = absurd (true≢false (sym (ap (λ b. b || has_none ts) none_is_none) ∙ e))
 
 pub nothing_of : (n : ℕ) → signature none (replicate n none) ≡ nothing n
-nothing_of n = nothing_is (replicate n none) ∙ ap nothing (replicate_length n none)
+nothing_of n = nothing_is (replicate n none) ∙ ap nothing (length-replicate n none)
 
 pub joins_nothing : (ts : List Type4) → joins ts [] ≡ []
 joins_nothing [] = refl
@@ -91,14 +81,14 @@ not_below [] [] h = absurd (h refl)
 not_below [] (u ∷ us) h = refl
 not_below (t ∷ ts) [] h = refl
 not_below (t ∷ ts) (u ∷ us) h =
-    sym (and_none (leq t u)) ∙ ap (λ b. leq t u && b) (not_below ts us (λ e. h (ap suc e)))
+    sym (and-false (leq t u)) ∙ ap (λ b. leq t u && b) (not_below ts us (λ e. h (ap suc e)))
 
 pub not_all_below : (ss ts : List Sig) → (length ss ≡ length ts → ⊥) → false ≡ all_below ss ts
 not_all_below [] [] h = absurd (h refl)
 not_all_below [] (t ∷ ts) h = refl
 not_all_below (s ∷ ss) [] h = refl
 not_all_below (s ∷ ss) (t ∷ ts) h =
-    sym (and_none (is_below s t)) ∙ ap (λ b. is_below s t && b) (not_all_below ss ts (λ e. h (ap suc e)))
+    sym (and-false (is_below s t)) ∙ ap (λ b. is_below s t && b) (not_all_below ss ts (λ e. h (ap suc e)))
 
 -- ---- what a signature is where it is joined with one below it
 
@@ -149,7 +139,7 @@ module _ (F : TypeFacts) where
 
   below_itself : (ts : List Type4) → are_below ts ts ≡ true
   below_itself [] = refl
-  below_itself (t ∷ ts) = both (leq t t) (are_below ts ts) (leq_itself t) (below_itself ts)
+  below_itself (t ∷ ts) = and_from (leq t t) (are_below ts ts) (leq_itself t) (below_itself ts)
 
   below_through : (ts us ws : List Type4) → are_below ts us ≡ true → are_below us ws ≡ true → are_below ts ws ≡ true
   below_through [] [] ws d e = e
@@ -157,7 +147,7 @@ module _ (F : TypeFacts) where
   below_through (t ∷ ts) [] ws d e = absurd (true≢false (sym d))
   below_through (t ∷ ts) (u ∷ us) [] d e = absurd (true≢false (sym e))
   below_through (t ∷ ts) (u ∷ us) (w ∷ ws) d e =
-      both (leq t w) (are_below ts ws)
+      and_from (leq t w) (are_below ts ws)
       (leq_through t u w (first (leq t u) (are_below ts us) d) (first (leq u w) (are_below us ws) e))
       (below_through ts us ws (second (leq t u) (are_below ts us) d) (second (leq u w) (are_below us ws) e))
 
@@ -175,7 +165,7 @@ module _ (F : TypeFacts) where
   leq_any t = (F.tells_below t any).1 (λ v h. F.every v)
 
   some_any : is_none any ≡ false
-  some_any = is_false (is_none any) (λ e. F.empty nil (subst (HasType nil) ((F.tells_none any).0 e) (F.every nil)))
+  some_any = false_from_ne_true (is_none any) (λ e. F.empty nil (subst (HasType nil) ((F.tells_none any).0 e) (F.every nil)))
 
   pub no_none : (n : ℕ) → has_none (replicate n any) ≡ false
   no_none zero = refl
@@ -188,7 +178,7 @@ module _ (F : TypeFacts) where
 
   all_leq_any : (ts : List Type4) → are_below ts (replicate (length ts) any) ≡ true
   all_leq_any [] = refl
-  all_leq_any (t ∷ ts) = both (leq t any) (are_below ts (replicate (length ts) any)) (leq_any t) (all_leq_any ts)
+  all_leq_any (t ∷ ts) = and_from (leq t any) (are_below ts (replicate (length ts) any)) (leq_any t) (all_leq_any ts)
 
   pub below_anything : (s : Sig) → is_below s (anything (length s.args)) ≡ true
   unfolding is_below

@@ -1,10 +1,6 @@
 -- Steps of loops that go over two lists at once.
-use Rattle.std.proofs.Common.{◌≡◌, ℕ, ◌+◌, ◌<◌, ◌≤◌, ◌⊎◌, inl, inr, min, List, [], ◌∷◌, ◌++◌, length, get_or, drop, sym, ap, ap₂, ◌∙◌, add-one, append-nil, drop-cons, drop_of_length-le, arith}
+use Rattle.std.proofs.Common.{◌≡◌, ℕ, ◌<◌, ◌≤◌, ◌⊎◌, inl, inr, min, List, [], ◌++◌, length, drop, sym, ap, ◌∙◌, append-nil, drop_of_length-le, arith}
 use Rattle.std.proofs.lemmas.Bool.{cases_lt}
-
--- what is left of a list begins with the item that is looked at
-pub front : {A : Type 0} (xs : List A) (i : ℕ) (x : A) → i < length xs → x ≡ get_or xs i x → drop i xs ≡ x ∷ drop (i + 1) xs
-front xs i x h e = drop-cons xs i x h ∙ ap₂ (λ y ys. y ∷ ys) (sym e) (ap (λ n. drop n xs) (sym (add-one i)))
 
 shorter : (m n i : ℕ) → min m n ≤ i → (m ≤ i) ⊎ (n ≤ i)
 shorter m n i h = by (cases_lt i m)

@@ -1,7 +1,8 @@
 -- Signatures have as many arguments as the functions that they are of.
 use Rattle.std.proofs.Common.{◌≡◌, ℕ, zero, suc, ◌≤◌, Bool, true, false, cond, List, [], ◌∷◌, length, map, replicate, min, refl, sym, ap, ◌∙◌, None, Some, le-add_right, arith}
 use Rattle.std.specs.Prelude.{nat_lt}
-use Rattle.std.proofs.lemmas.List.{length-take}
+use Rattle.std.proofs.lemmas.List.{length-take, length-replicate}
+use Rattle.type_lattice.proofs.ListOrder.{are_long}
 use Rattle.type_lattice.specs.Types.{Type4, AreBelow, any}
 use Rattle.cons_tree.specs.Constraints.{Cons}
 use Rattle.cons_tree.specs.Environments.{Types, State}
@@ -9,11 +10,11 @@ use Rattle.cons_tree.specs.declared.parts.Part.{Part}
 use Rattle.cons_tree.specs.declared.parts.Sig.{Sig}
 use Rattle.cons_solve.specs.Environments.{solution}
 use Rattle.cons_gen.specs.Made.{definition_constraint, definition_slots}
-use Rattle.cons_rows.specs.Passes.{Knowledge}
+use Rattle.cons_gen_rows.specs.Passes.{Knowledge}
 use Rattle.comp_rounds.specs.Rounds.{Function, Callees, arity, inferred, solved, signature_in, of_one, next_signature, all_next, joined_rounds, paired, given, after_rounds, last_round, strict_signatures, lenient_signatures, summaries, strict_pass, lenient_pass, with_signatures}
 use Rattle.comp_rounds.specs.Signatures.{nothing, anything, join_of, joins, is_below}
 use Rattle.comp_rounds.specs.Takes.{AllTake}
-use Rattle.comp_rounds.proofs.SignatureLaws.{signature_length, anything_length, replicate_length}
+use Rattle.comp_rounds.proofs.SignatureLaws.{signature_length, anything_length}
 
 -- each signature has as many arguments as its function
 abbrev pub Counted : List Function → List Sig → Type 0
@@ -41,20 +42,7 @@ counted_length [] (s ∷ ss) h = absurd h
 counted_length (g ∷ gs) [] h = absurd h
 counted_length (g ∷ gs) (s ∷ ss) h = ap suc (counted_length gs ss h.1)
 
-pub taken_length : (gs : List Function) (ss : List Sig) → Counted gs ss → length (map of_one ss) ≡ length gs
-taken_length gs ss h = mapped ss ∙ counted_length gs ss h
-  where
-    mapped : (ts : List Sig) → length (map of_one ts) ≡ length ts
-    mapped [] = refl
-    mapped (t ∷ ts) = ap suc (mapped ts)
-
 -- ---- one round
-
-below_length : (xs ys : Types) → AreBelow xs ys → length xs ≡ length ys
-below_length [] [] h = refl
-below_length [] (y ∷ ys) h = absurd h
-below_length (x ∷ xs) [] h = absurd h
-below_length (x ∷ xs) (y ∷ ys) h = ap suc (below_length xs ys h.1)
 
 joins_length : (ts us : List Type4) → length ts ≡ length us → length (joins ts us) ≡ length ts
 joins_length [] us e = refl
@@ -83,7 +71,7 @@ next_counted k (g ∷ gs) (s ∷ ss) (t ∷ ts) h u = (next_length k s t (arity 
 -- a solution is below where it began, so it has as many slots
 module _ (lower : (c : Cons Part) (xs ys : Types) → solution c xs ≡ Some ys → AreBelow ys xs) where
   signature_counts : (n : ℕ) (s : State) → ((ys : Types) → s ≡ Some ys → n ≤ length ys) → length (signature_in n s).args ≡ n
-  signature_counts n None h = replicate_length n _
+  signature_counts n None h = length-replicate n _
   signature_counts n (Some ys) h =
       let long : n ≤ length ys = h ys refl in
       signature_length _ _ ∙ length-take n ys ∙ least n (length ys) long
@@ -96,8 +84,8 @@ module _ (lower : (c : Cons Part) (xs ys : Types) → solution c xs ≡ Some ys 
   slots_last P g ys e =
       let begin = replicate (definition_slots g.parameters g.body) any in
       let same : length ys ≡ length begin =
-      below_length ys begin (lower (definition_constraint P g.home g.parameters g.body) begin ys e) in
-      let all : length begin ≡ definition_slots g.parameters g.body = replicate_length _ any in
+      are_long ys begin (lower (definition_constraint P g.home g.parameters g.body) begin ys e) in
+      let all : length begin ≡ definition_slots g.parameters g.body = length-replicate _ any in
       let first : arity g ≤ definition_slots g.parameters g.body = le-add_right (arity g) _ in
       omega (arith, same, all, first)
 
@@ -113,7 +101,7 @@ module _ (lower : (c : Cons Part) (xs ys : Types) → solution c xs ≡ Some ys 
 
   first_counted : (gs : List Function) → Counted gs (map (λ g. nothing (arity g)) gs)
   first_counted [] = tt
-  first_counted (g ∷ gs) = (replicate_length (arity g) _, first_counted gs)
+  first_counted (g ∷ gs) = (length-replicate (arity g) _, first_counted gs)
 
   pub rounds_counted : (outside : Callees) (gs : List Function) (k : ℕ) → Counted gs (after_rounds outside gs k)
   rounds_counted outside gs zero = first_counted gs

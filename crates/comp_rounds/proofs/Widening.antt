@@ -1,7 +1,7 @@
 -- After the joined rounds each round leaves all as it is, or widens a function that wasn't wide.
 use Rattle.std.proofs.Common.{◌≡◌, ℕ, zero, suc, ◌+◌, ◌<◌, ◌≤◌, ◌⊎◌, inl, inr, Bool, true, false, cond, Some, List, [], ◌∷◌, length, refl, sym, ap, ◌∙◌, subst, true≢false, le-ltb, arith}
 use Rattle.std.specs.Prelude.{nat_lt}
-use Rattle.type_sets.proofs.Truths.{both}
+use Rattle.std.proofs.lemmas.Bool.{and_from}
 use Rattle.type_lattice.specs.Types.{AreBelow}
 use Rattle.cons_tree.specs.Constraints.{Cons}
 use Rattle.cons_tree.specs.Environments.{Types}
@@ -89,13 +89,13 @@ module _ (F : TypeFacts) where
           → ((is_below t s ≡ true) × (b ≡ a)) ⊎ ((b ≡ 0) × (a ≡ 1))
           → ((all_below ts ss ≡ true) × (narrow_count (all_next k ss ts) ≡ narrow_count ss)) ⊎ (narrow_count (all_next k ss ts) < narrow_count ss)
           → ((all_below (t ∷ ts) (s ∷ ss) ≡ true) × (b + narrow_count (all_next k ss ts) ≡ a + narrow_count ss)) ⊎ (b + narrow_count (all_next k ss ts) < a + narrow_count ss)
-      join_turns a b (inl p) (inl q) = inl (both (is_below t s) (all_below ts ss) p.0 q.0, omega (arith, p.1, q.1))
+      join_turns a b (inl p) (inl q) = inl (and_from (is_below t s) (all_below ts ss) p.0 q.0, omega (arith, p.1, q.1))
       join_turns a b (inl p) (inr q) = inr (omega (arith, p.1, q))
       join_turns a b (inr p) (inl q) = inr (omega (arith, p.0, p.1, q.1))
       join_turns a b (inr p) (inr q) = inr (omega (arith, p.0, p.1, q))
 
   wide_first : (s t : Sig) (ss ts : List Sig) → length t.args ≡ length s.args → (b : Bool) → is_wide s ≡ b → weight b + narrow_count ss ≡ 0 → (narrow_count ss ≡ 0 → all_below ts ss ≡ true) → all_below (t ∷ ts) (s ∷ ss) ≡ true
-  wide_first s t ss ts l true w e others = both (is_below t s) (all_below ts ss) (below_wide s t l w) (others (omega (arith, e)))
+  wide_first s t ss ts l true w e others = and_from (is_below t s) (all_below ts ss) (below_wide s t l w) (others (omega (arith, e)))
   wide_first s t ss ts l false w e others = absurd (omega (arith, e))
 
   all_wide : (gs : List Function) (ss ts : List Sig) → Counted gs ss → Counted gs ts → narrow_count ss ≡ 0 → all_below ts ss ≡ true

@@ -1,7 +1,7 @@
 -- Types that keep the rule of signatures.
 use Rattle.std.specs.Prelude.{◌≡◌, ℕ, zero, suc, true, false, not, ◌||◌, ◌&&◌, List, ◌∷◌, replicate, refl}
 use Rattle.std.proofs.Common.{ap, ◌∙◌}
-use Rattle.type_model.proofs.LevelLaws.{level_laws}
+use Rattle.type_lattice_model.proofs.LevelLaws.{level_laws}
 use Rattle.type_lattice.specs.Types.{Type4, none, is_none}
 use Rattle.cons_tree.specs.Signatures.{has_none, all_none, agree}
 

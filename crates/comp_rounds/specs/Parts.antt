@@ -15,7 +15,7 @@ use Rattle.comp_rounds.specs.Rounds.{Callees, standing, summaries, with_callee}
 abbrev pub Listed : Type 0
 Listed = Atom × FunName × Bool
 
--- whether both signatures of a summary have so many arguments
+-- whether both signatures of a summary have n arguments
 abbrev pub takes : Summary → ℕ → Bool
 takes s n = nat_eq (length s.strict.args) n && nat_eq (length s.lenient.args) n
 
@@ -30,7 +30,7 @@ with_listed outside [] ss = outside
 with_listed outside (x ∷ xs) [] = with_listed (with_callee outside x.0 x.1 (listed_callee x None)) xs []
 with_listed outside (x ∷ xs) (s ∷ ss) = with_listed (with_callee outside x.0 x.1 (listed_callee x (Some s))) xs ss
 
--- What is known with the functions of all lists, one list after the other, each with the output that stands at its place. The
+-- What is known with the functions of all lists, one list after the other, each with the output that stands at its position. The
 -- last callee of a name stands.
 abbrev pub with_inputs : Callees → List (List Listed) → List CompOut → Callees
 with_inputs outside [] os = outside

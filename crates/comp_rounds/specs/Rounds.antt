@@ -15,7 +15,7 @@ use Rattle.cons_tree.specs.declared.parts.Callee.{Callee}
 use Rattle.cons_tree.specs.declared.parts.Callee.TheVariants.{Known, Local}
 use Rattle.cons_solve.specs.Environments.{solution}
 use Rattle.cons_gen.specs.Made.{definition_constraint, definition_slots}
-use Rattle.cons_rows.specs.Passes.{Knowledge}
+use Rattle.cons_gen_rows.specs.Passes.{Knowledge}
 use Rattle.comp_rounds.specs.Signatures.{nothing, signature, anything, join_of, is_below}
 
 -- A function of the component: its module, its definition, and whether its module exports it.
@@ -124,7 +124,7 @@ module _ (outside : Callees) (gs : List Function) where
   abbrev pub given : List Sig → List Sig
   given ss = map (inferred (strict_pass (with_signatures outside gs ss))) gs
 
-  -- the signatures after so many rounds
+  -- the signatures after that many rounds
   abbrev pub after_rounds : ℕ → List Sig
   after_rounds zero = map (λ g. nothing (arity g)) gs
   after_rounds (suc k) = all_next k (after_rounds k) (given (after_rounds k))

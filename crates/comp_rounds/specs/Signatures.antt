@@ -6,7 +6,7 @@ use Rattle.cons_tree.specs.Signatures.{has_none}
 use Rattle.cons_tree.specs.declared.parts.Sig.{Sig}
 use Rattle.comp_rounds.specs.Agreeing.{nothing_agrees, something_agrees}
 
--- the signature of a function of so many arguments that gives no value
+-- the signature of a function of n arguments that gives no value
 abbrev pub nothing : ℕ → Sig
 nothing n = record { args = replicate n none; result = none; agreed = nothing_agrees n }
 
@@ -18,7 +18,7 @@ signature_by r ts false e = record { args = ts; result = r; agreed = something_a
 unfoldable pub signature : Type4 → List Type4 → Sig
 signature r ts = signature_by r ts (has_none (r ∷ ts)) refl
 
--- the signature of a function of so many arguments of which nothing is known
+-- the signature of a function of n arguments of which nothing is known
 unfoldable pub anything : ℕ → Sig
 anything n = signature any (replicate n any)
 

@@ -9,7 +9,7 @@ use cons_tree::{Callee, Summaries, Summary};
 use std::alloc::Global;
 use type_kinds::{List, Memory, Shared};
 
-// Whether both signatures of a summary have so many arguments.
+// Whether both signatures of a summary have `arity` arguments.
 fn takes(summary: &Summary, arity: u32) -> bool
     ensures { result ≡ takes summary.now arity }
 {
@@ -32,7 +32,7 @@ fn standing(alloc: Global, listed: &Listed, summary: &Summary) -> Result<Callee,
     }
 }
 
-// What is known of a listed function whose summary stands at this place, if there is one.
+// What is known of a listed function whose summary stands at this position, if there is one.
 fn listed_callee(
     alloc: Global,
     listed: &Listed,
@@ -48,7 +48,7 @@ fn listed_callee(
     }
 }
 
-// The functions of a list are known from now on, each by the summary at its place. If allocation fails `known` may hold
+// The functions of a list are known from now on, each by the summary at its position. If allocation fails `known` may hold
 // anything.
 fn enter_listed(
     alloc: Global,
@@ -66,7 +66,7 @@ fn enter_listed(
     Ok(())
 }
 
-// The functions of all lists are known from now on, each list by the output at its place. If allocation fails `known`
+// The functions of all lists are known from now on, each list by the output at its position. If allocation fails `known`
 // may hold anything.
 fn enter_inputs(
     alloc: Global,
@@ -87,7 +87,7 @@ fn enter_inputs(
 }
 
 /// The output of a component, from its part and the outputs of the components that it calls, of which the one at each
-/// place belongs to the list of callees at that place. What the members call is looked up among the members, then in the
+/// position belongs to the list of callees at that position. What the members call is looked up among the members, then in the
 /// lists from the last to the first, and then in what is fixed. Of a listed function nothing is known where its output or
 /// its summary isn't there, or where the summary has another number of arguments. `Memory` if allocation fails.
 pub fn solve_component(

@@ -4,21 +4,21 @@ ghost use Rattle.type_lattice.specs.Types.{any};
 ghost use Rattle.cons_tree.specs.Constraints.{constraint};
 ghost use Rattle.cons_tree.specs.Environments.{State, env_of, type_at};
 ghost use Rattle.cons_solve.specs.Environments.{solution};
-ghost use Rattle.cons_rows.specs.Knowing.{knowledge};
+ghost use Rattle.cons_gen_rows.specs.Knowing.{knowledge};
 ghost use Rattle.comp_rounds.specs.Members.{function_of};
 ghost use Rattle.comp_rounds.specs.Rounds.{inferred, signature_in};
 
 use crate::members::Member;
 use crate::signatures::{anys, no_value, signature_of};
 use cons_gen::{Made, generate};
-use cons_rows::Pass;
+use cons_gen_rows::Pass;
 use cons_solve::solve;
 use cons_tree::{Env, Sig, Summaries, type_facts};
 use std::alloc::Global;
 use type_kinds::{List, Memory};
 use type_lattice::Ty;
 
-// Gives a constraint up.
+// Drops a constraint.
 fn discard_made(_made: Made) {}
 
 // The greatest solution of what was made, where every slot may have any value at first.
@@ -40,7 +40,7 @@ fn type_at(types: &[Ty], at: usize) -> Result<Ty, Memory>
     }
 }
 
-// The signature of so many arguments in the types of a solution: they have the first slots, and the result the next one.
+// The signature of `count` arguments in the types of a solution: they have the first slots, the result the next one.
 fn signature_of_types(mut types: List<Ty>, count: usize) -> Result<Sig, Memory>
     ensures { IfOk result (λ sig. sig ≡ signature_in count (Some types)) }
 {
@@ -49,7 +49,7 @@ fn signature_of_types(mut types: List<Ty>, count: usize) -> Result<Sig, Memory>
     Ok(signature_of(types, returned))
 }
 
-// The signature of so many arguments in a solution.
+// The signature of `count` arguments in a solution.
 fn signature_of_solution(alloc: Global, solved: Env, count: usize) -> Result<Sig, Memory>
     ensures { IfOk result (λ sig. (s : State) → solved ≡ env_of s → sig ≡ signature_in count s) }
 {

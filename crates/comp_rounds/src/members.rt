@@ -20,7 +20,7 @@ pub struct Member {
 }
 
 impl Member {
-    /// The member for the definition at this place of a module, which the caller knows to be exported or not. `Memory`
+    /// The member for the definition at this position of a module, which the caller knows to be exported or not. `Memory`
     /// if allocation fails, or where the count of the definition's owners can rise no further.
     pub fn new(
         alloc: Global,

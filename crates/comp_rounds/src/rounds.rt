@@ -1,8 +1,8 @@
 //! The rounds of a component, and its summaries.
 ghost use Rattle.std.specs.Prelude.{◌≡◌, IfOk, IsTrue, MatchOption, OnOk, map};
 ghost use Rattle.cons_tree.specs.Callees.{found};
-ghost use Rattle.cons_rows.specs.Knowing.{knowledge};
-ghost use Rattle.cons_rows.specs.Members.{is_member as in_members};
+ghost use Rattle.cons_gen_rows.specs.Knowing.{knowledge};
+ghost use Rattle.cons_gen_rows.specs.Members.{is_member as in_members};
 ghost use Rattle.comp_rounds.specs.Members.{function_of};
 ghost use Rattle.comp_rounds.specs.Rounds.{after_rounds, all_next, arity, given, inferred, is_member, lenient_pass, next_signature, of_one, paired, strict_signatures, summaries, with_signatures, with_summaries};
 ghost use Rattle.comp_rounds.specs.Signatures.{all_below, nothing};
@@ -12,7 +12,7 @@ use crate::entering::{enter_signatures, enter_summaries};
 use crate::inference::infer;
 use crate::members::Member;
 use crate::signatures::{any_value, below, join, no_value, signatures_below};
-use cons_rows::{Members, Pass};
+use cons_gen_rows::{Members, Pass};
 use cons_solve::solution_laws;
 use cons_tree::{Sig, Summaries, Summary, type_facts};
 use std::alloc::Global;

@@ -15,7 +15,7 @@ pub fn signature_of(args: List<Ty>, returned: Ty) -> Sig
     Sig::new(args, returned)
 }
 
-// So many types that are none.
+// The type `none`, `count` times.
 fn nones(alloc: Global, count: usize) -> Result<List<Ty>, Memory>
     ensures { IfOk result (λ types. types ≡ replicate count none) }
 {
@@ -26,7 +26,7 @@ fn nones(alloc: Global, count: usize) -> Result<List<Ty>, Memory>
     Ok(types)
 }
 
-/// So many types of any value. `Memory` if allocation fails.
+/// The type `any`, `count` times. `Memory` if allocation fails.
 pub fn anys(alloc: Global, count: u64) -> Result<List<Ty>, Memory>
     ensures { IfOk result (λ types. types ≡ replicate count any) }
 {
@@ -37,7 +37,7 @@ pub fn anys(alloc: Global, count: u64) -> Result<List<Ty>, Memory>
     Ok(types)
 }
 
-/// The signature of a function of so many arguments that gives no value. `Memory` if allocation fails.
+/// The signature of a function of `count` arguments that gives no value. `Memory` if allocation fails.
 pub fn no_value(alloc: Global, count: usize) -> Result<Sig, Memory>
     ensures { IfOk result (λ sig. sig ≡ nothing count) }
 {
@@ -45,7 +45,7 @@ pub fn no_value(alloc: Global, count: usize) -> Result<Sig, Memory>
     Ok(signature_of(args, Ty::none()))
 }
 
-/// The signature of a function of so many arguments of which nothing is known. `Memory` if allocation fails.
+/// The signature of a function of `count` arguments of which nothing is known. `Memory` if allocation fails.
 #[tactic(auto, unfolding(crate::specs::Signatures::anything))]
 pub fn any_value(alloc: Global, count: usize) -> Result<Sig, Memory>
     ensures { IfOk result (λ sig. sig ≡ anything count) }

@@ -19,13 +19,13 @@ pub struct CompWork {
 
 mod solving;
 
-/// Gives a part up.
+/// Drops a part.
 pub fn discard_part(_part: CompPart) {}
 
-// Gives parts up.
+// Drops parts.
 fn discard_parts(_parts: List<Shared<CompPart>>) {}
 
-// The parts, each to be shared. If allocation fails they are given up.
+// The parts, each to be shared. If allocation fails they are dropped.
 fn shared(alloc: Global, parts: List<CompPart>) -> Result<List<Shared<CompPart>>, Memory>
     ensures { IfOk result (λ made. made ≡ parts) }
 {
@@ -46,8 +46,8 @@ fn shared(alloc: Global, parts: List<CompPart>) -> Result<List<Shared<CompPart>>
 impl CompWork {
     ghost use Rattle.comp_rounds.specs.Works.{callees_of, parts_of};
 
-    /// The work of these parts, where the component of each part calls those in the list at its place. If allocation
-    /// fails all is given up.
+    /// The work of these parts, where the component of each part calls those in the list at its position. If allocation
+    /// fails everything is dropped.
     pub fn new(
         alloc: Global,
         parts: List<CompPart>,

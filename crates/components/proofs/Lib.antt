@@ -8,10 +8,11 @@ mod Steps
 mod Graphs
 mod Sets
 mod Given
-mod Placed
+mod Positioned
 mod Orders
 mod Labelled
 mod ComponentLists
 mod Numbered
 mod Finished
 mod OneNumbering
+pub mod AscendingLists

@@ -28,15 +28,15 @@ module _ (graph : List (List ℕ)) (states : List NodeState) (path pending : Lis
   -- from the last block down to the block of the pending target, and on
   down : (i j : ℕ) → i < length path → j < length path → t.first ≤ i → FromBlock rest i j → Walk graph (slice_index path i) (slice_index path j)
   down i j under_i under_j high from =
-      let place = s.open_place (slice_index pending (length pending - 1)) p here in
+      let position = s.open_position (slice_index pending (length pending - 1)) p here in
       walk_on graph (slice_index path i) (slice_index path source.0) (slice_index path j)
       (s.joined i source.0 under_i source.1
       (All-push (λ b. b.first ≤ i → b.first ≤ source.0) rest t
       (λ k d under _. let old : ((get_or rest k d).first < t.first) × ((get_or rest k d).below ≤ t.below) = earlier k d under in omega (arith, source_high))
       (λ _. source_high)))
       (walk_on graph (slice_index path source.0) (slice_index path p) (slice_index path j)
-      (subst (λ v. Walk graph (slice_index path source.0) v) (sym place.1) (walk_pair graph (slice_index path source.0) (slice_index pending (length pending - 1)) source.2))
-      (s.joined p j place.0 under_j
+      (subst (λ v. Walk graph (slice_index path source.0) v) (sym position.1) (walk_pair graph (slice_index path source.0) (slice_index pending (length pending - 1)) source.2))
+      (s.joined p j position.0 under_j
       (All-push (λ b. b.first ≤ p → b.first ≤ j) rest t
       (λ k d under _. let old : ((get_or rest k d).first < t.first) × ((get_or rest k d).below ≤ t.below) = earlier k d under in from k d under (omega arith))
       (λ no. absurd (omega arith)))))
@@ -75,7 +75,7 @@ module _ (graph : List (List ℕ)) (states : List NodeState) (path pending : Lis
   merged = record {
     sizes = s.sizes;
     on_path = s.on_path;
-    open_place = s.open_place;
+    open_position = s.open_position;
     closed_below = s.closed_below;
     closed_leads = s.closed_leads;
     closed_together = s.closed_together;

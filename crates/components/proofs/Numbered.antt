@@ -17,7 +17,7 @@ module _ (graph : List (List ℕ)) (states : List NodeState) (path pending : Lis
     where
       go : (m : NodeState) → state_of states f ≡ m → (c : ℕ) × (state_of states f ≡ Closed c)
       go Unseen e = absurd (s.passed f (omega (arith, s.sizes)) e)
-      go (Open p) e = absurd (let place = s.open_place f p e in omega (arith, place.0, ap length empty))
+      go (Open p) e = absurd (let position = s.open_position f p e in omega (arith, position.0, ap length empty))
       go (Closed c) e = (c, e)
 
 module _ (graph : List (List ℕ)) (states : List NodeState) (path pending : List ℕ) (blocks : List Block) (cursor count : ℕ) (component_of : List ℕ)

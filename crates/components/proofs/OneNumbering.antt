@@ -1,8 +1,10 @@
 -- Graphs with the same pairs have one numbering in ready order.
 use Rattle.std.proofs.Common.{◌≡◌, ℕ, zero, suc, ◌<◌, ◌≤◌, ◌⊎◌, inl, inr, List, [], ◌∷◌, length, refl, sym, ◌∙◌, ap, ap₂, subst, arith}
-use Rattle.std.specs.Prelude.{◌↔◌, slice_index, slice_index_or, Contains}
+use Rattle.std.specs.Prelude.{◌↔◌, slice_index, Contains}
 use Rattle.std.proofs.lemmas.Bool.{cases_lt, cases_eq}
 use Rattle.std.proofs.lemmas.List.{ext_get_or}
+use Rattle.components.proofs.AscendingLists.{rest_ascending, above_first}
+use Rattle.type_kinds.proofs.Lists.{contains_later, contains_cases}
 use Rattle.components.specs.Graph.{Leads, Reaches, by_pair, by_pairs, Together}
 use Rattle.components.specs.Lists.{Ascending}
 use Rattle.components.specs.Numbering.{Numbering, component_of_node, members_of, callees_of, ReadyAt}
@@ -10,24 +12,6 @@ use Rattle.components.specs.Ready.{IsReadyNumbering, SamePairs}
 use Rattle.components.proofs.Orders.{leads_low}
 
 -- ---- ascending lists
-
-contains_there : (x z : ℕ) (xs : List ℕ) → Contains xs z → Contains (x ∷ xs) z
-contains_there x z xs h = (suc h.0, omega (arith, h.1), h.2)
-
-contains_cases : (x z : ℕ) (xs : List ℕ) → Contains (x ∷ xs) z → (x ≡ z) ⊎ Contains xs z
-contains_cases x z xs h = by h.0 h.1 h.2
-  where
-    by : (k : ℕ) → k < length (x ∷ xs) → slice_index_or (x ∷ xs) k z ≡ z → (x ≡ z) ⊎ Contains xs z
-    by zero low is = inl is
-    by (suc k) low is = inr (k, omega arith, is)
-
-rest_ascending : (x : ℕ) (xs : List ℕ) → Ascending (x ∷ xs) → Ascending xs
-rest_ascending x xs h i j d before under = h (suc i) (suc j) d (omega arith) (omega arith)
-
-above_first : (x z : ℕ) (xs : List ℕ) → Ascending (x ∷ xs) → Contains xs z → x < z
-above_first x z xs h has =
-    let k : x < slice_index_or xs has.0 z = h zero (suc has.0) z (omega arith) (omega (arith, has.1)) in
-    subst (λ y. x < y) has.2 k
 
 first_least : (x z : ℕ) (xs : List ℕ) → Ascending (x ∷ xs) → Contains (x ∷ xs) z → x ≤ z
 first_least x z xs h has =
@@ -52,14 +36,14 @@ same_ascending (x ∷ xs) (y ∷ ys) a b to from =
 
     rest_to : (z : ℕ) → Contains xs z → Contains ys z
     rest_to z has =
-        elim (contains_cases y z ys (to z (contains_there x z xs has))) [
+        elim (contains_cases y z ys (to z (contains_later x z xs has))) [
           | inl is ↦ absurd (omega (arith, above_first x z xs a has, is, first))
           | inr more ↦ more
         ]
 
     rest_from : (z : ℕ) → Contains ys z → Contains xs z
     rest_from z has =
-        elim (contains_cases x z xs (from z (contains_there y z ys has))) [
+        elim (contains_cases x z xs (from z (contains_later y z ys has))) [
           | inl is ↦ absurd (omega (arith, above_first y z ys b has, is, first))
           | inr more ↦ more
         ]

@@ -52,15 +52,15 @@ module _ (graph : List (List ℕ)) (states : List NodeState) (path pending : Lis
             ])
       ]
 
-  open_place' : (f p : ℕ) → state_of (set states w (Open (length path))) f ≡ Open p → (p < length (path ++ w ∷ [])) × (slice_index (path ++ w ∷ []) p ≡ f)
-  open_place' f p e =
+  open_position' : (f p : ℕ) → state_of (set states w (Open (length path))) f ≡ Open p → (p < length (path ++ w ∷ [])) × (slice_index (path ++ w ∷ []) p ≡ f)
+  open_position' f p e =
       elim (marked f) [
         | inl here ↦
             let same : Open (length path) ≡ Open p = sym here.1 ∙ e in
             let is : length path ≡ p = cc in
             (omega (arith, length_push path w), get_or_push path w 0 p is ∙ sym here.0)
         | inr other ↦
-            let old = s.open_place f p (sym other.1 ∙ e) in
+            let old = s.open_position f p (sym other.1 ∙ e) in
             (omega (arith, length_push path w), get_or_append_left path (w ∷ []) 0 p old.0 ∙ old.1)
       ]
 
@@ -74,7 +74,7 @@ module _ (graph : List (List ℕ)) (states : List NodeState) (path pending : Lis
       let old = s.closed_used c under in
       (old.0, stays old.0 (Closed c) (λ e. cc) old.1)
 
-  -- the new block is that of the new place alone
+  -- the new block is that of the new position alone
   not_new : (i j : ℕ) → i ≡ length path → j < length path → FromBlock (blocks ++ block_of path pending ∷ []) i j → ⊥
   not_new i j e under from =
       let at = All-end (λ b. b.first ≤ i → b.first ≤ j) blocks (block_of path pending) from in
@@ -216,7 +216,7 @@ module _ (graph : List (List ℕ)) (states : List NodeState) (path pending : Lis
   opened = record {
     sizes = sizes';
     on_path = on_path';
-    open_place = open_place';
+    open_position = open_position';
     closed_below = λ f c e. s.closed_below f c (was_closed f c e);
     closed_leads = closed_leads';
     closed_together = λ f g c a b. s.closed_together f g c (was_closed f c a) (was_closed g c b);

@@ -9,7 +9,7 @@ use Rattle.components.specs.Graph.{targets, Leads}
 use Rattle.components.specs.Lists.{Ascending}
 use Rattle.components.specs.steps.Order.{rank_of, unranked, Ranked, nobody, watchers_of, PassedTo, WatchesAt, Ordered, FirstWatchers, IsInside, IsAcyclic, AllRanked, RanksAre, InReadyOrder}
 use Rattle.components.proofs.Given.{given, unranked_falls, leads_at}
-use Rattle.components.proofs.Placed.{made_ready, made_watching, all_ranked_at_end}
+use Rattle.components.proofs.Positioned.{made_ready, made_watching, all_ranked_at_end}
 
 pub rank_at : (ranks : List (Option ℕ)) (x : ℕ) (m v : Option ℕ) → m ≡ get_or ranks x m → x < length ranks → m ≡ v → rank_of ranks x ≡ v
 rank_at ranks x m v e low is = sym (e ∙ get_or_default ranks x m None low) ∙ is
@@ -81,18 +81,18 @@ pub callee_low : (callees : List (List ℕ)) (own : List ℕ) (component k : ℕ
 callee_low callees own component k inside is under =
     inside component (slice_index own k) (leads_at callees component k (slice_index own k) (callee_at callees own component k is under))
 
-pub place_ready : {E : Type 0} (r : Result (Unit {0}) E) (callees : List (List ℕ)) (ranks : List (Option ℕ)) (ready ready' : List ℕ) (watchers : List (List Watcher)) (again : List Watcher) (count : ℕ) (w : Watcher) (to : ℕ)
+pub position_ready : {E : Type 0} (r : Result (Unit {0}) E) (callees : List (List ℕ)) (ranks : List (Option ℕ)) (ready ready' : List ℕ) (watchers : List (List Watcher)) (again : List Watcher) (count : ℕ) (w : Watcher) (to : ℕ)
     → Ordered callees ranks ready watchers (again ++ w ∷ []) count → OnOk r ((x : ℕ) → Contains ready' x ↔ (Contains ready x ⊎ (x ≡ w.component)))
     → PassedTo callees ranks w.component to → length (targets callees w.component) ≤ to → OnOk r (Ordered callees ranks ready' watchers again count)
-place_ready (Ok _) callees ranks ready ready' watchers again count w to s joins ahead all = made_ready callees ranks ready ready' watchers again count w.component w.at s joins to ahead all
-place_ready (Err _) callees ranks ready ready' watchers again count w to s joins ahead all = tt
+position_ready (Ok _) callees ranks ready ready' watchers again count w to s joins ahead all = made_ready callees ranks ready ready' watchers again count w.component w.at s joins to ahead all
+position_ready (Err _) callees ranks ready ready' watchers again count w to s joins ahead all = tt
 
-pub place_watching : {E : Type 0} (r : Result (Unit {0}) E) (callees : List (List ℕ)) (ranks : List (Option ℕ)) (ready : List ℕ) (watchers watchers' : List (List Watcher)) (again : List Watcher) (count : ℕ) (w : Watcher) (to e : ℕ)
+pub position_watching : {E : Type 0} (r : Result (Unit {0}) E) (callees : List (List ℕ)) (ranks : List (Option ℕ)) (ready : List ℕ) (watchers watchers' : List (List Watcher)) (again : List Watcher) (count : ℕ) (w : Watcher) (to e : ℕ)
     → Ordered callees ranks ready watchers (again ++ w ∷ []) count → PassedTo callees ranks w.component to → WatchesAt callees w.component to e → rank_of ranks e ≡ None → e < length callees
     → OnOk r (watchers' ≡ set watchers e (watchers_of watchers e ++ record { component = w.component; at = to } ∷ [])) → OnOk r (Ordered callees ranks ready watchers' again count)
-place_watching (Ok _) callees ranks ready watchers watchers' again count w to e s ahead here none low is =
+position_watching (Ok _) callees ranks ready watchers watchers' again count w to e s ahead here none low is =
     subst (λ ws. Ordered callees ranks ready ws again count) (sym is) (made_watching callees ranks ready watchers again count w.component w.at e s to ahead here none low)
-place_watching (Err _) callees ranks ready watchers watchers' again count w to e s ahead here none low is = tt
+position_watching (Err _) callees ranks ready watchers watchers' again count w to e s ahead here none low is = tt
 
 none_at : (n c : ℕ) → rank_of (replicate n None) c ≡ None
 none_at n c =

@@ -59,7 +59,7 @@ module _ (graph : List (List ℕ)) (states : List NodeState) (path pending : Lis
   settled = record {
     sizes = s.sizes;
     on_path = s.on_path;
-    open_place = s.open_place;
+    open_position = s.open_position;
     closed_below = s.closed_below;
     closed_leads = s.closed_leads;
     closed_together = s.closed_together;

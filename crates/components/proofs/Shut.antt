@@ -46,8 +46,8 @@ module _ (graph : List (List ℕ)) (states states' : List NodeState) (path pendi
               λ p is. let both : Open q ≡ Open p = sym e ∙ is in let same : q ≡ p = cc in omega arith,
             )
             | inr high ↦
-                let place = s.open_place f q e in
-                inl (q, e, high, ap (state_of states') (sym place.1) ∙ c.shut q high place.0)
+                let position = s.open_position f q e in
+                inl (q, e, high, ap (state_of states') (sym position.1) ∙ c.shut q high position.0)
           ]
 
   stays : (f d : ℕ) → state_of states f ≡ Closed d → state_of states' f ≡ Closed d
@@ -66,13 +66,13 @@ module _ (graph : List (List ℕ)) (states states' : List NodeState) (path pendi
         | inr other ↦ other.0 ∙ old
       ]
 
-  open_place' : (f p : ℕ) → state_of states' f ≡ Open p → (p < length (take t.first path)) × (slice_index (take t.first path) p ≡ f)
-  open_place' f p e =
+  open_position' : (f p : ℕ) → state_of states' f ≡ Open p → (p < length (take t.first path)) × (slice_index (take t.first path) p ≡ f)
+  open_position' f p e =
       elim (cases f) [
         | inl block ↦ absurd (let bad : Closed count ≡ Open p = sym block.3 ∙ e in cc)
         | inr other ↦
             let was : state_of states f ≡ Open p = sym other.0 ∙ e in
-            let old = s.open_place f p was in
+            let old = s.open_position f p was in
             let low : p < t.first = other.1 p was in
             (omega (arith, kept_length), kept_at p low ∙ old.1)
       ]
@@ -96,12 +96,12 @@ module _ (graph : List (List ℕ)) (states states' : List NodeState) (path pendi
   closed_leads' f g d e leads =
       elim (closed_cases f d e) [
         | inl block ↦
-            let place = s.open_place f block.0 block.1 in
-            elim (s.open_leads block.0 g place.0 (subst (λ v. Leads graph v g) (sym place.1) leads)) [
+            let position = s.open_position f block.0 block.1 in
+            elim (s.open_leads block.0 g position.0 (subst (λ v. Leads graph v g) (sym position.1) leads)) [
               | inl settled ↦ elim settled [
                 | inl shut ↦ (shut.0, stays g shut.0 shut.1, omega (arith, block.3, s.closed_below g shut.0 shut.1))
                 | inr up ↦
-                    let to = s.open_place g up.0 up.1 in
+                    let to = s.open_position g up.0 up.1 in
                     let high : t.first ≤ up.0 = All-end (λ b. b.first ≤ block.0 → b.first ≤ up.0) rest t up.2 block.2 in
                     (count, ap (state_of states') (sym to.1) ∙ c.shut up.0 high to.0, omega (arith, block.3))
               ]
@@ -119,8 +119,8 @@ module _ (graph : List (List ℕ)) (states states' : List NodeState) (path pendi
 
   together_in : (f g p q : ℕ) → state_of states f ≡ Open p → state_of states g ≡ Open q → t.first ≤ p → t.first ≤ q → Together graph f g
   together_in f g p q at_f at_g high_p high_q =
-      let from = s.open_place f p at_f in
-      let to = s.open_place g q at_g in
+      let from = s.open_position f p at_f in
+      let to = s.open_position g q at_g in
       let there : Walk graph f g = subst (λ v. Walk graph v g) from.1 (subst (λ v. Walk graph (slice_index path p) v) to.1 (walk_in p q from.0 to.0 high_q)) in
       let back : Walk graph g f = subst (λ v. Walk graph v f) to.1 (subst (λ v. Walk graph (slice_index path q) v) from.1 (walk_in q p to.0 from.0 high_p)) in
       both_walk graph f g there back
@@ -205,7 +205,7 @@ module _ (graph : List (List ℕ)) (states states' : List NodeState) (path pendi
   shut = record {
     sizes = c.same_length ∙ s.sizes;
     on_path = on_path';
-    open_place = open_place';
+    open_position = open_position';
     closed_below = closed_below';
     closed_leads = closed_leads';
     closed_together = closed_together';

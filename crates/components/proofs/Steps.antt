@@ -112,54 +112,54 @@ no_path graph states path pending blocks cursor count s none =
     ]
 
 -- one more node of the path is closed
-pub shut_more : (states states' : List NodeState) (path : List ℕ) (first place number : ℕ)
-    → Closes states states' path first place number → first ≤ place → place < length path
+pub shut_more : (states states' : List NodeState) (path : List ℕ) (first position number : ℕ)
+    → Closes states states' path first position number → first ≤ position → position < length path
     → ((p : ℕ) → p < length path → state_of states (slice_index path p) ≡ Open p)
     → ((p : ℕ) → p < length path → slice_index path p < length states)
-    → Closes states (set states' (slice_index path place) (Closed number)) path first (place + 1) number
-shut_more states states' path first place number c high under on_path nodes =
+    → Closes states (set states' (slice_index path position) (Closed number)) path first (position + 1) number
+shut_more states states' path first position number c high under on_path nodes =
     record { same_length = length-set states' node (Closed number) ∙ c.same_length; shut = shut'; others = others'; same_fresh = same_fresh' }
   where
     node : ℕ
-    node = slice_index path place
+    node = slice_index path position
 
-    low : slice_index path place < length states'
-    low = omega (arith, nodes place under, c.same_length)
+    low : slice_index path position < length states'
+    low = omega (arith, nodes position under, c.same_length)
 
-    now : (f : ℕ) → ((f ≡ slice_index path place) × (state_of (set states' (slice_index path place) (Closed number)) f ≡ Closed number)) ⊎ ((f ≡ slice_index path place → ⊥) × (state_of (set states' (slice_index path place) (Closed number)) f ≡ state_of states' f))
-    now f = state_cases states' (slice_index path place) (Closed number) f low
+    now : (f : ℕ) → ((f ≡ slice_index path position) × (state_of (set states' (slice_index path position) (Closed number)) f ≡ Closed number)) ⊎ ((f ≡ slice_index path position → ⊥) × (state_of (set states' (slice_index path position) (Closed number)) f ≡ state_of states' f))
+    now f = state_cases states' (slice_index path position) (Closed number) f low
 
-    shut' : (p : ℕ) → first ≤ p → p < place + 1 → state_of (set states' (slice_index path place) (Closed number)) (slice_index path p) ≡ Closed number
+    shut' : (p : ℕ) → first ≤ p → p < position + 1 → state_of (set states' (slice_index path position) (Closed number)) (slice_index path p) ≡ Closed number
     shut' p from to =
         elim (now (slice_index path p)) [
           | inl here ↦ here.1
           | inr other ↦
-              elim (cases_lt p place) [
+              elim (cases_lt p position) [
                 | inl below ↦ other.1 ∙ c.shut p from below
-                | inr above ↦ absurd (let is : p ≡ place = omega arith in other.0 (ap (slice_index path) is))
+                | inr above ↦ absurd (let is : p ≡ position = omega arith in other.0 (ap (slice_index path) is))
               ]
         ]
 
-    others' : (f : ℕ) → ((p : ℕ) → first ≤ p → p < place + 1 → slice_index path p ≡ f → ⊥) → state_of (set states' (slice_index path place) (Closed number)) f ≡ state_of states f
+    others' : (f : ℕ) → ((p : ℕ) → first ≤ p → p < position + 1 → slice_index path p ≡ f → ⊥) → state_of (set states' (slice_index path position) (Closed number)) f ≡ state_of states f
     others' f never =
         elim (now f) [
-          | inl here ↦ absurd (never place high (omega arith) (sym here.0))
+          | inl here ↦ absurd (never position high (omega arith) (sym here.0))
           | inr other ↦ other.1 ∙ c.others f (λ p from to is. never p from (omega arith) is)
         ]
 
     -- the node is still as it was
-    was_open : state_of states' (slice_index path place) ≡ Open place
+    was_open : state_of states' (slice_index path position) ≡ Open position
     was_open =
-        c.others (slice_index path place) (λ p from to is.
-        let bad : Open p ≡ Open place = sym (on_path p (omega arith)) ∙ ap (state_of states) is ∙ on_path place under in
-        let same : p ≡ place = cc in
+        c.others (slice_index path position) (λ p from to is.
+        let bad : Open p ≡ Open position = sym (on_path p (omega arith)) ∙ ap (state_of states) is ∙ on_path position under in
+        let same : p ≡ position = cc in
         omega arith)
-        ∙ on_path place under
+        ∙ on_path position under
 
-    same_fresh' : sum_by fresh (set states' (slice_index path place) (Closed number)) ≡ sum_by fresh states
+    same_fresh' : sum_by fresh (set states' (slice_index path position) (Closed number)) ≡ sum_by fresh states
     same_fresh' =
-        let sum : sum_by fresh (set states' (slice_index path place) (Closed number)) + fresh (state_of states' (slice_index path place)) ≡ sum_by fresh states' + 0 = sum_by-set fresh states' (slice_index path place) (Closed number) Unseen low in
-        let none : fresh (state_of states' (slice_index path place)) ≡ 0 = ap fresh was_open in
+        let sum : sum_by fresh (set states' (slice_index path position) (Closed number)) + fresh (state_of states' (slice_index path position)) ≡ sum_by fresh states' + 0 = sum_by-set fresh states' (slice_index path position) (Closed number) Unseen low in
+        let none : fresh (state_of states' (slice_index path position)) ≡ 0 = ap fresh was_open in
         omega (arith, c.same_fresh)
 
 pub open_step : (graph : List (List ℕ)) (states : List NodeState) (path path' pending pending' ts : List ℕ) (blocks blocks' : List Block) (cursor count w a b : ℕ)

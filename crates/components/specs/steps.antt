@@ -1,5 +1,5 @@
 pub mod ComponentLists
-pub mod Labels
+pub mod Ordinals
 pub mod Order
 pub mod Phases
 pub mod Search

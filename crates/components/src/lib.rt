@@ -3,10 +3,10 @@
 
 mod component_lists;
 mod graph;
-mod labels;
 mod laws;
 mod node_set;
 mod numbering;
+mod ordinals;
 mod ready;
 mod search;
 mod targets;

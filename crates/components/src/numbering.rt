@@ -7,7 +7,7 @@ ghost use Rattle.components.specs.steps.State.{IsSound, Idle, AllClosed, Compone
 
 use crate::component_lists;
 use crate::graph::Graph;
-use crate::labels::first_labels;
+use crate::ordinals::first_ordinals;
 use crate::ready::ready_order;
 use crate::search::{NodeState, Search};
 use std::alloc::Global;
@@ -124,23 +124,28 @@ fn ready_components(
     requires strong { StrongComponents graph.now found.now found_count }
     ensures { IfOk result (λ given. ReadyComponents graph.now given.0 given.1) }
 {
-    let (labels, label_count) = first_labels(alloc, found, found_count)?;
-    let members = component_lists::members_of(alloc, labels.as_slice(), label_count)?;
-    let callees = component_lists::callees_of(alloc, graph, labels.as_slice(), members.as_slice())?;
+    let (ordinals, ordinal_count) = first_ordinals(alloc, found, found_count)?;
+    let members = component_lists::members_of(alloc, ordinals.as_slice(), ordinal_count)?;
+    let callees = component_lists::callees_of(
+        alloc,
+        graph,
+        ordinals.as_slice(),
+        members.as_slice(),
+    )?;
     let (numbers, count) = ready_order(alloc, callees.as_slice())?;
-    let component_of = renumbered(alloc, labels.as_slice(), numbers.as_slice())?;
+    let component_of = renumbered(alloc, ordinals.as_slice(), numbers.as_slice())?;
     Ok((component_of, count))
 }
 
-// The component of each node, which is the number of its label.
-fn renumbered(alloc: Global, labels: &[u32], numbers: &[u32]) -> Result<List<u32>, Memory>
-    requires { (f : ℕ) → f < length labels.now → slice_index labels.now f < length numbers.now }
-    ensures sizes { IfOk result (λ component_of. length component_of ≡ length labels.now) }
-    ensures numbers { IfOk result (λ component_of. (f : ℕ) → f < length labels.now → slice_index component_of f ≡ slice_index numbers.now (slice_index labels.now f)) }
+// The component of each node, which is the number of its ordinal.
+fn renumbered(alloc: Global, ordinals: &[u32], numbers: &[u32]) -> Result<List<u32>, Memory>
+    requires { (f : ℕ) → f < length ordinals.now → slice_index ordinals.now f < length numbers.now }
+    ensures sizes { IfOk result (λ component_of. length component_of ≡ length ordinals.now) }
+    ensures numbers { IfOk result (λ component_of. (f : ℕ) → f < length ordinals.now → slice_index component_of f ≡ slice_index numbers.now (slice_index ordinals.now f)) }
 {
     let mut component_of = List::new(alloc);
-    for label in labels {
-        component_of.add(numbers[*label as usize])?;
+    for ordinal in ordinals {
+        component_of.add(numbers[*ordinal as usize])?;
     }
     Ok(component_of)
 }

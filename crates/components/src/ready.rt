@@ -11,7 +11,7 @@ use type_kinds::{List, Memory};
 pub struct Watcher {
     /// The component.
     pub component: u32,
-    /// The place of the callee in the list of its callees.
+    /// The position of the callee in the list of its callees.
     pub at: usize,
 }
 
@@ -52,7 +52,7 @@ impl Order {
     }
 
     // Lets each component that has to look find its next callee without a number.
-    fn place_all(&mut self, callees: &[List<u32>]) -> Result<(), Memory>
+    fn position_all(&mut self, callees: &[List<u32>]) -> Result<(), Memory>
         requires inside { IsInside callees.now }
         requires ordered { IsOrdered callees.now self.old }
         ensures ordered { OnOk result (IsOrdered callees.now self.new) }
@@ -60,13 +60,13 @@ impl Order {
         ensures ranks { self.new.ranks.items ≡ self.old.ranks.items }
     {
         while let Some(looking) = self.again.pop() {
-            self.place(callees, looking)?;
+            self.position(callees, looking)?;
         }
         Ok(())
     }
 
     // Lets a component watch its next callee without a number. If there is none, it is ready.
-    fn place(&mut self, callees: &[List<u32>], looking: Watcher) -> Result<(), Memory>
+    fn position(&mut self, callees: &[List<u32>], looking: Watcher) -> Result<(), Memory>
         requires inside { IsInside callees.now }
         requires ordered { Ordered callees.now self.old.ranks.items self.old.ready self.old.watchers (self.old.again ++ looking ∷ []) self.old.count }
         ensures ordered { OnOk result (IsOrdered callees.now self.new) }
@@ -85,7 +85,7 @@ impl Order {
             .add_at(callee as usize, Watcher { component, at: to })
     }
 
-    // The first place from here on whose callee has no number, or the end.
+    // The first position from here on whose callee has no number, or the end.
     fn advance(&self, own: &[u32], at: usize) -> usize
         requires inside { (k : ℕ) → k < length own.now → slice_index own.now k < length self.now.ranks.items }
         ensures from { at ≤ result }
@@ -142,10 +142,10 @@ pub fn ready_order(alloc: Global, callees: &[List<u32>]) -> Result<(List<u32>, u
     ensures { IfOk result (λ given. InReadyOrder callees.now given.0 given.1) }
 {
     let mut order = Order::new(alloc, callees)?;
-    order.place_all(callees)?;
+    order.position_all(callees)?;
     while let Some(component) = order.take_ready(callees) {
         order.give(alloc, callees, component);
-        order.place_all(callees)?;
+        order.position_all(callees)?;
     }
     let numbers = numbers(alloc, order.ranks.as_slice())?;
     Ok((numbers, order.count))
@@ -166,7 +166,7 @@ fn numbers(alloc: Global, ranks: &[Option<u32>]) -> Result<List<u32>, Memory>
     Ok(numbers)
 }
 
-// Every component, at the place of its first callee.
+// Every component, at the position of its first callee.
 fn first_watchers(alloc: Global, count: u32) -> Result<List<Watcher>, Memory>
     ensures { IfOk result (λ watchers. FirstWatchers watchers count) }
 {

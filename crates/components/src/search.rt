@@ -12,7 +12,7 @@ use type_kinds::{List, Memory};
 pub enum NodeState {
     /// The search hasn't seen it.
     Unseen,
-    /// It is on the path, at this place.
+    /// It is on the path, at this position.
     Open(usize),
     /// It is of this component.
     Closed(u32),
@@ -21,7 +21,7 @@ pub enum NodeState {
 /// A part of the path whose nodes all reach each other.
 #[derive(Clone, Copy)]
 pub struct Block {
-    /// The place of its first node on the path.
+    /// The position of its first node on the path.
     pub first: usize,
     /// How many pending targets are of earlier blocks.
     pub below: usize,
@@ -132,8 +132,8 @@ impl Search {
         match self.states[target as usize] {
             NodeState::Unseen => Look::Enter(target),
             NodeState::Closed(_) => Look::Settled,
-            NodeState::Open(place) => {
-                if place < top.first {
+            NodeState::Open(position) => {
+                if position < top.first {
                     Look::Merge
                 } else {
                     Look::Settled
@@ -212,15 +212,15 @@ impl Search {
     }
 }
 
-// Closes the nodes of the path from a place on, with one number.
+// Closes the nodes of the path from a position on, with one number.
 fn shut(states: &mut Vec<NodeState>, path: &[u32], first: usize, number: u32)
     requires first { first ≤ length path.now }
     requires on_path { (p : ℕ) → p < length path.now → state_of states.old.items (slice_index path.now p) ≡ NodeState.Open p }
     requires nodes { (p : ℕ) → p < length path.now → slice_index path.now p < length states.old.items }
     ensures { Closes states.old.items states.new.items path.now first (length path.now) number }
 {
-    for place in first..path.len() {
-        let node = path[place];
+    for position in first..path.len() {
+        let node = path[position];
         states[node as usize] = NodeState::Closed(number);
     }
 }

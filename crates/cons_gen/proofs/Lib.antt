@@ -2,5 +2,5 @@ mod ControlExits
 mod ExpressionExits
 mod FormExits
 mod MadeExits
-mod ResultSlots
+pub mod ResultSlots
 mod RowRounds

@@ -2,7 +2,7 @@
 use Rattle.std.proofs.Common.{◌≤◌, arith}
 use Rattle.core_ast.specs.Model as m
 use Rattle.core_scope.specs.declared.ask.Ask.{Ask}
-use Rattle.cons_rows.specs.Counts.{result_count}
+use Rattle.cons_gen_rows.specs.Counts.{result_count}
 use Rattle.cons_gen.specs.Spans.{span}
 
 pub results_within : (k : Ask) (t : m.Tree) → result_count k t ≤ span k t

@@ -8,10 +8,10 @@ use Rattle.cons_tree.specs.Constraints.{Cons, only}
 use Rattle.cons_tree.specs.Named.{just_true}
 use Rattle.cons_tree.specs.declared.parts.Part.{Part}
 use Rattle.cons_tree.specs.declared.parts.Part.TheVariants.{Bound}
-use Rattle.cons_rows.specs.Passes.{Knowledge}
-use Rattle.cons_rows.specs.Patterns.{outer_span, outer_bindings, outer_rows}
-use Rattle.cons_rows.specs.Scopes.{Scope, bindings, with_bindings}
-use Rattle.cons_rows.specs.Words.{Rows, together}
+use Rattle.cons_gen_rows.specs.Passes.{Knowledge}
+use Rattle.cons_gen_rows.specs.Patterns.{outer_span, outer_bindings, outer_rows}
+use Rattle.cons_gen_rows.specs.Scopes.{Scope, bindings, with_bindings}
+use Rattle.cons_gen_rows.specs.Words.{Rows, together}
 use Rattle.cons_gen.specs.Rows.{rows}
 use Rattle.cons_gen.specs.Spans.{span}
 use Rattle.cons_gen.specs.declared.making.Scope as made

@@ -15,12 +15,12 @@ use Rattle.cons_tree.specs.Constraints.{Cons, only}
 use Rattle.cons_tree.specs.Named.{just_true, naturals}
 use Rattle.cons_tree.specs.declared.parts.Part.{Part}
 use Rattle.cons_tree.specs.declared.parts.Part.TheVariants.{Tuple}
-use Rattle.cons_rows.specs.Counts.{results, handed_on, whatever_asked, call_results, call_names}
-use Rattle.cons_rows.specs.Passes.{Knowledge, called_rows, applied_rows}
-use Rattle.cons_rows.specs.Patterns.{outer_span, outer_bindings, outer_rows}
-use Rattle.cons_rows.specs.Scopes.{Scope, Binding, bindings, with_bindings, with_functions, slot_of}
-use Rattle.cons_rows.specs.Slots.{slots_from}
-use Rattle.cons_rows.specs.Words.{Rows, variable_rows, bound, together, one_of, equals, never, list_rows, inner_cells, function_type, literal_type}
+use Rattle.cons_gen_rows.specs.Counts.{results, passed_on, whatever_asked, call_results, call_names}
+use Rattle.cons_gen_rows.specs.Passes.{Knowledge, called_rows, applied_rows}
+use Rattle.cons_gen_rows.specs.Patterns.{outer_span, outer_bindings, outer_rows}
+use Rattle.cons_gen_rows.specs.Scopes.{Scope, Binding, bindings, with_bindings, with_functions, slot_of}
+use Rattle.cons_gen_rows.specs.Slots.{slots_from}
+use Rattle.cons_gen_rows.specs.Words.{Rows, variable_rows, bound, together, one_of, equals, never, list_rows, inner_cells, function_type, literal_type}
 use Rattle.cons_gen.specs.Spans.{span, spans, pair_spans, step_spans, clause_spans, value_slots}
 
 -- the one where there is a name, and the other where there is none
@@ -37,7 +37,7 @@ step_bindings s (m.and_do i t ss) = step_bindings (s + span AnyNumber t) ss
 -- P: what the pass knows; home: the module in which the expression stands
 module _ (P : Knowledge) (home : Atom) where
   abbrev mutual
-    -- an expression whose slots begin at s, where so many values are asked of it
+    -- an expression whose slots begin at s, where k values are asked of it
     pub rows : Scope → ℕ → Ask → m.Tree → Rows
     rows sc s k (m.variable i x) = variable_rows (slot_of sc.variables x) s
     rows sc s k (m.local i f) = bound s (function_type f.arity)
@@ -55,21 +55,21 @@ module _ (P : Knowledge) (home : Atom) where
         pair_rows sc (s + 1) ps ++ rows sc old one_value t ++ bound old (of_kind Map) ++ bound s (of_kind Map)
     rows sc s k (m.binary i ss) = segment_rows sc (s + 1) ss ++ bound s (of_kind Bitstring)
     rows sc s k (m.values i ts) =
-        let first = s + handed_on k in
-        all_rows sc first ts ++ equals (slots_from s (handed_on k)) (value_slots first ts)
+        let first = s + passed_on k in
+        all_rows sc first ts ++ equals (slots_from s (passed_on k)) (value_slots first ts)
     rows sc s k (m.chain i ss t) =
-        let first = s + handed_on k in
+        let first = s + passed_on k in
         let last = first + step_spans ss in
         step_rows sc first ss
         ++ rows (with_bindings sc (step_bindings first ss)) last k t
-        ++ equals (slots_from s (handed_on k)) (results k last t)
+        ++ equals (slots_from s (passed_on k)) (results k last t)
     rows sc s k (m.case i t cs) =
-        let argument = s + handed_on k in
+        let argument = s + passed_on k in
         rows sc argument (Exactly (width cs)) t
-        ++ one_of (clause_rows sc (slots_from s (handed_on k)) (results (Exactly (width cs)) argument t) (argument + span (Exactly (width cs)) t) k cs)
+        ++ one_of (clause_rows sc (slots_from s (passed_on k)) (results (Exactly (width cs)) argument t) (argument + span (Exactly (width cs)) t) k cs)
     rows sc s k (m.letrec i ds t) =
-        let body = s + handed_on k in
-        rows (with_functions sc (defined_names ds)) body k t ++ equals (slots_from s (handed_on k)) (results k body t)
+        let body = s + passed_on k in
+        rows (with_functions sc (defined_names ds)) body k t ++ equals (slots_from s (passed_on k)) (results k body t)
     rows sc s k (m.apply i t ts) =
         named_or (local_name t)
         (λ f. all_rows sc (s + 1) ts ++ applied_rows P home sc.functions f (how_many ts) s (value_slots (s + 1) ts))
@@ -82,7 +82,7 @@ module _ (P : Knowledge) (home : Atom) where
     rows sc s k (m.primop i x ts) =
         all_rows sc (s + whatever_asked k) ts ++ (if is_raising x then never (slots_from s (whatever_asked k)) else [])
     rows sc s k (m.try i t xs u ys w) =
-        let first = s + handed_on k in
+        let first = s + passed_on k in
         let vars = first + span (Exactly (length xs)) t in
         let body = vars + length xs in
         let caught = body + span k u in
@@ -92,20 +92,20 @@ module _ (P : Knowledge) (home : Atom) where
         (rows sc first (Exactly (length xs)) t
         ++ equals (slots_from vars (length xs)) (results (Exactly (length xs)) first t)
         ++ rows (with_bindings sc (bindings xs vars)) body k u
-        ++ equals (slots_from s (handed_on k)) (results k body u))
+        ++ equals (slots_from s (passed_on k)) (results k body u))
         ∷ together
-        (rows (with_bindings sc (bindings ys caught)) handler k w ++ equals (slots_from s (handed_on k)) (results k handler w))
+        (rows (with_bindings sc (bindings ys caught)) handler k w ++ equals (slots_from s (passed_on k)) (results k handler w))
         ∷ [])
     -- the message has a slot of its own, before those of the clauses
     rows sc s k (m.receive i cs t u) =
-        let message = s + handed_on k in
+        let message = s + passed_on k in
         let timeout = message + 1 + clause_spans k cs in
         let action = timeout + span one_value t in
         rows sc timeout one_value t
         ++ one_of
-        (clause_rows sc (slots_from s (handed_on k)) (message ∷ []) (message + 1) k cs
+        (clause_rows sc (slots_from s (passed_on k)) (message ∷ []) (message + 1) k cs
         ++ together
-        (rows sc action k u ++ equals (slots_from s (handed_on k)) (results k action u) ++ bound timeout naturals)
+        (rows sc action k u ++ equals (slots_from s (passed_on k)) (results k action u) ++ bound timeout naturals)
         ∷ [])
     rows sc s k (m.catch i t) = []
 

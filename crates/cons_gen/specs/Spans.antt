@@ -7,9 +7,9 @@ use Rattle.core_ast.specs.Named.{local_name}
 use Rattle.core_scope.specs.declared.ask.Ask.{Ask}
 use Rattle.core_scope.specs.declared.ask.Ask.TheVariants.{AnyNumber, Exactly}
 use Rattle.core_scope.specs.Asks.{one_value, call_gives, width}
-use Rattle.cons_rows.specs.Counts.{call_names, call_results, handed_on, whatever_asked}
-use Rattle.cons_rows.specs.Patterns.{outer_span}
-use Rattle.cons_rows.specs.Words.{inner_cells}
+use Rattle.cons_gen_rows.specs.Counts.{call_names, call_results, passed_on, whatever_asked}
+use Rattle.cons_gen_rows.specs.Patterns.{outer_span}
+use Rattle.cons_gen_rows.specs.Words.{inner_cells}
 
 -- what is a part only where there is no name
 abbrev pub unless_named : {A : Type 0} → Option A → ℕ → ℕ
@@ -28,15 +28,15 @@ abbrev mutual
   span k (m.new_map i ps) = 1 + pair_spans ps
   span k (m.updated_map i ps t) = 1 + pair_spans ps + span one_value t
   span k (m.binary i ss) = 1 + segment_spans ss
-  span k (m.values i ts) = handed_on k + spans ts
-  span k (m.chain i ss t) = handed_on k + step_spans ss + span k t
-  span k (m.case i t cs) = handed_on k + span (Exactly (width cs)) t + clause_spans k cs
-  span k (m.letrec i ds t) = handed_on k + span k t
+  span k (m.values i ts) = passed_on k + spans ts
+  span k (m.chain i ss t) = passed_on k + step_spans ss + span k t
+  span k (m.case i t cs) = passed_on k + span (Exactly (width cs)) t + clause_spans k cs
+  span k (m.letrec i ds t) = passed_on k + span k t
   span k (m.apply i t ts) = 1 + unless_named (local_name t) (span one_value t) + spans ts
   span k (m.call i t u ts) = call_results k (call_gives t u (how_many ts)) + unless_named (call_names t u) (span one_value t + span one_value u) + spans ts
   span k (m.primop i x ts) = whatever_asked k + spans ts
-  span k (m.try i t xs u ys w) = handed_on k + span (Exactly (length xs)) t + length xs + span k u + length ys + span k w
-  span k (m.receive i cs t u) = handed_on k + 1 + clause_spans k cs + span one_value t + span k u
+  span k (m.try i t xs u ys w) = passed_on k + span (Exactly (length xs)) t + length xs + span k u + length ys + span k w
+  span k (m.receive i cs t u) = passed_on k + 1 + clause_spans k cs + span one_value t + span k u
   span k (m.catch i t) = 1
 
   pub spans : m.Trees → ℕ

@@ -7,17 +7,17 @@ ghost use Rattle.core_scope.specs.Asks.{one_value};
 ghost use Rattle.core_scope.specs.Names.{defined_names};
 ghost use Rattle.core_scope.specs.declared.ask.Ask.TheVariants.{Exactly};
 ghost use Rattle.cons_tree.specs.Named.{just_true, naturals};
-ghost use Rattle.cons_rows.specs.Counts.{handed_on, results};
-ghost use Rattle.cons_rows.specs.Scopes.{bindings, with_bindings, with_functions};
-ghost use Rattle.cons_rows.specs.Slots.{slots_from};
-ghost use Rattle.cons_rows.specs.Walking.{Adds, Binds, bindings_at, knowing, scope_of};
-ghost use Rattle.cons_rows.specs.Words.{bound, equals, one_of, together};
+ghost use Rattle.cons_gen_rows.specs.Counts.{passed_on, results};
+ghost use Rattle.cons_gen_rows.specs.Scopes.{bindings, with_bindings, with_functions};
+ghost use Rattle.cons_gen_rows.specs.Slots.{slots_from};
+ghost use Rattle.cons_gen_rows.specs.Walking.{Adds, Binds, bindings_at, knowing, scope_of};
+ghost use Rattle.cons_gen_rows.specs.Words.{bound, equals, one_of, together};
 ghost use Rattle.cons_gen.specs.Rows.{clause_rows, rows, step_bindings, step_rows};
 ghost use Rattle.cons_gen.specs.Spans.{clause_spans, span, step_spans};
 ghost use Rattle.cons_gen.specs.steps.Generating.{Generates, Leaves, handler_rows, rows_at, tried_rows};
 
 use crate::expressions::{walk_expression, walk_results};
-use cons_rows::{Generator, Surroundings, all_naturals, handed_on, walk_outer};
+use cons_gen_rows::{Generator, Surroundings, all_naturals, passed_on, walk_outer};
 use cons_tree::Slot;
 use core_ast::{Clause, Expr, FunDef, Step, StepOf, TryParts, VarName};
 use core_scope::Ask;
@@ -30,44 +30,44 @@ pub struct CaseSlots {
     pub values: List<Slot>,
 }
 
-/// The slots of the results of a `receive`, and the place from which its alternatives stand.
+/// The slots of the results of a `receive`, and the position from which its alternatives stand.
 #[derive(Drop)]
 pub struct ReceiveSlots {
     pub results: List<Slot>,
     pub start: usize,
 }
 
-// An expression whose results are handed on to slots.
+// An expression whose results are passed on to slots.
 #[cycle(rows)]
-fn walk_handed_on(
+fn walk_passed_on(
     made: &mut Generator,
-    about: &Surroundings,
+    context: &Surroundings,
     ask: Ask,
     to: &[Slot],
     expr: &Expr,
 ) -> Result<(), Memory>
-    ensures { OnOk result (Adds made.old made.new (span ask (tree expr.now)) (rows_at about.now made.old ask (tree expr.now) ++ equals to.now (results ask made.old.next (tree expr.now)))) }
+    ensures { OnOk result (Adds made.old made.new (span ask (tree expr.now)) (rows_at context.now made.old ask (tree expr.now) ++ equals to.now (results ask made.old.next (tree expr.now)))) }
 {
-    let values = walk_results(made, about, ask, expr)?;
+    let values = walk_results(made, context, ask, expr)?;
     made.equal_each(to, values.as_slice())
 }
 
-// An expression that sees variables at these slots besides, and whose results are handed on.
+// An expression that also sees variables at these slots, and whose results are passed on.
 #[cycle(rows)]
 fn walk_under(
     made: &mut Generator,
-    about: &Surroundings,
+    context: &Surroundings,
     ask: Ask,
     to: &[Slot],
     vars: &[VarName],
     slots: &[Slot],
     expr: &Expr,
 ) -> Result<(), Memory>
-    ensures { OnOk result (Adds made.old made.new (span ask (tree expr.now)) (rows (knowing about.now) about.now.home.now (with_bindings (scope_of made.old) (bindings_at vars.now slots.now)) made.old.next ask (tree expr.now) ++ equals to.now (results ask made.old.next (tree expr.now)))) }
+    ensures { OnOk result (Adds made.old made.new (span ask (tree expr.now)) (rows (knowing context.now) context.now.home.now (with_bindings (scope_of made.old) (bindings_at vars.now slots.now)) made.old.next ask (tree expr.now) ++ equals to.now (results ask made.old.next (tree expr.now)))) }
 {
     let around = made.variables.len();
     made.bind_all(vars, slots)?;
-    walk_handed_on(made, about, ask, to, expr)?;
+    walk_passed_on(made, context, ask, to, expr)?;
     made.variables.leave(around);
     Ok(())
 }
@@ -76,16 +76,16 @@ fn walk_under(
 #[cycle(rows)]
 fn walk_let(
     made: &mut Generator,
-    about: &Surroundings,
+    context: &Surroundings,
     vars: &[VarName],
     expr: &Expr,
 ) -> Result<(), Memory>
-    ensures { OnOk result (Binds made.old made.new (length vars.now + span (Exactly (length vars.now)) (tree expr.now)) (rows (knowing about.now) about.now.home.now (scope_of made.old) (made.old.next + length vars.now) (Exactly (length vars.now)) (tree expr.now) ++ equals (slots_from made.old.next (length vars.now)) (results (Exactly (length vars.now)) (made.old.next + length vars.now) (tree expr.now))) (bindings vars.now made.old.next)) }
+    ensures { OnOk result (Binds made.old made.new (length vars.now + span (Exactly (length vars.now)) (tree expr.now)) (rows (knowing context.now) context.now.home.now (scope_of made.old) (made.old.next + length vars.now) (Exactly (length vars.now)) (tree expr.now) ++ equals (slots_from made.old.next (length vars.now)) (results (Exactly (length vars.now)) (made.old.next + length vars.now) (tree expr.now))) (bindings vars.now made.old.next)) }
 {
     let slots = made.take_run(vars.len())?;
-    walk_handed_on(
+    walk_passed_on(
         made,
-        about,
+        context,
         Ask::Exactly(vars.len()),
         slots.as_slice(),
         expr,
@@ -97,18 +97,18 @@ fn walk_let(
 #[cycle(rows)]
 pub fn walk_steps(
     made: &mut Generator,
-    about: &Surroundings,
+    context: &Surroundings,
     ask: Ask,
     steps: &[Step],
 ) -> Result<List<Slot>, Memory>
-    ensures results { IfOk result (λ slots. slots ≡ slots_from made.old.next (handed_on ask)) }
-    ensures rows { OnOk result (Binds made.old made.new (handed_on ask + step_spans (all_steps steps.now)) (step_rows (knowing about.now) about.now.home.now (scope_of made.old) (made.old.next + handed_on ask) (all_steps steps.now)) (step_bindings (made.old.next + handed_on ask) (all_steps steps.now))) }
+    ensures results { IfOk result (λ slots. slots ≡ slots_from made.old.next (passed_on ask)) }
+    ensures rows { OnOk result (Binds made.old made.new (passed_on ask + step_spans (all_steps steps.now)) (step_rows (knowing context.now) context.now.home.now (scope_of made.old) (made.old.next + passed_on ask) (all_steps steps.now)) (step_bindings (made.old.next + passed_on ask) (all_steps steps.now))) }
 {
-    let results = made.take_run(handed_on(ask))?;
+    let results = made.take_run(passed_on(ask))?;
     for step in steps {
         match step {
-            StepOf::Let(_, vars, expr) => walk_let(made, about, vars.as_slice(), expr)?,
-            StepOf::Do(_, expr) => walk_expression(made, about, Ask::AnyNumber, expr)?,
+            StepOf::Let(_, vars, expr) => walk_let(made, context, vars.as_slice(), expr)?,
+            StepOf::Do(_, expr) => walk_expression(made, context, Ask::AnyNumber, expr)?,
         }
     }
     Ok(results)
@@ -118,34 +118,34 @@ pub fn walk_steps(
 #[cycle(rows)]
 pub fn walk_last(
     made: &mut Generator,
-    about: &Surroundings,
+    context: &Surroundings,
     ask: Ask,
     to: &List<Slot>,
     around: usize,
     last: &Expr,
 ) -> Result<(), Memory>
-    ensures { OnOk result (Leaves around made.old made.new (span ask (tree last.now)) (rows_at about.now made.old ask (tree last.now) ++ equals to.now (results ask made.old.next (tree last.now)))) }
+    ensures { OnOk result (Leaves around made.old made.new (span ask (tree last.now)) (rows_at context.now made.old ask (tree last.now) ++ equals to.now (results ask made.old.next (tree last.now)))) }
 {
-    walk_handed_on(made, about, ask, to.as_slice(), last)?;
+    walk_passed_on(made, context, ask, to.as_slice(), last)?;
     made.variables.leave(around);
     Ok(())
 }
 
-/// The argument of a `case` whose clauses have so many patterns, behind the slots of the results.
+/// The argument of a `case` whose clauses have `count` patterns, behind the slots of the results.
 #[cycle(rows)]
 pub fn walk_argument(
     made: &mut Generator,
-    about: &Surroundings,
+    context: &Surroundings,
     ask: Ask,
     count: usize,
     argument: &Expr,
 ) -> Result<CaseSlots, Memory>
-    ensures results { IfOk result (λ case. case.results ≡ slots_from made.old.next (handed_on ask)) }
-    ensures values { IfOk result (λ case. case.values ≡ results (Exactly count) (made.old.next + handed_on ask) (tree argument.now)) }
-    ensures rows { OnOk result (Adds made.old made.new (handed_on ask + span (Exactly count) (tree argument.now)) (rows (knowing about.now) about.now.home.now (scope_of made.old) (made.old.next + handed_on ask) (Exactly count) (tree argument.now))) }
+    ensures results { IfOk result (λ case. case.results ≡ slots_from made.old.next (passed_on ask)) }
+    ensures values { IfOk result (λ case. case.values ≡ results (Exactly count) (made.old.next + passed_on ask) (tree argument.now)) }
+    ensures rows { OnOk result (Adds made.old made.new (passed_on ask + span (Exactly count) (tree argument.now)) (rows (knowing context.now) context.now.home.now (scope_of made.old) (made.old.next + passed_on ask) (Exactly count) (tree argument.now))) }
 {
-    let results = made.take_run(handed_on(ask))?;
-    let values = walk_results(made, about, Ask::Exactly(count), argument)?;
+    let results = made.take_run(passed_on(ask))?;
+    let values = walk_results(made, context, Ask::Exactly(count), argument)?;
     Ok(CaseSlots { results, values })
 }
 
@@ -153,17 +153,17 @@ pub fn walk_argument(
 #[cycle(rows)]
 pub fn walk_alternatives(
     made: &mut Generator,
-    about: &Surroundings,
+    context: &Surroundings,
     ask: Ask,
     case: &CaseSlots,
     clauses: &[Clause],
 ) -> Result<(), Memory>
-    ensures { OnOk result (Adds made.old made.new (clause_spans ask (all_clauses clauses.now)) (one_of (clause_rows (knowing about.now) about.now.home.now (scope_of made.old) case.now.results case.now.values made.old.next ask (all_clauses clauses.now)))) }
+    ensures { OnOk result (Adds made.old made.new (clause_spans ask (all_clauses clauses.now)) (one_of (clause_rows (knowing context.now) context.now.home.now (scope_of made.old) case.now.results case.now.values made.old.next ask (all_clauses clauses.now)))) }
 {
     let start = made.count();
     walk_clauses(
         made,
-        about,
+        context,
         ask,
         case.results.as_slice(),
         case.values.as_slice(),
@@ -176,16 +176,16 @@ pub fn walk_alternatives(
 #[cycle(rows)]
 fn walk_clauses(
     made: &mut Generator,
-    about: &Surroundings,
+    context: &Surroundings,
     ask: Ask,
     to: &[Slot],
     values: &[Slot],
     clauses: &[Clause],
 ) -> Result<(), Memory>
-    ensures { OnOk result (Adds made.old made.new (clause_spans ask (all_clauses clauses.now)) (clause_rows (knowing about.now) about.now.home.now (scope_of made.old) to.now values.now made.old.next ask (all_clauses clauses.now))) }
+    ensures { OnOk result (Adds made.old made.new (clause_spans ask (all_clauses clauses.now)) (clause_rows (knowing context.now) context.now.home.now (scope_of made.old) to.now values.now made.old.next ask (all_clauses clauses.now))) }
 {
     for clause in clauses {
-        walk_clause(made, about, ask, to, values, clause)?;
+        walk_clause(made, context, ask, to, values, clause)?;
     }
     Ok(())
 }
@@ -194,30 +194,30 @@ fn walk_clauses(
 #[cycle(rows)]
 fn walk_clause(
     made: &mut Generator,
-    about: &Surroundings,
+    context: &Surroundings,
     ask: Ask,
     to: &[Slot],
     values: &[Slot],
     clause: &Clause,
 ) -> Result<(), Memory>
-    ensures { OnOk result (Adds made.old made.new (clause_spans ask (all_clauses (clause.now ∷ []))) (clause_rows (knowing about.now) about.now.home.now (scope_of made.old) to.now values.now made.old.next ask (all_clauses (clause.now ∷ [])))) }
+    ensures { OnOk result (Adds made.old made.new (clause_spans ask (all_clauses (clause.now ∷ []))) (clause_rows (knowing context.now) context.now.home.now (scope_of made.old) to.now values.now made.old.next ask (all_clauses (clause.now ∷ [])))) }
 {
     let around = made.variables.len();
     let start = made.count();
     walk_outer(made, values, clause.patterns.as_slice())?;
-    walk_guard(made, about, &clause.guard)?;
-    walk_handed_on(made, about, ask, to, &clause.body)?;
+    walk_guard(made, context, &clause.guard)?;
+    walk_passed_on(made, context, ask, to, &clause.body)?;
     made.variables.leave(around);
     made.all_since(start)
 }
 
 // A guard, which is true.
 #[cycle(rows)]
-fn walk_guard(made: &mut Generator, about: &Surroundings, guard: &Expr) -> Result<(), Memory>
-    ensures { OnOk result (Adds made.old made.new (span one_value (tree guard.now)) (rows_at about.now made.old one_value (tree guard.now) ++ bound made.old.next just_true)) }
+fn walk_guard(made: &mut Generator, context: &Surroundings, guard: &Expr) -> Result<(), Memory>
+    ensures { OnOk result (Adds made.old made.new (span one_value (tree guard.now)) (rows_at context.now made.old one_value (tree guard.now) ++ bound made.old.next just_true)) }
 {
     let slot = made.next;
-    walk_expression(made, about, Ask::Exactly(1), guard)?;
+    walk_expression(made, context, Ask::Exactly(1), guard)?;
     made.holds(slot)
 }
 
@@ -225,33 +225,33 @@ fn walk_guard(made: &mut Generator, about: &Surroundings, guard: &Expr) -> Resul
 #[cycle(rows)]
 pub fn walk_letrec(
     made: &mut Generator,
-    about: &Surroundings,
+    context: &Surroundings,
     ask: Ask,
     body: &Expr,
     defs: &[FunDef],
 ) -> Result<(), Memory>
-    ensures { OnOk result (Adds made.old made.new (handed_on ask + span ask (tree body.now)) (rows (knowing about.now) about.now.home.now (with_functions (scope_of made.old) (defined_names (all_defs defs.now))) (made.old.next + handed_on ask) ask (tree body.now) ++ equals (slots_from made.old.next (handed_on ask)) (results ask (made.old.next + handed_on ask) (tree body.now)))) }
+    ensures { OnOk result (Adds made.old made.new (passed_on ask + span ask (tree body.now)) (rows (knowing context.now) context.now.home.now (with_functions (scope_of made.old) (defined_names (all_defs defs.now))) (made.old.next + passed_on ask) ask (tree body.now) ++ equals (slots_from made.old.next (passed_on ask)) (results ask (made.old.next + passed_on ask) (tree body.now)))) }
 {
-    let results = made.take_run(handed_on(ask))?;
+    let results = made.take_run(passed_on(ask))?;
     let around = made.functions.len();
     made.define_all(defs)?;
-    walk_handed_on(made, about, ask, results.as_slice(), body)?;
+    walk_passed_on(made, context, ask, results.as_slice(), body)?;
     made.functions.leave(around);
     Ok(())
 }
 
-// The first expression of a `try`, with the slots of so many variables behind it.
+// The first expression of a `try`, with the slots of `count` variables behind it.
 #[cycle(rows)]
 fn walk_first(
     made: &mut Generator,
-    about: &Surroundings,
+    context: &Surroundings,
     count: usize,
     expr: &Expr,
 ) -> Result<List<Slot>, Memory>
     ensures slots { IfOk result (λ slots. slots ≡ slots_from (made.old.next + span (Exactly count) (tree expr.now)) count) }
-    ensures rows { OnOk result (Adds made.old made.new (span (Exactly count) (tree expr.now) + count) (rows_at about.now made.old (Exactly count) (tree expr.now) ++ equals (slots_from (made.old.next + span (Exactly count) (tree expr.now)) count) (results (Exactly count) made.old.next (tree expr.now)))) }
+    ensures rows { OnOk result (Adds made.old made.new (span (Exactly count) (tree expr.now) + count) (rows_at context.now made.old (Exactly count) (tree expr.now) ++ equals (slots_from (made.old.next + span (Exactly count) (tree expr.now)) count) (results (Exactly count) made.old.next (tree expr.now)))) }
 {
-    let values = walk_results(made, about, Ask::Exactly(count), expr)?;
+    let values = walk_results(made, context, Ask::Exactly(count), expr)?;
     made.take_equal(count, values.as_slice())
 }
 
@@ -259,18 +259,18 @@ fn walk_first(
 #[cycle(rows)]
 fn walk_tried(
     made: &mut Generator,
-    about: &Surroundings,
+    context: &Surroundings,
     ask: Ask,
     to: &[Slot],
     parts: &TryParts,
 ) -> Result<(), Memory>
-    ensures { OnOk result (Adds made.old made.new (span (Exactly (length parts.now.vars)) (tree parts.now.arg) + length parts.now.vars + span ask (tree parts.now.body)) (together (tried_rows about.now made.old ask to.now (tree parts.now.arg) parts.now.vars (tree parts.now.body)) ∷ [])) }
+    ensures { OnOk result (Adds made.old made.new (span (Exactly (length parts.now.vars)) (tree parts.now.arg) + length parts.now.vars + span ask (tree parts.now.body)) (together (tried_rows context.now made.old ask to.now (tree parts.now.arg) parts.now.vars (tree parts.now.body)) ∷ [])) }
 {
     let start = made.count();
-    let slots = walk_first(made, about, parts.vars.len(), parts.arg.get())?;
+    let slots = walk_first(made, context, parts.vars.len(), parts.arg.get())?;
     walk_under(
         made,
-        about,
+        context,
         ask,
         to,
         parts.vars.as_slice(),
@@ -284,18 +284,18 @@ fn walk_tried(
 #[cycle(rows)]
 fn walk_handler(
     made: &mut Generator,
-    about: &Surroundings,
+    context: &Surroundings,
     ask: Ask,
     to: &[Slot],
     parts: &TryParts,
 ) -> Result<(), Memory>
-    ensures { OnOk result (Adds made.old made.new (length parts.now.catch_vars + span ask (tree parts.now.handler)) (together (handler_rows about.now made.old ask to.now parts.now.catch_vars (tree parts.now.handler)) ∷ [])) }
+    ensures { OnOk result (Adds made.old made.new (length parts.now.catch_vars + span ask (tree parts.now.handler)) (together (handler_rows context.now made.old ask to.now parts.now.catch_vars (tree parts.now.handler)) ∷ [])) }
 {
     let start = made.count();
     let slots = made.take_run(parts.catch_vars.len())?;
     walk_under(
         made,
-        about,
+        context,
         ask,
         to,
         parts.catch_vars.as_slice(),
@@ -309,16 +309,16 @@ fn walk_handler(
 #[cycle(rows)]
 pub fn walk_try(
     made: &mut Generator,
-    about: &Surroundings,
+    context: &Surroundings,
     ask: Ask,
     parts: &TryParts,
 ) -> Result<(), Memory>
-    ensures { OnOk result ((i : Mark) → Generates about.now made.old made.new ask (m.try i (tree parts.now.arg) parts.now.vars (tree parts.now.body) parts.now.catch_vars (tree parts.now.handler))) }
+    ensures { OnOk result ((i : Mark) → Generates context.now made.old made.new ask (m.try i (tree parts.now.arg) parts.now.vars (tree parts.now.body) parts.now.catch_vars (tree parts.now.handler))) }
 {
-    let results = made.take_run(handed_on(ask))?;
+    let results = made.take_run(passed_on(ask))?;
     let start = made.count();
-    walk_tried(made, about, ask, results.as_slice(), parts)?;
-    walk_handler(made, about, ask, results.as_slice(), parts)?;
+    walk_tried(made, context, ask, results.as_slice(), parts)?;
+    walk_handler(made, context, ask, results.as_slice(), parts)?;
     made.any_since(start)
 }
 
@@ -326,18 +326,18 @@ pub fn walk_try(
 #[cycle(rows)]
 pub fn walk_messages(
     made: &mut Generator,
-    about: &Surroundings,
+    context: &Surroundings,
     ask: Ask,
     clauses: &[Clause],
 ) -> Result<ReceiveSlots, Memory>
-    ensures results { IfOk result (λ receive. receive.results ≡ slots_from made.old.next (handed_on ask)) }
+    ensures results { IfOk result (λ receive. receive.results ≡ slots_from made.old.next (passed_on ask)) }
     ensures start { IfOk result (λ receive. receive.start ≡ length made.old.members.items) }
-    ensures rows { OnOk result (Adds made.old made.new (handed_on ask + 1 + clause_spans ask (all_clauses clauses.now)) (clause_rows (knowing about.now) about.now.home.now (scope_of made.old) (slots_from made.old.next (handed_on ask)) ((made.old.next + handed_on ask) ∷ []) (made.old.next + handed_on ask + 1) ask (all_clauses clauses.now))) }
+    ensures rows { OnOk result (Adds made.old made.new (passed_on ask + 1 + clause_spans ask (all_clauses clauses.now)) (clause_rows (knowing context.now) context.now.home.now (scope_of made.old) (slots_from made.old.next (passed_on ask)) ((made.old.next + passed_on ask) ∷ []) (made.old.next + passed_on ask + 1) ask (all_clauses clauses.now))) }
 {
-    let results = made.take_run(handed_on(ask))?;
+    let results = made.take_run(passed_on(ask))?;
     let message = made.take(1)?;
     let start = made.count();
-    walk_clauses(made, about, ask, results.as_slice(), &[message], clauses)?;
+    walk_clauses(made, context, ask, results.as_slice(), &[message], clauses)?;
     Ok(ReceiveSlots { results, start })
 }
 
@@ -345,16 +345,16 @@ pub fn walk_messages(
 #[cycle(rows)]
 pub fn walk_action(
     made: &mut Generator,
-    about: &Surroundings,
+    context: &Surroundings,
     ask: Ask,
     to: &List<Slot>,
     timeout: Slot,
     action: &Expr,
 ) -> Result<(), Memory>
-    ensures { OnOk result (Adds made.old made.new (span ask (tree action.now)) (together (rows_at about.now made.old ask (tree action.now) ++ equals to.now (results ask made.old.next (tree action.now)) ++ bound timeout naturals) ∷ [])) }
+    ensures { OnOk result (Adds made.old made.new (span ask (tree action.now)) (together (rows_at context.now made.old ask (tree action.now) ++ equals to.now (results ask made.old.next (tree action.now)) ++ bound timeout naturals) ∷ [])) }
 {
     let start = made.count();
-    walk_handed_on(made, about, ask, to.as_slice(), action)?;
+    walk_passed_on(made, context, ask, to.as_slice(), action)?;
     made.bound(timeout, all_naturals())?;
     made.all_since(start)
 }

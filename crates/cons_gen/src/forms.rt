@@ -6,18 +6,18 @@ ghost use Rattle.core_ast.specs.Tree.{all_pairs, all_segments, all_trees, tree};
 ghost use Rattle.core_scope.specs.Asks.{is_raising, one_value};
 ghost use Rattle.cons_tree.specs.Constraints.{only};
 ghost use Rattle.cons_tree.specs.declared.parts.Part.TheVariants as part;
-ghost use Rattle.cons_rows.specs.Counts.{handed_on, whatever_asked};
-ghost use Rattle.cons_rows.specs.Passes.{applied_rows, called_rows};
-ghost use Rattle.cons_rows.specs.Slots.{slots_from};
-ghost use Rattle.cons_rows.specs.Walking.{Adds, knowing, scope_of};
-ghost use Rattle.cons_rows.specs.Words.{bound, equals, function_type, inner_cells, list_rows, never};
+ghost use Rattle.cons_gen_rows.specs.Counts.{passed_on, whatever_asked};
+ghost use Rattle.cons_gen_rows.specs.Passes.{applied_rows, called_rows};
+ghost use Rattle.cons_gen_rows.specs.Slots.{slots_from};
+ghost use Rattle.cons_gen_rows.specs.Walking.{Adds, knowing, scope_of};
+ghost use Rattle.cons_gen_rows.specs.Words.{bound, equals, function_type, inner_cells, list_rows, never};
 ghost use Rattle.cons_gen.specs.Rows.{all_rows, pair_rows, rows, segment_rows};
 ghost use Rattle.cons_gen.specs.Spans.{pair_spans, segment_spans, span, spans, value_slots};
 ghost use Rattle.cons_gen.specs.steps.Generating.{rows_at};
 
 use crate::expressions::{walk_all, walk_expression};
-use cons_rows::{
-    Elements, Generator, Surroundings, function_type, handed_on, inner_cells, whatever_asked,
+use cons_gen_rows::{
+    Elements, Generator, Surroundings, function_type, inner_cells, passed_on, whatever_asked,
 };
 use cons_tree::{Part, Slot};
 use core_ast::{Expr, FunName, MapPair, Segment};
@@ -36,17 +36,17 @@ pub struct ListSlots {
 #[cycle(rows)]
 pub fn walk_elements(
     made: &mut Generator,
-    about: &Surroundings,
+    context: &Surroundings,
     items: &[Expr],
 ) -> Result<ListSlots, Memory>
     ensures value { IfOk result (λ list. list.value ≡ made.old.next) }
     ensures cells { IfOk result (λ list. list.elements.cells ≡ made.old.next + 1) }
     ensures elements { IfOk result (λ list. list.elements.slots ≡ value_slots (made.old.next + 1 + inner_cells (length items.now)) (all_trees items.now)) }
-    ensures rows { OnOk result (Adds made.old made.new (1 + inner_cells (length items.now) + spans (all_trees items.now)) (all_rows (knowing about.now) about.now.home.now (scope_of made.old) (made.old.next + 1 + inner_cells (length items.now)) (all_trees items.now))) }
+    ensures rows { OnOk result (Adds made.old made.new (1 + inner_cells (length items.now) + spans (all_trees items.now)) (all_rows (knowing context.now) context.now.home.now (scope_of made.old) (made.old.next + 1 + inner_cells (length items.now)) (all_trees items.now))) }
 {
     let value = made.take(1)?;
     let cells = made.take(inner_cells(items.len()))?;
-    let slots = walk_all(made, about, items)?;
+    let slots = walk_all(made, context, items)?;
     let elements = made.elements(cells, slots);
     Ok(ListSlots { value, elements })
 }
@@ -55,24 +55,28 @@ pub fn walk_elements(
 #[cycle(rows)]
 pub fn walk_tail(
     made: &mut Generator,
-    about: &Surroundings,
+    context: &Surroundings,
     list: &ListSlots,
     tail: &Expr,
 ) -> Result<(), Memory>
-    ensures { OnOk result (Adds made.old made.new (span one_value (tree tail.now)) (rows_at about.now made.old one_value (tree tail.now) ++ list_rows list.now.value list.now.elements.cells list.now.elements.slots made.old.next)) }
+    ensures { OnOk result (Adds made.old made.new (span one_value (tree tail.now)) (rows_at context.now made.old one_value (tree tail.now) ++ list_rows list.now.value list.now.elements.cells list.now.elements.slots made.old.next)) }
 {
     let rest = made.next;
-    walk_expression(made, about, Ask::Exactly(1), tail)?;
+    walk_expression(made, context, Ask::Exactly(1), tail)?;
     made.list(list.value, &list.elements, rest)
 }
 
 /// A tuple.
 #[cycle(rows)]
-pub fn walk_tuple(made: &mut Generator, about: &Surroundings, items: &[Expr]) -> Result<(), Memory>
-    ensures { OnOk result (Adds made.old made.new (1 + spans (all_trees items.now)) (all_rows (knowing about.now) about.now.home.now (scope_of made.old) (made.old.next + 1) (all_trees items.now) ++ only (part.Tuple made.old.next (value_slots (made.old.next + 1) (all_trees items.now))) ∷ [])) }
+pub fn walk_tuple(
+    made: &mut Generator,
+    context: &Surroundings,
+    items: &[Expr],
+) -> Result<(), Memory>
+    ensures { OnOk result (Adds made.old made.new (1 + spans (all_trees items.now)) (all_rows (knowing context.now) context.now.home.now (scope_of made.old) (made.old.next + 1) (all_trees items.now) ++ only (part.Tuple made.old.next (value_slots (made.old.next + 1) (all_trees items.now))) ∷ [])) }
 {
     let value = made.take(1)?;
-    let elements = walk_all(made, about, items)?;
+    let elements = walk_all(made, context, items)?;
     made.add(Part::Tuple(value, elements))
 }
 
@@ -80,16 +84,16 @@ pub fn walk_tuple(made: &mut Generator, about: &Surroundings, items: &[Expr]) ->
 #[cycle(rows)]
 pub fn walk_pairs(
     made: &mut Generator,
-    about: &Surroundings,
+    context: &Surroundings,
     pairs: &[MapPair],
 ) -> Result<Slot, Memory>
     ensures value { IfOk result (λ value. value ≡ made.old.next) }
-    ensures rows { OnOk result (Adds made.old made.new (1 + pair_spans (all_pairs pairs.now)) (pair_rows (knowing about.now) about.now.home.now (scope_of made.old) (made.old.next + 1) (all_pairs pairs.now))) }
+    ensures rows { OnOk result (Adds made.old made.new (1 + pair_spans (all_pairs pairs.now)) (pair_rows (knowing context.now) context.now.home.now (scope_of made.old) (made.old.next + 1) (all_pairs pairs.now))) }
 {
     let value = made.take(1)?;
     for pair in pairs {
-        walk_expression(made, about, Ask::Exactly(1), &pair.key)?;
-        walk_expression(made, about, Ask::Exactly(1), &pair.value)?;
+        walk_expression(made, context, Ask::Exactly(1), &pair.key)?;
+        walk_expression(made, context, Ask::Exactly(1), &pair.value)?;
     }
     Ok(value)
 }
@@ -98,14 +102,14 @@ pub fn walk_pairs(
 #[cycle(rows)]
 pub fn walk_updated(
     made: &mut Generator,
-    about: &Surroundings,
+    context: &Surroundings,
     value: Slot,
     map: &Expr,
 ) -> Result<(), Memory>
-    ensures { OnOk result (Adds made.old made.new (span one_value (tree map.now)) (rows_at about.now made.old one_value (tree map.now) ++ bound made.old.next (of_kind kind.Map) ++ bound value (of_kind kind.Map))) }
+    ensures { OnOk result (Adds made.old made.new (span one_value (tree map.now)) (rows_at context.now made.old one_value (tree map.now) ++ bound made.old.next (of_kind kind.Map) ++ bound value (of_kind kind.Map))) }
 {
     let old = made.next;
-    walk_expression(made, about, Ask::Exactly(1), map)?;
+    walk_expression(made, context, Ask::Exactly(1), map)?;
     made.bound(old, Ty::kind(Kind::Map))?;
     made.bound(value, Ty::kind(Kind::Map))
 }
@@ -114,13 +118,13 @@ pub fn walk_updated(
 #[cycle(rows)]
 pub fn walk_binary(
     made: &mut Generator,
-    about: &Surroundings,
+    context: &Surroundings,
     segments: &[Segment],
 ) -> Result<(), Memory>
-    ensures { OnOk result (Adds made.old made.new (1 + segment_spans (all_segments segments.now)) (segment_rows (knowing about.now) about.now.home.now (scope_of made.old) (made.old.next + 1) (all_segments segments.now) ++ bound made.old.next (of_kind kind.Bitstring))) }
+    ensures { OnOk result (Adds made.old made.new (1 + segment_spans (all_segments segments.now)) (segment_rows (knowing context.now) context.now.home.now (scope_of made.old) (made.old.next + 1) (all_segments segments.now) ++ bound made.old.next (of_kind kind.Bitstring))) }
 {
     let value = made.take(1)?;
-    walk_segments(made, about, segments)?;
+    walk_segments(made, context, segments)?;
     made.bound(value, Ty::kind(Kind::Bitstring))
 }
 
@@ -128,14 +132,14 @@ pub fn walk_binary(
 #[cycle(rows)]
 fn walk_segments(
     made: &mut Generator,
-    about: &Surroundings,
+    context: &Surroundings,
     segments: &[Segment],
 ) -> Result<(), Memory>
-    ensures { OnOk result (Adds made.old made.new (segment_spans (all_segments segments.now)) (segment_rows (knowing about.now) about.now.home.now (scope_of made.old) made.old.next (all_segments segments.now))) }
+    ensures { OnOk result (Adds made.old made.new (segment_spans (all_segments segments.now)) (segment_rows (knowing context.now) context.now.home.now (scope_of made.old) made.old.next (all_segments segments.now))) }
 {
     for segment in segments {
-        walk_expression(made, about, Ask::Exactly(1), &segment.value)?;
-        walk_all(made, about, segment.args.as_slice())?;
+        walk_expression(made, context, Ask::Exactly(1), &segment.value)?;
+        walk_all(made, context, segment.args.as_slice())?;
     }
     Ok(())
 }
@@ -144,14 +148,14 @@ fn walk_segments(
 #[cycle(rows)]
 pub fn walk_values(
     made: &mut Generator,
-    about: &Surroundings,
+    context: &Surroundings,
     ask: Ask,
     items: &[Expr],
 ) -> Result<(), Memory>
-    ensures { OnOk result (Adds made.old made.new (handed_on ask + spans (all_trees items.now)) (all_rows (knowing about.now) about.now.home.now (scope_of made.old) (made.old.next + handed_on ask) (all_trees items.now) ++ equals (slots_from made.old.next (handed_on ask)) (value_slots (made.old.next + handed_on ask) (all_trees items.now)))) }
+    ensures { OnOk result (Adds made.old made.new (passed_on ask + spans (all_trees items.now)) (all_rows (knowing context.now) context.now.home.now (scope_of made.old) (made.old.next + passed_on ask) (all_trees items.now) ++ equals (slots_from made.old.next (passed_on ask)) (value_slots (made.old.next + passed_on ask) (all_trees items.now)))) }
 {
-    let results = made.take_run(handed_on(ask))?;
-    let values = walk_all(made, about, items)?;
+    let results = made.take_run(passed_on(ask))?;
+    let values = walk_all(made, context, items)?;
     made.equal_each(results.as_slice(), values.as_slice())
 }
 
@@ -159,30 +163,30 @@ pub fn walk_values(
 #[cycle(rows)]
 pub fn walk_application(
     made: &mut Generator,
-    about: &Surroundings,
+    context: &Surroundings,
     name: &FunName,
     args: &[Expr],
 ) -> Result<(), Memory>
-    ensures { OnOk result (Adds made.old made.new (1 + spans (all_trees args.now)) (all_rows (knowing about.now) about.now.home.now (scope_of made.old) (made.old.next + 1) (all_trees args.now) ++ applied_rows (knowing about.now) about.now.home.now made.old.functions name.now (length args.now) made.old.next (value_slots (made.old.next + 1) (all_trees args.now)))) }
+    ensures { OnOk result (Adds made.old made.new (1 + spans (all_trees args.now)) (all_rows (knowing context.now) context.now.home.now (scope_of made.old) (made.old.next + 1) (all_trees args.now) ++ applied_rows (knowing context.now) context.now.home.now made.old.functions name.now (length args.now) made.old.next (value_slots (made.old.next + 1) (all_trees args.now)))) }
 {
     let value = made.take(1)?;
-    let slots = walk_all(made, about, args)?;
-    made.application(about, name, value, slots.as_slice())
+    let slots = walk_all(made, context, args)?;
+    made.application(context, name, value, slots.as_slice())
 }
 
 /// The operator of an application, behind the application's own slot.
 #[cycle(rows)]
 pub fn walk_operator(
     made: &mut Generator,
-    about: &Surroundings,
+    context: &Surroundings,
     operator: &Expr,
 ) -> Result<Slot, Memory>
     ensures slot { IfOk result (λ slot. slot ≡ made.old.next + 1) }
-    ensures rows { OnOk result (Adds made.old made.new (1 + span one_value (tree operator.now)) (rows (knowing about.now) about.now.home.now (scope_of made.old) (made.old.next + 1) one_value (tree operator.now))) }
+    ensures rows { OnOk result (Adds made.old made.new (1 + span one_value (tree operator.now)) (rows (knowing context.now) context.now.home.now (scope_of made.old) (made.old.next + 1) one_value (tree operator.now))) }
 {
     made.take(1)?;
     let slot = made.next;
-    walk_expression(made, about, Ask::Exactly(1), operator)?;
+    walk_expression(made, context, Ask::Exactly(1), operator)?;
     Ok(slot)
 }
 
@@ -190,45 +194,45 @@ pub fn walk_operator(
 #[cycle(rows)]
 pub fn walk_operands(
     made: &mut Generator,
-    about: &Surroundings,
+    context: &Surroundings,
     operator: Slot,
     args: &[Expr],
 ) -> Result<(), Memory>
-    ensures { OnOk result (Adds made.old made.new (spans (all_trees args.now)) (all_rows (knowing about.now) about.now.home.now (scope_of made.old) made.old.next (all_trees args.now) ++ bound operator (function_type (length args.now)))) }
+    ensures { OnOk result (Adds made.old made.new (spans (all_trees args.now)) (all_rows (knowing context.now) context.now.home.now (scope_of made.old) made.old.next (all_trees args.now) ++ bound operator (function_type (length args.now)))) }
 {
-    walk_all(made, about, args)?;
+    walk_all(made, context, args)?;
     made.bound(operator, function_type(args.len()))
 }
 
-/// A call by a literal module and name, which has so many results.
+/// A call by a literal module and name, which has `count` results.
 #[cycle(rows)]
 pub fn walk_named_call(
     made: &mut Generator,
-    about: &Surroundings,
+    context: &Surroundings,
     count: usize,
     home: &Atom,
     name: &Atom,
     args: &[Expr],
 ) -> Result<(), Memory>
-    ensures { OnOk result (Adds made.old made.new (count + spans (all_trees args.now)) (all_rows (knowing about.now) about.now.home.now (scope_of made.old) (made.old.next + count) (all_trees args.now) ++ called_rows (knowing about.now) home.now name.now (length args.now) (slots_from made.old.next count) (value_slots (made.old.next + count) (all_trees args.now)))) }
+    ensures { OnOk result (Adds made.old made.new (count + spans (all_trees args.now)) (all_rows (knowing context.now) context.now.home.now (scope_of made.old) (made.old.next + count) (all_trees args.now) ++ called_rows (knowing context.now) home.now name.now (length args.now) (slots_from made.old.next count) (value_slots (made.old.next + count) (all_trees args.now)))) }
 {
     let results = made.take_run(count)?;
-    let slots = walk_all(made, about, args)?;
-    made.call(about, home, name, results.as_slice(), slots.as_slice())
+    let slots = walk_all(made, context, args)?;
+    made.call(context, home, name, results.as_slice(), slots.as_slice())
 }
 
 /// A primop.
 #[cycle(rows)]
 pub fn walk_primop(
     made: &mut Generator,
-    about: &Surroundings,
+    context: &Surroundings,
     ask: Ask,
     name: &Atom,
     args: &[Expr],
 ) -> Result<(), Memory>
-    ensures { OnOk result (Adds made.old made.new (whatever_asked ask + spans (all_trees args.now)) (all_rows (knowing about.now) about.now.home.now (scope_of made.old) (made.old.next + whatever_asked ask) (all_trees args.now) ++ (if is_raising name.now then never (slots_from made.old.next (whatever_asked ask)) else []))) }
+    ensures { OnOk result (Adds made.old made.new (whatever_asked ask + spans (all_trees args.now)) (all_rows (knowing context.now) context.now.home.now (scope_of made.old) (made.old.next + whatever_asked ask) (all_trees args.now) ++ (if is_raising name.now then never (slots_from made.old.next (whatever_asked ask)) else []))) }
 {
     let results = made.take_run(whatever_asked(ask))?;
-    walk_all(made, about, args)?;
+    walk_all(made, context, args)?;
     made.primop(name, results.as_slice())
 }

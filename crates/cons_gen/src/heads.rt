@@ -2,22 +2,22 @@
 ghost use Rattle.std.specs.Prelude.{◌≡◌, [], ◌++◌, map, IfOk, OnOk};
 ghost use Rattle.core_ast.specs.Tree.{clause_parts};
 ghost use Rattle.cons_tree.specs.Constraints.{constraint};
-ghost use Rattle.cons_rows.specs.Knowing.{knowledge};
-ghost use Rattle.cons_rows.specs.Patterns.{outer_bindings};
-ghost use Rattle.cons_rows.specs.Walking.{knowing};
-ghost use Rattle.cons_rows.specs.declared.passes.Pass.TheVariants.{Strict};
+ghost use Rattle.cons_gen_rows.specs.Knowing.{knowledge};
+ghost use Rattle.cons_gen_rows.specs.Patterns.{outer_bindings};
+ghost use Rattle.cons_gen_rows.specs.Walking.{knowing};
+ghost use Rattle.cons_gen_rows.specs.declared.passes.Pass.TheVariants.{Strict};
 ghost use Rattle.cons_gen.specs.Made.{clause_slots, head_rows};
 ghost use Rattle.cons_gen.specs.steps.Heading.{Heads};
 
 use crate::expressions::walk_expression;
-use cons_rows::{Generator, Pass, Surroundings, Variables, walk_outer};
+use cons_gen_rows::{Generator, Pass, Surroundings, Variables, walk_outer};
 use cons_tree::{Constraint, Slot, Summaries};
 use core_ast::{Clause, FunName};
 use core_scope::{Ask, Names};
 use std::alloc::Global;
 use type_kinds::{Atom, List, Memory};
 
-/// What is in scope at a place of a text, for one who walks through it: the variables with their slots, and the
+/// What is in scope at a position of a text, for one who walks through it: the variables with their slots, and the
 /// functions of the `letrec`s around.
 #[derive(Drop)]
 pub struct InScope {
@@ -65,17 +65,17 @@ pub fn head(
     ensures variables { OnOk result (scope.new.variables ≡ scope.old.variables ++ outer_bindings first (clause_parts clause.now).patterns) }
     ensures functions { OnOk result (scope.new.functions ≡ scope.old.functions) }
 {
-    let about = Surroundings {
+    let context = Surroundings {
         home,
         known,
         pass: &Pass::Strict,
     };
     let mut made = entered(alloc, scope, first);
-    walk_head(&mut made, &about, clause, args)?;
+    walk_head(&mut made, &context, clause, args)?;
     Ok(finished(made, scope))
 }
 
-// Nothing made, in this scope, which is moved out of its place.
+// Nothing made, in this scope, which is moved out of its position.
 fn entered(alloc: Global, scope: &mut InScope, first: Slot) -> Generator
     ensures variables { result.variables ≡ scope.old.variables }
     ensures functions { result.functions ≡ scope.old.functions }
@@ -94,22 +94,22 @@ fn entered(alloc: Global, scope: &mut InScope, first: Slot) -> Generator
 // The patterns, the guard, and that the guard is true, where nothing was made before.
 fn walk_head(
     made: &mut Generator,
-    about: &Surroundings,
+    context: &Surroundings,
     clause: &Clause,
     args: &[Slot],
 ) -> Result<(), Memory>
     requires { made.old.members.items ≡ [] }
-    ensures { OnOk result (Heads (knowing about.now) about.now.home.now made.old made.new args.now (clause_parts clause.now).patterns (clause_parts clause.now).guard) }
+    ensures { OnOk result (Heads (knowing context.now) context.now.home.now made.old made.new args.now (clause_parts clause.now).patterns (clause_parts clause.now).guard) }
 {
     walk_outer(made, args, clause.patterns.as_slice())?;
     made.all_since(0)?;
     let guard = made.next;
-    walk_expression(made, about, Ask::Exactly(1), &clause.guard)?;
+    walk_expression(made, context, Ask::Exactly(1), &clause.guard)?;
     made.all_since(1)?;
     made.holds(guard)
 }
 
-// The rows, and the scope, which is moved to its place.
+// The rows, and the scope, which is moved to its position.
 fn finished(made: Generator, scope: &mut InScope) -> ClauseHead
     ensures rows { result.rows ≡ made.members.items }
     ensures slots { result.slots ≡ made.next }

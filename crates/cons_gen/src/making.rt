@@ -2,15 +2,15 @@
 ghost use Rattle.std.specs.Prelude.{◌≡◌, [], length, IfOk};
 ghost use Rattle.core_ast.specs.Tree.{clause_parts, tree};
 ghost use Rattle.cons_tree.specs.Constraints.{constraint};
-ghost use Rattle.cons_rows.specs.Knowing.{knowledge};
-ghost use Rattle.cons_rows.specs.Slots.{slots_from};
-ghost use Rattle.cons_rows.specs.Walking.{rows_of, scope_of};
-ghost use Rattle.cons_rows.specs.Words.{together};
-ghost use Rattle.cons_rows.specs.declared.passes.Pass.TheVariants.{Strict};
+ghost use Rattle.cons_gen_rows.specs.Knowing.{knowledge};
+ghost use Rattle.cons_gen_rows.specs.Slots.{slots_from};
+ghost use Rattle.cons_gen_rows.specs.Walking.{rows_of, scope_of};
+ghost use Rattle.cons_gen_rows.specs.Words.{together};
+ghost use Rattle.cons_gen_rows.specs.declared.passes.Pass.TheVariants.{Strict};
 ghost use Rattle.cons_gen.specs.Made.{clause_constraint, clause_params, clause_result, clause_slots, definition_constraint, definition_slots, seen};
 
 use crate::expressions::walk_expression;
-use cons_rows::{Generator, Pass, Surroundings, walk_outer};
+use cons_gen_rows::{Generator, Pass, Surroundings, walk_outer};
 use cons_tree::{Constraint, Slot, Summaries};
 use core_ast::{Clause, FunDef, FunName};
 use core_scope::Ask;
@@ -59,13 +59,13 @@ pub fn generate(
     ensures value { IfOk result (λ made. made.result ≡ length def.now.fun.params) }
     ensures slots { IfOk result (λ made. made.slots ≡ definition_slots def.now.fun.params (tree def.now.fun.body)) }
 {
-    let about = Surroundings { home, known, pass };
+    let context = Surroundings { home, known, pass };
     let mut made = Generator::new(alloc, 0);
     let vars = def.fun.params.as_slice();
     let params = made.take_run(vars.len())?;
     made.bind_all(vars, params.as_slice())?;
     let value = made.next;
-    walk_expression(&mut made, &about, Ask::Exactly(1), def.fun.body.get())?;
+    walk_expression(&mut made, &context, Ask::Exactly(1), def.fun.body.get())?;
     Ok(finished(made, params, value))
 }
 
@@ -85,7 +85,7 @@ pub fn clause(
     ensures value { IfOk result (λ made. made.result ≡ clause_result scope.now.slots (clause_parts clause.now).patterns) }
     ensures slots { IfOk result (λ made. made.slots ≡ clause_slots scope.now.slots (clause_parts clause.now).patterns (clause_parts clause.now).guard) }
 {
-    let about = Surroundings {
+    let context = Surroundings {
         home,
         known,
         pass: &Pass::Strict,
@@ -96,7 +96,7 @@ pub fn clause(
     made.all_since(0)?;
     let params = made.variables.slots_since(alloc, around)?;
     let value = made.next;
-    walk_expression(&mut made, &about, Ask::Exactly(1), &clause.guard)?;
+    walk_expression(&mut made, &context, Ask::Exactly(1), &clause.guard)?;
     made.all_since(1)?;
     Ok(finished(made, params, value))
 }

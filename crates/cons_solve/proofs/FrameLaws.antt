@@ -8,13 +8,13 @@ use Rattle.cons_tree.specs.Frames.{IsNone, slots_of, with_slot}
 use Rattle.cons_tree.specs.Narrowing.{narrowed}
 use Rattle.cons_tree.specs.Trails.{laid}
 use Rattle.cons_tree.specs.declared.parts.Part.{Part}
-use Rattle.cons_tree.specs.declared.slots.Former.{Former}
+use Rattle.cons_tree.specs.declared.slots.TrailEntry.{TrailEntry}
 use Rattle.cons_solve.specs.Environments.{environments, joins, ranks, solution}
 use Rattle.cons_solve.specs.Frames.{Free, FreeEach}
 use Rattle.cons_solve.specs.Solutions.{on_some, turns}
 use Rattle.cons_solve.specs.Solutions as W
 use Rattle.cons_solve.specs.steps.Alternatives.{now_of}
-use Rattle.cons_solve.specs.steps.Places.{FreeAll}
+use Rattle.cons_solve.specs.steps.Positions.{FreeAll}
 use Rattle.cons_solve.proofs.LowLaws.{now_again}
 use Rattle.cons_solve.proofs.SolutionLaws as S
 
@@ -72,17 +72,17 @@ module _ (facts : TypeFacts) (frames : Frames) where
         let n = suc (ranks xs + ranks (set xs s t)) in
         sym (S.reached_are environments laws n c (set xs s t) (omega arith)) ∙ reached_same s t n c d xs ∙ ap (with_slot s t) (S.reached_are environments laws n c xs (omega arith))
 
-    stays_solved : (c : Cons Part) (fs : List Former) (xs : Types) → FreeAll fs c → solution c xs ≡ Some xs → solution c (laid fs xs) ≡ Some (laid fs xs)
+    stays_solved : (c : Cons Part) (fs : List TrailEntry) (xs : Types) → FreeAll fs c → solution c xs ≡ Some xs → solution c (laid fs xs) ≡ Some (laid fs xs)
     stays_solved c [] xs d h = h
     stays_solved c (f ∷ fs) xs d h =
         solution_same c f.slot f.ty (laid fs xs) d.0 ∙ ap (with_slot f.slot f.ty) (stays_solved c fs xs d.1 h)
 
-    free_now : (c : Cons Part) (fs : List Former) (xs : Types) → FreeAll fs c → FreeAll (map (now_of xs) fs) c
+    free_now : (c : Cons Part) (fs : List TrailEntry) (xs : Types) → FreeAll fs c → FreeAll (map (now_of xs) fs) c
     free_now c [] xs d = tt
     free_now c (f ∷ fs) xs d = (d.0, free_now c fs xs d.1)
 
     -- a constraint that was solved stays solved where only slots were lowered that it doesn't name
-    pub untouched : (c : Cons Part) (fs : List Former) (old new : Types) → laid fs new ≡ old → FreeAll fs c → solution c old ≡ Some old → solution c new ≡ Some new
+    pub untouched : (c : Cons Part) (fs : List TrailEntry) (old new : Types) → laid fs new ≡ old → FreeAll fs c → solution c old ≡ Some old → solution c new ≡ Some new
     untouched c fs old new e d h =
         let again : laid (map (now_of new) fs) old ≡ new = ap (laid (map (now_of new) fs)) (sym e) ∙ now_again fs new in
         subst (λ xs. solution c xs ≡ Some xs) again (stays_solved c (map (now_of new) fs) old (free_now c fs new d) h)

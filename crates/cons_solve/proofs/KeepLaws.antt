@@ -1,6 +1,7 @@
 -- What solving keeps: that no slot is at none, and the assignments that satisfy the constraint.
 use Rattle.std.proofs.Common.{◌≡◌, ℕ, zero, suc, Bool, true, false, [], ◌∷◌, Some, None, refl, sym, ◌∙◌, subst, inl, inr, true≢false}
-use Rattle.std.specs.Prelude.{◌||◌}
+use Rattle.std.proofs.lemmas.Bool.{or_parts, or_from}
+use Rattle.cons_tree.proofs.SlotLaws.{at_below}
 use Rattle.type_lattice.specs.Types.{Type4, Below, none, is_none, join}
 use Rattle.cons_tree.specs.Constraints.{Cons, ConsList, only, all_of, any_of, no_cons, and_cons}
 use Rattle.cons_tree.specs.Environments.{Types, State, Assignment, LiesIn, LiesInState}
@@ -12,21 +13,12 @@ use Rattle.cons_tree.specs.declared.parts.Part.{Part}
 use Rattle.cons_solve.specs.Environments.{environments, joins, ranks, solution}
 use Rattle.cons_solve.specs.Solutions.{on_some, turns, greatest}
 use Rattle.cons_solve.specs.Solutions as W
-use Rattle.cons_solve.proofs.OrderLaws.{at_below}
 use Rattle.cons_solve.proofs.SolutionLaws as S
 
 -- ---- no slot at none
 
 abbrev IsFilled : Types → Type 0
 IsFilled xs = has_none xs ≡ false
-
-neither : (a b : Bool) → (a || b) ≡ false → (a ≡ false) × (b ≡ false)
-neither true b e = absurd (true≢false e)
-neither false b e = (refl, e)
-
-both : (a b : Bool) → a ≡ false → b ≡ false → (a || b) ≡ false
-both true b e f = absurd (true≢false e)
-both false b e f = f
 
 module _ (facts : TypeFacts) where
   filled_join : (x y : Type4) → is_none x ≡ false → is_none (join x y) ≡ false
@@ -43,8 +35,8 @@ module _ (facts : TypeFacts) where
   filled_joins [] ys h k = refl
   filled_joins (x ∷ xs) [] h k = refl
   filled_joins (x ∷ xs) (y ∷ ys) h k =
-      let p = neither (is_none x) (has_none xs) h in
-      both (is_none (join x y)) (has_none (joins xs ys)) (filled_join x y p.0) (filled_joins xs ys p.1 (neither (is_none y) (has_none ys) k).1)
+      let p = or_parts (is_none x) (has_none xs) h in
+      or_from (is_none (join x y)) (has_none (joins xs ys)) (filled_join x y p.0) (filled_joins xs ys p.1 (or_parts (is_none y) (has_none ys) k).1)
 
   module _ (laws : W.Laws environments) (lives : (p : Part) (xs ys : Types) → has_none xs ≡ false → narrowed p xs ≡ Some ys → has_none ys ≡ false) where
     filled_part : (p : Part) (xs : Types) → IsFilled xs → W.Holds environments IsFilled (narrowed p xs)

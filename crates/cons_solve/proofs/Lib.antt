@@ -1,9 +1,12 @@
+mod ChoiceLaws
 mod FrameLaws
 mod IndexLaws
 mod KeepLaws
 mod LowLaws
 mod MemberLaws
+mod MemoLaws
 mod OrderLaws
+mod PlanLaws
 mod QueueLaws
 mod SolutionLaws
 mod TurnLaws

@@ -2,14 +2,14 @@
 use Rattle.std.proofs.Common.{◌≡◌, ℕ, zero, suc, ◌+◌, ◌<◌, ◌≤◌, List, [], ◌∷◌, length, get_or, drop, refl, sym, ap, ◌∙◌, subst, arith}
 use Rattle.std.proofs.lemmas.List.{drop_more}
 use Rattle.cons_tree.specs.Constraints.{Cons, ConsList, only, all_of, any_of, no_cons, and_cons, constraint, constraints}
-use Rattle.cons_tree.specs.Environments.{Types, State}
 use Rattle.cons_tree.specs.declared.parts.Part.{Part}
 use Rattle.cons_tree.specs.declared.parts.Constraint.{Constraint}
 use Rattle.cons_tree.specs.declared.parts.Constraint.TheVariants as tree
-use Rattle.cons_tree.proofs.TreeLaws as trees
+use Rattle.cons_tree.specs.Environments.{Types, State}
 use Rattle.cons_solve.specs.Environments.{environments, solution}
 use Rattle.cons_solve.specs.Solutions.{joined}
 use Rattle.cons_solve.specs.steps.Passes.{merged}
+use Rattle.cons_tree.proofs.TreeLaws as trees
 
 -- ---- the kinds of constraints
 
@@ -60,6 +60,3 @@ end_of (c ∷ cs) (suc i) h = end_of cs i (omega (arith, h))
 pub union_goes_on : (cs : List Constraint) (i : ℕ) (x : Constraint) (xs : Types) (s t u r : State) → i < length cs → x ≡ get_or cs i x → solution (constraint x) xs ≡ t → joined environments s t ≡ u → merged environments s (constraints (drop i cs)) xs ≡ r → merged environments u (constraints (drop (i + 1) cs)) xs ≡ r
 union_goes_on cs i x xs s t u r l e h k q =
     sym (ap (λ m. merged environments s m xs) (next_of cs i x l e) ∙ ap (λ v. merged environments v (constraints (drop (i + 1) cs)) xs) (ap (joined environments s) h ∙ k)) ∙ q
-
-pub union_ends : (cs : List Constraint) (i : ℕ) (xs : Types) (s r : State) → length cs ≤ i → merged environments s (constraints (drop i cs)) xs ≡ r → r ≡ s
-union_ends cs i xs s r h q = sym q ∙ ap (λ m. merged environments s m xs) (end_of cs i h)

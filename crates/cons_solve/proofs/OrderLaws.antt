@@ -1,8 +1,9 @@
 -- Environments are ordered slot by slot, with least joins and ranks that fall, and parts narrow them monotonely.
-use Rattle.std.proofs.Common.{◌≡◌, ℕ, zero, suc, ◌<◌, Bool, true, false, [], ◌∷◌, length, set, Some, None, refl, sym, ap, ◌∙◌, subst, arith, inl, inr, ◌⊎◌, true≢false}
+use Rattle.std.proofs.Common.{◌≡◌, ◌<◌, Bool, true, false, [], ◌∷◌, Some, None, refl, sym, ap, ◌∙◌, subst, arith, inl, inr, ◌⊎◌, true≢false}
+use Rattle.type_lattice.proofs.ListOrder.{are_self, are_through}
 use Rattle.type_lattice.specs.Types.{Type4, Below, AreBelow, rank}
 use Rattle.type_lattice.specs.Inclusion.{leq}
-use Rattle.cons_tree.specs.Environments.{Types, State, type_at, IsBelow}
+use Rattle.cons_tree.specs.Environments.{Types, State, IsBelow}
 use Rattle.cons_tree.specs.Facts.{TypeFacts}
 use Rattle.cons_tree.specs.Narrowing.{narrowed}
 use Rattle.cons_tree.specs.Trails.{Falling}
@@ -11,38 +12,6 @@ use Rattle.cons_solve.specs.Environments.{environments, joins, ranks}
 use Rattle.cons_solve.specs.Solutions as W
 
 -- ---- slot by slot
-
-pub are_self : (xs : Types) → AreBelow xs xs
-are_self [] = tt
-are_self (x ∷ xs) = (λ v h. h, are_self xs)
-
-pub are_through : (xs ys zs : Types) → AreBelow xs ys → AreBelow ys zs → AreBelow xs zs
-are_through [] [] [] h k = tt
-are_through [] [] (z ∷ zs) h k = absurd k
-are_through [] (y ∷ ys) zs h k = absurd h
-are_through (x ∷ xs) [] zs h k = absurd h
-are_through (x ∷ xs) (y ∷ ys) [] h k = absurd k
-are_through (x ∷ xs) (y ∷ ys) (z ∷ zs) h k = (λ v i. k.0 v (h.0 v i), are_through xs ys zs h.1 k.1)
-
-pub are_long : (xs ys : Types) → AreBelow xs ys → length xs ≡ length ys
-are_long [] [] h = refl
-are_long [] (y ∷ ys) h = absurd h
-are_long (x ∷ xs) [] h = absurd h
-are_long (x ∷ xs) (y ∷ ys) h = ap suc (are_long xs ys h.1)
-
-pub at_below : (xs ys : Types) (s : ℕ) → AreBelow xs ys → Below (type_at xs s) (type_at ys s)
-at_below [] [] s h = λ v i. i
-at_below [] (y ∷ ys) s h = absurd h
-at_below (x ∷ xs) [] s h = absurd h
-at_below (x ∷ xs) (y ∷ ys) zero h = h.0
-at_below (x ∷ xs) (y ∷ ys) (suc s) h = at_below xs ys s h.1
-
-pub set_grows : (xs ys : Types) (s : ℕ) (t u : Type4) → AreBelow xs ys → Below t u → AreBelow (set xs s t) (set ys s u)
-set_grows [] [] s t u h k = tt
-set_grows [] (y ∷ ys) s t u h k = absurd h
-set_grows (x ∷ xs) [] s t u h k = absurd h
-set_grows (x ∷ xs) (y ∷ ys) zero t u h k = (k, h.1)
-set_grows (x ∷ xs) (y ∷ ys) (suc s) t u h k = (h.0, set_grows xs ys s t u h.1 k)
 
 -- the orders of states are one
 pub is_below : (r s : State) → W.Under environments r s → IsBelow r s

@@ -275,6 +275,16 @@ module _ (S : Space) (laws : W.Laws S) where
   pub own_solution : (Q : Env → Type 0) (e : Env) → Q e → IsGreatest Q e (Some e)
   own_solution Q e q = record { below = laws.self e; holds = q; above = λ x b _. b }
 
+  -- ---- on from what is known of the solutions
+
+  -- below an environment that is above each solution, the greatest solution is the same
+  pub solved_on : (c : Cons Part) (e f : Env) → Leq f e → ((x : Env) → Leq x e → Solves c x → Leq x f) → greatest S c f ≡ greatest S c e
+  solved_on c e f h k = sym (greatest_is c e (greatest S c f) (moved (W.Solves S c) e f _ h k (is_greatest c f)))
+
+  -- each solution is below the greatest one
+  pub stays_under : (c : Cons Part) (e : Env) (s : State S) → greatest S c e ≡ s → (x : Env) → Leq x e → Solves c x → Under (Some x) s
+  stays_under c e s h x b q = subst (Under (Some x)) h ((is_greatest c e).above x b q)
+
   pub part_moves : (p : Part) (e f : Env) → narrow p e ≡ Some f → greatest S (only p) f ≡ greatest S (only p) e
   part_moves p e f h =
       sym (greatest_is (only p) e (greatest S (only p) f) (moved (W.Solves S (only p)) e f _ (subst (λ r. Under r (Some e)) h (laws.narrow_below p e)) (λ x b q. subst (Under (Some x)) h (subst (λ r. Under r (narrow p e)) q (laws.narrow_grows p x e b))) (is_greatest (only p) f)))

@@ -1,12 +1,12 @@
--- How much a trail grew, and the part of it from a mark on.
-use Rattle.std.proofs.Common.{◌≡◌, ℕ, ◌+◌, ◌<◌, ◌≤◌, Bool, true, false, cond, List, [], ◌∷◌, length, set, take, drop, refl, sym, ap, ◌∙◌, subst, arith, inl, inr, length-append}
-use Rattle.std.specs.Prelude.{Result, Ok, Err, IfOk}
+-- How much a trail grew, and the part of it from a checkpoint on.
+use Rattle.std.proofs.Common.{◌≡◌, ℕ, ◌+◌, ◌<◌, ◌≤◌, Bool, true, false, cond, List, [], ◌∷◌, length, set, take, drop, Option, Some, None, refl, sym, ap, ◌∙◌, subst, arith, inl, inr, length-append}
+use Rattle.std.specs.Prelude.{IfSome, IfNone}
 use Rattle.std.proofs.lemmas.Bool.{cases_eq}
 use Rattle.std.proofs.lemmas.List.{set-get_or, drop_at, take_at}
 use Rattle.type_lattice.specs.Types.{Type4, any, rank}
 use Rattle.cons_tree.specs.Environments.{Types, type_at}
 use Rattle.cons_tree.specs.Trails.{laid, Within, Falling, summed, Trailed}
-use Rattle.cons_tree.specs.declared.slots.Former.{Former}
+use Rattle.cons_tree.specs.declared.slots.TrailEntry.{TrailEntry}
 use Rattle.cons_tree.specs.declared.slots.Slots.{Slots}
 use Rattle.cons_solve.specs.Environments.{ranks}
 
@@ -14,13 +14,15 @@ use Rattle.cons_solve.specs.Environments.{ranks}
 pub set_same : (xs : Types) (s : ℕ) (t : Type4) → t ≡ type_at xs s → xs ≡ set xs s t
 set_same xs s t e = sym (ap (set xs s) e ∙ set-get_or xs s any)
 
-pub if_ok : {A E : Type 0} (r : Result A E) (P Q : A → Type 0) → ((x : A) → P x → Q x) → IfOk r P → IfOk r Q
-if_ok (Ok x) P Q f h = f x h
-if_ok (Err e) P Q f h = tt
+pub if_some : {A : Type 0} (o : Option A) (x : A) (P : A → Type 0) → o ≡ Some x → IfSome o P → P x
+if_some o x P e h = subst (λ q. IfSome q P) e h
+
+pub if_none : {A : Type 0} (o : Option A) (P : Type 0) → o ≡ None → IfNone o P → P
+if_none o P e h = subst (λ q. IfNone q P) e h
 
 -- ---- how much a trail grew
 
-pub empty_list : (fs : List Former) → length fs ≡ 0 → fs ≡ []
+pub empty_list : (fs : List TrailEntry) → length fs ≡ 0 → fs ≡ []
 empty_list [] h = refl
 empty_list (f ∷ fs) h = absurd (omega (arith, h))
 
@@ -47,7 +49,7 @@ turn_pays old new t false g h f = let p = t.paid h f in omega (arith, p)
 pub trailed_falls : (old new : Slots) → Falling rank → Trailed old new → (length new.trail ≡ length old.trail → ⊥) → ranks new.types < ranks old.types
 trailed_falls old new f t d = omega (arith, trailed_pays old new t d rank f)
 
--- ---- the part of a trail from a mark on
+-- ---- the part of a trail from a checkpoint on
 
 pub told_is : (old new : Slots) (m : ℕ) (t : Trailed old new) → m ≡ length old.trail → drop m new.trail ≡ t.added
 told_is old new m t e = ap (drop m) t.trail ∙ drop_at old.trail t.added m (sym e)
@@ -60,6 +62,3 @@ told_within old new m t e = subst (Within (length new.types)) (sym (told_is old 
 
 pub told_front : (old new : Slots) (m : ℕ) → Trailed old new → m ≡ length old.trail → take m new.trail ≡ old.trail
 told_front old new m t e = ap (take m) t.trail ∙ take_at old.trail t.added m (sym e)
-
-pub told_long : (old new : Slots) (m : ℕ) → Trailed old new → m ≡ length old.trail → m ≤ length new.trail
-told_long old new m t e = let l = trail_length old new t in omega (arith, e, l)

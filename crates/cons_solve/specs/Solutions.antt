@@ -16,7 +16,7 @@ abbrev pub on_some : {A B : Type 0} → Option A → (A → Option B) → Option
 on_some None f = None
 on_some (Some x) f = f x
 
--- so many times the same step
+-- n times the same step
 abbrev pub turns : {A : Type 0} → ℕ → (A → Option A) → A → Option A
 turns zero f e = Some e
 turns (suc n) f e = on_some (f e) (turns n f)

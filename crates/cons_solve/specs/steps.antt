@@ -1,3 +1,4 @@
 pub mod Alternatives
 pub mod Passes
-pub mod Places
+pub mod Positions
+pub mod Plans

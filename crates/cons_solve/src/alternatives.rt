@@ -7,26 +7,31 @@ ghost use Rattle.cons_solve.specs.Environments.{environments};
 ghost use Rattle.cons_solve.specs.Solutions.{joined};
 ghost use Rattle.cons_solve.specs.steps.Alternatives.{now_of, raised_by, best_of, Kept, KeptLows};
 
-use cons_tree::{Former, Slot, Slots, type_facts};
+use cons_tree::{Slot, Slots, TrailEntry, type_facts};
 use std::alloc::Global;
 use type_kinds::{List, Memory};
 use type_lattice::{Ty, type_laws};
 
-// Gives a type, an entry, or entries up.
-fn discard(_ty: Ty) {}
+/// Drops a type.
+pub fn discard(_ty: Ty) {}
 
-fn discard_former(_former: Former) {}
+// Drops an entry, or entries.
+fn discard_trail_entry(_entry: TrailEntry) {}
 
-fn discard_formers(_formers: List<Former>) {}
+fn discard_trail_entries(_entries: List<TrailEntry>) {}
 
-// The slots of the entries, with their types now.
-fn lowered(alloc: Global, slots: &Slots, told: &[Former]) -> Result<List<Former>, Memory>
+/// The slots of the entries, with their types now. `Memory` comes if allocation fails.
+pub fn lowered(
+    alloc: Global,
+    slots: &Slots,
+    told: &[TrailEntry],
+) -> Result<List<TrailEntry>, Memory>
     ensures { IfOk result (λ lows. lows ≡ map (now_of slots.now.types) told.now) }
 {
     let mut lows = List::new(alloc);
     for former in told {
         let ty = slots.at(former.slot).copy()?;
-        lows.add(Former {
+        lows.add(TrailEntry {
             slot: former.slot,
             ty,
         })?;
@@ -35,32 +40,32 @@ fn lowered(alloc: Global, slots: &Slots, told: &[Former]) -> Result<List<Former>
 }
 
 // The slots of the entries, with the joins of the entries' types and those in the array.
-fn raised(alloc: Global, slots: &Slots, lows: &[Former]) -> Result<List<Former>, Memory>
+fn raised(alloc: Global, slots: &Slots, lows: &[TrailEntry]) -> Result<List<TrailEntry>, Memory>
     ensures { IfOk result (λ higher. higher ≡ map (raised_by slots.now.types) lows.now) }
 {
     let mut higher = List::new(alloc);
     for low in lows {
         let ty = low.ty.join(alloc, slots.at(low.slot))?;
-        higher.add(Former { slot: low.slot, ty })?;
+        higher.add(TrailEntry { slot: low.slot, ty })?;
     }
     Ok(higher)
 }
 
 /// Takes what an alternative left of the array into the join of those before it, of which there may
-/// be none. The trail from the mark on tells what the array was before.
+/// be none. The trail from the checkpoint on tells what the array was before.
 pub fn gather(
     alloc: Global,
     alive: bool,
-    best: Option<List<Former>>,
+    best: Option<List<TrailEntry>>,
     slots: &Slots,
-    mark: usize,
-) -> Result<Option<List<Former>>, Memory>
-    requires mark { mark ≤ length slots.now.trail }
-    requires within { Within (length slots.now.types) (drop mark slots.now.trail) }
-    requires below { IsTrue alive → AreBelow slots.now.types (laid (drop mark slots.now.trail) slots.now.types) }
-    requires kept { Kept best (laid (drop mark slots.now.trail) slots.now.types) }
-    ensures kept { IfOk result (λ new. Kept new (laid (drop mark slots.now.trail) slots.now.types)) }
-    ensures value { let begin = laid (drop mark slots.now.trail) slots.now.types in IfOk result (λ new. joined environments (best_of best begin) (answer alive slots.now.types) ≡ best_of new begin) }
+    checkpoint: usize,
+) -> Result<Option<List<TrailEntry>>, Memory>
+    requires checkpoint { checkpoint ≤ length slots.now.trail }
+    requires within { Within (length slots.now.types) (drop checkpoint slots.now.trail) }
+    requires below { IsTrue alive → AreBelow slots.now.types (laid (drop checkpoint slots.now.trail) slots.now.types) }
+    requires kept { Kept best (laid (drop checkpoint slots.now.trail) slots.now.types) }
+    ensures kept { IfOk result (λ new. Kept new (laid (drop checkpoint slots.now.trail) slots.now.types)) }
+    ensures value { let begin = laid (drop checkpoint slots.now.trail) slots.now.types in IfOk result (λ new. joined environments (best_of best begin) (answer alive slots.now.types) ≡ best_of new begin) }
 {
     type_facts();
     if !alive {
@@ -68,20 +73,21 @@ pub fn gather(
     }
     match best {
         None => {
-            let first = lowered(alloc, slots, &slots.trail.as_slice()[mark..])?;
+            let first = lowered(alloc, slots, &slots.trail.as_slice()[checkpoint..])?;
             Ok(Some(first))
         }
         Some(lows) => {
             let higher = raised(alloc, slots, lows.as_slice())?;
-            discard_formers(lows);
+            discard_trail_entries(lows);
             Ok(Some(higher))
         }
     }
 }
 
-// Puts a smaller type into a slot. The trail tells what was there, unless nothing changes.
-fn write(slots: &mut Slots, slot: Slot, ty: Ty) -> Result<(), Memory>
-    requires place { slot < length slots.old.types }
+/// Puts a smaller type into a slot. The trail tells what was there, unless nothing changes. If
+/// allocation fails, the array's contents are unspecified.
+pub fn write(slots: &mut Slots, slot: Slot, ty: Ty) -> Result<(), Memory>
+    requires position { slot < length slots.old.types }
     requires below { Below ty (type_at slots.old.types slot) }
     ensures value { IfOk result (λ _. slots.new.types ≡ set slots.old.types slot ty) }
     ensures trailed { IfOk result (λ _. Trailed slots.old slots.new) }
@@ -92,17 +98,17 @@ fn write(slots: &mut Slots, slot: Slot, ty: Ty) -> Result<(), Memory>
         return Ok(());
     }
     let former = slots.types.replace(slot as usize, ty);
-    match slots.trail.push(Former { slot, ty: former }) {
+    match slots.trail.push(TrailEntry { slot, ty: former }) {
         Ok(()) => Ok(()),
         Err((entry, Memory)) => {
-            discard_former(entry);
+            discard_trail_entry(entry);
             Err(Memory)
         }
     }
 }
 
 // Lays the entries onto the array, the last first.
-fn lay_each(mut lows: List<Former>, slots: &mut Slots) -> Result<(), Memory>
+fn apply_each(mut lows: List<TrailEntry>, slots: &mut Slots) -> Result<(), Memory>
     requires { KeptLows lows slots.old.types }
     ensures value { IfOk result (λ _. slots.new.types ≡ laid lows slots.old.types) }
     ensures trailed { IfOk result (λ _. Trailed slots.old slots.new) }
@@ -114,8 +120,8 @@ fn lay_each(mut lows: List<Former>, slots: &mut Slots) -> Result<(), Memory>
 }
 
 /// Lays the join of the alternatives onto the array, and says whether there was a solution. If
-/// allocation fails, the array is given up.
-pub fn lay(best: Option<List<Former>>, slots: &mut Slots) -> Result<bool, Memory>
+/// allocation fails, the array's contents are unspecified.
+pub fn apply_join(best: Option<List<TrailEntry>>, slots: &mut Slots) -> Result<bool, Memory>
     requires { Kept best slots.old.types }
     ensures value { IfOk result (λ alive. best_of best slots.old.types ≡ answer alive slots.new.types) }
     ensures trailed { IfOk result (λ _. Trailed slots.old slots.new) }
@@ -123,7 +129,7 @@ pub fn lay(best: Option<List<Former>>, slots: &mut Slots) -> Result<bool, Memory
     match best {
         None => Ok(false),
         Some(lows) => {
-            lay_each(lows, slots)?;
+            apply_each(lows, slots)?;
             Ok(true)
         }
     }

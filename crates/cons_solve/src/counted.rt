@@ -7,13 +7,13 @@ ghost use Rattle.cons_solve.specs.Environments.{solution};
 
 use crate::index::index_of;
 use crate::laws::environment_laws;
-use crate::queue::{all_calm, next, rouse_all, wake};
+use crate::queue::Queue;
 use crate::solving::solve_slots;
 use cons_tree::{Constraint, Slots, frame_law, type_facts};
 use std::alloc::Global;
 use std::marker::Model;
 use std::sync::ledger::{Blank, Book, Ledger, Share};
-use type_kinds::{List, Memory};
+use type_kinds::Memory;
 
 /// How many turns were made. It takes no bytes, only `tick` changes it, and contracts alone see it.
 #[derive(Drop)]
@@ -100,27 +100,18 @@ fn count_work<L: Ledger>(
     type_facts();
     frame_law();
     let index = index_of(alloc, members)?;
-    let mut flags = all_calm(alloc, members.len())?;
-    let mut queue = List::new(alloc);
-    rouse_all(members, &mut flags, &mut queue)?;
+    let mut queue = Queue::all(alloc, members)?;
     'turns: loop {
-        let Some(at) = next(&flags, &mut queue) else {
+        let Some(at) = queue.next()? else {
             return Ok(true);
         };
-        flags.replace(at, false);
-        let mark = slots.trail.len();
+        let checkpoint = slots.trail.len();
         let alive = solve_slots(alloc, &members[at], slots, visits)?;
         if !alive {
             steps.tick();
             return Ok(false);
         }
-        steps.tick_where(slots.trail.len() > mark);
-        wake(
-            at,
-            &index,
-            &slots.trail.as_slice()[mark..],
-            &mut flags,
-            &mut queue,
-        )?;
+        steps.tick_where(slots.trail.len() > checkpoint);
+        queue.wake(members, at, &index, &slots.trail.as_slice()[checkpoint..])?;
     }
 }

@@ -3,17 +3,17 @@ ghost use Rattle.std.specs.Prelude.{◌≡◌, ◌∷◌, [], ℕ, List, cond, n
 ghost use Rattle.cons_tree.specs.Constraints.{constraint, constraints};
 ghost use Rattle.cons_tree.specs.Frames.{IsNone, slots_of};
 ghost use Rattle.cons_solve.specs.Frames.{Free, FreeEach};
-ghost use Rattle.cons_solve.specs.steps.Places.{here, Covers, Grown};
+ghost use Rattle.cons_solve.specs.steps.Positions.{here, Covers, Grown};
 
 use cons_tree::{Constraint, Part, Slot};
 use indexmap::IndexMap;
 use std::alloc::{AllocFailed, Global};
 use type_kinds::{List, Memory};
 
-// Gives up what an index handed back.
+// Drops what an index returned.
 fn discard_failed(_failed: AllocFailed<(Slot, List<usize>)>) {}
 
-// Puts the members at a slot, and hands back those that were there.
+// Puts the members at a slot, and returns those that were there.
 fn set(
     alloc: Global,
     index: &mut IndexMap<Slot, List<usize>>,
@@ -33,7 +33,7 @@ fn set(
     }
 }
 
-// Gives members up.
+// Drops members.
 fn discard(_members: List<usize>) {}
 
 // Enters a member at a slot.

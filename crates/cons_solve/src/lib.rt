@@ -5,6 +5,7 @@ mod alternatives;
 mod counted;
 mod index;
 mod laws;
+mod plan;
 mod queue;
 mod solutions;
 mod solving;

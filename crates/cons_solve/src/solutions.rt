@@ -22,7 +22,7 @@ fn any_none(types: &[Ty]) -> bool
     types.iter().any(|ty| ty.is_none())
 }
 
-// Gives types up.
+// Drops types.
 fn discard_types(_types: List<Ty>) {}
 
 // The array of an environment, and nothing for Bottom.

@@ -1,5 +1,5 @@
 -- What tables of callees answer after one was set.
-use Rattle.std.proofs.Common.{◌≡◌, ℕ, Bool, true, false, cond, List, [], Option, Some, None, refl, sym, ap, ◌∙◌, subst}
+use Rattle.std.proofs.Common.{◌≡◌, Bool, true, false, cond, List, [], Option, Some, None, refl, sym, ap, ◌∙◌, subst}
 use Rattle.std.specs.Prelude.{unwrap_or, Result, Ok, Err, OnOk, OnErr}
 use Rattle.std.specs.Map.{lookup}
 use Rattle.type_kinds.specs.declared.atom.Atom.{Atom}
@@ -62,9 +62,6 @@ pub found_nowhere : (tables : Tables) (h : Atom) (f : FunName) (c : Callee) → 
 unfolding found
 found_nowhere tables h f c u e = u ∙ ap (λ o. callee_in (unwrap_or o ([], Unknown)) f) e
 
-pub unknown_fits : (c : Callee) (n : ℕ) → c ≡ Unknown → Fits c n
-unknown_fits c n e = subst (λ d. Fits d n) (sym e) tt
-
 -- the table of a module was replaced by one in which a callee was set
 module _ (old new : Tables) (home : Atom) (name : FunName) (callee : Callee) (w : HomeCallees)
     (put : (q : Atom) → lookup (same_home q) new ≡ cond (same_home home q) (Some w) (lookup (same_home q) old))
@@ -93,7 +90,7 @@ module _ (old new : Tables) (home : Atom) (name : FunName) (callee : Callee) (w 
       by true e = set f ∙ inside (same_name name f) refl (sym (home_is home h e))
       by false e = refl
 
--- the table that a module had, and what a table of one callee is in place of none
+-- the table that a module had, and what a table of one callee is in position of none
 pub had : (old : Tables) (home : Atom) (v w : HomeCallees) (name : FunName) (callee : Callee) → Some v ≡ lookup (same_home home) old → ((f : FunName) → callee_in w f ≡ cond (same_name name f) callee (callee_in v f)) → (f : FunName) → callee_in w f ≡ cond (same_name name f) callee (callee_in (callees_of old home) f)
 had old home v w name callee e h f = h f ∙ ap (λ o. cond (same_name name f) callee (callee_in (unwrap_or o ([], Unknown)) f)) e
 

@@ -1,7 +1,8 @@
 -- What second tables of callees answer, which are filled from the last entry to the first.
-use Rattle.std.proofs.Common.{◌≡◌, ℕ, zero, suc, ◌<◌, ◌≤◌, Bool, true, false, cond, List, [], ◌∷◌, length, drop, slice_get, None, Some, refl, sym, ap, ◌∙◌, drop_of_length-le, arith}
+use Rattle.std.proofs.Common.{◌≡◌, ℕ, zero, suc, ◌<◌, ◌≤◌, Bool, true, false, cond, List, [], ◌∷◌, length, drop, slice_get, Some, refl, sym, ap, ◌∙◌, drop_of_length-le, arith}
 use Rattle.std.specs.Prelude.{unwrap_or}
 use Rattle.std.specs.Map.{lookup}
+use Rattle.type_kinds.proofs.Truths.{same_tests}
 use Rattle.type_kinds.specs.declared.atom.Atom.{Atom}
 use Rattle.core_ast.specs.declared.syntax.FunName.{FunName}
 use Rattle.cons_tree.specs.Callees.{same_home, same_name, callee_in, callees_of, found, HomeCallees, Tables}
@@ -12,7 +13,7 @@ use Rattle.cons_tree.proofs.NameLaws.{home_is, home_itself, name_is, name_itself
 
 -- ---- lists
 
--- the entry at a place, with what is left from there on
+-- the entry at a position, with what is left from there on
 pub record Opened {E : Type 0} (es : List E) (i : ℕ) : Type 0 where
   pub entry : E
   pub here : slice_get es i ≡ Some entry
@@ -24,27 +25,16 @@ opened (e ∷ es) zero h = record { entry = e; here = refl; left = refl }
 opened (e ∷ es) (suc i) h =
     let o = opened es i (omega (arith, h)) in record { entry = o.entry; here = o.here; left = o.left }
 
-pub some_is : {E : Type 0} (x y : E) → Some x ≡ Some y → x ≡ y
-some_is x y e = cc
-
-pub none_some : {E : Type 0} (x : E) → None ≡ Some x → ⊥
-none_some x e = cc
-
 -- ---- equality of names, either way
-
-same_either : (a b : Bool) → (a ≡ true → b ≡ true) → (b ≡ true → a ≡ true) → a ≡ b
-same_either true b f g = sym (f refl)
-same_either false true f g = g refl
-same_either false false f g = refl
 
 name_either : (f g : FunName) → same_name f g ≡ same_name g f
 name_either f g =
-    same_either (same_name f g) (same_name g f) (λ e. ap (λ k. same_name g k) (name_is f g e) ∙ name_itself g)
+    same_tests (same_name f g) (same_name g f) (λ e. ap (λ k. same_name g k) (name_is f g e) ∙ name_itself g)
     (λ e. ap (λ k. same_name f k) (name_is g f e) ∙ name_itself f)
 
 home_either : (h k : Atom) → same_home h k ≡ same_home k h
 home_either h k =
-    same_either (same_home h k) (same_home k h) (λ e. ap (λ x. same_home k x) (home_is h k e) ∙ home_itself k)
+    same_tests (same_home h k) (same_home k h) (λ e. ap (λ x. same_home k x) (home_is h k e) ∙ home_itself k)
     (λ e. ap (λ x. same_home h x) (home_is k h e) ∙ home_itself h)
 
 -- ---- one module

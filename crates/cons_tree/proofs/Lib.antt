@@ -1,5 +1,5 @@
 mod CalleeLaws
-mod Copied
+pub mod Copied
 mod CopyLaws
 mod FrameLaws
 mod LoopLaws
@@ -12,3 +12,4 @@ mod StepLaws
 pub mod TrailLaws
 pub mod TreeLaws
 mod SameEntries
+pub mod SlotLaws

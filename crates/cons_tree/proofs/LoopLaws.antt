@@ -1,14 +1,14 @@
 -- What a loop over slots has done and what is left of it.
-use Rattle.std.proofs.Common.{◌≡◌, ℕ, zero, suc, ◌+◌, ◌<◌, ◌≤◌, Bool, true, false, List, [], ◌∷◌, ◌++◌, length, get_or, set, take, drop, map, Some, None, refl, sym, ap, ◌∙◌, arith, add-one, drop-cons, min, inl, inr}
-use Rattle.std.specs.Prelude.{◌||◌, ◌&&◌}
-use Rattle.std.specs.List.{list_any, list_all}
+use Rattle.std.proofs.Common.{◌≡◌, ℕ, zero, suc, ◌+◌, ◌<◌, ◌≤◌, Bool, true, List, [], ◌∷◌, ◌++◌, length, get_or, set, take, drop, map, Some, None, refl, sym, ap, ◌∙◌, arith, add-one, min, inl, inr}
+use Rattle.std.specs.Prelude.{◌||◌}
+use Rattle.std.specs.List.{list_any}
 use Rattle.std.proofs.lemmas.Bool.{cases_lt}
-use Rattle.std.proofs.lemmas.List.{drop_all}
+use Rattle.std.proofs.lemmas.List.{drop_all, drop_more}
 use Rattle.type_lattice.specs.Types.{Type4, any, none, project}
 use Rattle.cons_tree.specs.Environments.{Types, type_at, on_types, lowered}
 use Rattle.cons_tree.specs.Narrowing.{each_typed, each_projected}
 
--- the types with none in the first so many places
+-- the types with none in the first i positions
 abbrev pub emptied : ℕ → Types → Types
 emptied zero xs = xs
 emptied (suc i) [] = []
@@ -37,22 +37,8 @@ types_more f (w ∷ ws) zero h = refl
 types_more f (w ∷ ws) (suc i) h =
     ap (λ n. map f (take n (w ∷ ws))) (add-one (suc i)) ∙ ap (λ l. f w ∷ l) (sym (ap (λ n. map f (take n ws)) (add-one i)) ∙ types_more f ws i (omega (arith, h)))
 
-pub all_mapped : (p : Type4 → Bool) (f : ℕ → Type4) (ws : List ℕ) → list_all (λ w. p (f w)) ws ≡ list_all p (map f ws)
-all_mapped p f [] = refl
-all_mapped p f (w ∷ ws) = ap (λ b. p (f w) && b) (all_mapped p f ws)
-
--- the rest of a list, opened
-rest : {A : Type 0} (l : List A) (i : ℕ) (d : A) → i < length l → drop i l ≡ get_or l i d ∷ drop (i + 1) l
-rest l i d h = drop-cons l i d h ∙ ap (λ n. get_or l i d ∷ drop n l) (sym (add-one i))
-
 pub any_found : (p : Type4 → Bool) (f : ℕ → Type4) (ws : List ℕ) (i : ℕ) → i < length ws → p (f (get_or ws i 0)) ≡ true → list_any p (map f (drop i ws)) ≡ true
-any_found p f ws i h e = ap (λ l. list_any p (map f l)) (rest ws i 0 h) ∙ ap (λ b. b || list_any p (map f (drop (i + 1) ws))) e
-
-pub any_passed : (p : Type4 → Bool) (f : ℕ → Type4) (ws : List ℕ) (i : ℕ) → i < length ws → p (f (get_or ws i 0)) ≡ false → list_any p (map f (drop i ws)) ≡ list_any p (map f (drop (i + 1) ws))
-any_passed p f ws i h e = ap (λ l. list_any p (map f l)) (rest ws i 0 h) ∙ ap (λ b. b || list_any p (map f (drop (i + 1) ws))) e
-
-pub any_end : (p : Type4 → Bool) (f : ℕ → Type4) (ws : List ℕ) (i : ℕ) → length ws ≤ i → list_any p (map f (drop i ws)) ≡ false
-any_end p f ws i h = ap (λ l. list_any p (map f l)) (drop_all i ws h)
+any_found p f ws i h e = ap (λ l. list_any p (map f l)) (drop_more ws i 0 h) ∙ ap (λ b. b || list_any p (map f (drop (i + 1) ws))) e
 
 -- an item, whatever stands past the end
 pub got : {A : Type 0} (l : List A) (i : ℕ) (x d : A) → i < length l → x ≡ get_or l i x → x ≡ get_or l i d
@@ -64,7 +50,7 @@ got (y ∷ l) (suc i) x d h e = got l i x d (omega (arith, h)) e
 
 typed_open : (vs : List ℕ) (ts : Types) (i : ℕ) (xs : Types) → i < length vs → i < length ts → each_typed (drop i vs) (drop i ts) xs ≡ on_types (lowered xs (get_or vs i 0) (get_or ts i any)) (each_typed (drop (i + 1) vs) (drop (i + 1) ts))
 unfolding each_typed
-typed_open vs ts i xs h k = λ j. each_typed (rest vs i 0 h j) (rest ts i any k j) xs
+typed_open vs ts i xs h k = λ j. each_typed (drop_more vs i 0 h j) (drop_more ts i any k j) xs
 
 pub typed_stops : (vs : List ℕ) (ts : Types) (i : ℕ) (t : Type4) (xs : Types) → i < length vs → i < length ts → t ≡ get_or ts i any → lowered xs (get_or vs i 0) t ≡ None → each_typed (drop i vs) (drop i ts) xs ≡ None
 typed_stops vs ts i t xs h k e n =
@@ -95,12 +81,12 @@ typed_end vs ts i xs h = elim (cases_lt i (length vs)) [
   | inr l ↦ typed_slots_end vs ts i xs l
 ]
 
--- ---- each slot with what stands at its place
+-- ---- each slot with what stands at its position
 
 projected_open : (v n : ℕ) (ws : List ℕ) (i : ℕ) (xs : Types) → i < length ws → each_projected v n (i + 1) (drop i ws) xs ≡ on_types (lowered xs (get_or ws i 0) (project (type_at xs v) n (i + 1))) (each_projected v n (i + 1 + 1) (drop (i + 1) ws))
 unfolding each_projected
 projected_open v n ws i xs h =
-    ap (λ l. each_projected v n (i + 1) l xs) (rest ws i 0 h) ∙ ap (λ m. on_types (lowered xs (get_or ws i 0) (project (type_at xs v) n (i + 1))) (each_projected v n m (drop (i + 1) ws))) (sym (add-one (i + 1)))
+    ap (λ l. each_projected v n (i + 1) l xs) (drop_more ws i 0 h) ∙ ap (λ m. on_types (lowered xs (get_or ws i 0) (project (type_at xs v) n (i + 1))) (each_projected v n m (drop (i + 1) ws))) (sym (add-one (i + 1)))
 
 pub projected_stops : (v n : ℕ) (ws : List ℕ) (i : ℕ) (t : Type4) (xs : Types) → i < length ws → t ≡ project (type_at xs v) n (i + 1) → lowered xs (get_or ws i 0) t ≡ None → each_projected v n (i + 1) (drop i ws) xs ≡ None
 projected_stops v n ws i t xs h e k =

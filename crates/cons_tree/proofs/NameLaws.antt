@@ -1,7 +1,7 @@
 -- Names that are found to be the same are equal, and equal names are found to be the same.
 use Rattle.std.proofs.Common.{◌≡◌, true, ◌&&◌, refl, ap, ◌∙◌, nat_eq, eqb-true, eq-eqb}
 use Rattle.std.specs.Cmp.Lexicographic.{pointwise, bytes_decides}
-use Rattle.type_sets.proofs.Truths.{first, second}
+use Rattle.type_kinds.proofs.Truths.{first, second}
 use Rattle.type_kinds.specs.declared.atom.Atom.{Atom}
 use Rattle.core_ast.specs.declared.syntax.FunName.{FunName}
 use Rattle.cons_tree.specs.Callees.{same_home, same_name}

@@ -2,35 +2,26 @@
 use Rattle.std.proofs.Common.{◌≡◌, ℕ, ℤ, pos, suc, Bool, true, false, not, cond, ◌&&◌, List, [], ◌∷◌, Some, refl, sym, ap, ◌∙◌, subst, arith, inl, inr, ◌⊎◌, true≢false}
 use Rattle.std.specs.Prelude.{◌||◌, codes}
 use Rattle.std.specs.List.{list_any, list_all}
-use Rattle.std.proofs.lemmas.Bool.{le-leb}
-use Rattle.type_sets.specs.Names as names
-use Rattle.type_sets.specs.Names.{Name, Names}
-use Rattle.type_sets.specs.Numbers as numbers
-use Rattle.type_sets.specs.Numbers.{Numbers}
-use Rattle.type_sets.specs.declared.ends.Low.TheVariants.{Min, Zero}
-use Rattle.type_sets.specs.declared.ends.High.TheVariants.{Max}
-use Rattle.type_sets.proofs.NameLaws.{has-one}
-use Rattle.type_sets.proofs.NumberLaws.{not_listed}
-use Rattle.type_sets.proofs.Truths.{first, second}
-use Rattle.type_model.specs.Parts.{value_at}
-use Rattle.type_model.specs.Values.{Value, Values, no_value, and_value, int, atom, float, tuple as tuple_value}
+use Rattle.std.proofs.lemmas.Bool.{le-leb, or_right, not-true, or_left}
+use Rattle.type_kinds.proofs.Truths.{first, second}
+use Rattle.type_kinds_sets.specs.Names as names
+use Rattle.type_kinds_sets.specs.Names.{Name, Names}
+use Rattle.type_kinds_sets.specs.Numbers as numbers
+use Rattle.type_kinds_sets.specs.Numbers.{Numbers}
+use Rattle.type_kinds_sets.specs.declared.ends.Low.TheVariants.{Min, Zero}
+use Rattle.type_kinds_sets.specs.declared.ends.High.TheVariants.{Max}
+use Rattle.type_kinds_sets.proofs.NameLaws.{has-one}
+use Rattle.type_kinds_sets.proofs.NumberLaws.{not_listed}
+use Rattle.type_lattice_model.specs.Parts.{value_at}
+use Rattle.type_lattice_model.specs.Values.{Value, Values, no_value, and_value, int, atom, float, tuple as tuple_value}
 use Rattle.type_lattice.specs.Types.{Type4, HasType, HasTypes, Below, AreBelow, none, is_none, meet}
 use Rattle.type_lattice.specs.Inclusion.{leq}
 use Rattle.type_lattice.specs.Elements.{ints_of}
 use Rattle.type_lattice.specs.Kinds.{HasAtom}
 use Rattle.cons_tree.specs.Facts.{TypeFacts}
-use Rattle.cons_tree.specs.Named.{integers, naturals, floats, just_true, just_false, truths, has_integer, has_float, where_so, arithmetic, absolute, places, selected, tested, tested_some, same_values, other_values}
+use Rattle.cons_tree.specs.Named.{integers, naturals, floats, just_true, just_false, truths, has_integer, has_float, where_so, arithmetic, absolute, positions, selected, tested, tested_some, same_values, other_values}
 use Rattle.cons_tree.specs.Satisfied.{IsInteger, IsNatural, IsFloat, AreIntegers, HaveFloat, true_value, false_value, Tells, Denies}
 use Rattle.cons_tree.proofs.StepLaws.{none_under, not_none}
-
-not_true : (b : Bool) → not b ≡ true → b ≡ false
-not_true true h = absurd (true≢false (sym h))
-not_true false h = refl
-
--- which of two an answer is
-told : (b : Bool) → (b ≡ true) ⊎ (b ≡ false)
-told true = inl refl
-told false = inr refl
 
 -- ---- tests of all types and of some
 
@@ -41,21 +32,14 @@ all_grows p grows (s ∷ ss) [] h e = absurd h
 all_grows p grows (s ∷ ss) (t ∷ ts) h e =
     ap (λ b. b && list_all p ts) (grows s t h.0 (first (p s) (list_all p ss) e)) ∙ all_grows p grows ss ts h.1 (second (p s) (list_all p ss) e)
 
-any_first : (b c : Bool) → b ≡ true → (b || c) ≡ true
-any_first b c e = ap (λ x. x || c) e
-
-any_second : (b c : Bool) → c ≡ true → (b || c) ≡ true
-any_second true c e = refl
-any_second false c e = e
-
 any_grows : (p : Type4 → Bool) → ((s t : Type4) → Below s t → p s ≡ true → p t ≡ true) → (ss ts : List Type4) → AreBelow ss ts → list_any p ss ≡ true → list_any p ts ≡ true
 any_grows p grows [] ts h e = absurd (true≢false (sym e))
 any_grows p grows (s ∷ ss) [] h e = absurd h
 any_grows p grows (s ∷ ss) (t ∷ ts) h e = by (p s) refl e (λ i. any_grows p grows ss ts h.1 i)
   where
     by : (b : Bool) → p s ≡ b → (b || list_any p ss) ≡ true → (list_any p ss ≡ true → list_any p ts ≡ true) → (p t || list_any p ts) ≡ true
-    by true k i more = any_first (p t) (list_any p ts) (grows s t h.0 k)
-    by false k i more = any_second (p t) (list_any p ts) (more i)
+    by true k i more = or_left (p t) (list_any p ts) (grows s t h.0 k)
+    by false k i more = or_right (p t) (list_any p ts) (more i)
 
 module _ (F : TypeFacts) where
   where_grows : (b c : Bool) (s t : Type4) → (b ≡ true → c ≡ true) → Below s t → Below (where_so b s) (where_so c t)
@@ -79,7 +63,7 @@ module _ (F : TypeFacts) where
   some_int : (t : Type4) → has_integer t ≡ true → (n : ℤ) × HasType (int n) t
   unfolding has_integer
   some_int t e =
-      let it = F.some_number (ints_of t) (not_true (numbers.is_none (ints_of t)) e) in
+      let it = F.some_number (ints_of t) (not-true (numbers.is_none (ints_of t)) e) in
       (it.0, (F.ints_are t it.0).1 it.1)
 
   integer_grows : (s t : Type4) → Below s t → has_integer s ≡ true → has_integer t ≡ true
@@ -90,7 +74,7 @@ module _ (F : TypeFacts) where
   float_grows s t h e = by (is_none (meet t floats)) refl
     where
       by : (b : Bool) → is_none (meet t floats) ≡ b → not b ≡ true
-      by true k = absurd (true≢false (sym (none_under F (meet s floats) (meet t floats) (F.meet_grows s floats t floats h (λ v i. i)) k) ∙ not_true (is_none (meet s floats)) e))
+      by true k = absurd (true≢false (sym (none_under F (meet s floats) (meet t floats) (F.meet_grows s floats t floats h (λ v i. i)) k) ∙ not-true (is_none (meet s floats)) e))
       by false k = refl
 
   integer_in : (v : Value) → IsInteger v → HasType v integers
@@ -126,8 +110,8 @@ module _ (F : TypeFacts) where
   some_floats : (vs : Values) (ts : List Type4) → HasTypes vs ts → HaveFloat vs → list_any has_float ts ≡ true
   some_floats no_value ts h k = absurd k
   some_floats (and_value v vs) [] h k = absurd h
-  some_floats (and_value v vs) (t ∷ ts) h (inl k) = any_first (has_float t) (list_any has_float ts) (has_some_float t v k h.0)
-  some_floats (and_value v vs) (t ∷ ts) h (inr k) = any_second (has_float t) (list_any has_float ts) (some_floats vs ts h.1 k)
+  some_floats (and_value v vs) (t ∷ ts) h (inl k) = or_left (has_float t) (list_any has_float ts) (has_some_float t v k h.0)
+  some_floats (and_value v vs) (t ∷ ts) h (inr k) = or_right (has_float t) (list_any has_float ts) (some_floats vs ts h.1 k)
 
   pub arithmetic_grows : (ss ts : List Type4) → AreBelow ss ts → Below (arithmetic ss) (arithmetic ts)
   unfolding arithmetic
@@ -159,29 +143,29 @@ module _ (F : TypeFacts) where
 
   -- ---- elements
 
-  every_place : (n : ℤ) → numbers.has (numbers.range Min Max) n ≡ true
-  every_place n = ap (λ s. numbers.has s n) (numbers.range-yes Min Max refl)
+  every_position : (n : ℤ) → numbers.has (numbers.range Min Max) n ≡ true
+  every_position n = ap (λ s. numbers.has s n) (numbers.range-yes Min Max refl)
 
-  places_above : (s : Numbers) → numbers.Below s (places s)
-  places_above (numbers.some xs e) n h = h
-  places_above (numbers.between l g e) n h = every_place n
+  positions_above : (s : Numbers) → numbers.Below s (positions s)
+  positions_above (numbers.some xs e) n h = h
+  positions_above (numbers.between l g e) n h = every_position n
 
   -- no listed set contains an interval, since an interval has more than any list
-  places_grow : (s t : Numbers) → numbers.Below s t → numbers.Below (places s) (places t)
-  places_grow (numbers.some xs e) (numbers.some ys f) h = h
-  places_grow s (numbers.between m k f) h = λ n _. every_place n
-  places_grow (numbers.between l g e) (numbers.some ys f) h = absurd (not_listed l g e ys f h)
+  positions_grow : (s t : Numbers) → numbers.Below s t → numbers.Below (positions s) (positions t)
+  positions_grow (numbers.some xs e) (numbers.some ys f) h = h
+  positions_grow s (numbers.between m k f) h = λ n _. every_position n
+  positions_grow (numbers.between l g e) (numbers.some ys f) h = absurd (not_listed l g e ys f h)
 
   ints_grow : (s t : Type4) → Below s t → numbers.Below (ints_of s) (ints_of t)
   ints_grow s t h n k = (F.ints_are t n).0 (h (int n) ((F.ints_are s n).1 k))
 
   pub selected_grows : (i t j u : Type4) → Below i j → Below t u → Below (selected i t) (selected j u)
   unfolding selected
-  selected_grows i t j u h k = F.elements_grow t u (places (ints_of i)) (places (ints_of j)) k (places_grow (ints_of i) (ints_of j) (ints_grow i j h))
+  selected_grows i t j u h k = F.elements_grow t u (positions (ints_of i)) (positions (ints_of j)) k (positions_grow (ints_of i) (ints_of j) (ints_grow i j h))
 
   pub selected_has : (i t : Type4) (n : ℕ) (es : Values) (v : Value) → HasType (int (pos (suc n))) i → HasType (tuple_value es) t → value_at es n ≡ Some v → HasType v (selected i t)
   unfolding selected
-  selected_has i t n es v h k e = F.elements_have t (places (ints_of i)) es n v k e (places_above (ints_of i) (pos (suc n)) ((F.ints_are i (pos (suc n))).0 h))
+  selected_has i t n es v h k e = F.elements_have t (positions (ints_of i)) es n v k e (positions_above (ints_of i) (pos (suc n)) ((F.ints_are i (pos (suc n))).0 h))
 
   -- ---- truth
 

@@ -1,5 +1,6 @@
 -- Narrowing by a part: the rows of the table keep what every step owes, and each assignment that satisfies the part.
 use Rattle.std.proofs.Common.{◌≡◌, ℕ, true, List, [], ◌∷◌, length, map, sym, ◌∙◌, subst, inl, inr, ◌⊎◌}
+use Rattle.cons_tree.proofs.SlotLaws.{at_below}
 use Rattle.type_lattice.specs.Types.{Type4, HasType, HasTypes, AreBelow, none, tuple, cons, elem, tail}
 use Rattle.cons_tree.specs.Environments.{Types, Assignment, type_at, LiesIn}
 use Rattle.cons_tree.specs.Facts.{TypeFacts}
@@ -10,7 +11,7 @@ use Rattle.cons_tree.specs.declared.parts.Part.{Part}
 use Rattle.cons_tree.specs.declared.parts.Part.TheVariants.{Bound, Equal, Tuple, Cons, Builtin, Call}
 use Rattle.cons_tree.specs.declared.parts.Transfer.{Transfer}
 use Rattle.cons_tree.specs.declared.parts.Transfer.TheVariants.{Plain, Arith, Abs, Head, Tail, Element, Test, TestSome, Same, Differ, Never}
-use Rattle.cons_tree.proofs.StepLaws.{IsLawful, Keeps, at_below, lawful_then, lawful_skip, lawful_where, lawful_meets, lawful_alike, lawful_typed, lawful_projected, keeps_then, keeps_where, keeps_meets, keeps_lowered, keeps_alike, keeps_typed, keeps_projected}
+use Rattle.cons_tree.proofs.StepLaws.{IsLawful, Keeps, lawful_then, lawful_skip, lawful_where, lawful_meets, lawful_alike, lawful_typed, lawful_projected, keeps_then, keeps_where, keeps_meets, keeps_lowered, keeps_alike, keeps_typed, keeps_projected}
 use Rattle.cons_tree.proofs.NamedLaws.{arithmetic_grows, arithmetic_has, absolute_grows, absolute_has, selected_grows, selected_has, only_true, only_false, tested_grows, tested_has, tested_some_grows, tested_some_has, same_grows, same_has, other_grows, other_has, differ}
 
 -- the types of some slots

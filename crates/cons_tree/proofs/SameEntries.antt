@@ -1,44 +1,32 @@
--- Lists that have the same item at every place are one.
-use Rattle.std.proofs.Common.{◌≡◌, ◌↔◌, ◌⊎◌, inl, inr, Bool, false, IsTrue, true≢false, ℕ, zero, suc, ◌+◌, ◌<◌, ◌≤◌, List, [], ◌∷◌, length, slice_get, Some, refl, sym, ap, ◌∙◌, subst, arith}
-use Rattle.std.proofs.lemmas.Bool.{cases_lt}
-use Rattle.cons_tree.proofs.CopyLaws.{some_is, none_some}
+-- Lists that have the same item at every position are one.
+use Rattle.std.proofs.Common.{◌≡◌, ◌↔◌, Bool, false, IsTrue, true≢false, ℕ, zero, suc, ◌<◌, ◌≤◌, List, [], ◌∷◌, length, slice_get, Some, refl, sym, ap, ◌∙◌, arith}
+use Rattle.std.proofs.lemmas.Option.{same_Some, none-some}
 
--- the lists have the same item at each place below this one, or neither has one there
+-- the lists have the same item at each position below this one, or neither has one there
 abbrev pub SameBelow : {X : Type 0} → List X → List X → ℕ → Type 0
 SameBelow xs ys n = (i : ℕ) → i < n → slice_get xs i ≡ slice_get ys i
 
-pub none_yet : {X : Type 0} (xs ys : List X) → SameBelow xs ys 0
-none_yet xs ys i less = absurd (omega (arith, less))
-
-pub one_further : {X : Type 0} (xs ys : List X) (n : ℕ) → SameBelow xs ys n → slice_get xs n ≡ slice_get ys n → SameBelow xs ys (n + 1)
-one_further xs ys n below here i less = by (cases_lt i n)
-  where
-    by : (i < n) ⊎ (n ≤ i) → slice_get xs i ≡ slice_get ys i
-    by (inl smaller) = below i smaller
-    by (inr larger) =
-        let is : n ≡ i = omega (arith, less, larger) in subst (λ k. slice_get xs k ≡ slice_get ys k) is here
-
 pub same_everywhere : {X : Type 0} (xs ys : List X) (n : ℕ) → length xs ≤ n → length ys ≤ n → SameBelow xs ys n → xs ≡ ys
 same_everywhere [] [] n long longer same = refl
-same_everywhere [] (y ∷ ys) n long longer same = absurd (none_some y (same 0 (omega (arith, longer))))
-same_everywhere (x ∷ xs) [] n long longer same = absurd (none_some x (sym (same 0 (omega (arith, long)))))
+same_everywhere [] (y ∷ ys) n long longer same = absurd (none-some y (same 0 (omega (arith, longer))))
+same_everywhere (x ∷ xs) [] n long longer same = absurd (none-some x (sym (same 0 (omega (arith, long)))))
 same_everywhere (x ∷ xs) (y ∷ ys) zero long longer same = absurd (omega (arith, long))
 same_everywhere (x ∷ xs) (y ∷ ys) (suc n) long longer same =
-    let head = some_is x y (same 0 (omega arith)) in
+    let head = same_Some x y (same 0 (omega arith)) in
     let tail = same_everywhere xs ys n (omega (arith, long)) (omega (arith, longer)) (λ i less. same (suc i) (omega (arith, less))) in
     λ i. head i ∷ tail i
 
--- ---- entries of two tables, at a place of both
+-- ---- entries of two tables, at a position of both
 
 module _ {K V : Type 0} (xs ys : List (K × V)) (at : ℕ) (k l : K) (v w : V) where
   there : slice_get xs at ≡ Some (k, v) → slice_get ys at ≡ Some (l, w) → k ≡ l → v ≡ w → slice_get xs at ≡ slice_get ys at
   there is js name value = is ∙ (λ i. Some (name i, value i)) ∙ sym js
 
   names_one : slice_get xs at ≡ Some (k, v) → slice_get ys at ≡ Some (l, w) → slice_get xs at ≡ slice_get ys at → k ≡ l
-  names_one is js same = ap (λ e. e.0) (some_is (k, v) (l, w) (sym is ∙ same ∙ js))
+  names_one is js same = ap (λ e. e.0) (same_Some (k, v) (l, w) (sym is ∙ same ∙ js))
 
   values_one : slice_get xs at ≡ Some (k, v) → slice_get ys at ≡ Some (l, w) → slice_get xs at ≡ slice_get ys at → v ≡ w
-  values_one is js same = ap (λ e. e.1) (some_is (k, v) (l, w) (sym is ∙ same ∙ js))
+  values_one is js same = ap (λ e. e.1) (same_Some (k, v) (l, w) (sym is ∙ same ∙ js))
 
   -- the names are one, and whether the entries are is what a test of their values answers
   pub values_tell : (r : Bool) → slice_get xs at ≡ Some (k, v) → slice_get ys at ≡ Some (l, w) → k ≡ l → (IsTrue r ↔ (v ≡ w)) → IsTrue r ↔ (slice_get xs at ≡ slice_get ys at)

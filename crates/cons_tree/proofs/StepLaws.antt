@@ -1,11 +1,14 @@
 -- How steps narrow: each is below where it began, is monotone, leaves no slot at none, and keeps assignments.
 use Rattle.std.proofs.Common.{◌≡◌, ℕ, zero, suc, ◌+◌, ◌≤◌, Bool, true, false, cond, List, [], ◌∷◌, length, set, slice_get, Some, None, refl, sym, ap, ◌∙◌, subst, arith, inl, inr, true≢false}
-use Rattle.std.specs.Prelude.{nat_lt, ◌-◌, ◌||◌}
+use Rattle.std.specs.Prelude.{nat_lt, ◌-◌}
 use Rattle.std.specs.List.{list_any}
-use Rattle.std.proofs.lemmas.Bool.{ltb-true, ltb-false, cases_eq}
+use Rattle.std.proofs.lemmas.Bool.{ltb-true, ltb-false, cases_eq, or_from}
 use Rattle.std.proofs.lemmas.List.{length-set, get_or-set_same, get_or-set_other, get_or_past}
-use Rattle.type_model.specs.Parts.{value_at}
-use Rattle.type_model.specs.Values.{Value, Values, count, tuple as tuple_value}
+use Rattle.cons_tree.proofs.SlotLaws.{at_below, set_grows}
+use Rattle.type_lattice.proofs.ListOrder.{are_self, are_through}
+use Rattle.type_kinds.proofs.Truths.{not_first, not_second}
+use Rattle.type_lattice_model.specs.Parts.{value_at}
+use Rattle.type_lattice_model.specs.Values.{Value, Values, count, tuple as tuple_value}
 use Rattle.type_lattice.specs.Types.{Type4, HasType, HasTypes, Below, AreBelow, none, any, is_none, meet, project}
 use Rattle.cons_tree.specs.Environments.{Types, State, Assignment, type_at, on_types, with_type, lowered, IsBelow, LiesIn, LiesInState}
 use Rattle.cons_tree.specs.Facts.{TypeFacts}
@@ -25,59 +28,22 @@ Keeps a f = (xs : Types) → LiesIn a xs → LiesInState a (f xs)
 
 -- ---- environments, slot by slot
 
-pub leq_self : (xs : Types) → AreBelow xs xs
-leq_self [] = tt
-leq_self (x ∷ xs) = ((λ v h. h), leq_self xs)
-
-pub leq_through : (xs ys zs : Types) → AreBelow xs ys → AreBelow ys zs → AreBelow xs zs
-leq_through [] [] [] h k = tt
-leq_through [] [] (z ∷ zs) h k = absurd k
-leq_through [] (y ∷ ys) zs h k = absurd h
-leq_through (x ∷ xs) [] zs h k = absurd h
-leq_through (x ∷ xs) (y ∷ ys) [] h k = absurd k
-leq_through (x ∷ xs) (y ∷ ys) (z ∷ zs) h k = ((λ v g. k.0 v (h.0 v g)), leq_through xs ys zs h.1 k.1)
-
-pub at_below : (xs ys : Types) (s : ℕ) → AreBelow xs ys → Below (type_at xs s) (type_at ys s)
-at_below [] [] s h = λ v k. k
-at_below [] (y ∷ ys) s h = absurd h
-at_below (x ∷ xs) [] s h = absurd h
-at_below (x ∷ xs) (y ∷ ys) zero h = h.0
-at_below (x ∷ xs) (y ∷ ys) (suc s) h = at_below xs ys s h.1
-
 set_below : (xs : Types) (s : ℕ) (t : Type4) → Below t (type_at xs s) → AreBelow (set xs s t) xs
 set_below [] s t h = tt
-set_below (x ∷ xs) zero t h = (h, leq_self xs)
+set_below (x ∷ xs) zero t h = (h, are_self xs)
 set_below (x ∷ xs) (suc s) t h = ((λ v k. k), set_below xs s t h)
-
-set_grows : (xs ys : Types) (s : ℕ) (t u : Type4) → AreBelow xs ys → Below t u → AreBelow (set xs s t) (set ys s u)
-set_grows [] [] s t u h k = tt
-set_grows [] (y ∷ ys) s t u h k = absurd h
-set_grows (x ∷ xs) [] s t u h k = absurd h
-set_grows (x ∷ xs) (y ∷ ys) zero t u h k = (k, h.1)
-set_grows (x ∷ xs) (y ∷ ys) (suc s) t u h k = (h.0, set_grows xs ys s t u h.1 k)
-
-or_first : (b c : Bool) → (b || c) ≡ false → b ≡ false
-or_first true c h = absurd (true≢false h)
-or_first false c h = refl
-
-or_second : (b c : Bool) → (b || c) ≡ false → c ≡ false
-or_second true c h = absurd (true≢false h)
-or_second false c h = h
-
-neither : (b c : Bool) → b ≡ false → c ≡ false → (b || c) ≡ false
-neither b c h k = ap (λ x. x || c) h ∙ k
 
 none_set : (xs : Types) (s : ℕ) (t : Type4) → list_any is_none xs ≡ false → is_none t ≡ false → list_any is_none (set xs s t) ≡ false
 none_set [] s t h k = refl
-none_set (x ∷ xs) zero t h k = neither (is_none t) (list_any is_none xs) k (or_second (is_none x) (list_any is_none xs) h)
+none_set (x ∷ xs) zero t h k = or_from (is_none t) (list_any is_none xs) k (not_second (is_none x) (list_any is_none xs) h)
 none_set (x ∷ xs) (suc s) t h k =
-    neither (is_none x) (list_any is_none (set xs s t)) (or_first (is_none x) (list_any is_none xs) h) (none_set xs s t (or_second (is_none x) (list_any is_none xs) h) k)
+    or_from (is_none x) (list_any is_none (set xs s t)) (not_first (is_none x) (list_any is_none xs) h) (none_set xs s t (not_second (is_none x) (list_any is_none xs) h) k)
 
 pub below_through : (r s t : State) → IsBelow r s → IsBelow s t → IsBelow r t
 below_through None s t h k = tt
 below_through (Some xs) None t h k = absurd h
 below_through (Some xs) (Some ys) None h k = k
-below_through (Some xs) (Some ys) (Some zs) h k = leq_through xs ys zs h k
+below_through (Some xs) (Some ys) (Some zs) h k = are_through xs ys zs h k
 
 -- ---- steps one after another
 
@@ -103,7 +69,7 @@ lawful_then f g h k = record {
 
 pub lawful_skip : IsLawful (λ xs. Some xs)
 lawful_skip = record {
-  sinks = leq_self;
+  sinks = are_self;
   grows = λ xs ys h. h;
   lives = λ xs ys h e. let same : xs ≡ ys = cc in subst (λ zs. has_none zs ≡ false) same h;
 }
@@ -117,7 +83,7 @@ lawful_where c f falls k = record {
   where
     sinking : (xs : Types) (b : Bool) → IsBelow (cond b (f xs) (Some xs)) (Some xs)
     sinking xs true = k.sinks xs
-    sinking xs false = leq_self xs
+    sinking xs false = are_self xs
 
     growing : (xs ys : Types) → AreBelow xs ys → (b d : Bool) → (d ≡ true → b ≡ true) → IsBelow (cond b (f xs) (Some xs)) (cond d (f ys) (Some ys))
     growing xs ys h true true i = k.grows xs ys h
@@ -252,7 +218,7 @@ module _ (F : TypeFacts) where
       (lawful_meets w (λ xs. project (type_at xs v) n i) (λ xs ys h. F.project_grows (type_at xs v) (type_at ys v) n i (at_below xs ys v h)))
       (lawful_projected v n (suc i) ws)
 
-  -- the slots stand from place j on in the tuple
+  -- the slots stand from position j on in the tuple
   abbrev Stand : Assignment → Values → ℕ → List ℕ → Type 0
   Stand a es j ws = (k w : ℕ) → slice_get ws k ≡ Some w → value_at es (j + k) ≡ Some (a w)
 

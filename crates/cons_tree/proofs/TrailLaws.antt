@@ -1,31 +1,29 @@
 -- Trails: what was added to one gives back what was there.
 use Rattle.std.proofs.Common.{◌≡◌, ℕ, zero, suc, ◌+◌, ◌<◌, ◌≤◌, Bool, true, false, cond, List, [], ◌∷◌, ◌++◌, length, set, take, drop, slice_get, Some, None, refl, sym, ap, ◌∙◌, subst, arith, append_assoc, length-append}
-use Rattle.std.specs.Prelude.{Result, Ok, Err, IfOk}
+use Rattle.std.specs.Prelude.{Result, Ok, Err, IfOk, not, ◌↔◌}
 use Rattle.std.proofs.lemmas.Option.{get_or_from_slice_get}
-use Rattle.std.proofs.lemmas.List.{length-set, set-set, set-get_or, set_past, append-nil, drop-append-le, take-append-le}
-use Rattle.type_lattice.specs.Types.{Type4, Below, any, is_none, meet}
+use Rattle.std.proofs.lemmas.List.{length-set, set-set, set-get_or, drop-append-le, take-append-le}
+use Rattle.type_lattice_model.specs.Values.{Value}
+use Rattle.type_lattice.specs.Types.{Type4, Below, HasType, any, is_none, meet}
 use Rattle.cons_tree.specs.Environments.{Types, State, type_at, on_types, with_type, lowered}
 use Rattle.cons_tree.specs.Trails.{answer, laid, Within, summed, Trailed}
-use Rattle.cons_tree.specs.declared.slots.Former.{Former}
+use Rattle.cons_tree.specs.declared.slots.TrailEntry.{TrailEntry}
 use Rattle.cons_tree.specs.declared.slots.Slots.{Slots}
 
-pub laid_append : (fs gs : List Former) (xs : Types) → laid (fs ++ gs) xs ≡ laid fs (laid gs xs)
+pub laid_append : (fs gs : List TrailEntry) (xs : Types) → laid (fs ++ gs) xs ≡ laid fs (laid gs xs)
 laid_append [] gs xs = refl
 laid_append (f ∷ fs) gs xs = ap (λ ys. set ys f.slot f.ty) (laid_append fs gs xs)
 
-pub laid_length : (fs : List Former) (xs : Types) → length (laid fs xs) ≡ length xs
+pub laid_length : (fs : List TrailEntry) (xs : Types) → length (laid fs xs) ≡ length xs
 laid_length [] xs = refl
 laid_length (f ∷ fs) xs = length-set (laid fs xs) f.slot f.ty ∙ laid_length fs xs
 
-within_append : (n : ℕ) (fs gs : List Former) → Within n fs → Within n gs → Within n (fs ++ gs)
+within_append : (n : ℕ) (fs gs : List TrailEntry) → Within n fs → Within n gs → Within n (fs ++ gs)
 within_append n [] gs h k = k
 within_append n (f ∷ fs) gs h k = (h.0, within_append n fs gs h.1 k)
 
 pub trailed_length : (old new : Slots) → Trailed old new → length new.types ≡ length old.types
 trailed_length old new t = sym (laid_length t.added new.types) ∙ ap length t.back
-
-pub trailed_none : (s : Slots) → Trailed s s
-trailed_none s = record { added = []; trail = sym (append-nil s.trail); back = refl; within = tt; paid = λ h f. omega arith }
 
 pub trailed_then : (r s t : Slots) → Trailed r s → Trailed s t → Trailed r t
 trailed_then r s t h k = record {
@@ -72,10 +70,6 @@ with_none xs s t h = ap (λ b. cond b None (Some (set xs s t))) h
 pub with_set : (xs ys : Types) (s : ℕ) (t : Type4) → is_none t ≡ false → ys ≡ set xs s t → with_type xs s t ≡ Some ys
 with_set xs ys s t h e = ap (λ b. cond b None (Some (set xs s t))) h ∙ ap Some (sym e)
 
--- a slot past the end, and one that has the type already
-pub with_past : (xs : Types) (s : ℕ) (t : Type4) → is_none t ≡ false → length xs ≤ s → with_type xs s t ≡ Some xs
-with_past xs s t h l = with_set xs xs s t h (sym (set_past xs s t l))
-
 pub with_same : (xs : Types) (s : ℕ) (t : Type4) → is_none t ≡ false → t ≡ type_at xs s → with_type xs s t ≡ Some xs
 with_same xs s t h e = with_set xs xs s t h (sym (ap (set xs s) e ∙ set-get_or xs s any))
 
@@ -111,31 +105,50 @@ unfolding lowered
 lowered_is (Ok a) xs ys s t u m is e h = ap (with_type xs s) (ap (λ v. meet v t) (sym is) ∙ sym e) ∙ h
 lowered_is (Err d) xs ys s t u m is e h = tt
 
+-- ---- a slot that is below the type already, and one that isn't
+
+module _ (same : (s t : Type4) → Below s t → Below t s → s ≡ t) (both : (s t : Type4) (v : Value) → HasType v (meet s t) ↔ (HasType v s × HasType v t)) where
+  meet_same : (s t : Type4) → Below s t → meet s t ≡ s
+  meet_same s t h = same (meet s t) s (λ v k. ((both s t v).0 k).0) (λ v k. (both s t v).1 (k, h v k))
+
+  -- nothing changes
+  pub stays : (xs : Types) (s : ℕ) (t : Type4) (b : Bool) → Below (type_at xs s) t → b ≡ not (is_none (type_at xs s)) → lowered xs s t ≡ answer b xs
+  unfolding lowered
+  stays xs s t b h e = ap (with_type xs s) (meet_same (type_at xs s) t h) ∙ by (is_none (type_at xs s)) refl ∙ ap (λ a. answer a xs) (sym e)
+    where
+      by : (n : Bool) → is_none (type_at xs s) ≡ n → with_type xs s (type_at xs s) ≡ answer (not (is_none (type_at xs s))) xs
+      by true q = with_none xs s (type_at xs s) q ∙ sym (ap (λ a. answer (not a) xs) q)
+      by false q = with_same xs s (type_at xs s) q refl ∙ sym (ap (λ a. answer (not a) xs) q)
+
+  -- the meet is smaller
+  pub meet_smaller : (xs : Types) (s : ℕ) (u t m : Type4) → u ≡ type_at xs s → m ≡ meet u t → (Below u t → ⊥) → Below (type_at xs s) m → ⊥
+  meet_smaller xs s u t m is e n h = n (λ v k. ((both u t v).0 (subst (HasType v) e (h v (subst (HasType v) is k)))).1)
+
 -- ---- going back by one entry
 
-pub within_parts : (n : ℕ) (fs : List Former) (f : Former) → Within n (fs ++ f ∷ []) → Within n fs × (f.slot < n)
+pub within_parts : (n : ℕ) (fs : List TrailEntry) (f : TrailEntry) → Within n (fs ++ f ∷ []) → Within n fs × (f.slot < n)
 within_parts n [] f h = (tt, h.0)
 within_parts n (g ∷ fs) f h = let p = within_parts n fs f h.1 in ((h.0, p.0), p.1)
 
-split_last : (m : ℕ) (old new : List Former) (f : Former) → old ≡ new ++ f ∷ [] → m < length old → drop m old ≡ drop m new ++ f ∷ []
+split_last : (m : ℕ) (old new : List TrailEntry) (f : TrailEntry) → old ≡ new ++ f ∷ [] → m < length old → drop m old ≡ drop m new ++ f ∷ []
 split_last m old new f e h =
     let l = length-append new (f ∷ []) in
     let n : length old ≡ length (new ++ f ∷ []) = ap length e in
     ap (drop m) e ∙ drop-append-le m new (f ∷ []) (omega (arith, h, l, n))
 
-pub last_within : (n m : ℕ) (old new : List Former) (f : Former) → old ≡ new ++ f ∷ [] → m < length old → Within n (drop m old) → Within n (drop m new) × (f.slot < n)
+pub last_within : (n m : ℕ) (old new : List TrailEntry) (f : TrailEntry) → old ≡ new ++ f ∷ [] → m < length old → Within n (drop m old) → Within n (drop m new) × (f.slot < n)
 last_within n m old new f e h w = within_parts n (drop m new) f (subst (Within n) (split_last m old new f e h) w)
 
-pub last_low : (m : ℕ) (old new : List Former) (f : Former) → old ≡ new ++ f ∷ [] → m < length old → m ≤ length new
+pub last_low : (m : ℕ) (old new : List TrailEntry) (f : TrailEntry) → old ≡ new ++ f ∷ [] → m < length old → m ≤ length new
 last_low m old new f e h =
     let l = length-append new (f ∷ []) in
     let n : length old ≡ length (new ++ f ∷ []) = ap length e in
     omega (arith, h, l, n)
 
-pub last_front : (m : ℕ) (old new : List Former) (f : Former) → old ≡ new ++ f ∷ [] → m < length old → take m new ≡ take m old
+pub last_front : (m : ℕ) (old new : List TrailEntry) (f : TrailEntry) → old ≡ new ++ f ∷ [] → m < length old → take m new ≡ take m old
 last_front m old new f e h =
     sym (ap (take m) e ∙ take-append-le m new (f ∷ []) (last_low m old new f e h))
 
-pub last_back : (m : ℕ) (old new : List Former) (f : Former) (xs ys : Types) → old ≡ new ++ f ∷ [] → m < length old → ys ≡ set xs f.slot f.ty → laid (drop m new) ys ≡ laid (drop m old) xs
+pub last_back : (m : ℕ) (old new : List TrailEntry) (f : TrailEntry) (xs ys : Types) → old ≡ new ++ f ∷ [] → m < length old → ys ≡ set xs f.slot f.ty → laid (drop m new) ys ≡ laid (drop m old) xs
 last_back m old new f xs ys e h g =
     ap (laid (drop m new)) g ∙ sym (ap (λ l. laid l xs) (split_last m old new f e h) ∙ laid_append (drop m new) (f ∷ []) xs)

@@ -35,13 +35,20 @@ callees_of tables h = unwrap_or (lookup (same_home h) tables) ([], Unknown)
 unfoldable pub found : Tables → Atom → FunName → Callee
 found tables h f = callee_in (callees_of tables h) f
 
--- the signatures of a summary have so many arguments
+-- the signatures of a summary have n arguments
 abbrev pub Takes : Summary → ℕ → Type 0
 Takes s n = (length s.strict.args ≡ n) × (length s.lenient.args ≡ n)
 
--- a callee under a name of so many arguments: its signatures have as many
+-- a callee under a name of n arguments: its signatures have as many
 abbrev pub Fits : Callee → ℕ → Type 0
 Fits (Known s) n = Takes s n
 Fits (Local s) n = Takes s n
 Fits Undefined n = Unit {0}
 Fits Unknown n = Unit {0}
+
+-- What a call from another module can tell of a function: one that its module doesn't export is to it as one that isn't there.
+abbrev pub as_called : Callee → Callee
+as_called (Known s) = Known s
+as_called (Local s) = Undefined
+as_called Undefined = Undefined
+as_called Unknown = Unknown

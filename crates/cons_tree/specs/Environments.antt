@@ -1,6 +1,6 @@
 -- Environments: a type for each slot, or Bottom. Which values they let into the slots, and how one slot is narrowed.
 use Rattle.std.specs.Prelude.{ℕ, cond, List, Option, Some, None, get_or, set}
-use Rattle.type_model.specs.Values.{Value}
+use Rattle.type_lattice_model.specs.Values.{Value}
 use Rattle.type_lattice.specs.Types.{Type4, HasType, AreBelow, any, is_none, meet}
 use Rattle.cons_tree.specs.Signatures.{has_none}
 use Rattle.cons_tree.specs.declared.parts.Env.{Env}
@@ -23,7 +23,7 @@ abbrev pub on_types : State → (Types → State) → State
 on_types None f = None
 on_types (Some xs) f = f xs
 
--- what a caller hands over: with a slot at none it is Bottom
+-- what a caller passes: with a slot at none it is Bottom
 abbrev pub state_of : Env → State
 state_of (env.Types xs) = cond (has_none xs) None (Some xs)
 state_of env.Bottom = None

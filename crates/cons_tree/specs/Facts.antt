@@ -1,10 +1,10 @@
--- What narrowing rests on: facts of types, each of which is a clause of a law of `type_lattice` or of `type_sets`.
+-- What narrowing rests on: facts of types, each of which is a clause of a law of `type_lattice` or of `type_kinds_sets`.
 use Rattle.std.specs.Prelude.{◌≡◌, ◌-◌, ◌↔◌, ℕ, ℤ, pos, suc, Bool, true, false, List, Some, IsTrue}
-use Rattle.type_sets.specs.Names.{Names}
-use Rattle.type_sets.specs.Numbers as numbers
-use Rattle.type_sets.specs.Numbers.{Numbers}
-use Rattle.type_model.specs.Parts.{value_at}
-use Rattle.type_model.specs.Values.{Value, Values, count, int, cons as cons_value, tuple as tuple_value}
+use Rattle.type_kinds_sets.specs.Names.{Names}
+use Rattle.type_kinds_sets.specs.Numbers as numbers
+use Rattle.type_kinds_sets.specs.Numbers.{Numbers}
+use Rattle.type_lattice_model.specs.Parts.{value_at}
+use Rattle.type_lattice_model.specs.Values.{Value, Values, count, int, cons as cons_value, tuple as tuple_value}
 use Rattle.type_lattice.specs.Elements.{ints_of, elements_at}
 use Rattle.type_lattice.specs.Inclusion.{leq}
 use Rattle.type_lattice.specs.Kinds.{HasAtom, HasInt, IsKind, of_kind}

@@ -1,11 +1,11 @@
 -- The types that the table of narrowing names, and the types that it makes of those of the arguments.
 use Rattle.std.specs.Prelude.{Bool, not, cond, List, [], ◌∷◌, codes}
 use Rattle.std.specs.List.{list_any, list_all}
-use Rattle.type_sets.specs.Names as names
-use Rattle.type_sets.specs.Numbers as numbers
-use Rattle.type_sets.specs.Numbers.{Numbers}
-use Rattle.type_sets.specs.declared.ends.Low.TheVariants.{Min, Zero}
-use Rattle.type_sets.specs.declared.ends.High.TheVariants.{Max}
+use Rattle.type_kinds_sets.specs.Names as names
+use Rattle.type_kinds_sets.specs.Numbers as numbers
+use Rattle.type_kinds_sets.specs.Numbers.{Numbers}
+use Rattle.type_kinds_sets.specs.declared.ends.Low.TheVariants.{Min, Zero}
+use Rattle.type_kinds_sets.specs.declared.ends.High.TheVariants.{Max}
 use Rattle.type_lattice.specs.Types.{Type4, none, is_none, meet, join, of_atoms, of_ints}
 use Rattle.type_lattice.specs.Inclusion.{leq}
 use Rattle.type_lattice.specs.Elements.{ints_of, elements_at}
@@ -51,17 +51,17 @@ arithmetic ts = join (where_so (list_all has_integer ts) integers) (where_so (li
 unfoldable pub absolute : Type4 → Type4
 absolute t = join (where_so (has_integer t) naturals) (where_so (has_float t) floats)
 
--- the places that a set of integers says: those of a list, and all where it is an interval
-abbrev pub places : Numbers → Numbers
-places (numbers.some xs e) = numbers.some xs e
-places (numbers.between l h e) = numbers.range Min Max
+-- the positions that a set of integers says: those of a list, and all where it is an interval
+abbrev pub positions : Numbers → Numbers
+positions (numbers.some xs e) = numbers.some xs e
+positions (numbers.between l h e) = numbers.range Min Max
 
--- the elements of the tuples of the second type at the places that the first one says
+-- the elements of the tuples of the second type at the positions that the first one says
 unfoldable pub selected : Type4 → Type4 → Type4
-selected i t = elements_at t (places (ints_of i))
+selected i t = elements_at t (positions (ints_of i))
 
 -- whether a value of the second type is of the first: no where they have no value in common, yes where the second is below
--- the first, and else either. Of no value there is no answer
+-- the first, and else either. For no value there is no answer
 unfoldable pub tested : Type4 → Type4 → Type4
 tested t a = cond (is_none a) none (cond (is_none (meet a t)) just_false (cond (leq a t) just_true truths))
 

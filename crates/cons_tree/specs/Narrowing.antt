@@ -34,7 +34,7 @@ each_typed [] ts xs = Some xs
 each_typed (v ∷ vs) [] xs = Some xs
 each_typed (v ∷ vs) (t ∷ ts) xs = on_types (lowered xs v t) (each_typed vs ts)
 
--- each slot with what stands at its place in the tuples of n elements of v; the first of these slots is at place i
+-- each slot with what stands at its position in the tuples of n elements of v; the first of these slots is at position i
 unfoldable pub each_projected : ℕ → ℕ → ℕ → List ℕ → Types → State
 each_projected v n i [] xs = Some xs
 each_projected v n i (w ∷ ws) xs = on_types (lowered xs w (project (type_at xs v) n i)) (each_projected v n (suc i) ws)

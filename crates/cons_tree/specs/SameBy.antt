@@ -1,11 +1,12 @@
 -- Whether two values of data are the same, for every type that has a code.
-use Rattle.std.specs.Prelude.{◌≡◌, ◌↔◌, Bool, true, ◌&&◌, IsTrue, refl}
-use Rattle.std.proofs.Common.{sym, ap, ◌∙◌, subst, true≢false}
+use Rattle.std.specs.Prelude.{◌≡◌, ◌↔◌, Bool, true, IsTrue, refl}
+use Rattle.std.proofs.Common.{sym, ap, subst, true≢false}
 use Rattle.std.specs.Cmp.{IsEquivalence, IsPartialEquivalence, both_ways, decided, partial_equiv_from_equiv}
 use Rattle.std.specs.Coded.{Coded}
+use Rattle.std.proofs.lemmas.Bool.{and_from}
+use Rattle.type_kinds.proofs.Truths.{first, second}
 use borrow.Author.Tests.{eqb-true, eq-eqb}
 use base.Stored.{Gv, gnil, gnum, gcons}
-use Rattle.type_sets.proofs.Truths.{both, first, second}
 use Rattle.type_lattice.specs.Inclusion.{is_same_code}
 
 one_code : (g h : Gv) → is_same_code g h ≡ true → g ≡ h
@@ -27,7 +28,7 @@ code_itself : (g : Gv) → is_same_code g g ≡ true
 unfolding is_same_code
 code_itself gnil = refl
 code_itself (gnum n) = eq-eqb n n refl
-code_itself (gcons a b) = both (is_same_code a a) (is_same_code b b) (code_itself a) (code_itself b)
+code_itself (gcons a b) = and_from (is_same_code a a) (is_same_code b b) (code_itself a) (code_itself b)
 
 module _ {A : Type 0} (c : Coded A) where
   -- whether two values are the same: no two values have one code

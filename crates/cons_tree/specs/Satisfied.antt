@@ -1,7 +1,7 @@
 -- What a constraint says of values: which assignments of values to slots satisfy it.
 use Rattle.std.specs.Prelude.{◌≡◌, ℕ, suc, ℤ, pos, ◌⊎◌, List, [], ◌∷◌, Some, codes}
-use Rattle.type_model.specs.Values.{Value, int, float, atom, cons, tuple, Values, no_value, and_value}
-use Rattle.type_model.specs.Parts.{value_at}
+use Rattle.type_lattice_model.specs.Values.{Value, int, float, atom, cons, tuple, Values, no_value, and_value}
+use Rattle.type_lattice_model.specs.Parts.{value_at}
 use Rattle.type_lattice.specs.Types.{HasType, HasTypes}
 use Rattle.cons_tree.specs.Environments.{Assignment}
 use Rattle.cons_tree.specs.Constraints.{Cons, ConsList, only, all_of, any_of, no_cons, and_cons}

@@ -2,7 +2,7 @@
 use Rattle.std.specs.Prelude.{◌≡◌, ℕ, ◌+◌, ◌<◌, ◌≤◌, Bool, cond, List, [], ◌∷◌, ◌++◌, Some, None, length, set}
 use Rattle.type_lattice.specs.Types.{Type4, Below}
 use Rattle.cons_tree.specs.Environments.{Types, State}
-use Rattle.cons_tree.specs.declared.slots.Former.{Former}
+use Rattle.cons_tree.specs.declared.slots.TrailEntry.{TrailEntry}
 use Rattle.cons_tree.specs.declared.slots.Slots.{Slots}
 
 -- what a call on the array says: whether an environment is left, and then it is the array
@@ -10,12 +10,12 @@ abbrev pub answer : Bool → Types → State
 answer alive xs = cond alive (Some xs) None
 
 -- the array with what a trail says of its slots; of several entries for a slot the first one counts, which is the oldest
-abbrev pub laid : List Former → Types → Types
+abbrev pub laid : List TrailEntry → Types → Types
 laid [] xs = xs
 laid (f ∷ fs) xs = set (laid fs xs) f.slot f.ty
 
 -- the entries speak of slots of the array
-abbrev pub Within : ℕ → List Former → Type 0
+abbrev pub Within : ℕ → List TrailEntry → Type 0
 Within n [] = Unit {0}
 Within n (f ∷ fs) = (f.slot < n) × Within n fs
 
@@ -30,7 +30,7 @@ summed h (x ∷ xs) = h x + summed h xs
 -- An array was lowered: what was added to its trail gives back what it was, and by each measure that falls it lost one for
 -- each entry at least.
 pub record Trailed (old new : Slots) : Type 0 where
-  pub added : List Former
+  pub added : List TrailEntry
   pub trail : new.trail ≡ old.trail ++ added
   pub back : laid added new.types ≡ old.types
   pub within : Within (length new.types) added

@@ -9,11 +9,11 @@ ghost use Rattle.cons_tree.specs.Narrowing.{narrowed};
 ghost use Rattle.cons_tree.specs.Satisfied.{SatPart};
 ghost use Rattle.cons_tree.specs.Signatures.{has_none};
 
+use type_kinds_sets::int_set_laws;
 use type_lattice::{
     cons_laws, decision_laws, element_laws, list_laws, maker_laws, monotone_laws, project_laws,
     tuple_laws, type_laws,
 };
-use type_sets::int_set_laws;
 
 /// What is known of types, in one record, so that lemmas on constraints can take it.
 pub fn type_facts()

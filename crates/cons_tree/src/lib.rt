@@ -17,5 +17,5 @@ pub use copies::copy_types;
 pub use laws::{frame_law, narrowing_laws, type_facts};
 pub use narrowing::narrow;
 pub use parts::{Callee, Constraint, Env, Part, Sig, Slot, Summary, Transfer};
-pub use slots::{Former, Slots, discard_slots};
+pub use slots::{Slots, TrailEntry, discard_slots};
 pub use summaries::Summaries;

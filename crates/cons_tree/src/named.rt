@@ -1,14 +1,14 @@
 //! The types that the table of narrowing names, and those that it makes of the arguments' types.
 ghost use Rattle.std.specs.Prelude.{◌≡◌, ◌∷◌, ◌<◌, ◌^◌, [], IfOk, length, not};
 ghost use Rattle.type_lattice.specs.Types.{is_none, meet, join, of_atoms};
-ghost use Rattle.type_sets.specs.Names.{listed};
-ghost use Rattle.cons_tree.specs.Named.{integers, naturals, floats, just_true, just_false, truths, has_integer, has_float, where_so, absolute, places, selected, tested, tested_some, same_values, other_values};
+ghost use Rattle.type_kinds_sets.specs.Names.{listed};
+ghost use Rattle.cons_tree.specs.Named.{integers, naturals, floats, just_true, just_false, truths, has_integer, has_float, where_so, absolute, positions, selected, tested, tested_some, same_values, other_values};
 
 use crate::signatures::discard;
 use std::alloc::Global;
 use type_kinds::{Atom, Memory};
+use type_kinds_sets::{AtomSet, High, IntSet, Low};
 use type_lattice::{Kind, Ty};
-use type_sets::{AtomSet, High, IntSet, Low};
 
 // The type of one atom.
 fn atom_type(alloc: Global, bytes: &[u8]) -> Result<Ty, Memory>
@@ -118,9 +118,9 @@ pub fn absolute_type(alloc: Global, ty: &Ty) -> Result<Ty, Memory>
     number_type(alloc, natural_type(), holds_integer(ty), some_float)
 }
 
-// The places that a set of integers says: those of a list, and all where it is an interval.
-fn places_of(set: &IntSet) -> IntSet
-    ensures { result ≡ places set.now }
+// The positions that a set of integers says: those of a list, and all where it is an interval.
+fn positions_of(set: &IntSet) -> IntSet
+    ensures { result ≡ positions set.now }
 {
     match set.ends() {
         Some(_) => IntSet::range(Low::Min, High::Max),
@@ -128,13 +128,13 @@ fn places_of(set: &IntSet) -> IntSet
     }
 }
 
-/// The elements of the tuples of the second type at the places that the first one says.
+/// The elements of the tuples of the second type at the positions that the first one says.
 #[tactic(auto, unfolding(crate::specs::Named::selected))]
-pub fn selected_type(alloc: Global, place: &Ty, tuples: &Ty) -> Result<Ty, Memory>
-    ensures { IfOk result (λ t. t ≡ selected place.now tuples.now) }
+pub fn selected_type(alloc: Global, position: &Ty, tuples: &Ty) -> Result<Ty, Memory>
+    ensures { IfOk result (λ t. t ≡ selected position.now tuples.now) }
 {
-    let places = places_of(&place.integers());
-    tuples.elements_at(alloc, &places)
+    let positions = positions_of(&position.integers());
+    tuples.elements_at(alloc, &positions)
 }
 
 /// Whether two types have a value in common.

@@ -33,7 +33,7 @@ impl Slots {
         Ok(true)
     }
 
-    // Narrows each slot by what stands at its place in the tuples of as many elements. `Memory`
+    // Narrows each slot by what stands at its position in the tuples of as many elements. `Memory`
     // comes for 2^32 slots or more, too.
     fn lower_elements(&mut self, alloc: Global, tuple: Slot, slots: &[Slot]) -> Result<bool, Memory>
         ensures value { IfOk result (λ alive. each_projected tuple (length slots.now) 1 slots.now self.old.types ≡ answer alive self.new.types) }
@@ -86,7 +86,7 @@ impl Slots {
     }
 
     /// Narrows the array by a part, and says whether an environment is left. The trail tells what
-    /// each slot was that changed. If allocation fails, the array is given up. `Memory` comes for
+    /// each slot was that changed. If allocation fails, the array's contents are unspecified. `Memory` comes for
     /// a tuple of 2^32 slots or more, too.
     pub fn narrow(&mut self, alloc: Global, part: &Part) -> Result<bool, Memory>
         ensures value { IfOk result (λ alive. narrowed part.now self.old.types ≡ answer alive self.new.types) }

@@ -5,7 +5,7 @@ ghost use Rattle.cons_tree.specs.Signatures.{agree};
 use type_kinds::List;
 use type_lattice::Ty;
 
-/// The number of a slot: a place of an environment, which has a type.
+/// The number of a slot: a position of an environment, which has a type.
 pub type Slot = u64;
 
 /// The types of a function's arguments and of its result. None of them is none, or all are.
@@ -51,7 +51,7 @@ pub enum Transfer {
     Head,
     /// The tail of the first argument.
     Tail,
-    /// The element of the second argument at the place that the first one says.
+    /// The element of the second argument at the position that the first one says.
     Element,
     /// Whether the first argument is of this type.
     Test(Ty),

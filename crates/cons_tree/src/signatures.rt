@@ -7,7 +7,7 @@ use crate::parts::Sig;
 use type_kinds::List;
 use type_lattice::{Ty, decision_laws};
 
-/// Gives a type up.
+/// Drops a type.
 pub fn discard(_ty: Ty) {}
 
 /// Whether one of the types is none.

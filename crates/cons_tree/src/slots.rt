@@ -1,4 +1,4 @@
-//! An array of types that is narrowed in place, and the trail that tells what it was.
+//! An array of types that is narrowed in position, and the trail that tells what it was.
 ghost use Rattle.std.specs.Prelude.{◌≡◌};
 ghost use Rattle.type_lattice.specs.Types.{any as any_type, type_code};
 ghost use Rattle.std.specs.Coded.{Coded-set};
@@ -10,7 +10,7 @@ use type_lattice::Ty;
 
 /// A slot, with a type that it had.
 #[derive(Drop)]
-pub struct Former {
+pub struct TrailEntry {
     pub slot: Slot,
     pub ty: Ty,
 }
@@ -20,19 +20,19 @@ pub struct Former {
 #[derive(Drop)]
 pub struct Slots {
     pub types: List<Ty>,
-    pub trail: List<Former>,
+    pub trail: List<TrailEntry>,
     // what a slot past the end may have
     every: Ty,
     ghost is_every: { every ≡ any_type } by { Coded-set type_code every any_type },
 }
 
-// Gives an entry up.
-fn discard_former(_former: Former) {}
+// Drops an entry.
+fn discard_trail_entry(_entry: TrailEntry) {}
 
-// Gives a trail up.
-fn discard_trail(_trail: List<Former>) {}
+// Drops a trail.
+fn discard_trail(_trail: List<TrailEntry>) {}
 
-/// Gives an array up.
+/// Drops an array.
 pub fn discard_slots(_slots: Slots) {}
 
 mod lowering;

@@ -39,7 +39,7 @@ impl Model for CalleeTable {
     ghost invariant = { λ table. ((f : FunName) → Fits (callee_in (table.callees.entries, table.rest) f) f.arity) × ((n : ℕ) → Fits table.rest n) };
 }
 
-// Each gives up what a table handed back.
+// Each drops what a table returned.
 fn discard_callee(_callee: Callee) {}
 
 fn discard_before(_before: Option<Callee>) {}
@@ -95,7 +95,7 @@ impl CalleeTable {
         }
     }
 
-    // Puts a callee under its name, in place of one that is there. If allocation fails all is as
+    // Puts a callee under its name, in position of one that is there. If allocation fails all is as
     // before.
     fn set(&mut self, name: FunName, callee: Callee) -> Result<(), Memory>
         requires { Fits callee name.arity }
@@ -114,7 +114,7 @@ impl CalleeTable {
         }
     }
 
-    // Sets what the entry at a place of another table says.
+    // Sets what the entry at a position of another table says.
     fn set_entry(&mut self, alloc: Global, table: &CalleeTable, at: usize) -> Result<(), Memory>
         ensures { OnOk result ((e : FunName × Callee) → slice_get (table.now).0 at ≡ Some e → (f : FunName) → callee_in self.new f ≡ cond (same_name e.0 f) e.1 (callee_in self.old f)) }
     {
@@ -201,7 +201,7 @@ impl Summaries {
         }
     }
 
-    /// Sets the callee under a module and a name, in place of one that is there. If allocation fails
+    /// Sets the callee under a module and a name, in position of one that is there. If allocation fails
     /// all is as before.
     pub fn set(&mut self, home: &Atom, name: &FunName, callee: Callee) -> Result<(), Memory>
         requires { Fits callee name.now.arity }
@@ -258,7 +258,7 @@ impl Summaries {
         }
     }
 
-    // Adds a second table of the module at a place of other summaries.
+    // Adds a second table of the module at a position of other summaries.
     fn add_entry(&mut self, from: &Summaries, at: usize) -> Result<(), Memory>
         ensures { OnOk result ((e : Atom × HomeCallees) → slice_get from.now at ≡ Some e → (h : Atom) (f : FunName) → found self.new h f ≡ cond (same_home e.0 h) (callee_in e.1 f) (found self.old h f)) }
     {

@@ -66,7 +66,7 @@ impl Slots {
     }
 
     /// Narrows by a transfer the slot of the value and those of the arguments, and says whether an
-    /// environment is left. If allocation fails, the array is given up.
+    /// environment is left. If allocation fails, the array's contents are unspecified.
     pub fn transfer(
         &mut self,
         alloc: Global,
@@ -139,10 +139,10 @@ impl Slots {
         ensures value { IfOk result (λ alive. transferred transfer.Element value args.now self.old.types ≡ answer alive self.new.types) }
         ensures trailed { IfOk result (λ _. Trailed self.old self.new) }
     {
-        let [place, tuple, ..] = args else {
+        let [position, tuple, ..] = args else {
             return Ok(true);
         };
-        let gives = selected_type(alloc, self.at(*place), self.at(*tuple))?;
+        let gives = selected_type(alloc, self.at(*position), self.at(*tuple))?;
         self.lower_to(alloc, value, gives)
     }
 

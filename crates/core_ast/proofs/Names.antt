@@ -1,7 +1,6 @@
 -- The names that an expression may be.
 use Rattle.std.proofs.Common.{◌≡◌, None, Some, refl, ap, ◌∙◌}
 use Rattle.type_kinds.specs.declared.atom.Atom.{Atom}
-use Rattle.core_ast.specs.declared.syntax.Mark.{Mark}
 use Rattle.core_ast.specs.declared.syntax.FunName.{FunName}
 use Rattle.core_ast.specs.declared.syntax.Literal.{Literal}
 use Rattle.core_ast.specs.declared.syntax.Literal.TheVariants as l
@@ -11,15 +10,6 @@ use Rattle.core_ast.specs.Model as m
 use Rattle.core_ast.specs.Tree.{tree}
 use Rattle.core_ast.specs.Named.{literal_atom, local_name}
 use Rattle.core_ast.proofs.Forms.{local_tree, literal_tree, opened}
-
--- What an expression is that is a name.
-pub local_named : (t : m.Tree) (g : FunName) → local_name t ≡ Some g → (k : Mark) × (t ≡ m.local k g)
-local_named (m.local k h) g is = (k, let same : h ≡ g = cc in ap (m.local k) same)
-local_named t g is = absurd cc
-
-pub atom_named : (t : m.Tree) (a : Atom) → literal_atom t ≡ Some a → (k : Mark) × (t ≡ m.literal k (l.Atom a))
-atom_named (m.literal k (l.Atom b)) a is = (k, let same : b ≡ a = cc in ap (λ z. m.literal k (l.Atom z)) same)
-atom_named t a is = absurd cc
 
 -- each way out of the readers
 pub name_it : (e : Expr) (g : FunName) → e.form ≡ f.Local g → local_name (tree e) ≡ Some g

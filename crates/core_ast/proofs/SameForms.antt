@@ -1,5 +1,6 @@
 -- Equality of trees, with places or apart from them, form by form.
 use Rattle.std.proofs.Common.{◌≡◌, ◌↔◌, List, [], map, Bool, true, false, IsTrue, Option, Some, None, refl, sym, ap, ◌∙◌, true≢false}
+use Rattle.type_kinds.proofs.Truths.{refuted, granted}
 use Rattle.type_kinds.specs.declared.atom.Atom.{Atom}
 use Rattle.core_ast.specs.declared.syntax.Mark.{Mark}
 use Rattle.core_ast.specs.declared.syntax.VarName.{VarName}
@@ -27,7 +28,7 @@ use Rattle.core_ast.specs.Same.{Same}
 use Rattle.core_ast.specs.steps.Comparing.{compared_pair, compared_segment, compared_step, compared_clause, compared_def, compared_pat_pair, compared_pat_segment, SameTry, SameUpdated, IsComposed, IsControl}
 use Rattle.core_ast.proofs.Trees.{clause-is, pair-is, pat_pair-is, segment-is, pat_segment-is, tree-is, form_tree-out, pattern_tree-is, pat_form_tree-out}
 use Rattle.core_ast.proofs.Forms.{variable_tree, local_tree, external_tree, literal_tree, fun_tree, listed_tree, tuple_tree, new_map_tree, updated_map_tree, binary_tree, values_tree, chain_tree, case_tree, letrec_tree, apply_tree, call_tree, primop_tree, try_tree, receive_tree, catch_tree, binds_pattern, equals_pattern, list_of_pattern, tuple_of_pattern, map_of_pattern, binary_of_pattern, alias_pattern, opened, opened_pattern}
-use Rattle.core_ast.proofs.SameItems.{no_way, surely, fails}
+use Rattle.core_ast.proofs.SameItems.{fails}
 
 -- ---- answers put together
 
@@ -40,7 +41,7 @@ pub ends : {P W : Type 0} (r : Bool) → (IsTrue r ↔ P) → r ≡ false → (W
 ends r tells not one = (λ h. absurd (true≢false (sym h ∙ not)), λ w. tells.1 (one w))
 
 pub stops : {P W : Type 0} (r : Bool) → (IsTrue r ↔ P) → r ≡ false → (W → P) → IsTrue false ↔ W
-stops r tells not one = no_way (λ w. fails r not tells (one w))
+stops r tells not one = refuted (λ w. fails r not tells (one w))
 
 -- the same of values that are equal to these
 pub along : {X M : Type 0} (f : X → M) (x y u v : X) (r : Bool) → u ≡ x → v ≡ y → (IsTrue r ↔ (f u ≡ f v)) → IsTrue r ↔ (f x ≡ f y)
@@ -236,187 +237,187 @@ module _ (places : Bool) where
   -- ---- another form
 
   pub other_variable : (a b : Expr) (x : Atom) → a.form ≡ f.Var x → ((x : Atom) → b.form ≡ f.Var x → ⊥) → IsTrue false ↔ (compared places (tree a) ≡ compared places (tree b))
-  other_variable a b x is other = no_way (λ h. by (tree b) refl (sym h ∙ ap (compared places) (variable_tree a x is)))
+  other_variable a b x is other = refuted (λ h. by (tree b) refl (sym h ∙ ap (compared places) (variable_tree a x is)))
     where
       by : (t : m.Tree) → tree b ≡ t → compared places t ≡ m.variable (compared_mark places a.mark) (x) → ⊥
       by (m.variable k y) js w = let o = opened b (m.variable k y) js in other y o.0
       by t js w = cc
 
   pub other_local : (a b : Expr) (x : FunName) → a.form ≡ f.Local x → ((x : FunName) → b.form ≡ f.Local x → ⊥) → IsTrue false ↔ (compared places (tree a) ≡ compared places (tree b))
-  other_local a b x is other = no_way (λ h. by (tree b) refl (sym h ∙ ap (compared places) (local_tree a x is)))
+  other_local a b x is other = refuted (λ h. by (tree b) refl (sym h ∙ ap (compared places) (local_tree a x is)))
     where
       by : (t : m.Tree) → tree b ≡ t → compared places t ≡ m.local (compared_mark places a.mark) (x) → ⊥
       by (m.local k y) js w = let o = opened b (m.local k y) js in other y o.0
       by t js w = cc
 
   pub other_external : (a b : Expr) (x : Atom) (y : FunName) → a.form ≡ f.External x y → ((x : Atom) (y : FunName) → b.form ≡ f.External x y → ⊥) → IsTrue false ↔ (compared places (tree a) ≡ compared places (tree b))
-  other_external a b x y is other = no_way (λ h. by (tree b) refl (sym h ∙ ap (compared places) (external_tree a x y is)))
+  other_external a b x y is other = refuted (λ h. by (tree b) refl (sym h ∙ ap (compared places) (external_tree a x y is)))
     where
       by : (t : m.Tree) → tree b ≡ t → compared places t ≡ m.external (compared_mark places a.mark) (x) (y) → ⊥
       by (m.external k z w2) js w = let o = opened b (m.external k z w2) js in other z w2 o.0
       by t js w = cc
 
   pub other_literal : (a b : Expr) (x : Literal) → a.form ≡ f.Lit x → ((x : Literal) → b.form ≡ f.Lit x → ⊥) → IsTrue false ↔ (compared places (tree a) ≡ compared places (tree b))
-  other_literal a b x is other = no_way (λ h. by (tree b) refl (sym h ∙ ap (compared places) (literal_tree a x is)))
+  other_literal a b x is other = refuted (λ h. by (tree b) refl (sym h ∙ ap (compared places) (literal_tree a x is)))
     where
       by : (t : m.Tree) → tree b ≡ t → compared places t ≡ m.literal (compared_mark places a.mark) (x) → ⊥
       by (m.literal k y) js w = let o = opened b (m.literal k y) js in other y o.0
       by t js w = cc
 
   pub other_fun : (a b : Expr) (x : FunOf Expr) → a.form ≡ f.Fun x → ((x : FunOf Expr) → b.form ≡ f.Fun x → ⊥) → IsTrue false ↔ (compared places (tree a) ≡ compared places (tree b))
-  other_fun a b x is other = no_way (λ h. by (tree b) refl (sym h ∙ ap (compared places) (fun_tree a x is)))
+  other_fun a b x is other = refuted (λ h. by (tree b) refl (sym h ∙ ap (compared places) (fun_tree a x is)))
     where
       by : (t : m.Tree) → tree b ≡ t → compared places t ≡ m.function (compared_mark places a.mark) (map (compared_variable places) x.params) (compared places (tree x.body)) → ⊥
       by (m.function k vs y) js w = let o = opened b (m.function k vs y) js in other o.0 o.1
       by t js w = cc
 
   pub other_listed : (a b : Expr) (xs : List Expr) (x : Expr) → a.form ≡ f.Listed xs x → ((xs : List Expr) (x : Expr) → b.form ≡ f.Listed xs x → ⊥) → IsTrue false ↔ (compared places (tree a) ≡ compared places (tree b))
-  other_listed a b xs x is other = no_way (λ h. by (tree b) refl (sym h ∙ ap (compared places) (listed_tree a xs x is)))
+  other_listed a b xs x is other = refuted (λ h. by (tree b) refl (sym h ∙ ap (compared places) (listed_tree a xs x is)))
     where
       by : (t : m.Tree) → tree b ≡ t → compared places t ≡ m.listed (compared_mark places a.mark) (compared_all places (all_trees xs)) (compared places (tree x)) → ⊥
       by (m.listed k ys y) js w = let o = opened b (m.listed k ys y) js in other o.0 o.1 o.2
       by t js w = cc
 
   pub other_tuple : (a b : Expr) (xs : List Expr) → a.form ≡ f.Tuple xs → ((xs : List Expr) → b.form ≡ f.Tuple xs → ⊥) → IsTrue false ↔ (compared places (tree a) ≡ compared places (tree b))
-  other_tuple a b xs is other = no_way (λ h. by (tree b) refl (sym h ∙ ap (compared places) (tuple_tree a xs is)))
+  other_tuple a b xs is other = refuted (λ h. by (tree b) refl (sym h ∙ ap (compared places) (tuple_tree a xs is)))
     where
       by : (t : m.Tree) → tree b ≡ t → compared places t ≡ m.tuple (compared_mark places a.mark) (compared_all places (all_trees xs)) → ⊥
       by (m.tuple k ys) js w = let o = opened b (m.tuple k ys) js in other o.0 o.1
       by t js w = cc
 
   pub other_binary : (a b : Expr) (xs : List Segment) → a.form ≡ f.Binary xs → ((xs : List Segment) → b.form ≡ f.Binary xs → ⊥) → IsTrue false ↔ (compared places (tree a) ≡ compared places (tree b))
-  other_binary a b xs is other = no_way (λ h. by (tree b) refl (sym h ∙ ap (compared places) (binary_tree a xs is)))
+  other_binary a b xs is other = refuted (λ h. by (tree b) refl (sym h ∙ ap (compared places) (binary_tree a xs is)))
     where
       by : (t : m.Tree) → tree b ≡ t → compared places t ≡ m.binary (compared_mark places a.mark) (compared_segments places (all_segments xs)) → ⊥
       by (m.binary k ys) js w = let o = opened b (m.binary k ys) js in other o.0 o.1
       by t js w = cc
 
   pub other_values : (a b : Expr) (xs : List Expr) → a.form ≡ f.Values xs → ((xs : List Expr) → b.form ≡ f.Values xs → ⊥) → IsTrue false ↔ (compared places (tree a) ≡ compared places (tree b))
-  other_values a b xs is other = no_way (λ h. by (tree b) refl (sym h ∙ ap (compared places) (values_tree a xs is)))
+  other_values a b xs is other = refuted (λ h. by (tree b) refl (sym h ∙ ap (compared places) (values_tree a xs is)))
     where
       by : (t : m.Tree) → tree b ≡ t → compared places t ≡ m.values (compared_mark places a.mark) (compared_all places (all_trees xs)) → ⊥
       by (m.values k ys) js w = let o = opened b (m.values k ys) js in other o.0 o.1
       by t js w = cc
 
   pub other_chain : (a b : Expr) (xs : List (StepOf Expr)) (x : Expr) → a.form ≡ f.Chain xs x → ((xs : List (StepOf Expr)) (x : Expr) → b.form ≡ f.Chain xs x → ⊥) → IsTrue false ↔ (compared places (tree a) ≡ compared places (tree b))
-  other_chain a b xs x is other = no_way (λ h. by (tree b) refl (sym h ∙ ap (compared places) (chain_tree a xs x is)))
+  other_chain a b xs x is other = refuted (λ h. by (tree b) refl (sym h ∙ ap (compared places) (chain_tree a xs x is)))
     where
       by : (t : m.Tree) → tree b ≡ t → compared places t ≡ m.chain (compared_mark places a.mark) (compared_steps places (all_steps xs)) (compared places (tree x)) → ⊥
       by (m.chain k ys y) js w = let o = opened b (m.chain k ys y) js in other o.0 o.1 o.2
       by t js w = cc
 
   pub other_case : (a b : Expr) (x : Expr) (xs : List Clause) → a.form ≡ f.Case x xs → ((x : Expr) (xs : List Clause) → b.form ≡ f.Case x xs → ⊥) → IsTrue false ↔ (compared places (tree a) ≡ compared places (tree b))
-  other_case a b x xs is other = no_way (λ h. by (tree b) refl (sym h ∙ ap (compared places) (case_tree a x xs is)))
+  other_case a b x xs is other = refuted (λ h. by (tree b) refl (sym h ∙ ap (compared places) (case_tree a x xs is)))
     where
       by : (t : m.Tree) → tree b ≡ t → compared places t ≡ m.case (compared_mark places a.mark) (compared places (tree x)) (compared_clauses places (all_clauses xs)) → ⊥
       by (m.case k y ys) js w = let o = opened b (m.case k y ys) js in other o.0 o.1 o.2
       by t js w = cc
 
   pub other_letrec : (a b : Expr) (xs : List (FunDefOf Expr)) (x : Expr) → a.form ≡ f.Letrec xs x → ((xs : List (FunDefOf Expr)) (x : Expr) → b.form ≡ f.Letrec xs x → ⊥) → IsTrue false ↔ (compared places (tree a) ≡ compared places (tree b))
-  other_letrec a b xs x is other = no_way (λ h. by (tree b) refl (sym h ∙ ap (compared places) (letrec_tree a xs x is)))
+  other_letrec a b xs x is other = refuted (λ h. by (tree b) refl (sym h ∙ ap (compared places) (letrec_tree a xs x is)))
     where
       by : (t : m.Tree) → tree b ≡ t → compared places t ≡ m.letrec (compared_mark places a.mark) (compared_defs places (all_defs xs)) (compared places (tree x)) → ⊥
       by (m.letrec k ys y) js w = let o = opened b (m.letrec k ys y) js in other o.0 o.1 o.2
       by t js w = cc
 
   pub other_apply : (a b : Expr) (x : Expr) (xs : List Expr) → a.form ≡ f.Apply x xs → ((x : Expr) (xs : List Expr) → b.form ≡ f.Apply x xs → ⊥) → IsTrue false ↔ (compared places (tree a) ≡ compared places (tree b))
-  other_apply a b x xs is other = no_way (λ h. by (tree b) refl (sym h ∙ ap (compared places) (apply_tree a x xs is)))
+  other_apply a b x xs is other = refuted (λ h. by (tree b) refl (sym h ∙ ap (compared places) (apply_tree a x xs is)))
     where
       by : (t : m.Tree) → tree b ≡ t → compared places t ≡ m.apply (compared_mark places a.mark) (compared places (tree x)) (compared_all places (all_trees xs)) → ⊥
       by (m.apply k y ys) js w = let o = opened b (m.apply k y ys) js in other o.0 o.1 o.2
       by t js w = cc
 
   pub other_call : (a b : Expr) (h : Expr) (x : Expr) (xs : List Expr) → a.form ≡ f.Call h x xs → ((h : Expr) (x : Expr) (xs : List Expr) → b.form ≡ f.Call h x xs → ⊥) → IsTrue false ↔ (compared places (tree a) ≡ compared places (tree b))
-  other_call a b h x xs is other = no_way (λ e. by (tree b) refl (sym e ∙ ap (compared places) (call_tree a h x xs is)))
+  other_call a b h x xs is other = refuted (λ e. by (tree b) refl (sym e ∙ ap (compared places) (call_tree a h x xs is)))
     where
       by : (t : m.Tree) → tree b ≡ t → compared places t ≡ m.call (compared_mark places a.mark) (compared places (tree h)) (compared places (tree x)) (compared_all places (all_trees xs)) → ⊥
       by (m.call k g y ys) js w = let o = opened b (m.call k g y ys) js in other o.0 o.1 o.2 o.3
       by t js w = cc
 
   pub other_primop : (a b : Expr) (x : Atom) (xs : List Expr) → a.form ≡ f.Primop x xs → ((x : Atom) (xs : List Expr) → b.form ≡ f.Primop x xs → ⊥) → IsTrue false ↔ (compared places (tree a) ≡ compared places (tree b))
-  other_primop a b x xs is other = no_way (λ h. by (tree b) refl (sym h ∙ ap (compared places) (primop_tree a x xs is)))
+  other_primop a b x xs is other = refuted (λ h. by (tree b) refl (sym h ∙ ap (compared places) (primop_tree a x xs is)))
     where
       by : (t : m.Tree) → tree b ≡ t → compared places t ≡ m.primop (compared_mark places a.mark) (x) (compared_all places (all_trees xs)) → ⊥
       by (m.primop k y ys) js w = let o = opened b (m.primop k y ys) js in other y o.0 o.1
       by t js w = cc
 
   pub other_receive : (a b : Expr) (xs : List Clause) (t : Expr) (x : Expr) → a.form ≡ f.Receive xs t x → ((xs : List Clause) (t : Expr) (x : Expr) → b.form ≡ f.Receive xs t x → ⊥) → IsTrue false ↔ (compared places (tree a) ≡ compared places (tree b))
-  other_receive a b xs t x is other = no_way (λ h. by (tree b) refl (sym h ∙ ap (compared places) (receive_tree a xs t x is)))
+  other_receive a b xs t x is other = refuted (λ h. by (tree b) refl (sym h ∙ ap (compared places) (receive_tree a xs t x is)))
     where
       by : (z : m.Tree) → tree b ≡ z → compared places z ≡ m.receive (compared_mark places a.mark) (compared_clauses places (all_clauses xs)) (compared places (tree t)) (compared places (tree x)) → ⊥
       by (m.receive k ys u y) js w = let o = opened b (m.receive k ys u y) js in other o.0 o.1 o.2 o.3
       by t js w = cc
 
   pub other_catch : (a b : Expr) (x : Expr) → a.form ≡ f.Catch x → ((x : Expr) → b.form ≡ f.Catch x → ⊥) → IsTrue false ↔ (compared places (tree a) ≡ compared places (tree b))
-  other_catch a b x is other = no_way (λ h. by (tree b) refl (sym h ∙ ap (compared places) (catch_tree a x is)))
+  other_catch a b x is other = refuted (λ h. by (tree b) refl (sym h ∙ ap (compared places) (catch_tree a x is)))
     where
       by : (t : m.Tree) → tree b ≡ t → compared places t ≡ m.catch (compared_mark places a.mark) (compared places (tree x)) → ⊥
       by (m.catch k y) js w = let o = opened b (m.catch k y) js in other o.0 o.1
       by t js w = cc
 
   pub other_try : (a b : Expr) (x : TryOf Expr) → a.form ≡ f.Try x → ((x : TryOf Expr) → b.form ≡ f.Try x → ⊥) → IsTrue false ↔ (compared places (tree a) ≡ compared places (tree b))
-  other_try a b x is other = no_way (λ h. by (tree b) refl (sym h ∙ ap (compared places) (try_tree a x is)))
+  other_try a b x is other = refuted (λ h. by (tree b) refl (sym h ∙ ap (compared places) (try_tree a x is)))
     where
       by : (t : m.Tree) → tree b ≡ t → compared places t ≡ m.try (compared_mark places a.mark) (compared places (tree x.arg)) (map (compared_variable places) x.vars) (compared places (tree x.body)) (map (compared_variable places) x.catch_vars) (compared places (tree x.handler)) → ⊥
       by (m.try k t vs u us z) js w = let o = opened b (m.try k t vs u us z) js in other o.0 o.1
       by t js w = cc
 
   pub other_binds : (a b : Pattern) (x : Atom) → a.form ≡ p.Var x → ((x : Atom) → b.form ≡ p.Var x → ⊥) → IsTrue false ↔ (compared_pattern places (pattern_tree a) ≡ compared_pattern places (pattern_tree b))
-  other_binds a b x is other = no_way (λ h. by (pattern_tree b) refl (sym h ∙ ap (compared_pattern places) (binds_pattern a x is)))
+  other_binds a b x is other = refuted (λ h. by (pattern_tree b) refl (sym h ∙ ap (compared_pattern places) (binds_pattern a x is)))
     where
       by : (t : m.Pattern) → pattern_tree b ≡ t → compared_pattern places t ≡ m.binds (compared_mark places a.mark) (x) → ⊥
       by (m.binds k y) js w = let o = opened_pattern b (m.binds k y) js in other y o.0
       by t js w = cc
 
   pub other_equals : (a b : Pattern) (x : Literal) → a.form ≡ p.Lit x → ((x : Literal) → b.form ≡ p.Lit x → ⊥) → IsTrue false ↔ (compared_pattern places (pattern_tree a) ≡ compared_pattern places (pattern_tree b))
-  other_equals a b x is other = no_way (λ h. by (pattern_tree b) refl (sym h ∙ ap (compared_pattern places) (equals_pattern a x is)))
+  other_equals a b x is other = refuted (λ h. by (pattern_tree b) refl (sym h ∙ ap (compared_pattern places) (equals_pattern a x is)))
     where
       by : (t : m.Pattern) → pattern_tree b ≡ t → compared_pattern places t ≡ m.equals (compared_mark places a.mark) (x) → ⊥
       by (m.equals k y) js w = let o = opened_pattern b (m.equals k y) js in other y o.0
       by t js w = cc
 
   pub other_list_of : (a b : Pattern) (xs : List Pattern) (x : Pattern) → a.form ≡ p.Listed xs x → ((xs : List Pattern) (x : Pattern) → b.form ≡ p.Listed xs x → ⊥) → IsTrue false ↔ (compared_pattern places (pattern_tree a) ≡ compared_pattern places (pattern_tree b))
-  other_list_of a b xs x is other = no_way (λ h. by (pattern_tree b) refl (sym h ∙ ap (compared_pattern places) (list_of_pattern a xs x is)))
+  other_list_of a b xs x is other = refuted (λ h. by (pattern_tree b) refl (sym h ∙ ap (compared_pattern places) (list_of_pattern a xs x is)))
     where
       by : (t : m.Pattern) → pattern_tree b ≡ t → compared_pattern places t ≡ m.list_of (compared_mark places a.mark) (compared_patterns places (all_patterns xs)) (compared_pattern places (pattern_tree x)) → ⊥
       by (m.list_of k ys y) js w = let o = opened_pattern b (m.list_of k ys y) js in other o.0 o.1 o.2
       by t js w = cc
 
   pub other_tuple_of : (a b : Pattern) (xs : List Pattern) → a.form ≡ p.Tuple xs → ((xs : List Pattern) → b.form ≡ p.Tuple xs → ⊥) → IsTrue false ↔ (compared_pattern places (pattern_tree a) ≡ compared_pattern places (pattern_tree b))
-  other_tuple_of a b xs is other = no_way (λ h. by (pattern_tree b) refl (sym h ∙ ap (compared_pattern places) (tuple_of_pattern a xs is)))
+  other_tuple_of a b xs is other = refuted (λ h. by (pattern_tree b) refl (sym h ∙ ap (compared_pattern places) (tuple_of_pattern a xs is)))
     where
       by : (t : m.Pattern) → pattern_tree b ≡ t → compared_pattern places t ≡ m.tuple_of (compared_mark places a.mark) (compared_patterns places (all_patterns xs)) → ⊥
       by (m.tuple_of k ys) js w = let o = opened_pattern b (m.tuple_of k ys) js in other o.0 o.1
       by t js w = cc
 
   pub other_map_of : (a b : Pattern) (xs : List PatPair) → a.form ≡ p.Map xs → ((xs : List PatPair) → b.form ≡ p.Map xs → ⊥) → IsTrue false ↔ (compared_pattern places (pattern_tree a) ≡ compared_pattern places (pattern_tree b))
-  other_map_of a b xs is other = no_way (λ h. by (pattern_tree b) refl (sym h ∙ ap (compared_pattern places) (map_of_pattern a xs is)))
+  other_map_of a b xs is other = refuted (λ h. by (pattern_tree b) refl (sym h ∙ ap (compared_pattern places) (map_of_pattern a xs is)))
     where
       by : (t : m.Pattern) → pattern_tree b ≡ t → compared_pattern places t ≡ m.map_of (compared_mark places a.mark) (compared_pat_pairs places (all_pat_pairs xs)) → ⊥
       by (m.map_of k ys) js w = let o = opened_pattern b (m.map_of k ys) js in other o.0 o.1
       by t js w = cc
 
   pub other_binary_of : (a b : Pattern) (xs : List PatSegment) → a.form ≡ p.Binary xs → ((xs : List PatSegment) → b.form ≡ p.Binary xs → ⊥) → IsTrue false ↔ (compared_pattern places (pattern_tree a) ≡ compared_pattern places (pattern_tree b))
-  other_binary_of a b xs is other = no_way (λ h. by (pattern_tree b) refl (sym h ∙ ap (compared_pattern places) (binary_of_pattern a xs is)))
+  other_binary_of a b xs is other = refuted (λ h. by (pattern_tree b) refl (sym h ∙ ap (compared_pattern places) (binary_of_pattern a xs is)))
     where
       by : (t : m.Pattern) → pattern_tree b ≡ t → compared_pattern places t ≡ m.binary_of (compared_mark places a.mark) (compared_pat_segments places (all_pat_segments xs)) → ⊥
       by (m.binary_of k ys) js w = let o = opened_pattern b (m.binary_of k ys) js in other o.0 o.1
       by t js w = cc
 
   pub other_alias : (a b : Pattern) (v : VarName) (x : Pattern) → a.form ≡ p.Alias v x → ((v : VarName) (x : Pattern) → b.form ≡ p.Alias v x → ⊥) → IsTrue false ↔ (compared_pattern places (pattern_tree a) ≡ compared_pattern places (pattern_tree b))
-  other_alias a b v x is other = no_way (λ h. by (pattern_tree b) refl (sym h ∙ ap (compared_pattern places) (alias_pattern a v x is)))
+  other_alias a b v x is other = refuted (λ h. by (pattern_tree b) refl (sym h ∙ ap (compared_pattern places) (alias_pattern a v x is)))
     where
       by : (t : m.Pattern) → pattern_tree b ≡ t → compared_pattern places t ≡ m.alias (compared_mark places a.mark) (compared_variable places v) (compared_pattern places (pattern_tree x)) → ⊥
       by (m.alias k w2 y) js w = let o = opened_pattern b (m.alias k w2 y) js in other w2 o.0 o.1
       by t js w = cc
 
   pub other_map : (a b : Expr) (xs : List MapPair) (x : Option Expr) → a.form ≡ f.Map xs x → ((xs : List MapPair) (x : Option Expr) → b.form ≡ f.Map xs x → ⊥) → IsTrue false ↔ (compared places (tree a) ≡ compared places (tree b))
-  other_map a b xs None is other = no_way (λ h. by (tree b) refl (sym h ∙ ap (compared places) (new_map_tree a xs is)))
+  other_map a b xs None is other = refuted (λ h. by (tree b) refl (sym h ∙ ap (compared places) (new_map_tree a xs is)))
     where
       by : (t : m.Tree) → tree b ≡ t → compared places t ≡ m.new_map (compared_mark places a.mark) (compared_pairs places (all_pairs xs)) → ⊥
       by (m.new_map k ys) js w = let o = opened b (m.new_map k ys) js in other o.0 None o.1
       by t js w = cc
-  other_map a b xs (Some x) is other = no_way (λ h. by (tree b) refl (sym h ∙ ap (compared places) (updated_map_tree a xs x is)))
+  other_map a b xs (Some x) is other = refuted (λ h. by (tree b) refl (sym h ∙ ap (compared places) (updated_map_tree a xs x is)))
     where
       by : (t : m.Tree) → tree b ≡ t → compared places t ≡ m.updated_map (compared_mark places a.mark) (compared_pairs places (all_pairs xs)) (compared places (tree x)) → ⊥
       by (m.updated_map k ys y) js w = let o = opened b (m.updated_map k ys y) js in other o.0 (Some o.1) o.2
@@ -443,7 +444,7 @@ module _ (places : Bool) where
   mark_is e = compared_mark_of (tree e) ∙ ap (λ t. compared_mark places (mark_of t)) (tree-is e ∙ ap (λ g. g e.mark) (form_tree-out e.form)) ∙ ap (compared_mark places) (layer_mark e.mark _)
 
   pub other_mark : (a b : Expr) (r : Bool) → (IsTrue r ↔ (compared_mark places a.mark ≡ compared_mark places b.mark)) → r ≡ false → IsTrue false ↔ (compared places (tree a) ≡ compared places (tree b))
-  other_mark a b r tells not = no_way (λ h. fails r not tells (sym (mark_is a) ∙ ap mark_of h ∙ mark_is b))
+  other_mark a b r tells not = refuted (λ h. fails r not tells (sym (mark_is a) ∙ ap mark_of h ∙ mark_is b))
 
   compared_pattern_mark_of : (t : m.Pattern) → pattern_mark_of (compared_pattern places t) ≡ compared_mark places (pattern_mark_of t)
   unfolding pattern_mark_of
@@ -454,7 +455,7 @@ module _ (places : Bool) where
   pattern_mark_is e = compared_pattern_mark_of (pattern_tree e) ∙ ap (λ t. compared_mark places (pattern_mark_of t)) (pattern_tree-is e ∙ ap (λ g. g e.mark) (pat_form_tree-out e.form)) ∙ ap (compared_mark places) (pattern_layer_mark e.mark _)
 
   pub other_pattern_mark : (a b : Pattern) (r : Bool) → (IsTrue r ↔ (compared_mark places a.mark ≡ compared_mark places b.mark)) → r ≡ false → IsTrue false ↔ (compared_pattern places (pattern_tree a) ≡ compared_pattern places (pattern_tree b))
-  other_pattern_mark a b r tells not = no_way (λ h. fails r not tells (sym (pattern_mark_is a) ∙ ap pattern_mark_of h ∙ pattern_mark_is b))
+  other_pattern_mark a b r tells not = refuted (λ h. fails r not tells (sym (pattern_mark_is a) ∙ ap pattern_mark_of h ∙ pattern_mark_is b))
 
   pub clause_same : (a b : Clause) (r : Bool) → (IsTrue r ↔ ((compared_mark places (out-Clause a).mark ≡ compared_mark places (out-Clause b).mark) × (compared_patterns places (all_patterns (out-Clause a).patterns) ≡ compared_patterns places (all_patterns (out-Clause b).patterns)) × (compared places (tree (out-Clause a).guard) ≡ compared places (tree (out-Clause b).guard)) × (compared places (tree (out-Clause a).body) ≡ compared places (tree (out-Clause b).body)))) → IsTrue r ↔ (compared_clause places (clause_parts a) ≡ compared_clause places (clause_parts b))
   clause_same a b r =
@@ -505,10 +506,10 @@ module _ (places : Bool) where
       (λ w. let e0 : compared_mark places k ≡ compared_mark places l = cc in let e1 : compared places (tree x) ≡ compared places (tree y) = cc in (e0, e1))
 
   pub let_and_do : (a b : StepOf Expr) (k l : Mark) (xs : List VarName) (x y : Expr) → a ≡ Let k xs x → b ≡ Do l y → IsTrue false ↔ (compared_step places (step_tree a) ≡ compared_step places (step_tree b))
-  let_and_do a b k l xs x y is js = no_way (λ h. let e : Let (compared_mark places k) (map (compared_variable places) xs) (compared places (tree x)) ≡ Do (compared_mark places l) (compared places (tree y)) = sym (ap (λ z. compared_step places (step_tree z)) is) ∙ h ∙ ap (λ z. compared_step places (step_tree z)) js in cc)
+  let_and_do a b k l xs x y is js = refuted (λ h. let e : Let (compared_mark places k) (map (compared_variable places) xs) (compared places (tree x)) ≡ Do (compared_mark places l) (compared places (tree y)) = sym (ap (λ z. compared_step places (step_tree z)) is) ∙ h ∙ ap (λ z. compared_step places (step_tree z)) js in cc)
 
   pub do_and_let : (a b : StepOf Expr) (k l : Mark) (ys : List VarName) (x y : Expr) → a ≡ Do k x → b ≡ Let l ys y → IsTrue false ↔ (compared_step places (step_tree a) ≡ compared_step places (step_tree b))
-  do_and_let a b k l ys x y is js = no_way (λ h. let e : Do (compared_mark places k) (compared places (tree x)) ≡ Let (compared_mark places l) (map (compared_variable places) ys) (compared places (tree y)) = sym (ap (λ z. compared_step places (step_tree z)) is) ∙ h ∙ ap (λ z. compared_step places (step_tree z)) js in cc)
+  do_and_let a b k l ys x y is js = refuted (λ h. let e : Do (compared_mark places k) (compared places (tree x)) ≡ Let (compared_mark places l) (map (compared_variable places) ys) (compared places (tree y)) = sym (ap (λ z. compared_step places (step_tree z)) is) ∙ h ∙ ap (λ z. compared_step places (step_tree z)) js in cc)
 
   pub updated_some : (a b : Option Expr) (x y : Expr) (r : Bool) → a ≡ Some x → b ≡ Some y → (IsTrue r ↔ (compared places (tree x) ≡ compared places (tree y))) → IsTrue r ↔ SameUpdated places a b
   updated_some (Some u) (Some v) x y r is js tells = let e : x ≡ u = cc in let g : y ≡ v = cc in along (λ z. compared places (tree z)) u v x y r e g tells
@@ -516,17 +517,17 @@ module _ (places : Bool) where
   updated_some (Some u) None x y r is js tells = absurd cc
 
   pub updated_none : (a b : Option Expr) → a ≡ None → b ≡ None → IsTrue true ↔ SameUpdated places a b
-  updated_none None None is js = surely tt
+  updated_none None None is js = granted tt
   updated_none (Some u) b is js = absurd cc
   updated_none None (Some v) is js = absurd cc
 
   pub some_and_none : (a b : Option Expr) (x : Expr) → a ≡ Some x → b ≡ None → IsTrue false ↔ SameUpdated places a b
-  some_and_none (Some u) None x is js = no_way (λ h. h)
+  some_and_none (Some u) None x is js = refuted (λ h. h)
   some_and_none None b x is js = absurd cc
   some_and_none (Some u) (Some v) x is js = absurd cc
 
   pub none_and_some : (a b : Option Expr) (y : Expr) → a ≡ None → b ≡ Some y → IsTrue false ↔ SameUpdated places a b
-  none_and_some None (Some v) y is js = no_way (λ h. h)
+  none_and_some None (Some v) y is js = refuted (λ h. h)
   none_and_some (Some u) b y is js = absurd cc
   none_and_some None None y is js = absurd cc
 

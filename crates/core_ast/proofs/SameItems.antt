@@ -3,6 +3,8 @@ use Rattle.std.proofs.Common.{◌≡◌, ℕ, suc, true≢false, ◌+◌, ◌<�
 use mathlib.Core.Bool.{not, beq}
 use denote.Param.Weighed.{most, at_most}
 use Rattle.std.proofs.lemmas.List.{drop_all, length-map, map-id}
+use Rattle.type_kinds.proofs.Truths.{refuted, granted}
+use Rattle.type_kinds.proofs.Lists.{same_head, same_tail}
 use Rattle.core_ast.specs.declared.syntax.FunDefOf.{FunDefOf}
 use Rattle.core_ast.specs.declared.syntax.StepOf.{StepOf}
 use Rattle.core_ast.specs.declared.syntax.StepOf.TheVariants.{Let, Do}
@@ -19,12 +21,6 @@ use Rattle.core_ast.specs.Compared.{compared_mark, compared_variable, compared, 
 use Rattle.core_ast.specs.steps.Comparing.{compared_pair, compared_segment, compared_step, compared_clause, compared_def, compared_pat_pair, compared_pat_segment}
 
 -- ---- tests
-
-pub no_way : {P : Type 0} → (P → ⊥) → IsTrue false ↔ P
-no_way never = (λ h. absurd (true≢false (sym h)), λ p. absurd (never p))
-
-pub surely : {P : Type 0} → P → IsTrue true ↔ P
-surely p = (λ h. p, λ q. refl)
 
 pub through : {P Q : Type 0} (r : Bool) → (P ↔ Q) → (IsTrue r ↔ P) → IsTrue r ↔ Q
 through r both tells = (λ h. both.0 (tells.0 h), λ q. tells.1 (both.1 q))
@@ -55,12 +51,6 @@ pub record SoFar {X Y : Type 0} (f : X → Y) (xs ys : List X) (i : ℕ) : Type 
 left_from : {X Y : Type 0} (f : X → Y) (xs : List X) (i : ℕ) (x : X) → i < length xs → x ≡ get_or xs i x → map f (drop i xs) ≡ f x ∷ map f (drop (i + 1) xs)
 left_from f xs i x within is = ap (map f) (drop-cons xs i x within) ∙ ap (λ y. f y ∷ map f (drop (suc i) xs)) (sym is) ∙ ap (λ n. f x ∷ map f (drop n xs)) (sym (add-one i))
 
-heads : {Y : Type 0} (a b : Y) (ps qs : List Y) → a ∷ ps ≡ b ∷ qs → a ≡ b
-heads a b ps qs e = cc
-
-tails : {Y : Type 0} (a b : Y) (ps qs : List Y) → a ∷ ps ≡ b ∷ qs → ps ≡ qs
-tails a b ps qs e = cc
-
 pub begun : {X Y : Type 0} (f : X → Y) (xs ys : List X) → length xs ≡ length ys → SoFar f xs ys 0
 begun f xs ys e = record { lengths = e; left = (λ h. h, λ h. h) }
 
@@ -71,23 +61,23 @@ one_more f xs ys i x y r within so is js tells same =
     let e : f x ≡ f y = tells.0 same in
     record {
       lengths = so.lengths;
-      left = (λ h. tails _ _ _ _ (sym a ∙ so.left.0 h ∙ b), λ h. so.left.1 (a ∙ ap (λ z. z ∷ map f (drop (i + 1) xs)) e ∙ ap (λ zs. f y ∷ zs) h ∙ sym b));
+      left = (λ h. same_tail _ _ _ _ (sym a ∙ so.left.0 h ∙ b), λ h. so.left.1 (a ∙ ap (λ z. z ∷ map f (drop (i + 1) xs)) e ∙ ap (λ zs. f y ∷ zs) h ∙ sym b));
     }
 
 pub unlike : {X Y : Type 0} (f : X → Y) (xs ys : List X) (i : ℕ) (x y : X) (r : Bool) → i < length xs → SoFar f xs ys i → x ≡ get_or xs i x → y ≡ get_or ys i y → (IsTrue r ↔ (f x ≡ f y)) → r ≡ false → IsTrue false ↔ (map f xs ≡ map f ys)
 unlike f xs ys i x y r within so is js tells differs =
     let a = left_from f xs i x within is in
     let b = left_from f ys i y (subst (λ n. i < n) so.lengths within) js in
-    no_way (λ h. fails r differs tells (heads _ _ _ _ (sym a ∙ so.left.0 h ∙ b)))
+    refuted (λ h. fails r differs tells (same_head _ _ _ _ (sym a ∙ so.left.0 h ∙ b)))
 
 nothing_left : {X Y : Type 0} (f : X → Y) (xs : List X) (i : ℕ) → length xs ≤ i → map f (drop i xs) ≡ []
 nothing_left f xs i past = ap (map f) (drop_all i xs past)
 
 pub alike : {X Y : Type 0} (f : X → Y) (xs ys : List X) (i : ℕ) → SoFar f xs ys i → length xs ≤ i → IsTrue true ↔ (map f xs ≡ map f ys)
-alike f xs ys i so past = surely (so.left.1 (nothing_left f xs i past ∙ sym (nothing_left f ys i (subst (λ n. n ≤ i) so.lengths past))))
+alike f xs ys i so past = granted (so.left.1 (nothing_left f xs i past ∙ sym (nothing_left f ys i (subst (λ n. n ≤ i) so.lengths past))))
 
 pub other_length : {X Y : Type 0} (f : X → Y) (xs ys : List X) → (length xs ≡ length ys → ⊥) → IsTrue false ↔ (map f xs ≡ map f ys)
-other_length f xs ys differ = no_way (λ h. differ (sym (length-map xs f) ∙ ap length h ∙ length-map ys f))
+other_length f xs ys differ = refuted (λ h. differ (sym (length-map xs f) ∙ ap length h ∙ length-map ys f))
 
 -- an item of a list weighs no more than the heaviest
 pub no_heavier : {X : Type 0} (μ : X → ℕ) (xs : List X) (i : ℕ) (x : X) → i < length xs → x ≡ get_or xs i x → μ x ≤ most μ xs

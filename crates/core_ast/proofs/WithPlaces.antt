@@ -1,5 +1,5 @@
 -- With places all of a tree is compared.
-use Rattle.std.proofs.Common.{◌≡◌, true, List, [], ◌∷◌, map, refl}
+use Rattle.std.proofs.Common.{◌≡◌, true, List, map, refl}
 use Rattle.std.proofs.lemmas.List.{map-id}
 use Rattle.core_ast.specs.declared.syntax.VarName.{VarName}
 use Rattle.core_ast.specs.declared.syntax.FunDefOf.{FunDefOf}

@@ -11,7 +11,7 @@ use crate::syntax::{
 use std::alloc::Global;
 use type_kinds::{Atom, Boxed, List, Memory};
 
-/// Boxes an expression. If allocation fails it is given up.
+/// Boxes an expression. If allocation fails it is dropped.
 pub fn boxed(alloc: Global, expr: Expr) -> Result<Boxed<Expr>, Memory>
     ensures { IfOk result (λ made. made ≡ expr) }
 {
@@ -24,7 +24,7 @@ pub fn boxed(alloc: Global, expr: Expr) -> Result<Boxed<Expr>, Memory>
     }
 }
 
-/// Boxes two expressions. If allocation fails both are given up.
+/// Boxes two expressions. If allocation fails both are dropped.
 pub fn boxed_two(
     alloc: Global,
     first: Expr,
@@ -49,7 +49,7 @@ pub fn boxed_two(
     }
 }
 
-// Each maker gives its parts up if allocation fails.
+// Each maker drops its parts if allocation fails.
 impl Expr {
     /// A variable.
     #[tactic(auto, using(crate::proofs::Trees::tree_equations))]

@@ -11,7 +11,7 @@ use std::alloc::Global;
 use type_kinds::{List, Memory};
 
 impl FunOf<Expr> {
-    /// A fun's parameters and its body. If allocation fails they are given up.
+    /// A fun's parameters and its body. If allocation fails they are dropped.
     pub fn new(alloc: Global, params: List<VarName>, body: Expr) -> Result<Fun, Memory>
         ensures params { IfOk result (λ made. made.params ≡ params) }
         ensures body { IfOk result (λ made. made.body ≡ body) }
@@ -25,7 +25,7 @@ impl FunOf<Expr> {
 
 impl FunDefOf<Expr> {
     /// A definition: a function's name, and the mark, the parameters and the body of its fun. If
-    /// allocation fails they are given up.
+    /// allocation fails they are dropped.
     pub fn new(
         alloc: Global,
         name: FunName,
@@ -47,7 +47,7 @@ impl FunDefOf<Expr> {
 }
 
 impl TryOf<Expr> {
-    /// The parts of a `try`. If allocation fails they are given up.
+    /// The parts of a `try`. If allocation fails they are dropped.
     pub fn new(
         alloc: Global,
         arg: Expr,

@@ -7,7 +7,7 @@ use crate::syntax::{Literal, Mark, PatForm, PatPair, PatSegment, Pattern, VarNam
 use std::alloc::Global;
 use type_kinds::{Atom, Boxed, List, Memory};
 
-// Boxes a pattern. If allocation fails it is given up.
+// Boxes a pattern. If allocation fails it is dropped.
 fn boxed_pattern(alloc: Global, pattern: Pattern) -> Result<Boxed<Pattern>, Memory>
     ensures { IfOk result (λ made. made ≡ pattern) }
 {
@@ -20,7 +20,7 @@ fn boxed_pattern(alloc: Global, pattern: Pattern) -> Result<Boxed<Pattern>, Memo
     }
 }
 
-// Each maker gives its parts up if allocation fails.
+// Each maker drops its parts if allocation fails.
 impl Pattern {
     /// A variable.
     #[tactic(auto, using(crate::proofs::Trees::tree_equations))]

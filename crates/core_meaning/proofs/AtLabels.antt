@@ -1,8 +1,7 @@
 -- In an accepted module each function that stands in it is found at its label, since no label stands twice among them.
-use Rattle.std.proofs.Common.{◌≡◌, zero, suc, cond, List, [], ◌∷◌, ◌++◌, Some, None, Contains, eqb-true, eq-eqb, refl, sym, ap, ◌∙◌, subst, arith, inl, inr}
-use Rattle.std.specs.Prelude.{nat_eq}
-use Rattle.std.proofs.lemmas.Bool.{cases_Bool}
+use Rattle.std.proofs.Common.{◌≡◌, zero, suc, List, ◌∷◌, ◌++◌, Some, None, Contains, refl, ap, ◌∙◌, arith}
 use Rattle.std.proofs.lemmas.List.Elements.{Contains-append_left, Contains-append_right}
+use Rattle.core_meaning.proofs.LabelLaws.{found_at_label}
 use Rattle.core_ast.specs.declared.syntax.Mark.{Mark}
 use Rattle.core_ast.specs.declared.syntax.VarName.{VarName}
 use Rattle.core_ast.specs.Model as m
@@ -20,7 +19,7 @@ use Rattle.core_scope.specs.Places.HasPart.{first_pattern, other_patterns, patte
 use Rattle.core_scope.specs.Places.StandsIn.{itself, deeper}
 use Rattle.core_scope.specs.Functions.{LabelledFunction, labelled_function, functions, functions_of_all, functions_of_pairs, functions_of_segments, functions_of_steps, functions_of_clauses, functions_of_defs, functions_of_pattern}
 use Rattle.core_scope.specs.Functions.{functions_of_patterns, functions_of_pat_pairs, functions_of_pat_segments, functions_of, function_labels}
-use Rattle.core_meaning.specs.Programs.{Program, with_label, in_module, function_at, IsAtLabel, AreAtLabels, HasModule}
+use Rattle.core_meaning.specs.Programs.{Program, in_module, function_at, IsAtLabel, AreAtLabels, HasModule}
 
 -- ---- the functions of a piece are among those of the module
 
@@ -127,25 +126,9 @@ stands_held (deeper x y) f h = stands_held x f (part_holds y f h)
 
 -- ---- a function is found at its label: where labels are distinct, the first function with a label is the only one
 
-label_stands : (fs : List LabelledFunction) (f : LabelledFunction) → Contains fs f → Contains (function_labels fs) f.label
-label_stands [] f (k, in_list, is) = absurd (omega (arith, in_list))
-label_stands (g ∷ fs) f (zero, in_list, is) = (zero, omega arith, ap (λ h. h.label) is)
-label_stands (g ∷ fs) f (suc k, in_list, is) = let r = label_stands fs f (k, omega (arith, in_list), is) in (suc r.0, omega (arith, r.1), r.2)
-
-found : (fs : List LabelledFunction) → Distinct (function_labels fs) → (f : LabelledFunction) → Contains fs f → with_label fs f.label ≡ Some f
-found [] d f (k, in_list, is) = absurd (omega (arith, in_list))
-found (g ∷ fs) d f (zero, in_list, is) =
-    ap (λ b. cond b (Some g) (with_label fs f.label)) (ap (λ h. nat_eq h.label f.label) is ∙ eq-eqb f.label f.label refl) ∙ ap (λ h. Some h) is
-found (g ∷ fs) d f (suc k, in_list, is) =
-    let h : Contains fs f = (k, omega (arith, in_list), is) in
-    elim (cases_Bool (nat_eq g.label f.label)) as (λ c. with_label (g ∷ fs) f.label ≡ Some f) [
-      | inl so ↦ absurd (d.0 (subst (λ n. Contains (function_labels fs) n) (sym (eqb-true g.label f.label so)) (label_stands fs f h)))
-      | inr not_so ↦ ap (λ b. cond b (Some g) (with_label fs f.label)) not_so ∙ found fs d.1 f h
-    ]
-
 module _ (c : Checked) (once : Distinct (function_labels (functions_of (tree_of c)))) (U : Program) (known : HasModule U (tree_of c)) where
   at_label : (f : LabelledFunction) → Contains (functions_of (tree_of c)) f → function_at U (tree_of c).name f.label ≡ Some f
-  at_label f h = ap (λ p. in_module p f.label) known ∙ found (functions_of (tree_of c)) once f h
+  at_label f h = ap (λ p. in_module p f.label) known ∙ found_at_label (functions_of (tree_of c)) once f h
 
   pub fun_is_found : (s : Scope) (k : Ask) (i : Mark) (xs : List VarName) (t : m.Tree) → StandsInModule (tree_of c) (expression s k (m.function i xs t)) → IsAtLabel U (tree_of c).name i None xs t
   fun_is_found s k i xs t h = at_label (labelled_function i None xs t) (stands_held h (labelled_function i None xs t) (zero, omega arith, refl))

@@ -7,7 +7,7 @@ use Rattle.core_ast.specs.declared.syntax.VarName.{VarName}
 use Rattle.core_ast.specs.declared.syntax.FunName.{FunName}
 use Rattle.core_ast.specs.declared.syntax.Literal.TheVariants as l
 use Rattle.core_ast.specs.Model as m
-use Rattle.type_model.specs.Values.{Value, int, cons, nil, tuple, Values, no_value, and_value, count, Env, no_variable, and_variable, and_frame, closure}
+use Rattle.type_lattice_model.specs.Values.{Value, int, cons, nil, tuple, Values, no_value, and_value, count, Env, no_variable, and_variable, and_frame, closure}
 use Rattle.bif_types.specs.Results.{one_value, two_values}
 use Rattle.core_meaning.specs.Programs.{Program}
 use Rattle.core_meaning.specs.Matching.{Match, match_variable, match_literal, match_list, match_head, match_rest, Miss, miss_list, miss_no_list, MissEach, miss_tuple, miss_fewer, miss_here, miss_later, miss_literal, miss_map}
@@ -58,7 +58,7 @@ module _ (U : Program) (W : Value → Type 0) (k : Mark) (home : Atom) (env : En
   a_try : (v : Value) → W v → EvalWith U W (suc (suc n)) home env (m.try k fails_to_match [] one (x_name ∷ []) (m.variable k (codes "X"))) (gives (one_value v)) []
   a_try v w = step_handle (one_value v) (step_primop_raises give_none) refl (w, tt) (step_variable refl)
 
-  -- a primop that raises gives no values
+  -- a primop that raises doesn't return
   gives_nothing : (vs : Values) (tr : Trace) → Step U W (EvalWith U W n) home env fails_to_match (gives vs) tr → ⊥
   gives_nothing vs _ (step_primop not_raising xs ws) = not_raising refl
 

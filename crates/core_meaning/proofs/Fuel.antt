@@ -2,7 +2,7 @@
 use Rattle.std.proofs.Common.{◌≡◌, ℕ, zero, suc, ◌+◌, ◌≤◌, ◌-◌, refl, subst, arith}
 use Rattle.type_kinds.specs.declared.atom.Atom.{Atom}
 use Rattle.core_ast.specs.Model as m
-use Rattle.type_model.specs.Values.{Value, Values, Env}
+use Rattle.type_lattice_model.specs.Values.{Value, Values, Env}
 use Rattle.core_meaning.specs.Programs.{Program}
 use Rattle.core_meaning.specs.Meaning.{Failure, Outcome, fails, Trace, Meanings, AllGive, give_none, give_next, OneFails, fail_here, fail_later, Chained, chain_ends, let_gives, let_fails, do_gives, do_fails, Choose, choose_none}
 use Rattle.core_meaning.specs.Meaning.{choose_missed, choose_refused, choose_raised, choose_failed, choose_this, Enter, enter_gives, enter_fails, Called, call_built_in, call_enters, call_outside, call_raises, Apply, apply_closure}
@@ -98,7 +98,7 @@ module _ (U : Program) (W : Value → Type 0) where
   one_more zero home env t o tr d h = absurd (subst HasEnded h.0 d)
   one_more (suc n) home env t o tr d h = step_kept U W (EvalWith U W n) (EvalWith U W (suc n)) (one_more n) home env t o tr d h
 
-  -- so many units of fuel more
+  -- k units of fuel more
   some_more : (n k j : ℕ) → j ≡ n + k → Keeps (EvalWith U W n) (EvalWith U W j)
   some_more n zero j e home env t o tr d h = subst (λ i. EvalWith U W i home env t o tr) {x = n} {y = j} (omega (arith, e)) h
   some_more n (suc k) j e home env t o tr d h = subst (λ i. EvalWith U W i home env t o tr) {x = suc (n + k)} {y = j} (omega (arith, e)) (one_more (n + k) home env t o tr d (some_more n k (n + k) refl home env t o tr d h))

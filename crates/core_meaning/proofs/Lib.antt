@@ -2,3 +2,4 @@ mod AtLabels
 mod Examples
 mod Fuel
 mod Worked
+pub mod LabelLaws

@@ -1,12 +1,12 @@
 -- The run worked by hand, step by step.
 use Rattle.std.proofs.Common.{◌≡◌, ℕ, suc, pos, refl, inl, inr}
 use Rattle.std.specs.Prelude.{codes}
-use Rattle.type_model.specs.Values.{Value, int, atom, no_value}
+use Rattle.type_lattice_model.specs.Values.{Value, int, atom, no_value}
 use Rattle.bif_types.specs.Results.{one_value}
 use Rattle.core_meaning.specs.Matching.{match_literal, match_none, match_next, miss_here, miss_literal}
 use Rattle.core_meaning.specs.Meaning.{gives, give_none, give_next, choose_missed, choose_this, Enter, enter_gives, step_variable, step_literal, step_case, step_apply_name, Among}
 use Rattle.core_meaning.specs.Runs.{EvalWith, IsOutside, EnterAt, Run}
-use Rattle.core_grammar.specs.Labels.{numbered}
+use Rattle.core_parse_grammar.specs.Labels.{numbered}
 use Rattle.core_meaning.specs.Worked.{r8, f_name, r8_name, r8_alone, f_closure, h_closure, q_value, h_trace, apply_gave, f_trace}
 
 -- the labels of the tree are those that reading its text gives

@@ -4,7 +4,7 @@ use Rattle.type_kinds.specs.declared.atom.Atom.{Atom}
 use Rattle.core_ast.specs.declared.syntax.VarName.{VarName}
 use Rattle.core_ast.specs.declared.syntax.FunName.{FunName}
 use Rattle.core_scope.specs.Names.{same_atom, wildcard}
-use Rattle.type_model.specs.Values.{Value, Values, no_value, and_value, Env, no_variable, and_variable, and_frame}
+use Rattle.type_lattice_model.specs.Values.{Value, Values, no_value, and_value, Env, no_variable, and_variable, and_frame}
 use Rattle.core_meaning.specs.Programs.{Program, function_named, closure_of, top_function}
 
 -- one more variable. `_` binds nothing

@@ -8,8 +8,8 @@ use Rattle.core_ast.specs.declared.syntax.Literal.{Literal}
 use Rattle.core_ast.specs.declared.syntax.Literal.TheVariants as l
 use Rattle.core_ast.specs.Model as m
 use Rattle.core_scope.specs.Segments.{SegmentKind, integers, floats, bit_strings, anything, segment_kind}
-use Rattle.type_model.specs.Canonical.{HoldsPair}
-use Rattle.type_model.specs.Values.{Value, int, atom, bits, nil, cons, tuple, map, Values, no_value, and_value, ValuePairs, Env}
+use Rattle.type_lattice_model.specs.Canonical.{HoldsPair}
+use Rattle.type_lattice_model.specs.Values.{Value, int, atom, bits, nil, cons, tuple, map, Values, no_value, and_value, ValuePairs, Env}
 use Rattle.cons_tree.specs.Satisfied.{IsInteger, IsFloat}
 use Rattle.core_meaning.specs.Environments.{with_variable}
 

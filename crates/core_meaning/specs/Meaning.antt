@@ -11,8 +11,8 @@ use Rattle.core_ast.specs.Lengths.{how_many}
 use Rattle.core_ast.specs.Named.{local_name}
 use Rattle.core_scope.specs.Asks.{is_raising, width}
 use Rattle.core_scope.specs.Functions.{LabelledFunction}
-use Rattle.type_model.specs.Canonical.{HoldsPair, AreAscending}
-use Rattle.type_model.specs.Values.{Value, int, atom, bits, nil, cons, tuple, map, closure, external, foreign, Values, no_value, and_value, ValuePairs, no_pair, and_pair, Env, and_frame, count}
+use Rattle.type_lattice_model.specs.Canonical.{HoldsPair, AreAscending}
+use Rattle.type_lattice_model.specs.Values.{Value, int, atom, bits, nil, cons, tuple, map, closure, external, foreign, Values, no_value, and_value, ValuePairs, no_pair, and_pair, Env, and_frame, count}
 use Rattle.cons_tree.specs.Satisfied.{true_value}
 use Rattle.bif_types.specs.Results.{one_value, BifMay, is_exact}
 use Rattle.core_meaning.specs.Programs.{Program, function_at, IsAtLabel, AreAtLabels, locals_of, built_in, exported, outside, found, top_function}
@@ -21,7 +21,7 @@ use Rattle.core_meaning.specs.Matching.{LiteralIs, MatchEach, MissEach}
 
 -- ---- outcomes and traces
 
--- how an expression ends that gives no values: it raises, or it goes on for longer than the fuel lasts or waits for ever
+-- how an expression ends that doesn't return: it raises, or it goes on for longer than the fuel lasts or waits for ever
 pub data Failure : Type 0 where
   raised stopped : Failure
 
@@ -259,7 +259,7 @@ module _ (U : Program) (W : Value → Type 0) (E : Atom → Env → m.Tree → O
         Called home name vs o tr →
         Apply (external home name arity) vs o tr
     apply_foreign : {x arity : ℕ} {vs : Values} {v : Value} → arity ≡ count vs → W v → Apply (foreign x arity) vs (gives (one_value v)) []
-    -- at any arguments, and always where the value is no function of so many
+    -- at any arguments, and always where the value is no function of that many
     apply_raises : {c : Value} {vs : Values} → Apply c vs (fails raised) []
 
 -- each value comes from outside

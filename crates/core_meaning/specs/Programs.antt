@@ -8,7 +8,7 @@ use Rattle.core_ast.specs.Model as m
 use Rattle.core_scope.specs.Asks.{erlang}
 use Rattle.core_scope.specs.Names.{same_atom, has_function}
 use Rattle.core_scope.specs.Functions.{LabelledFunction, labelled_function, functions_of}
-use Rattle.type_model.specs.Values.{Value, Env, no_variable, closure, Local}
+use Rattle.type_lattice_model.specs.Values.{Value, Env, no_variable, closure, Local}
 
 -- the modules, whose names differ
 abbrev pub Program : Type 0

@@ -2,8 +2,8 @@
 use Rattle.std.specs.Prelude.{◌≡◌, ◌⊎◌, ℕ, zero, suc, true, [], Some}
 use Rattle.type_kinds.specs.declared.atom.Atom.{Atom}
 use Rattle.core_ast.specs.declared.syntax.FunName.{FunName}
-use Rattle.type_model.specs.Canonical.{IsCanonical}
-use Rattle.type_model.specs.Values.{Value, Values}
+use Rattle.type_lattice_model.specs.Canonical.{IsCanonical}
+use Rattle.type_lattice_model.specs.Values.{Value, Values}
 use Rattle.bif_types.specs.Closures.{HoldsClosure}
 use Rattle.core_meaning.specs.Programs.{Program, is_exported, top_function}
 use Rattle.core_meaning.specs.Meaning.{Outcome, gives, fails, raised, stopped, made, Trace, Among, Meanings, Enter, Step, AreOutside}

@@ -17,7 +17,7 @@ use Rattle.core_ast.specs.declared.syntax.VarName.{VarName}
 use Rattle.core_ast.specs.declared.syntax.FunName.{FunName}
 use Rattle.core_ast.specs.declared.syntax.Literal.TheVariants as l
 use Rattle.core_ast.specs.Model as m
-use Rattle.type_model.specs.Values.{Value, int, atom, closure, no_value, no_variable}
+use Rattle.type_lattice_model.specs.Values.{Value, int, atom, closure, no_value, no_variable}
 use Rattle.bif_types.specs.Results.{one_value}
 use Rattle.core_meaning.specs.Programs.{Program}
 use Rattle.core_meaning.specs.Meaning.{Event, chosen, entered, gave, back, Trace}

@@ -2,7 +2,7 @@
 ghost use Rattle.std.specs.Prelude.{◌≡◌, ◌≤◌, ℕ, List, true, Some, None};
 ghost use Rattle.type_kinds.specs.declared.atom.Atom.{Atom};
 ghost use Rattle.core_ast.specs.Model as m;
-ghost use Rattle.type_model.specs.Values.{Value, Values, Env, no_value};
+ghost use Rattle.type_lattice_model.specs.Values.{Value, Values, Env, no_value};
 ghost use Rattle.bif_types.specs.Results.{one_value};
 ghost use Rattle.core_ast.specs.declared.syntax.Mark.{Mark};
 ghost use Rattle.core_ast.specs.declared.syntax.VarName.{VarName};

@@ -10,7 +10,7 @@ use Rattle.core_scan.specs.Escapes.{Inside, Quoted, nothing, plain, escaped}
 use Rattle.core_scan.specs.Lexed.{Passes, Lexed, here, blank, comment, token}
 use Rattle.core_scan.specs.Spells.{IsName, IsDigits, IsFloat, IsChar, Spells, sign_text}
 use Rattle.core_scan.specs.Vocabulary.{IsOneOf, symbols}
-use Rattle.core_grammar.specs.Weights.{kind_weight, weight}
+use Rattle.core_parse_grammar.specs.Weights.{kind_weight, weight}
 
 inside_short : (q : ℕ) (piece text rest : List ℕ) → Inside q piece text rest → length text ≤ length piece
 inside_short q piece text rest (nothing e f) = omega (arith, ap (λ x. length x) f)

@@ -1,4 +1,4 @@
-mod Fronts
+mod Prefixes
 mod ModuleExits
 mod LexedWeights
 mod Whole

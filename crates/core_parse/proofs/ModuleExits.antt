@@ -11,18 +11,18 @@ use Rattle.core_ast.specs.declared.syntax.Expr.{Expr}
 use Rattle.core_ast.specs.declared.syntax.FunDefOf.{FunDefOf}
 use Rattle.core_ast.specs.Model as m
 use Rattle.core_ast.specs.Tree as t
-use Rattle.core_grammar.specs.declared.fault.PartFault.{PartFault}
-use Rattle.core_grammar.specs.declared.notes.Constant.{Constant}
-use Rattle.core_grammar.specs.Build.{text, no_note, export_names, export_places, note_module, with_note, module_of}
-use Rattle.core_grammar.specs.Labels.{numbered}
-use Rattle.core_grammar.specs.Grammar.{a, the, A, many, noted_, annotation, annotated_module, «module», attribute, function_name, definitions, constant}
-use Rattle.core_grammar.specs.Track.{Goes, itself, Stops}
-use Rattle.core_grammar.specs.Faults.{Refuses, Starts, Takes, Misses, RanOut}
-use Rattle.core_grammar.specs.Readings.{ReadsAnnotatedAtom, ReadsAnnotatedConstant, ReadsAnnotation, ReadsAttribute, ReadsAttributes, ReadsBareModule, ReadsConstant, ReadsDefinitions, ReadsExports, ReadsHeader, ReadsModule}
-use Rattle.core_grammar.proofs.Moves.{◌>>◌, stay, expand}
-use Rattle.core_grammar.proofs.Places.{taken, through, refused, lacking, ran_out, take_class, drop_second}
-use Rattle.core_grammar.proofs.Lists.{fits_only, Closes, Before, list_nothing, list_none, list_before, item_bad, item_end, item_close, item_comma, item_other}
-use Rattle.core_grammar.proofs.NotedExits.{Encloses, bare_passes, noted_passes}
+use Rattle.core_parse_grammar.specs.declared.fault.PartFault.{PartFault}
+use Rattle.core_parse_grammar.specs.declared.notes.Constant.{Constant}
+use Rattle.core_parse_grammar.specs.Build.{text, no_note, export_names, export_places, note_module, with_note, module_of}
+use Rattle.core_parse_grammar.specs.Labels.{numbered}
+use Rattle.core_parse_grammar.specs.Grammar.{a, the, A, many, noted_, annotation, annotated_module, «module», attribute, function_name, definitions, constant}
+use Rattle.core_parse_grammar.specs.Track.{Goes, itself, Stops}
+use Rattle.core_parse_grammar.specs.Faults.{Refuses, Starts, Takes, Misses, RanOut}
+use Rattle.core_parse_grammar.specs.Readings.{ReadsAnnotatedAtom, ReadsAnnotatedConstant, ReadsAnnotation, ReadsAttribute, ReadsAttributes, ReadsBareModule, ReadsConstant, ReadsDefinitions, ReadsExports, ReadsHeader, ReadsModule}
+use Rattle.core_parse_grammar.proofs.Moves.{◌>>◌, stay, expand}
+use Rattle.core_parse_grammar.proofs.Places.{taken, through, refused, lacking, ran_out, take_class, drop_second}
+use Rattle.core_parse_grammar.proofs.Lists.{fits_only, Closes, Before, list_nothing, list_none, list_before, item_bad, item_end, item_close, item_comma, item_other}
+use Rattle.core_parse_grammar.proofs.NotedExits.{Encloses, bare_passes, noted_passes}
 
 -- a constant with or without annotation brackets
 pub constant_encloses : Encloses (constant 1)

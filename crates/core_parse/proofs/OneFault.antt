@@ -1,14 +1,14 @@
--- Tokens have at most one fault: the token at fault is the first behind the longest front that begins a
+-- Tokens have at most one fault: the token at fault is the first behind the longest prefix that begins a
 -- module within the depth limit.
 use Rattle.std.proofs.Common.{◌≡◌, ◌≢◌, ℕ, List, [], ◌∷◌, ◌++◌, inl, inr, refl, sym, ap, ◌∙◌, subst, append-nil}
 use Rattle.std.proofs.lemmas.List.{append_assoc}
 use Rattle.type_kinds.specs.declared.place.Place.{Place}
 use Rattle.core_scan.specs.declared.token.Token.{Token}
-use Rattle.core_grammar.specs.declared.fault.ParseFault.{ParseFault}
-use Rattle.core_grammar.specs.declared.fault.ParseFault.TheVariants as f
-use Rattle.core_grammar.specs.Grammar.{Part, a, first, the, Nonterminal, Said, Way, ways, annotated_module}
-use Rattle.core_grammar.specs.Spells.{Reads}
-use Rattle.core_grammar.specs.Begins.{Fronts, nothing, token_, node_, part_, FrontsOne, here_, later_, FrontsAll, none_, inside, whole, BeginsTo, Begins, depth_limit, FailsAt, SinksAt, Refused}
+use Rattle.core_parse_grammar.specs.declared.fault.ParseFault.{ParseFault}
+use Rattle.core_parse_grammar.specs.declared.fault.ParseFault.TheVariants as f
+use Rattle.core_parse_grammar.specs.Grammar.{Part, a, first, the, Nonterminal, Said, Way, ways, annotated_module}
+use Rattle.core_parse_grammar.specs.Spells.{Reads}
+use Rattle.core_parse_grammar.specs.Begins.{Prefixes, nothing, token_, node_, part_, PrefixesOne, here_, later_, PrefixesAll, none_, inside, whole, BeginsTo, Begins, depth_limit, FailsAt, SinksAt, Refused}
 use Rattle.core_parse.proofs.Whole.{read_alone, begun_by, apart}
 
 nothing_before : (before more : List Token) → [] ≡ before ++ more → before ≡ []
@@ -18,23 +18,23 @@ nothing_before (x ∷ xs) more e = absurd cc
 one_before : (t x : Token) (xs more : List Token) → t ∷ [] ≡ x ∷ (xs ++ more) → t ∷ [] ≡ x ∷ xs
 one_before t x xs more e = let k : xs ≡ [] = nothing_before xs more cc in cc
 
--- A front of a beginning is a beginning.
+-- A prefix of a beginning is a beginning.
 module _ (l : ℕ) where
   mutual
-    pub front_of : (p : Part) (ts : List Token) → Fronts l p ts → (before more : List Token) → ts ≡ before ++ more → Fronts l p before
+    pub front_of : (p : Part) (ts : List Token) → Prefixes l p ts → (before more : List Token) → ts ≡ before ++ more → Prefixes l p before
     front_of p ts h [] more e = nothing
     front_of p ts nothing (x ∷ xs) more e = absurd cc
-    front_of (a c) ts (token_ {t = t} h) (x ∷ xs) more e = subst (λ q. Fronts l (a c) q) (one_before t x xs more e) (token_ h)
-    front_of (first d c) ts (node_ {t = t} h k) (x ∷ xs) more e = subst (λ q. Fronts l (first d c) q) (one_before t x xs more e) (node_ h k)
+    front_of (a c) ts (token_ {t = t} h) (x ∷ xs) more e = subst (λ q. Prefixes l (a c) q) (one_before t x xs more e) (token_ h)
+    front_of (first d c) ts (node_ {t = t} h k) (x ∷ xs) more e = subst (λ q. Prefixes l (first d c) q) (one_before t x xs more e) (node_ h k)
     front_of (the n) ts (part_ h) (x ∷ xs) more e = part_ (front_of_one n (ways n) ts h (x ∷ xs) more e)
 
-    front_of_one : (n : Nonterminal) (ws : List (Way (Said n))) (ts : List Token) → FrontsOne l n ws ts → (before more : List Token) → ts ≡ before ++ more → FrontsOne l n ws before
+    front_of_one : (n : Nonterminal) (ws : List (Way (Said n))) (ts : List Token) → PrefixesOne l n ws ts → (before more : List Token) → ts ≡ before ++ more → PrefixesOne l n ws before
     front_of_one n (w ∷ ws) ts (here_ h) before more e = here_ (front_of_all w.parts ts h before more e)
     front_of_one n (w ∷ ws) ts (later_ h) before more e = later_ (front_of_one n ws ts h before more e)
     front_of_one n [] ts h before more e = elim h [ ]
 
-    front_of_all : (ps : List Part) (ts : List Token) → FrontsAll l ps ts → (before more : List Token) → ts ≡ before ++ more → FrontsAll l ps before
-    front_of_all ps ts none_ before more e = subst (λ q. FrontsAll l ps q) (sym (nothing_before before more e)) none_
+    front_of_all : (ps : List Part) (ts : List Token) → PrefixesAll l ps ts → (before more : List Token) → ts ≡ before ++ more → PrefixesAll l ps before
+    front_of_all ps ts none_ before more e = subst (λ q. PrefixesAll l ps q) (sym (nothing_before before more e)) none_
     front_of_all (p ∷ ps) ts (inside h) before more e = inside (front_of p ts h before more e)
     front_of_all (p ∷ ps) ts (whole {x = x} {us = us} h k) before more e =
         let y = read_alone l p ts us x h in
@@ -91,7 +91,7 @@ fails_once ts p q b c = b.place_is ∙ ap (λ t. t.place) (one_stop ts b.before 
 sinks_once : (ts : List Token) (p q : Place) → SinksAt ts p → SinksAt ts q → p ≡ q
 sinks_once ts p q b c = b.place_is ∙ ap (λ t. t.place) (one_stop ts b.before c.before b.at c.at (sinking_stops ts p b) (sinking_stops ts q c)).1 ∙ sym c.place_is
 
--- Tokens have one fault beside want of memory.
+-- Tokens have at most one fault apart from out of memory.
 pub refused_once : (ts : List Token) (end : Place) (e g : ParseFault) → Refused ts end e → Refused ts end g → e ≢ f.Memory → g ≢ f.Memory → e ≡ g
 refused_once ts end f.Memory g h k m n = absurd (m refl)
 refused_once ts end e f.Memory h k m n = absurd (n refl)

@@ -4,6 +4,6 @@
 mod laws;
 mod modules;
 
-pub use core_grammar::fault::ParseFault;
+pub use core_parse_grammar::fault::ParseFault;
 pub use laws::{lexed_weight, module_is_no_fault, refused_once};
 pub use modules::parse;

@@ -1,18 +1,18 @@
 ghost use Rattle.std.specs.Prelude.{◌≡◌, ◌+◌, ◌^◌, ◌<◌, ◌≤◌, length, IfOk, IfErr};
 ghost use Rattle.core_ast.specs.Tree.{module_tree};
-ghost use Rattle.core_grammar.specs.Begins.{IsModule, Refused};
-ghost use Rattle.core_grammar.specs.Grammar.{the, many, noted_, annotated_module as annotated_module_part, «module» as module_part, attribute as attribute_part, constant};
-ghost use Rattle.core_grammar.specs.Faults.{Refuses};
-ghost use Rattle.core_grammar.specs.Readings.{ReadsAnnotatedConstant, ReadsAttribute, ReadsAttributes, ReadsHeader, ReadsBareModule, ReadsModule};
-ghost use Rattle.core_grammar.specs.Weights.{weight};
+ghost use Rattle.core_parse_grammar.specs.Begins.{IsModule, Refused};
+ghost use Rattle.core_parse_grammar.specs.Grammar.{the, many, noted_, annotated_module as annotated_module_part, «module» as module_part, attribute as attribute_part, constant};
+ghost use Rattle.core_parse_grammar.specs.Faults.{Refuses};
+ghost use Rattle.core_parse_grammar.specs.Readings.{ReadsAnnotatedConstant, ReadsAttribute, ReadsAttributes, ReadsHeader, ReadsBareModule, ReadsModule};
+ghost use Rattle.core_parse_grammar.specs.Weights.{weight};
 
 use core_ast::{FunDef, FunName, Module, discard_module};
-use core_forms::definitions::{ReadDefinitions, definitions};
-use core_grammar::annotations::annotation;
-use core_grammar::constants::constant;
-use core_grammar::fault::{ParseFault, PartFault};
-use core_grammar::leaves::{next, no_note, take, text_of};
-use core_grammar::names::{annotated_atom, exports};
+use core_parse_forms::definitions::{ReadDefinitions, definitions};
+use core_parse_grammar::annotations::annotation;
+use core_parse_grammar::constants::constant;
+use core_parse_grammar::fault::{ParseFault, PartFault};
+use core_parse_grammar::leaves::{next, no_note, take, text_of};
+use core_parse_grammar::names::{annotated_atom, exports};
 use core_scan::{Sort, Token, fits};
 use std::alloc::Global;
 use type_kinds::{List, Memory, Place, Shared};
@@ -131,7 +131,7 @@ fn bare_module<'a>(alloc: Global, tokens: &'a [Token]) -> Result<ReadModule<'a>,
     }
 }
 
-// The definitions, each to be shared. If allocation fails they are given up.
+// The definitions, each to be shared. If allocation fails they are dropped.
 fn shared(alloc: Global, functions: List<FunDef>) -> Result<List<Shared<FunDef>>, Memory>
     ensures { IfOk result (λ made. made ≡ functions) }
 {

@@ -1,6 +1,7 @@
 -- What parts of the printer add, put together.
-use Rattle.std.proofs.Common.{◌≡◌, ℕ, suc, ◌+◌, ◌<◌, ◌≤◌, List, [], ◌∷◌, ◌++◌, Bool, false, length, drop, get_or, refl, sym, ap, ◌∙◌, append_assoc, add-one, drop-cons}
+use Rattle.std.proofs.Common.{◌≡◌, ℕ, ◌+◌, ◌<◌, ◌≤◌, List, [], ◌∷◌, ◌++◌, Bool, false, length, drop, get_or, refl, sym, ap, ◌∙◌, append_assoc}
 use Rattle.std.proofs.lemmas.List.{drop_all}
+use Rattle.type_kinds.proofs.Lists.{drop_next}
 use Rattle.core_print.specs.Words.{Word, spelled, spaced}
 use Rattle.core_print.specs.Canonical.{Words, comma}
 use Rattle.core_print.specs.steps.Writes.{Writes}
@@ -42,9 +43,6 @@ goes_on left then all f a b c opens so w = record { text = λ rest. w.text (then
 pub done : (left all : Words) (a b : List ℕ) → ((rest : List Word) → left rest ≡ rest) → Still left all a b → Writes all a b
 done left all a b over so = record { text = λ rest. ap (λ z. b ++ spaced z) (sym (over rest)) ∙ so.text rest }
 
-next_left : {X : Type 0} (xs : List X) (i : ℕ) (x : X) → i < length xs → x ≡ get_or xs i x → drop i xs ≡ x ∷ drop (i + 1) xs
-next_left xs i x within is = drop-cons xs i x within ∙ ap (λ y. y ∷ drop (suc i) xs) (sym is) ∙ ap (λ n. x ∷ drop n xs) (sym (add-one i))
-
 -- one more item of a list with commas
 pub next_item :
     {X : Type 0} (L : Bool → List X → Words) (item : X → Words) (all : Words) (xs : List X) (i : ℕ) (x : X) (first : Bool) (a b c d : List ℕ)
@@ -52,7 +50,7 @@ pub next_item :
     → i < length xs → x ≡ get_or xs i x → Still (L first (drop i xs)) all a b → Writes (comma first) b c → Writes (item x) c d → Still (L false (drop (i + 1) xs)) all a d
 next_item L item all xs i x first a b c d opens within is so w v =
     goes_on (L first (drop i xs)) (L false (drop (i + 1) xs)) all (λ rest. comma first (item x rest)) a b d
-    (λ rest. ap (λ ys. L first ys rest) (next_left xs i x within is) ∙ opens first x (drop (i + 1) xs) rest)
+    (λ rest. ap (λ ys. L first ys rest) (drop_next xs i x within is) ∙ opens first x (drop (i + 1) xs) rest)
     so (both w v)
 
 pub all_items :
@@ -67,7 +65,7 @@ pub next_row :
     → i < length xs → x ≡ get_or xs i x → Still (L (drop i xs)) all a b → Writes (item x) b c → Still (L (drop (i + 1) xs)) all a c
 next_row L item all xs i x a b c opens within is so w =
     goes_on (L (drop i xs)) (L (drop (i + 1) xs)) all (item x) a b c
-    (λ rest. ap (λ ys. L ys rest) (next_left xs i x within is) ∙ opens x (drop (i + 1) xs) rest)
+    (λ rest. ap (λ ys. L ys rest) (drop_next xs i x within is) ∙ opens x (drop (i + 1) xs) rest)
     so w
 
 pub all_rows :

@@ -5,7 +5,8 @@ use Rattle.std.proofs.lemmas.Bool.Decides.{nat_tests}
 use Rattle.std.specs.List.{list_all}
 use Rattle.std.specs.Prelude.{if◌then◌else◌}
 use Rattle.std.specs.Fmt.{decimal}
-use Rattle.std.proofs.lemmas.Bool.{cases_lt}
+use Rattle.std.proofs.lemmas.Bool.{cases_lt, and_parts}
+use Rattle.type_kinds.proofs.Lists.{same_head, same_tail}
 use Rattle.type_kinds.specs.declared.place.Place.{Place}
 use Rattle.type_kinds.proofs.DigitLaws.{is_written}
 use Rattle.type_kinds.specs.Quoted.{all_escaped, needs_backslash, is_control, octal as octal_of}
@@ -31,18 +32,12 @@ abbrev pub Stops : List ℕ → Type 0
 Stops [] = ⊥
 Stops (b ∷ bs) = IsStop b
 
--- a longer front of the bytes has the stop in it
+-- a longer prefix of the bytes has the stop in it
 pub record Longer (piece more : List ℕ) : Type 0 where
   pub stop : ℕ
   pub beyond : List ℕ
   pub is_stop : IsStop stop
   pub text : more ≡ piece ++ stop ∷ beyond
-
-same_head : {X : Type 0} (a b : X) (xs ys : List X) → a ∷ xs ≡ b ∷ ys → a ≡ b
-same_head a b xs ys e = cc
-
-same_tail : {X : Type 0} (a b : X) (xs ys : List X) → a ∷ xs ≡ b ∷ ys → xs ≡ ys
-same_tail a b xs ys e = cc
 
 longer : (piece rest more after : List ℕ) → piece ++ rest ≡ more ++ after → length piece < length more → Stops rest → Longer piece more
 longer piece rest [] after e long stops = absurd (omega arith)
@@ -96,10 +91,6 @@ none_ahead q qs (l ∷ ls) e h = ap is_octal (same_head q l qs ls e) ∙ h
 
 -- ---- tables
 
-both_hold : (a b : Bool) → (a && b) ≡ true → (a ≡ true) × (b ≡ true)
-both_hold true b h = (refl, h)
-both_hold false b h = absurd (true≢false (sym h))
-
 all_pass : (ℕ → Bool) → List ℕ → Bool
 all_pass test [] = true
 all_pass test (b ∷ bs) = test b && all_pass test bs
@@ -115,13 +106,13 @@ entries_pass test (e ∷ es) = test e.0 && entries_pass test es
 one_passes : (test : List ℕ → Bool) (table : List (List ℕ × Sort)) (x : List ℕ) → entries_pass test table ≡ true → IsOneOf table x → test x ≡ true
 unfolding entries_pass
 one_passes test [] x all_ is = absurd is
-one_passes test (e ∷ es) x all_ (inl is) = ap test is ∙ (both_hold (test e.0) (entries_pass test es) all_).0
-one_passes test (e ∷ es) x all_ (inr is) = one_passes test es x (both_hold (test e.0) (entries_pass test es) all_).1 is
+one_passes test (e ∷ es) x all_ (inl is) = ap test is ∙ (and_parts (test e.0) (entries_pass test es) all_).0
+one_passes test (e ∷ es) x all_ (inr is) = one_passes test es x (and_parts (test e.0) (entries_pass test es) all_).1 is
 
 passes_inside : (test : ℕ → Bool) (x : List ℕ) (s : ℕ) (y : List ℕ) → all_pass test (x ++ s ∷ y) ≡ true → IsTrue (test s)
 unfolding all_pass
-passes_inside test [] s y h = (both_hold (test s) (all_pass test y) h).0
-passes_inside test (b ∷ bs) s y h = passes_inside test bs s y (both_hold (test b) (all_pass test (bs ++ s ∷ y)) h).1
+passes_inside test [] s y h = (and_parts (test s) (all_pass test y) h).0
+passes_inside test (b ∷ bs) s y h = passes_inside test bs s y (and_parts (test b) (all_pass test (bs ++ s ∷ y)) h).1
 
 -- a byte that no kind of quoted text begins with
 clear : ℕ → Bool
@@ -203,7 +194,7 @@ longest_plain kind _ rest (begins_plain p ps clean) spells stops = record {
 all_of : (test : ℕ → Bool) (xs : List ℕ) → all_pass test xs ≡ true → AllOf test xs
 unfolding all_pass
 all_of test [] h = tt
-all_of test (x ∷ xs) h = let r = both_hold (test x) (all_pass test xs) h in (r.0, all_of test xs r.1)
+all_of test (x ∷ xs) h = let r = and_parts (test x) (all_pass test xs) h in (r.0, all_of test xs r.1)
 
 name_text : List ℕ → Bool
 name_text [] = false
@@ -216,7 +207,7 @@ words_named = refl
 is_name : (xs : List ℕ) → name_text xs ≡ true → IsName is_lower xs
 unfolding name_text
 is_name [] h = absurd (true≢false (sym h))
-is_name (b ∷ bs) h = let r = both_hold (is_lower b) (all_pass is_name_byte bs) h in (r.0, all_of is_name_byte bs r.1)
+is_name (b ∷ bs) h = let r = and_parts (is_lower b) (all_pass is_name_byte bs) h in (r.0, all_of is_name_byte bs r.1)
 
 table_first : (xs : List ℕ) → first_passes plain_first xs ≡ true → PlainFirst xs
 unfolding first_passes plain_first
@@ -234,7 +225,7 @@ number_first (b ∷ bs) long h = begins_plain b bs (plain_by number_byte b h.0 r
 
 digits_of : (xs : List ℕ) → IsTrue (list_all is_digit xs) → AllOf is_digit xs
 digits_of [] h = tt
-digits_of (x ∷ xs) h = let r = both_hold (is_digit x) (list_all is_digit xs) h in (r.0, digits_of xs r.1)
+digits_of (x ∷ xs) h = let r = and_parts (is_digit x) (list_all is_digit xs) h in (r.0, digits_of xs r.1)
 
 some_of : (xs : List ℕ) → 0 < length xs → AllOf is_digit xs → IsDigits xs
 some_of [] long h = absurd (omega arith)
@@ -259,11 +250,11 @@ upto test (suc n) = test n && upto test n
 below : (test : ℕ → Bool) (n k : ℕ) → upto test n ≡ true → k < n → test k ≡ true
 unfolding upto
 below test zero k h within = absurd (omega arith)
-below test (suc n) k h within = by (cases_lt k n) (λ less. below test n k (both_hold (test n) (upto test n) h).1 less)
+below test (suc n) k h within = by (cases_lt k n) (λ less. below test n k (and_parts (test n) (upto test n) h).1 less)
   where
     by : (k < n) ⊎ (n ≤ k) → (k < n → test k ≡ true) → test k ≡ true
     by (inl less) more = more less
-    by (inr past_) more = let same : k ≡ n = omega arith in ap test same ∙ (both_hold (test n) (upto test n) h).0
+    by (inr past_) more = let same : k ≡ n = omega arith in ap test same ∙ (and_parts (test n) (upto test n) h).0
 
 -- the octal digits of a byte
 abbrev digits : ℕ → List ℕ
@@ -311,8 +302,8 @@ unfolding octal_test
 control_digits b h =
     let small = control_small b h in
     let r = below octal_test 128 b octals_pass small in
-    let p = both_hold (all_pass is_octal (digits b)) ((number 8 (digits b) == b) && is_none (lettered (48 + b / 64))) r in
-    let q = both_hold (number 8 (digits b) == b) (is_none (lettered (48 + b / 64))) p.1 in
+    let p = and_parts (all_pass is_octal (digits b)) ((number 8 (digits b) == b) && is_none (lettered (48 + b / 64))) r in
+    let q = and_parts (number 8 (digits b) == b) (is_none (lettered (48 + b / 64))) p.1 in
     record { octal_digits = all_of is_octal (digits b) p.0; spells = sym (eqb-true (number 8 (digits b)) b q.0); small = omega arith; no_letter = q.1 }
 
 -- the bytes of an atom between its quotes

@@ -2,7 +2,7 @@
 use Rattle.std.proofs.Common.{◌≡◌, ℕ, ◌+◌, ◌∷◌, Bool, true, false, codes, refl}
 use Rattle.std.specs.Prelude.{if◌then◌else◌}
 use Rattle.core_ast.specs.Model as m
-use Rattle.core_grammar.specs.Labels.{number, number_all, number_segments, number_pairs, number_steps, number_clauses, number_defs, number_pattern, number_patterns, number_pat_segments, number_pat_pairs}
+use Rattle.core_parse_grammar.specs.Labels.{number, number_all, number_segments, number_pairs, number_steps, number_clauses, number_defs, number_pattern, number_patterns, number_pat_segments, number_pat_pairs}
 use Rattle.core_print.specs.Words.{reserved, symbol, variable, atom}
 use Rattle.core_print.specs.Canonical.{Words, annotation, opened, closed, noted, comma, function_name, literal, variable_in_list, variables, note_of, pattern_note_of, tail, pattern_tail, plain, expressions, pairs, segments, steps, clauses, definitions, plain_pattern, patterns, pat_pairs, pat_segments}
 

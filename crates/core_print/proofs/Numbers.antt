@@ -2,7 +2,7 @@
 use Rattle.std.proofs.Common.{◌≡◌, ℕ, ◌+◌, map, refl, ap, ◌∙◌}
 use Rattle.core_ast.specs.Model as m
 use Rattle.core_ast.specs.Same.{bare_variable, bare, bare_all, bare_segments, bare_pairs, bare_steps, bare_clauses, bare_defs, bare_pattern, bare_patterns, bare_pat_segments, bare_pat_pairs}
-use Rattle.core_grammar.specs.Labels.{labelled, number, number_all, number_segments, number_pairs, number_steps, number_clauses, number_defs, number_pattern, number_patterns, number_pat_segments, number_pat_pairs}
+use Rattle.core_parse_grammar.specs.Labels.{labelled, number, number_all, number_segments, number_pairs, number_steps, number_clauses, number_defs, number_pattern, number_patterns, number_pat_segments, number_pat_pairs}
 use Rattle.core_print.specs.steps.Blank.{blank_mark, blank, blank_all, blank_segments, blank_pairs, blank_steps, blank_clauses, blank_defs, blank_pattern, blank_patterns, blank_pat_segments, blank_pat_pairs}
 
 mutual

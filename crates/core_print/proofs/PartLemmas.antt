@@ -164,9 +164,6 @@ pub clause_written :
     → Writes (clause_words (clause_parts c)) a b
 clause_written {a} {b} c w = subst (λ z. Writes (clause_words z) a b) (sym (clause-is c)) w
 
-pub arrow_written : (exact : Bool) (a b : List ℕ) (bytes : List ℕ) → exact ≡ true → b ≡ a ++ codes " :=" → Writes (λ rest. symbol (if exact then codes ":=" else codes "=>") ∷ rest) a b
-arrow_written exact a b bytes is e = written (λ rest. symbol (codes ":=") ∷ rest) (λ rest. symbol (if exact then codes ":=" else codes "=>") ∷ rest) a b (λ rest i. symbol (if sym is i then codes ":=" else codes "=>") ∷ rest) (fixed (λ rest. symbol (codes ":=") ∷ rest) a b _ e (λ rest. refl))
-
 -- ---- chains
 
 pub last_step : (xs : List (StepOf Expr)) (x : StepOf Expr) (rest : List Word) → ends (all_steps (xs ++ x ∷ [])) rest ≡ step_end (step_tree x) (ends (all_steps xs) rest)
@@ -184,9 +181,6 @@ pub chain_written : (ss : m.Steps) (last : Words) (a b c d : List ℕ) → Write
 chain_written ss last a b c d v w x = written (λ rest. fronts ss (last (ends ss rest))) (λ rest. steps ss last rest) a d (steps_split ss last) (both v (both w x))
 
 -- ---- the module
-
-pub first_words : (f : Words) (text : List ℕ) → ((rest : List Word) → text ++ spaced rest ++ 10 ∷ [] ≡ line (f rest)) → Begins f text
-first_words f text h = record { whole = h }
 
 pub begun : {f g : Words} {a b : List ℕ} → Begins f a → Writes g a b → Begins (λ rest. f (g rest)) b
 begun {f} {g} {a} {b} first w = record { whole = λ rest. ap (λ z. z ++ 10 ∷ []) (w.text rest) ∙ first.whole (g rest) }

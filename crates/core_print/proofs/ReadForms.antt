@@ -11,10 +11,10 @@ use Rattle.core_ast.specs.Same.{nowhere, bare_variable}
 use Rattle.core_scan.specs.declared.sort.Sort.TheVariants as s
 use Rattle.core_scan.specs.declared.token.Token.{Token}
 use Rattle.core_scan.specs.Sorts.{fits, kind_sort}
-use Rattle.core_grammar.specs.declared.notes.Constant.TheVariants.{Number, Generated}
-use Rattle.core_grammar.specs.Build.{note_or_none, kind_text, kind_value, arity, magnitude, text, value, fun_name, no_note, at, Noted, with_note, note_of as note_of_constants, line_within}
-use Rattle.core_grammar.specs.Grammar.{SaidBy, Part, a, the, annotation, function_name, many, more, constant, literal, variable, variables, noted_}
-use Rattle.core_print.specs.Words.{Word, reserved, symbol, integer, atom}
+use Rattle.core_parse_grammar.specs.declared.notes.Constant.TheVariants.{Number, Generated}
+use Rattle.core_parse_grammar.specs.Build.{note_or_none, kind_text, kind_value, arity, magnitude, value, no_note, Noted, note_of as note_of_constants, line_within}
+use Rattle.core_parse_grammar.specs.Grammar.{SaidBy, Part, a, the, annotation, function_name, many, more, constant, literal, variable, variables, noted_}
+use Rattle.core_print.specs.Words.{Word, symbol, integer, atom}
 use Rattle.core_print.specs.Words as w
 use Rattle.core_print.specs.Canonical as c
 use Rattle.core_print.specs.Tokens.{kind_of}
@@ -25,7 +25,7 @@ use Rattle.core_print.proofs.Readings.{Reading, word, node, done, go, alone, thi
 
 -- an integer token has the value of its word
 value_is : (t : Token) (n : ℕ) → t.kind ≡ kind_of (integer (pos n)) → value t ≡ pos n
-value_is t n e = ap Rattle.core_grammar.specs.Build.kind_value e
+value_is t n e = ap Rattle.core_parse_grammar.specs.Build.kind_value e
 
 integer_fits : (n : ℕ) → IsTrue (fits s.Integer (kind_sort (kind_of (integer (pos n)))))
 integer_fits n = by (nat_le n 255) refl
@@ -68,8 +68,8 @@ arity_is t n few e = ap (λ k. magnitude (kind_value k)) e ∙ by (nat_le n 255)
 
 module _ (l : ℕ) (one : 1 ≤ l) where
   -- the line of an annotation, and the word that says who made the node
-  literal_constant_is : (p q : Literal) → p ≡ q → Rattle.core_grammar.specs.Build.literal_constant p ≡ Rattle.core_grammar.specs.Build.literal_constant q
-  literal_constant_is p q e = ap Rattle.core_grammar.specs.Build.literal_constant e
+  literal_constant_is : (p q : Literal) → p ≡ q → Rattle.core_parse_grammar.specs.Build.literal_constant p ≡ Rattle.core_parse_grammar.specs.Build.literal_constant q
+  literal_constant_is p q e = ap Rattle.core_parse_grammar.specs.Build.literal_constant e
 
   line_literal : (n : ℕ) → Reading l (the (literal 1)) (λ x. x.value ≡ lit.Int (pos n)) (λ rest. integer (pos n) ∷ rest)
   line_literal n = by_ways l (alone l (node l 1 s.Integer (integer (pos n)) one (integer_fits n)) (λ t e. ap lit.Int (value_is t n e)))
@@ -78,7 +78,7 @@ module _ (l : ℕ) (one : 1 ≤ l) where
   line_constant n = by_ways l (next_way l (alone l (by_ways l (alone l (line_literal n) (λ x e. literal_constant_is x.value (lit.Int (pos n)) e))) (λ k e. e)))
 
   made_literal : Reading l (the (literal 1)) (λ x. x.value ≡ lit.Atom (codes "compiler_generated")) (λ rest. atom (codes "compiler_generated") ∷ rest)
-  made_literal = by_ways l (next_way l (next_way l (next_way l (alone l (node l 1 s.Atom (atom (codes "compiler_generated")) one refl) (λ t e. ap (λ k. lit.Atom (Rattle.core_grammar.specs.Build.kind_text k)) e)))))
+  made_literal = by_ways l (next_way l (next_way l (next_way l (alone l (node l 1 s.Atom (atom (codes "compiler_generated")) one refl) (λ t e. ap (λ k. lit.Atom (Rattle.core_parse_grammar.specs.Build.kind_text k)) e)))))
 
   made_constant : Reading l (the (constant 1)) (λ k. k ≡ Generated) (λ rest. atom (codes "compiler_generated") ∷ rest)
   made_constant = by_ways l (next_way l (alone l (by_ways l (alone l made_literal (λ x e. literal_constant_is x.value (lit.Atom (codes "compiler_generated")) e))) (λ k e. e)))

@@ -10,11 +10,11 @@ use Rattle.core_ast.specs.Same.{Same, bare_defs}
 use Rattle.core_scan.specs.Bytes.{start, past}
 use Rattle.core_scan.specs.declared.token.Token.{Token}
 use Rattle.core_scan.specs.declared.sort.Sort.TheVariants as s
-use Rattle.core_grammar.specs.Build.{no_note, kind_text, export_names, note_module, module_of}
-use Rattle.core_grammar.specs.Grammar.{a, the, many, more, noted_, function_name, attribute, definitions, annotated_module, «module»}
-use Rattle.core_grammar.specs.Labels.{numbered, number_defs}
-use Rattle.core_grammar.specs.Spells.{Reads, SpellsTo}
-use Rattle.core_grammar.specs.Spells as r
+use Rattle.core_parse_grammar.specs.Build.{no_note, kind_text, export_names, note_module, module_of}
+use Rattle.core_parse_grammar.specs.Grammar.{a, the, many, more, noted_, function_name, attribute, definitions, annotated_module, «module»}
+use Rattle.core_parse_grammar.specs.Labels.{numbered, number_defs}
+use Rattle.core_parse_grammar.specs.Spells.{Reads, SpellsTo}
+use Rattle.core_parse_grammar.specs.Spells as r
 use Rattle.core_print.specs.Words.{reserved, symbol, atom, spelled}
 use Rattle.core_print.specs.Canonical as c
 use Rattle.core_print.specs.Tokens.{kind_of, tokens_of}

@@ -14,15 +14,15 @@ use Rattle.core_ast.specs.Notes.{note_tree, noted_pattern, noted_clause}
 use Rattle.core_scan.specs.declared.sort.Sort.{Sort}
 use Rattle.core_scan.specs.declared.sort.Sort.TheVariants as s
 use Rattle.core_scan.specs.Sorts.{fits, kind_sort}
-use Rattle.core_grammar.specs.Build.{no_note, note_or_none, with_note, kind_text, is_chain, before, let_, do_, at, and_step, StepParts, MapParts, map_tree, FunctionParts, note_function}
-use Rattle.core_grammar.specs.Grammar.{Part, the, SaidBy, many, more, expression as expression_part, bare_expression, other_expression, list, list_rest, list_tail, pattern as pattern_part, bare_pattern, other_pattern, pattern_list, pattern_rest, pattern_tail, pattern_segment, pattern_pair, segment, pairs as pairs_part, more_pairs, pair, clauses_to, clause, bare_clause, definitions, definition, function, alias_variable}
+use Rattle.core_parse_grammar.specs.Build.{no_note, note_or_none, with_note, kind_text, is_chain, before, let_, do_, at, and_step, StepParts, MapParts, map_tree, FunctionParts, note_function}
+use Rattle.core_parse_grammar.specs.Grammar.{Part, the, SaidBy, many, more, expression as expression_part, bare_expression, other_expression, list, list_rest, list_tail, pattern as pattern_part, bare_pattern, other_pattern, pattern_list, pattern_rest, pattern_tail, pattern_segment, pattern_pair, segment, pairs as pairs_part, more_pairs, pair, clauses_to, clause, bare_clause, definitions, definition, function, alias_variable}
 use Rattle.core_print.specs.Words.{Word, reserved, symbol, integer, atom}
 use Rattle.core_print.specs.Words as w
 use Rattle.core_print.specs.Canonical as c
 use Rattle.core_print.specs.Tokens.{kind_of}
 use Rattle.core_print.specs.steps.Blank.{blank_mark, blank, blank_all, blank_segments, blank_defs, blank_clauses, blank_pairs, blank_steps, blank_pattern, blank_patterns, blank_pat_pairs, blank_pat_segments}
 use Rattle.core_print.specs.Fits.{NoteFits, NameFits, VariableFits, VariablesFit, Fits, AllFit, SegmentsFit, DefsFit, ClausesFit, PairsFit, StepsFit, PatternFits, PatternsFit, PatPairsFit, PatSegmentsFit}
-use Rattle.core_print.proofs.Readings.{Reading, ReadingOne, ReadingAll, word, node, done, go, alone, this_way, next_way, by_ways, weaker}
+use Rattle.core_print.proofs.Readings.{Reading, word, node, done, go, alone, this_way, next_way, by_ways, weaker}
 use Rattle.core_print.proofs.ReadForms.{arity_is, small_fits, noted_read, annotation_read, name_read, variables_read, in_angles, literal_read, quiet}
 
 -- the note that stands around a tree, and what it stands around: those of a chain are its first step's

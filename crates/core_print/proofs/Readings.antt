@@ -4,9 +4,9 @@ use Rattle.type_kinds.specs.declared.place.Place.{Place}
 use Rattle.core_scan.specs.declared.sort.Sort.{Sort}
 use Rattle.core_scan.specs.Bytes.{past}
 use Rattle.core_scan.specs.Sorts.{kind_sort, fits}
-use Rattle.core_grammar.specs.Grammar.{Part, a, first, the, Nonterminal, SaidBy, Said, Action, Way, ways}
-use Rattle.core_grammar.specs.Spells.{Reads, ReadsOne, ReadsAll}
-use Rattle.core_grammar.specs.Spells as r
+use Rattle.core_parse_grammar.specs.Grammar.{Part, a, first, the, Nonterminal, SaidBy, Said, Action, Way, ways}
+use Rattle.core_parse_grammar.specs.Spells.{Reads, ReadsOne, ReadsAll}
+use Rattle.core_parse_grammar.specs.Spells as r
 use Rattle.core_print.specs.Words.{Word, spelled}
 use Rattle.core_print.specs.Canonical.{Words}
 use Rattle.core_print.specs.Tokens.{kind_of, tokens_behind}

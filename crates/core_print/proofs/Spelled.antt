@@ -2,6 +2,7 @@
 use Rattle.std.proofs.Common.{◌≡◌, ℕ, ℤ, pos, negsuc, ◌+◌, ◌<◌, ◌≤◌, List, [], ◌∷◌, Bool, true, false, ◌&&◌, not, Option, Some, None, IsTrue, refl, sym, ◌∙◌, arith, true≢false}
 use Rattle.std.specs.Prelude.{if◌then◌else◌, nat_lt, nat_le, bytes_eq, unsigned_abs, ⊤}
 use Rattle.std.proofs.lemmas.Bool.Decides.{nat_tests}
+use Rattle.std.proofs.lemmas.Bool.{and_parts, not-true}
 use Rattle.type_kinds.specs.declared.place.Place.{Place}
 use Rattle.type_kinds.specs.declared.digits.TheConstants.{MAGNITUDE_LIMIT}
 use Rattle.core_ast.specs.declared.syntax.Note.{Note}
@@ -18,13 +19,13 @@ use Rattle.core_scan.specs.declared.token.TokenKind.TheVariants as k
 use Rattle.core_scan.specs.Sorts.{fits, sort, kind_sort, integer_sort}
 use Rattle.core_scan.specs.Vocabulary.{words, symbols, sort_in}
 use Rattle.core_scan.specs.Spells.{IsName, IsFloat, is_variable_start}
-use Rattle.core_grammar.specs.declared.notes.Constant.{Constant}
-use Rattle.core_grammar.specs.declared.notes.Constant.TheVariants.{Number, Pair, Generated, Another}
-use Rattle.core_grammar.specs.Build.{kind_text, kind_value, value, magnitude, at, Noted, with_note, note_or_none, note_of, line_within, NameAt, byte_trees, byte_patterns, before, let_, do_, map_tree, FunctionParts, note_function, export_names, note_module}
-use Rattle.core_grammar.specs.Grammar.{Part, a, first, the, Nonterminal, SaidBy, Said, Action, Way, ways, noted_, annotation, many, more, annotated_module, «module», attribute, function_name, definition, function, definitions, variable, variables, literal, constant, other_constant, constant_list, constant_rest, constant_tail, constant_segment, constant_pair, expression, bare_expression, other_expression, list, list_rest, list_tail, segment, pairs as pairs_part, more_pairs, pair, bare_pair, clauses_to, clause, bare_clause, clause_patterns, pattern, bare_pattern, other_pattern, alias_variable, pattern_list, pattern_rest, pattern_tail, pattern_segment, pattern_pair, bare_pattern_pair}
-use Rattle.core_grammar.specs.Labels.{numbered}
-use Rattle.core_grammar.specs.Spells.{Reads, ReadsOne, ReadsAll, SpellsTo}
-use Rattle.core_grammar.specs.Spells as r
+use Rattle.core_parse_grammar.specs.declared.notes.Constant.{Constant}
+use Rattle.core_parse_grammar.specs.declared.notes.Constant.TheVariants.{Number, Pair, Generated, Another}
+use Rattle.core_parse_grammar.specs.Build.{kind_text, kind_value, value, magnitude, at, Noted, with_note, note_or_none, note_of, line_within, NameAt, byte_trees, byte_patterns, before, let_, do_, map_tree, FunctionParts, note_function, export_names, note_module}
+use Rattle.core_parse_grammar.specs.Grammar.{Part, a, first, the, Nonterminal, SaidBy, Said, Action, Way, ways, noted_, annotation, many, more, annotated_module, «module», attribute, function_name, definition, function, definitions, variable, variables, literal, constant, other_constant, constant_list, constant_rest, constant_tail, constant_segment, constant_pair, expression, bare_expression, other_expression, list, list_rest, list_tail, segment, pairs as pairs_part, more_pairs, pair, bare_pair, clauses_to, clause, bare_clause, clause_patterns, pattern, bare_pattern, other_pattern, alias_variable, pattern_list, pattern_rest, pattern_tail, pattern_segment, pattern_pair, bare_pattern_pair}
+use Rattle.core_parse_grammar.specs.Labels.{numbered}
+use Rattle.core_parse_grammar.specs.Spells.{Reads, ReadsOne, ReadsAll, SpellsTo}
+use Rattle.core_parse_grammar.specs.Spells as r
 use Rattle.core_print.specs.Tokens.{AreBytes}
 use Rattle.core_print.specs.Fits.{LineFits, NoteFits, LiteralFits, NameFits, NamesFit, VariableFits, VariablesFit, SomeTrees, SomePatterns, Fits, AllFit, PairsFit, SegmentsFit, ClausesFit, DefsFit, PatternFits, PatternsFit, PatPairsFit, PatSegmentsFit, ModuleFits}
 
@@ -43,14 +44,6 @@ abbrev pub TokensGood : List Token → Type 0
 TokensGood [] = ⊤
 TokensGood (t ∷ ts) = KindGood t.kind × TokensGood ts
 
-both_true : (x y : Bool) → (x && y) ≡ true → (x ≡ true) × (y ≡ true)
-both_true true y h = (refl, h)
-both_true false y h = absurd (true≢false (sym h))
-
-not_true : (x : Bool) → not x ≡ true → x ≡ false
-not_true true h = absurd (true≢false (sym h))
-not_true false h = refl
-
 apart_from : Sort → List (List ℕ × Sort) → Bool
 apart_from c [] = true
 apart_from c (e ∷ es) = not (fits c e.1) && apart_from c es
@@ -58,10 +51,10 @@ apart_from c (e ∷ es) = not (fits c e.1) && apart_from c es
 no_sort_in : (c : Sort) (table : List (List ℕ × Sort)) (x : List ℕ) → apart_from c table ≡ true → fits c s.Other ≡ false → fits c (sort_in table x) ≡ false
 unfolding apart_from
 no_sort_in c [] x h o = o
-no_sort_in c (e ∷ es) x h o = by (bytes_eq x e.0) (no_sort_in c es x (both_true (not (fits c e.1)) (apart_from c es) h).1 o)
+no_sort_in c (e ∷ es) x h o = by (bytes_eq x e.0) (no_sort_in c es x (and_parts (not (fits c e.1)) (apart_from c es) h).1 o)
   where
     by : (t : Bool) → fits c (sort_in es x) ≡ false → fits c (if t then e.1 else sort_in es x) ≡ false
-    by true later = not_true (fits c e.1) (both_true (not (fits c e.1)) (apart_from c es) h).0
+    by true later = not-true (fits c e.1) (and_parts (not (fits c e.1)) (apart_from c es) h).0
     by false later = later
 
 no_integer : (c : Sort) (n : ℤ) (bare : Bool) → fits c s.Small ≡ false → fits c s.Integer ≡ false → fits c (integer_sort n bare) ≡ false

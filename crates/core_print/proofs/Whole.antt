@@ -7,11 +7,11 @@ use Rattle.core_scan.specs.declared.token.Token.{Token}
 use Rattle.core_scan.specs.declared.token.ScanFault.{ScanFault}
 use Rattle.core_scan.specs.Bytes.{start}
 use Rattle.core_scan.specs.Lexed.{Lexed, FirstFault}
-use Rattle.core_grammar.specs.Begins.{depth_limit, IsModule, Refused}
-use Rattle.core_grammar.specs.Labels.{numbered}
-use Rattle.core_grammar.specs.Spells.{SpellsTo}
-use Rattle.core_grammar.specs.declared.fault.ParseFault.{ParseFault}
-use Rattle.core_grammar.specs.declared.fault.ParseFault.TheVariants as faults
+use Rattle.core_parse_grammar.specs.Begins.{depth_limit, IsModule, Refused}
+use Rattle.core_parse_grammar.specs.Labels.{numbered}
+use Rattle.core_parse_grammar.specs.Spells.{SpellsTo}
+use Rattle.core_parse_grammar.specs.declared.fault.ParseFault.{ParseFault}
+use Rattle.core_parse_grammar.specs.declared.fault.ParseFault.TheVariants as faults
 use Rattle.core_print.specs.Canonical.{canonical, module_words}
 use Rattle.core_print.specs.Fits.{ModuleFits}
 use Rattle.core_print.specs.Tokens.{AreBytes, AreWords, tokens_of}

@@ -8,7 +8,7 @@ use Rattle.core_ast.specs.declared.syntax.Literal.{Literal}
 use Rattle.core_ast.specs.declared.syntax.Literal.TheVariants as l
 use Rattle.core_ast.specs.Model as m
 use Rattle.core_scan.specs.Spells.{IsName, IsFloat, is_variable_start}
-use Rattle.core_grammar.specs.Build.{no_note, is_chain}
+use Rattle.core_parse_grammar.specs.Build.{no_note, is_chain}
 
 -- A line is from 1 to 2^31 - 1.
 abbrev pub LineFits : Option ℕ → Type 0

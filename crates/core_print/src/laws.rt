@@ -7,11 +7,11 @@ ghost use Rattle.core_scan.specs.declared.token.Token.{Token};
 ghost use Rattle.core_scan.specs.declared.token.ScanFault.{ScanFault};
 ghost use Rattle.core_scan.specs.Bytes.{start};
 ghost use Rattle.core_scan.specs.Lexed.{Lexed, FirstFault};
-ghost use Rattle.core_grammar.specs.Begins.{depth_limit, IsModule, Refused};
-ghost use Rattle.core_grammar.specs.declared.fault.ParseFault.{ParseFault};
-ghost use Rattle.core_grammar.specs.declared.fault.ParseFault.TheVariants as faults;
-ghost use Rattle.core_grammar.specs.Labels.{numbered};
-ghost use Rattle.core_grammar.specs.Spells.{SpellsTo};
+ghost use Rattle.core_parse_grammar.specs.Begins.{depth_limit, IsModule, Refused};
+ghost use Rattle.core_parse_grammar.specs.declared.fault.ParseFault.{ParseFault};
+ghost use Rattle.core_parse_grammar.specs.declared.fault.ParseFault.TheVariants as faults;
+ghost use Rattle.core_parse_grammar.specs.Labels.{numbered};
+ghost use Rattle.core_parse_grammar.specs.Spells.{SpellsTo};
 ghost use Rattle.core_print.specs.Words.{Word, line};
 ghost use Rattle.core_print.specs.Canonical.{canonical};
 ghost use Rattle.core_print.specs.Fits.{ModuleFits};
@@ -37,8 +37,8 @@ pub fn spelled_module_is_read_back()
     ensures { (text : List ℕ) (ts : List Token) (x : ModuleTree) → AreBytes text → Lexed start text ts → SpellsTo depth_limit ts x → (us : List Token) × (y : ModuleTree) × Lexed start (canonical x) us × SpellsTo depth_limit us y × Same y x }
 {}
 
-/// Whatever is scanned and parsed of that canonical text, but for want of memory, is a module that is the
-/// same: the text has no fault, and its tokens are refused for want of memory alone.
+/// Whatever is scanned and parsed of that canonical text, unless memory runs out, is a module that is the
+/// same: the text has no fault, and its tokens are refused only when out of memory.
 pub fn canonical_text_has_one_reading()
     ensures { (text : List ℕ) (ts : List Token) (x : ModuleTree) → AreBytes text → Lexed start text ts → SpellsTo depth_limit ts x → ((fault : ScanFault) → FirstFault start (canonical x) fault → ⊥) × ((us : List Token) → Lexed start (canonical x) us → ((y : ModuleTree) → IsModule us y → Same y x) × ((end : Place) (fault : ParseFault) → Refused us end fault → fault ≡ faults.Memory)) }
 {

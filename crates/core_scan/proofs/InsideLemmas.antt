@@ -1,5 +1,5 @@
 -- What is written between quotes.
-use Rattle.std.proofs.Common.{◌≡◌, ◌≢◌, ℕ, suc, ◌+◌, ◌≤◌, List, [], ◌∷◌, ◌++◌, length, take, drop, refl, sym, ap, ◌∙◌, subst, inl, inr, arith, Some, None, append_assoc}
+use Rattle.std.proofs.Common.{◌≡◌, ◌≢◌, ℕ, suc, ◌+◌, List, [], ◌∷◌, ◌++◌, length, take, drop, refl, sym, ap, ◌∙◌, subst, inl, inr, arith, Some, None, append_assoc}
 use Rattle.std.proofs.lemmas.List.{take-append-drop, append_cancel_left, drop-drop, append-nil}
 use Rattle.core_scan.proofs.RunLemmas.{same_front, take-add}
 use Rattle.core_scan.specs.declared.escapes.Escaped.{Escaped}
@@ -16,7 +16,7 @@ Inside-append {q} {a} {t} {z} b u r joined (plain x rest letters apart no_backsl
 Inside-append {q} {a} {t} {z} b u r joined (escaped e rest letters v escape is says before) more =
     escaped e (rest ++ b) (letters ++ u) v (subst (λ (l : List ℕ). Escape e v l) (ap (λ (l : List ℕ). rest ++ l) joined ∙ sym (append_assoc rest b r)) escape) (ap (λ (l : List ℕ). l ++ b) is ∙ ap (λ (l : List ℕ). 92 ∷ l) (append_assoc e rest b)) (ap (λ (l : List ℕ). l ++ u) says) (Inside-append b u r joined before more)
 
--- after so many bytes some more
+-- after `len` bytes `more` further ones
 pub inside_further : (q : ℕ) (bytes text : List ℕ) (len more v : ℕ) → Inside q (take len bytes) text (drop len bytes) → Inside q (take more (drop len bytes)) (v ∷ []) (drop more (drop len bytes)) → Inside q (take (len + more) bytes) (text ++ v ∷ []) (drop (len + more) bytes)
 inside_further q bytes text len more v before next =
     let behind : drop more (drop len bytes) ≡ drop (len + more) bytes = drop-drop more len bytes in
@@ -36,9 +36,6 @@ escape_step q b bytes rest e whole is found =
 
 pub stuck_backslash : (q b : ℕ) (bytes rest : List ℕ) → bytes ≡ b ∷ rest → b ≡ 92 → escape_of rest ≡ None → IsStuck q bytes
 stuck_backslash q b bytes rest whole is none = rw whole (inr (is, no_escape rest none))
-
-pub escape_within : (bytes rest : List ℕ) (b : ℕ) (e : Escaped) → bytes ≡ b ∷ rest → escape_of rest ≡ Some e → 1 + e.len ≤ length bytes
-escape_within bytes rest b e whole found = let k : e.len ≤ length rest = (escape_found rest e found).1 in rw whole (omega arith)
 
 -- ---- at most one text is between quotes
 

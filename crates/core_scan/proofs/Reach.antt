@@ -3,6 +3,7 @@ use Rattle.std.proofs.Common.{◌≡◌, ◌≢◌, ℕ, suc, ◌+◌, ◌<◌, 
 use Rattle.std.specs.List.{prefix_len, list_all}
 use Rattle.std.proofs.lemmas.Bool.Decides.{nat_tests}
 use Rattle.std.proofs.lemmas.List.{drop-drop, drop_at}
+use Rattle.type_kinds.proofs.Truths.{first, second}
 use Rattle.core_scan.specs.declared.escapes.Escaped.{Escaped}
 use Rattle.core_scan.specs.declared.token.TokenKind.{TokenKind}
 use Rattle.core_scan.specs.declared.token.TokenKind.TheVariants.{Word, Variable, Integer, Float, Char, Atom, Text, Symbol}
@@ -214,18 +215,10 @@ symbols_pass : list_all (λ entry. symbol_test entry.0) symbols ≡ true
 unfolding symbol_test is_symbol is_symbol_class class
 symbols_pass = refl
 
-and_left : (x y : Bool) → (x && y) ≡ true → x ≡ true
-and_left true y h = refl
-and_left false y h = cc
-
-and_right : (x y : Bool) → (x && y) ≡ true → y ≡ true
-and_right true y h = h
-and_right false y h = cc
-
 symbol_bound : (piece rest : List ℕ) → symbol_test piece ≡ true → (length piece ≤ symbol_len (piece ++ rest)) × (0 < length piece) × (is_symbol_class (class (get_or (piece ++ rest) 0 0)) ≡ true)
 unfolding symbol_test
 symbol_bound [] rest h = cc
-symbol_bound (a ∷ []) rest h = (single rest (and_left (is_single a) _ h), omega arith, and_right (is_single a) _ h)
+symbol_bound (a ∷ []) rest h = (single rest (first (is_single a) _ h), omega arith, second (is_single a) _ h)
   where
     single : (more : List ℕ) → is_single a ≡ true → 1 ≤ second_len a more
     single [] k = rw k (omega arith)
@@ -234,7 +227,7 @@ symbol_bound (a ∷ []) rest h = (single rest (and_left (is_single a) _ h), omeg
         pick : (x : Bool) → 1 ≤ cond x 2 1
         pick true = omega arith
         pick false = omega arith
-symbol_bound (a ∷ b ∷ []) rest h = let pair : is_pair a b ≡ true = and_left (is_pair a b) _ h in (rw pair (omega arith), omega arith, and_right (is_pair a b) _ h)
+symbol_bound (a ∷ b ∷ []) rest h = let pair : is_pair a b ≡ true = first (is_pair a b) _ h in (rw pair (omega arith), omega arith, second (is_pair a b) _ h)
 symbol_bound (a ∷ b ∷ c ∷ bs) rest h = cc
 
 pub symbol_len-two : (bytes : List ℕ) → symbol_len bytes ≤ 2
@@ -307,10 +300,10 @@ name_bound first [] rest names h = absurd h
 name_bound first (b ∷ bs) rest names h =
     let run : prefix_len is_name_byte ((b ∷ bs) ++ rest) ≡ length (b ∷ bs) + prefix_len is_name_byte rest = prefix_len-append is_name_byte (b ∷ bs) rest (names b h.0, h.1) in (h.0, omega arith, omega arith)
 
-lower_names : (b : ℕ) → is_lower b ≡ true → is_name_byte b ≡ true
+pub lower_names : (b : ℕ) → is_lower b ≡ true → is_name_byte b ≡ true
 lower_names b h = rw h refl
 
-start_names : (b : ℕ) → is_variable_start b ≡ true → is_name_byte b ≡ true
+pub start_names : (b : ℕ) → is_variable_start b ≡ true → is_name_byte b ≡ true
 start_names b h = grind (arith, nat_tests)
 
 sign_class : (s : Sign) (digits rest : List ℕ) → IsDigits digits → (first_class (sign_text s ++ digits ++ rest) ≡ at_digit) ⊎ (first_class (sign_text s ++ digits ++ rest) ≡ at_sign)

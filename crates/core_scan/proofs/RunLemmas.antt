@@ -51,7 +51,7 @@ pub cond_cases : {A : Type 0} (P : Type 0) (b : Bool) (x y z : A) → (b ≡ tru
 cond_cases P true x y z f g e = f refl e
 cond_cases P false x y z f g e = g refl e
 
--- ---- fronts
+-- ---- prefixes
 
 pub same_front : {X : Type 0} (a b x y : List X) → a ++ x ≡ b ++ y → length a ≡ length b → a ≡ b
 same_front a b x y same long = sym (take_at a x (length a) refl) ∙ ap (take (length a)) same ∙ take_at b y (length a) (sym long)

@@ -21,7 +21,7 @@ use Rattle.core_scan.specs.steps.Found.{Begins, IsOther}
 use Rattle.core_scan.proofs.RunLemmas.{take-run, take-add, or_cases, eq_from_test}
 use Rattle.core_scan.proofs.Tables.{one_of_known}
 use Rattle.core_scan.proofs.EscapeLemmas.{escape_found, IsEscapeAt}
-use Rattle.core_scan.proofs.Reach.{at_lower, at_upper, at_digit, at_sign, at_quote, at_double, at_mark, class, class_lower, class_upper, class_digit, class_plus, class_minus, class_dollar, class_quote, class_double, Starts, first_class, bounded, reach, number_len, number_some, number_none, symbol_len-two, char_len, behind_dollar, escape_size}
+use Rattle.core_scan.proofs.Reach.{at_lower, at_upper, at_digit, at_sign, at_quote, at_double, at_mark, class, class_lower, class_upper, class_digit, class_plus, class_minus, class_dollar, class_quote, class_double, Starts, first_class, bounded, reach, number_len, number_some, number_none, symbol_len-two, char_len, behind_dollar, escape_size, lower_names, start_names}
 use Rattle.core_scan.proofs.OnceLemmas.{longest_by, none_by, quoted_once}
 
 begins_by : (bytes : List ℕ) (kind : TokenKind) (len : ℕ) → 0 < len → len ≤ length bytes → Spells kind (take len bytes) (drop len bytes) → reach (first_class bytes) bytes ≤ len → IsToken kind → Begins bytes kind len
@@ -37,12 +37,6 @@ name_spelled first (b ∷ bs) zero_no names h =
     let is : is_name_byte b ≡ true = names b h in
     let more : 1 + prefix_len is_name_byte bs ≡ suc (prefix_len is_name_byte bs) = omega arith in
     rw (is, more) ((h, take-run is_name_byte (prefix_len is_name_byte bs) bs (omega arith)), omega arith)
-
-lower_names : (b : ℕ) → is_lower b ≡ true → is_name_byte b ≡ true
-lower_names b h = rw h refl
-
-start_names : (b : ℕ) → is_variable_start b ≡ true → is_name_byte b ≡ true
-start_names b h = grind (arith, nat_tests)
 
 module _ (bytes : List ℕ) (len : ℕ) (run : len ≡ prefix_len is_name_byte bytes) where
   word_longest : is_lower (get_or bytes 0 0) ≡ true → Longest bytes (Word (take len bytes)) (take len bytes) (drop len bytes) × (0 < len) × (len ≤ length bytes)

@@ -24,7 +24,7 @@ pub fn escape(rest: &[u8]) -> Option<Escaped>
     octal(rest, octals.min(3))
 }
 
-// The escape of so many octal digits.
+// The escape of `len` octal digits.
 fn octal(rest: &[u8], len: usize) -> Option<Escaped>
     requires some { 0 < len }
     requires few { len ≤ 3 }

@@ -1,6 +1,8 @@
 -- The whole of a module, and modules together: each round and each way out.
-use Rattle.std.proofs.Common.{◌≡◌, ℕ, zero, suc, ◌+◌, ◌<◌, ◌≤◌, Bool, true, false, List, [], ◌∷◌, ◌++◌, None, Some, OnOk, length, drop, get_or, ltb, refl, sym, ap, ◌∙◌, arith, map, slice_get}
+use Rattle.std.proofs.Common.{◌≡◌, ℕ, ◌+◌, ◌<◌, ◌≤◌, Bool, true, false, List, [], ◌++◌, None, OnOk, length, drop, get_or, ltb, refl, sym, ap, ◌∙◌, arith, slice_get}
 use Rattle.std.proofs.lemmas.Bool.{ltb-true, ltb-false}
+use Rattle.std.proofs.lemmas.Result.{on_ok_weaker}
+use Rattle.type_kinds.proofs.Lists.{drop_next}
 use Rattle.type_kinds.specs.declared.atom.Atom.{Atom}
 use Rattle.type_kinds.specs.declared.place.Place.{Place}
 use Rattle.core_ast.specs.declared.syntax.FunName.{FunName}
@@ -17,8 +19,7 @@ use Rattle.core_scope.specs.Breaks.{unless, new_functions, def_breaks, next_plac
 use Rattle.core_scope.specs.Sets.{StandsEarlier}
 use Rattle.core_scope.specs.steps.State.{first_of, scope_of, noting, defining}
 use Rattle.core_scope.proofs.States.{first_of-append, noted_twice}
-use Rattle.core_scope.proofs.ExpressionExits.{Answer, on_ok}
-use Rattle.core_scope.proofs.WalkExits.{next_item}
+use Rattle.core_scope.proofs.ExpressionExits.{Answer}
 
 pub exports_round : (w w1 goal : Walk) (fs : List FunName) (i : ℕ) (f : FunName) (left rest : List Place) (place : Place) (holds : Bool) → i < length fs → f ≡ get_or fs i f → holds ≡ has_function w.functions f → place ≡ next_place left → rest ≡ other_places left
     → w1 ≡ noting w (unless holds DefinedExports place) → noting w (export_breaks w.functions (drop i fs) left) ≡ goal → noting w1 (export_breaks w1.functions (drop (i + 1) fs) rest) ≡ goal
@@ -28,7 +29,7 @@ exports_round w w1 goal fs i f left rest place holds within is test at others st
     ∙ ap (λ b. noting w (unless b DefinedExports place ++ export_breaks w.functions (drop (i + 1) fs) rest)) test
     ∙ ap (λ p. noting w (unless (has_function w.functions f) DefinedExports p ++ export_breaks w.functions (drop (i + 1) fs) rest)) at
     ∙ ap (λ ps. noting w (unless (has_function w.functions f) DefinedExports (next_place left) ++ export_breaks w.functions (drop (i + 1) fs) ps)) others
-    ∙ ap (λ l. noting w (export_breaks w.functions l left)) (sym (next_item fs i f within is)) ∙ before
+    ∙ ap (λ l. noting w (export_breaks w.functions l left)) (sym (drop_next fs i f within is)) ∙ before
 
 -- What the three parts of a module come to.
 pub module_exit : (w0 w1 w2 w3 : Walk) (x : Module) → w0.variables ≡ [] → w0.functions ≡ [] → w0.first ≡ None → w1 ≡ defining w0 (defined_names (all_defs x.defs)) (new_functions [] (all_defs x.defs)) → w2 ≡ noting w1 (export_breaks w1.functions x.exports x.export_places)
@@ -48,17 +49,12 @@ module_exit w0 w1 w2 w3 x no_variable no_function no_break one two three =
 pub module_walked : (r : Answer) (w0 w1 w2 w3 : Walk) (x : Module) (ds : List (FunDefOf Expr)) (fs : List FunName) (ps : List Place) → ds ≡ x.defs → fs ≡ x.exports → ps ≡ x.export_places → w0.variables ≡ [] → w0.functions ≡ [] → w0.first ≡ None
     → w1 ≡ defining w0 (defined_names (all_defs ds)) (new_functions [] (all_defs ds)) → w2 ≡ noting w1 (export_breaks w1.functions fs ps) → OnOk r (w3 ≡ noting w2 (def_breaks (scope_of w2) (all_defs ds))) → OnOk r (w3.first ≡ first_of None (module_breaks (module_tree x)))
 module_walked r w0 w1 w2 w3 x ds fs ps defs_are exports_are places_are no_variable no_function no_break one two =
-    on_ok r (λ three. module_exit w0 w1 w2 w3 x no_variable no_function no_break
+    on_ok_weaker r (λ three. module_exit w0 w1 w2 w3 x no_variable no_function no_break
     (one ∙ ap (λ z. defining w0 (defined_names (all_defs z)) (new_functions [] (all_defs z))) defs_are)
     (two ∙ ap (λ z. noting w1 (export_breaks w1.functions z ps)) exports_are ∙ ap (λ z. noting w1 (export_breaks w1.functions x.exports z)) places_are)
     (three ∙ ap (λ z. noting w2 (def_breaks (scope_of w2) (all_defs z))) defs_are))
 
 -- ---- names of modules
-
-pub get_map : {X Y : Type 0} (f : X → Y) (xs : List X) (i : ℕ) (x : X) → i < length xs → x ≡ get_or xs i x → slice_get (map f xs) i ≡ Some (f x)
-get_map f [] i x within is = absurd (omega arith)
-get_map f (y ∷ xs) zero x within is = ap (λ z. Some (f z)) (sym is)
-get_map f (y ∷ xs) (suc i) x within is = get_map f xs i x (omega arith) is
 
 pub still_none : (names : List Atom) (first second : ℕ) → first ≤ second → second ≤ first → ((i : ℕ) → i < first → slice_get names i ≡ slice_get names second → ⊥) → ((j : ℕ) → j < second → StandsEarlier names j → ⊥) → (j : ℕ) → j < second + 1 → StandsEarlier names j → ⊥
 still_none names first second low high earliest none j within (i, before, same) = by (ltb j second) refl

@@ -6,7 +6,7 @@ use Rattle.core_ast.specs.declared.syntax.Mark.{Mark}
 use Rattle.core_ast.specs.declared.syntax.VarName.{VarName}
 use Rattle.core_ast.specs.declared.syntax.Literal.TheVariants as l
 use Rattle.core_ast.specs.Model as m
-use Rattle.core_grammar.specs.Labels.{labelled, number}
+use Rattle.core_parse_grammar.specs.Labels.{labelled, number}
 use Rattle.core_scope.specs.declared.ask.Ask.TheVariants.{AnyNumber, Exactly}
 use Rattle.core_scope.specs.declared.fault.ScopeRule.{ScopeRule}
 use Rattle.core_scope.specs.declared.fault.ScopeRule.TheVariants.{BoundVariables, DistinctVariables, DefinedFunctions, DistinctFunctions, DefinedExports, Degrees}

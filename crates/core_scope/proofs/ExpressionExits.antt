@@ -1,5 +1,7 @@
 -- The walk through expressions: what each way out of it says.
-use Rattle.std.proofs.Common.{◌≡◌, ℕ, List, [], ◌++◌, Option, None, Some, Result, Ok, Err, OnOk, length, refl, sym, ap, ◌∙◌, subst, ◌⊎◌, inl, inr}
+use Rattle.std.proofs.Common.{◌≡◌, ℕ, List, [], ◌++◌, Option, None, Some, Result, OnOk, length, refl, sym, ap, ◌∙◌, subst, ◌⊎◌, inl, inr}
+use Rattle.std.proofs.lemmas.List.{append_assoc}
+use Rattle.std.proofs.lemmas.Result.{on_ok_weaker}
 use Rattle.type_kinds.specs.declared.atom.Atom.{Atom}
 use Rattle.type_kinds.specs.declared.memory.Memory.{Memory}
 use Rattle.core_ast.specs.declared.syntax.FunName.{FunName}
@@ -22,23 +24,19 @@ use Rattle.core_scope.specs.Names.{Scope, bound_by, with_variables}
 use Rattle.core_scope.specs.Asks.{one_value, width}
 use Rattle.core_scope.specs.Breaks.{degree, use_of_variable, use_of_function, new_variables, catches, breaks, all_breaks, pair_breaks, segment_breaks, clause_breaks}
 use Rattle.core_scope.specs.steps.State.{scope_of, noting}
-use Rattle.core_scope.proofs.States.{append_assoc, noted_twice}
+use Rattle.core_scope.proofs.States.{noted_twice}
 
 -- ---- steps one after another
 
 abbrev pub Answer : Type 0
 Answer = Result (Unit {0}) Memory
 
-pub on_ok : (r : Answer) {A B : Type 0} → (A → B) → OnOk r A → OnOk r B
-on_ok (Ok x) f h = f h
-on_ok (Err x) f h = tt
-
 -- A step that sees the scope, behind others.
 pub next_step : (w0 w1 w2 : Walk) (before : List Break) (rest : Scope → List Break) → w1 ≡ noting w0 before → w2 ≡ noting w1 (rest (scope_of w1)) → w2 ≡ noting w0 (before ++ rest (scope_of w0))
 next_step w0 w1 w2 before rest one two = two ∙ ap (λ w. noting w (rest (scope_of w))) one ∙ noted_twice w0 before (rest (scope_of w0))
 
 last_step : (r : Answer) (w0 w1 w2 : Walk) (before : List Break) (rest : Scope → List Break) (whole : List Break) → w1 ≡ noting w0 before → OnOk r (w2 ≡ noting w1 (rest (scope_of w1))) → before ++ rest (scope_of w0) ≡ whole → OnOk r (w2 ≡ noting w0 whole)
-last_step r w0 w1 w2 before rest whole one two is = on_ok r (λ e. next_step w0 w1 w2 before rest one e ∙ ap (noting w0) is) two
+last_step r w0 w1 w2 before rest whole one two is = on_ok_weaker r (λ e. next_step w0 w1 w2 before rest one e ∙ ap (noting w0) is) two
 
 -- Parts that are put together behind what comes before them.
 regroup_two : {X : Type 0} (a b c : List X) → a ++ (b ++ c) ≡ a ++ b ++ c

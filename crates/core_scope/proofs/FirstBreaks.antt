@@ -1,5 +1,7 @@
 -- The first of the breaks of a module: what is found, and that there is one.
 use Rattle.std.proofs.Common.{◌≡◌, ℕ, ◌⊎◌, inl, inr, if◌then◌else◌, Bool, true, false, List, [], ◌∷◌, Option, None, Some, Contains, eqb, refl, sym, ap, ◌∙◌, subst}
+use Rattle.std.proofs.lemmas.Option.{same_Some}
+use Rattle.type_kinds.proofs.Lists.{contains_none, contains_later, contains_cases}
 use Rattle.core_ast.specs.Model as m
 use Rattle.core_scope.specs.declared.fault.ScopeRule.{ScopeRule}
 use Rattle.core_scope.specs.declared.fault.ScopeRule.TheVariants.{BoundVariables, DistinctVariables, DefinedFunctions, DistinctFunctions, DefinedExports, Degrees}
@@ -7,15 +9,12 @@ use Rattle.core_scope.specs.declared.fault.Break.{Break}
 use Rattle.core_scope.specs.Breaks.{module_breaks}
 use Rattle.core_scope.specs.Accepted.{rule_number, IsBefore, FirstBreak}
 use Rattle.core_scope.specs.steps.State.{is_before, earlier, first_of}
-use Rattle.core_scope.proofs.Members.{either_first, first_in, later_in, nothing_in}
+use Rattle.core_scope.proofs.Members.{first_in}
 use Rattle.core_scope.proofs.Orders.{IsStrictOrder, not_told, by_number, number_first, neither_less}
 
 -- Breaks are ordered by byte, then by line, then by the rule's number.
 pub break_order : IsStrictOrder IsBefore is_before
 break_order = number_first (λ b. b.place.byte) _ _ (number_first (λ b. b.place.line) _ _ (by_number (λ b. rule_number b.rule)))
-
-some_same : {X : Type 0} (x y : X) → Some x ≡ Some y → x ≡ y
-some_same x y e = cc
 
 -- A break is the first of one found before and of these.
 abbrev IsLeast : Option Break → List Break → Break → Type 0
@@ -23,17 +22,17 @@ IsLeast found bs b = ((found ≡ Some b) ⊎ Contains bs b) × ((a : Break) → 
 
 least_of_two : (c d : Break) (bs : List Break) (b : Break) (t : Bool) → is_before c d ≡ t → IsLeast (if t then Some c else Some d) bs b → IsLeast (Some d) (c ∷ bs) b
 least_of_two c d bs b true t r = (
-  elim r.0 [ inl is ↦ inr (first_in c b bs (some_same c b is)) | inr later ↦ inr (later_in c b bs later) ],
+  elim r.0 [ inl is ↦ inr (first_in c b bs (same_Some c b is)) | inr later ↦ inr (contains_later c b bs later) ],
   λ a h before. elim h [
-    | inl is ↦ r.1 c (inl refl) (break_order.transitive c d b (break_order.sound c d t) (let same : a ≡ d = sym (some_same d a is) in subst (λ z. IsBefore z b) same before))
-    | inr is ↦ elim (either_first c a bs is) [ inl here ↦ r.1 a (inl (ap Some here)) before | inr later ↦ r.1 a (inr later) before ]
+    | inl is ↦ r.1 c (inl refl) (break_order.transitive c d b (break_order.sound c d t) (let same : a ≡ d = sym (same_Some d a is) in subst (λ z. IsBefore z b) same before))
+    | inr is ↦ elim (contains_cases c a bs is) [ inl here ↦ r.1 a (inl (ap Some here)) before | inr later ↦ r.1 a (inr later) before ]
   ],
 )
 least_of_two c d bs b false t r = (
-  elim r.0 [ inl is ↦ inl is | inr later ↦ inr (later_in c b bs later) ],
+  elim r.0 [ inl is ↦ inl is | inr later ↦ inr (contains_later c b bs later) ],
   λ a h before. elim h [
     | inl is ↦ r.1 a (inl is) before
-    | inr is ↦ elim (either_first c a bs is) [
+    | inr is ↦ elim (contains_cases c a bs is) [
       | inl here ↦ not_told IsBefore is_before break_order c d t (break_order.before_other c b d (subst (λ z. IsBefore z b) (sym here) before) (r.1 d (inl refl)))
       | inr later ↦ r.1 a (inr later) before
     ]
@@ -41,11 +40,11 @@ least_of_two c d bs b false t r = (
 )
 
 pub least : (found : Option Break) (bs : List Break) (b : Break) → first_of found bs ≡ Some b → IsLeast found bs b
-least found [] b e = (inl e, λ a h before. elim h [ inl is ↦ (let same : a ≡ b = some_same a b (sym is ∙ e) in break_order.irreflexive b (subst (λ z. IsBefore z b) same before)) | inr is ↦ nothing_in a is ])
+least found [] b e = (inl e, λ a h before. elim h [ inl is ↦ (let same : a ≡ b = same_Some a b (sym is ∙ e) in break_order.irreflexive b (subst (λ z. IsBefore z b) same before)) | inr is ↦ contains_none a is ])
 least None (c ∷ bs) b e =
     let r = least (Some c) bs b e in (
-      elim r.0 [ inl is ↦ inr (first_in c b bs (some_same c b is)) | inr later ↦ inr (later_in c b bs later) ],
-      λ a h before. elim h [ inl is ↦ absurd cc | inr is ↦ elim (either_first c a bs is) [ inl here ↦ r.1 a (inl (ap Some here)) before | inr later ↦ r.1 a (inr later) before ] ],
+      elim r.0 [ inl is ↦ inr (first_in c b bs (same_Some c b is)) | inr later ↦ inr (contains_later c b bs later) ],
+      λ a h before. elim h [ inl is ↦ absurd cc | inr is ↦ elim (contains_cases c a bs is) [ inl here ↦ r.1 a (inl (ap Some here)) before | inr later ↦ r.1 a (inr later) before ] ],
     )
 least (Some d) (c ∷ bs) b e = least_of_two c d bs b (is_before c d) refl (least (earlier (Some d) c) bs b e)
 

@@ -1,5 +1,6 @@
 -- Each label of an accepted module names at most one function.
 use Rattle.std.proofs.Common.{◌≡◌, ℕ, ◌⊎◌, inl, inr, List, ◌++◌, Contains, sym, ap, ◌∙◌, subst, arith}
+use Rattle.type_kinds.proofs.Lists.{contains_none, contains_later, contains_cases}
 use Rattle.core_ast.specs.Model as m
 use Rattle.core_scope.specs.declared.checked.Checked.{Checked}
 use Rattle.core_scope.specs.Checked.{tree_of}
@@ -8,7 +9,6 @@ use Rattle.core_scope.specs.Functions.{LabelledFunction, functions, functions_of
 use Rattle.core_scope.specs.Names.{Distinct}
 use Rattle.core_scope.specs.steps.Picked.{Picked}
 use Rattle.core_scope.specs.steps.Picked.Picked.{none, takes, passes}
-use Rattle.core_scope.proofs.Members.{either_first, later_in, nothing_in}
 use Rattle.core_scope.proofs.LabelLaws.{checked_labels}
 
 glued : {es fs : List LabelledFunction} {ns ms : List ℕ} → Picked es ns → Picked fs ms → Picked (es ++ fs) (ns ++ ms)
@@ -90,16 +90,16 @@ mutual
 -- ---- of distinct labels each is picked once
 
 picked_label : {es : List LabelledFunction} {ns : List ℕ} → Picked es ns → (e : LabelledFunction) → Contains es e → Contains ns e.label
-picked_label none e stands = absurd (nothing_in e stands)
-picked_label (takes {e = d} {es} {ns} p) e stands = elim (either_first d e es stands) [
+picked_label none e stands = absurd (contains_none e stands)
+picked_label (takes {e = d} {es} {ns} p) e stands = elim (contains_cases d e es stands) [
   | inl here ↦ (0, omega arith, ap (λ x. x.label) here)
-  | inr later ↦ later_in d.label e.label ns (picked_label p e later)
+  | inr later ↦ contains_later d.label e.label ns (picked_label p e later)
 ]
-picked_label (passes {n} {es} {ns} p) e stands = later_in n e.label ns (picked_label p e stands)
+picked_label (passes {n} {es} {ns} p) e stands = contains_later n e.label ns (picked_label p e stands)
 
 picked_once : {es : List LabelledFunction} {ns : List ℕ} → Picked es ns → Distinct ns → (e f : LabelledFunction) → Contains es e → Contains es f → e.label ≡ f.label → e ≡ f
-picked_once none once e f one other same = absurd (nothing_in e one)
-picked_once (takes {e = d} {es} {ns} p) once e f one other same = by (either_first d e es one) (either_first d f es other) (λ later after. picked_once p once.1 e f later after same)
+picked_once none once e f one other same = absurd (contains_none e one)
+picked_once (takes {e = d} {es} {ns} p) once e f one other same = by (contains_cases d e es one) (contains_cases d f es other) (λ later after. picked_once p once.1 e f later after same)
   where
     by : (d ≡ e) ⊎ Contains es e → (d ≡ f) ⊎ Contains es f → (Contains es e → Contains es f → e ≡ f) → e ≡ f
     by (inl here) (inl there) both = sym here ∙ there
@@ -109,12 +109,12 @@ picked_once (takes {e = d} {es} {ns} p) once e f one other same = by (either_fir
 picked_once (passes p) once e f one other same = picked_once p once.1 e f one other same
 
 picked_labels : {es : List LabelledFunction} {ns : List ℕ} → Picked es ns → (n : ℕ) → Contains (function_labels es) n → Contains ns n
-picked_labels none n stands = absurd (nothing_in n stands)
-picked_labels (takes {e} {es} {ns} p) n stands = elim (either_first e.label n (function_labels es) stands) [
+picked_labels none n stands = absurd (contains_none n stands)
+picked_labels (takes {e} {es} {ns} p) n stands = elim (contains_cases e.label n (function_labels es) stands) [
   | inl here ↦ (0, omega arith, here)
-  | inr later ↦ later_in e.label n ns (picked_labels p n later)
+  | inr later ↦ contains_later e.label n ns (picked_labels p n later)
 ]
-picked_labels (passes {n = k} {es} {ns} p) n stands = later_in k n ns (picked_labels p n stands)
+picked_labels (passes {n = k} {es} {ns} p) n stands = contains_later k n ns (picked_labels p n stands)
 
 picked_distinct : {es : List LabelledFunction} {ns : List ℕ} → Picked es ns → Distinct ns → Distinct (function_labels es)
 picked_distinct none once = tt

@@ -1,5 +1,5 @@
 -- Where the innermost binding of a name stands, by the number that tells which ends of the names have it.
-use Rattle.std.proofs.Common.{◌≡◌, ℕ, zero, suc, ◌+◌, ◌-◌, ◌<◌, ◌≤◌, List, drop, refl, sym, ap, ◌∙◌, Bool, true, false, Option, Some, None, ltb, arith}
+use Rattle.std.proofs.Common.{◌≡◌, ℕ, ◌+◌, ◌-◌, ◌<◌, ◌≤◌, List, drop, refl, sym, ◌∙◌, Bool, true, false, Option, Some, None, arith}
 use Rattle.std.specs.Prelude.{IsSome, IfSome, ◌↔◌}
 use Rattle.std.specs.List.{list_any}
 use Rattle.std.specs.Option.{SomeIff}

@@ -1,10 +1,10 @@
 -- The labels of every module that some text spells count from 0, in the order of the text; so no label stands twice.
-use Rattle.std.proofs.Common.{◌≡◌, ℕ, zero, suc, ◌+◌, ◌<◌, ◌≤◌, List, ◌∷◌, ◌++◌, Contains, length, refl, sym, ap, subst, arith}
+use Rattle.std.proofs.Common.{◌≡◌, ℕ, zero, suc, ◌+◌, ◌≤◌, List, ◌∷◌, ◌++◌, Contains, length, refl, sym, ap, subst, arith}
 use Rattle.std.proofs.Math.Logic.{∥∥₁_elim}
 use Rattle.std.proofs.Props.{props}
 use Rattle.std.specs.List.{range_with_len}
 use Rattle.core_ast.specs.Model as m
-use Rattle.core_grammar.specs.Labels.{numbered, number, number_all, number_segments, number_pairs, number_steps, number_clauses, number_defs, number_pattern, number_patterns, number_pat_segments, number_pat_pairs}
+use Rattle.core_parse_grammar.specs.Labels.{numbered, number, number_all, number_segments, number_pairs, number_steps, number_clauses, number_defs, number_pattern, number_patterns, number_pat_segments, number_pat_pairs}
 use Rattle.core_scope.specs.declared.checked.Checked.{Checked}
 use Rattle.core_scope.specs.Accepted.{IsSpelled}
 use Rattle.core_scope.specs.Checked.{tree_of}
@@ -100,11 +100,6 @@ least_of_range zero a x (k, within, is) = absurd (omega arith)
 least_of_range (suc n) a x (zero, within, is) = omega (arith, is)
 least_of_range (suc n) a x (suc k, within, is) = let r = least_of_range n (a + 1) x (k, omega arith, is) in omega arith
 
-most_of_range : (n a x : ℕ) → Contains (range_with_len a n) x → x < a + n
-most_of_range zero a x (k, within, is) = absurd (omega arith)
-most_of_range (suc n) a x (zero, within, is) = omega (arith, is)
-most_of_range (suc n) a x (suc k, within, is) = let r = most_of_range n (a + 1) x (k, omega arith, is) in omega arith
-
 range_is_distinct : (n a : ℕ) → Distinct (range_with_len a n)
 range_is_distinct zero a = tt
 range_is_distinct (suc n) a = (λ h. let r = least_of_range n (a + 1) a h in absurd (omega arith), range_is_distinct n (a + 1))
@@ -114,10 +109,6 @@ range_is_distinct (suc n) a = (λ h. let r = least_of_range n (a + 1) a h in abs
 -- Labels that count from 0 are distinct.
 pub counted_once : (x : m.Module) → CountFromZero x → Distinct (labels_of x)
 counted_once x h = subst Distinct (sym h) (range_is_distinct (length (labels_of x)) 0)
-
--- Each of them is below their number.
-pub label_is_below : (x : m.Module) → CountFromZero x → (n : ℕ) → Contains (labels_of x) n → n < length (labels_of x)
-label_is_below x h n stands = let r = most_of_range (length (labels_of x)) 0 n (subst (λ xs. Contains xs n) h stands) in omega arith
 
 numbered_counts : (x : m.Module) → CountFromZero (numbered x)
 numbered_counts x = range_of_run (run_defs 0 x.defs)

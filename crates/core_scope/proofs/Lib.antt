@@ -16,3 +16,4 @@ pub mod LabelLaws
 pub mod FunctionLaws
 pub mod PlaceLaws
 mod CheckedLaws
+pub mod NameLaws

@@ -1,18 +1,6 @@
 -- Strict orders, each with its test, and how one is put together of numbers.
 use Rattle.std.proofs.Common.{◌≡◌, ℕ, ◌<◌, ◌⊎◌, inl, inr, ◌||◌, ◌&&◌, Bool, true, false, eqb, ltb, eqb-true, eq-eqb, refl, sym, ap, ◌∙◌, arith}
-use Rattle.std.proofs.lemmas.Bool.{and_parts, lt-ltb, ltb-true, ltb-false}
-
-or_cases : (s t : Bool) → (s || t) ≡ true → (s ≡ true) ⊎ (t ≡ true)
-or_cases true t h = inl refl
-or_cases false t h = inr h
-
-second_true : (s t : Bool) → t ≡ true → (s || t) ≡ true
-second_true true t h = refl
-second_true false t h = h
-
-pub first_and_second : (s t : Bool) → s ≡ true → t ≡ true → (s && t) ≡ true
-first_and_second true t h i = i
-first_and_second false t h i = absurd cc
+use Rattle.std.proofs.lemmas.Bool.{and_parts, lt-ltb, ltb-true, ltb-false, or_right, or_cases, and_from}
 
 -- ---- numbers
 
@@ -71,7 +59,7 @@ module _ {A : Type 0} where
 
       tells : (a b : A) → (f a < f b) ⊎ ((f a ≡ f b) × Less a b) → (ltb (f a) (f b) || (eqb (f a) (f b) && test a b)) ≡ true
       tells a b (inl less) = ap (λ t. t || (eqb (f a) (f b) && test a b)) (lt-ltb (f a) (f b) less)
-      tells a b (inr (same, less)) = second_true (ltb (f a) (f b)) (eqb (f a) (f b) && test a b) (first_and_second (eqb (f a) (f b)) (test a b) (eq-eqb (f a) (f b) same) (o.complete a b less))
+      tells a b (inr (same, less)) = or_right (ltb (f a) (f b)) (eqb (f a) (f b) && test a b) (and_from (eqb (f a) (f b)) (test a b) (eq-eqb (f a) (f b) same) (o.complete a b less))
 
       through : (a b c : A) → (f a < f b) ⊎ ((f a ≡ f b) × Less a b) → (f b < f c) ⊎ ((f b ≡ f c) × Less b c) → (f a < f c) ⊎ ((f a ≡ f c) × Less a c)
       through a b c (inl p) (inl q) = inl (omega arith)

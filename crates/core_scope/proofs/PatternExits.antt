@@ -1,6 +1,7 @@
 -- The walk through patterns: what each round keeps, and each way out.
 use Rattle.std.proofs.Common.{◌≡◌, ℕ, ◌+◌, ◌<◌, ◌≤◌, List, ◌++◌, OnOk, length, drop, get_or, sym, ap, ◌∙◌, subst, arith, length-append}
-use Rattle.std.proofs.lemmas.List.{take-append-drop, take-append-le, drop-append-le}
+use Rattle.std.proofs.lemmas.List.{take-append-drop, take-append-le, drop-append-le, append_assoc, append-nil}
+use Rattle.std.proofs.lemmas.Result.{on_ok_weaker}
 use Rattle.type_kinds.specs.declared.atom.Atom.{Atom}
 use Rattle.core_ast.specs.declared.syntax.VarName.{VarName}
 use Rattle.core_ast.specs.declared.syntax.Literal.{Literal}
@@ -20,9 +21,8 @@ use Rattle.core_scope.specs.Names.{Scope, bound, pattern_bound, patterns_bound, 
 use Rattle.core_scope.specs.Asks.{one_value}
 use Rattle.core_scope.specs.Breaks.{new_variable, breaks, all_breaks, pattern_breaks, patterns_breaks, pat_pair_breaks, pat_segment_breaks}
 use Rattle.core_scope.specs.steps.State.{scope_of, scope_around, noting, binding}
-use Rattle.core_scope.proofs.Tables.{append_nil}
-use Rattle.core_scope.proofs.States.{append_assoc, bound_twice}
-use Rattle.core_scope.proofs.ExpressionExits.{Answer, on_ok}
+use Rattle.core_scope.proofs.States.{bound_twice}
+use Rattle.core_scope.proofs.ExpressionExits.{Answer}
 use Rattle.core_scope.proofs.WalkExits.{noted_bound}
 
 -- What stands in the scope of a clause, and behind its patterns so far.
@@ -58,36 +58,36 @@ module _ (from : ℕ) (w : Walk) (e : Pattern) where
   result q = binding w (pattern_bound q) (pattern_breaks (scope_around from w) (drop from w.variables) q)
 
   pub pattern_literal : (x : Literal) → e.form ≡ p.Lit x → w ≡ binding w (pattern_bound (pattern_tree e)) (pattern_breaks (scope_around from w) (drop from w.variables) (pattern_tree e))
-  pattern_literal x is = sym (λ i. record { variables = append_nil w.variables i; functions = w.functions; first = w.first }) ∙ ap result (sym (equals_pattern e x is))
+  pattern_literal x is = sym (λ i. record { variables = append-nil w.variables i; functions = w.functions; first = w.first }) ∙ ap result (sym (equals_pattern e x is))
 
   module _ (r : Answer) (w1 : Walk) where
     pub pattern_variable : (x : Atom) → e.form ≡ p.Var x → OnOk r (w1 ≡ binding w (bound x) (new_variable (drop from w.variables) x e.mark.place)) → OnOk r (w1 ≡ binding w (pattern_bound (pattern_tree e)) (pattern_breaks (scope_around from w) (drop from w.variables) (pattern_tree e)))
-    pattern_variable x is = on_ok r (λ one. one ∙ ap result (sym (binds_pattern e x is)))
+    pattern_variable x is = on_ok_weaker r (λ one. one ∙ ap result (sym (binds_pattern e x is)))
 
     pub pattern_tuple : (ps qs : List Pattern) → e.form ≡ p.Tuple ps → qs ≡ ps → OnOk r (w1 ≡ binding w (patterns_bound (all_patterns qs)) (patterns_breaks (scope_around from w) (drop from w.variables) (all_patterns qs)))
         → OnOk r (w1 ≡ binding w (pattern_bound (pattern_tree e)) (pattern_breaks (scope_around from w) (drop from w.variables) (pattern_tree e)))
-    pattern_tuple ps qs is same = on_ok r (λ one. one ∙ ap (λ z. binding w (patterns_bound (all_patterns z)) (patterns_breaks (scope_around from w) (drop from w.variables) (all_patterns z))) same ∙ ap result (sym (tuple_of_pattern e ps is)))
+    pattern_tuple ps qs is same = on_ok_weaker r (λ one. one ∙ ap (λ z. binding w (patterns_bound (all_patterns z)) (patterns_breaks (scope_around from w) (drop from w.variables) (all_patterns z))) same ∙ ap result (sym (tuple_of_pattern e ps is)))
 
     pub pattern_map : (ps qs : List PatPair) → e.form ≡ p.Map ps → qs ≡ ps → OnOk r (w1 ≡ binding w (pairs_bound (all_pat_pairs qs)) (pat_pair_breaks (scope_around from w) (drop from w.variables) (all_pat_pairs qs)))
         → OnOk r (w1 ≡ binding w (pattern_bound (pattern_tree e)) (pattern_breaks (scope_around from w) (drop from w.variables) (pattern_tree e)))
-    pattern_map ps qs is same = on_ok r (λ one. one ∙ ap (λ z. binding w (pairs_bound (all_pat_pairs z)) (pat_pair_breaks (scope_around from w) (drop from w.variables) (all_pat_pairs z))) same ∙ ap result (sym (map_of_pattern e ps is)))
+    pattern_map ps qs is same = on_ok_weaker r (λ one. one ∙ ap (λ z. binding w (pairs_bound (all_pat_pairs z)) (pat_pair_breaks (scope_around from w) (drop from w.variables) (all_pat_pairs z))) same ∙ ap result (sym (map_of_pattern e ps is)))
 
     pub pattern_binary : (ps qs : List PatSegment) → e.form ≡ p.Binary ps → qs ≡ ps → OnOk r (w1 ≡ binding w (segments_bound (all_pat_segments qs)) (pat_segment_breaks (scope_around from w) (drop from w.variables) (all_pat_segments qs)))
         → OnOk r (w1 ≡ binding w (pattern_bound (pattern_tree e)) (pattern_breaks (scope_around from w) (drop from w.variables) (pattern_tree e)))
-    pattern_binary ps qs is same = on_ok r (λ one. one ∙ ap (λ z. binding w (segments_bound (all_pat_segments z)) (pat_segment_breaks (scope_around from w) (drop from w.variables) (all_pat_segments z))) same ∙ ap result (sym (binary_of_pattern e ps is)))
+    pattern_binary ps qs is same = on_ok_weaker r (λ one. one ∙ ap (λ z. binding w (segments_bound (all_pat_segments z)) (pat_segment_breaks (scope_around from w) (drop from w.variables) (all_pat_segments z))) same ∙ ap result (sym (binary_of_pattern e ps is)))
 
     module _ (w2 : Walk) (within : from ≤ length w.variables) where
       pub pattern_listed : (ps qs : List Pattern) (x y : Pattern) → e.form ≡ p.Listed ps x → qs ≡ ps → w1 ≡ binding w (patterns_bound (all_patterns qs)) (patterns_breaks (scope_around from w) (drop from w.variables) (all_patterns qs)) → y ≡ x
           → OnOk r (w2 ≡ binding w1 (pattern_bound (pattern_tree y)) (pattern_breaks (scope_around from w1) (drop from w1.variables) (pattern_tree y)))
           → OnOk r (w2 ≡ binding w (pattern_bound (pattern_tree e)) (pattern_breaks (scope_around from w) (drop from w.variables) (pattern_tree e)))
-      pattern_listed ps qs x y is same one last = on_ok r (λ two. two
+      pattern_listed ps qs x y is same one last = on_ok_weaker r (λ two. two
           ∙ bound_next from w w1 (patterns_bound (all_patterns qs)) (pattern_bound (pattern_tree y)) (patterns_breaks (scope_around from w) (drop from w.variables) (all_patterns qs)) (λ s before. pattern_breaks s before (pattern_tree y)) within one
           ∙ ap (λ z. result (m.list_of e.mark (all_patterns z) (pattern_tree y))) same ∙ ap (λ z. result (m.list_of e.mark (all_patterns ps) (pattern_tree z))) last ∙ ap result (sym (list_of_pattern e ps x is)))
 
       pub pattern_alias : (v : VarName) (x y : Pattern) → e.form ≡ p.Alias v x → w1 ≡ binding w (bound v.name) (new_variable (drop from w.variables) v.name v.place) → y ≡ x
           → OnOk r (w2 ≡ binding w1 (pattern_bound (pattern_tree y)) (pattern_breaks (scope_around from w1) (drop from w1.variables) (pattern_tree y)))
           → OnOk r (w2 ≡ binding w (pattern_bound (pattern_tree e)) (pattern_breaks (scope_around from w) (drop from w.variables) (pattern_tree e)))
-      pattern_alias v x y is one last = on_ok r (λ two. two
+      pattern_alias v x y is one last = on_ok_weaker r (λ two. two
           ∙ bound_next from w w1 (bound v.name) (pattern_bound (pattern_tree y)) (new_variable (drop from w.variables) v.name v.place) (λ s before. pattern_breaks s before (pattern_tree y)) within one
           ∙ ap (λ z. result (m.alias e.mark v (pattern_tree z))) last ∙ ap result (sym (alias_pattern e v x is)))
 

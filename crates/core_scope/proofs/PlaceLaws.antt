@@ -88,11 +88,6 @@ pub piece_is_unbroken : {p q : Piece} → StandsIn p q → piece_breaks p ≡ []
 piece_is_unbroken itself e = e
 piece_is_unbroken (deeper there part) e = part_is_unbroken part (piece_is_unbroken there e)
 
--- What stands in a piece that stands in another stands in that.
-pub stands_through : {p q r : Piece} → StandsIn p q → StandsIn q r → StandsIn p r
-stands_through there itself = there
-stands_through there (deeper within part) = deeper (stands_through there within) part
-
 -- In a module that breaks no rule no piece does.
 pub module_piece_is_unbroken : (x : m.Module) → module_breaks x ≡ [] → (p : Piece) → StandsInModule x p → piece_breaks p ≡ []
 module_piece_is_unbroken x e p there = piece_is_unbroken there (open_three (new_functions [] x.defs) (export_breaks (defined_names x.defs) x.exports x.export_places) (def_breaks (module_scope x) x.defs) e).2

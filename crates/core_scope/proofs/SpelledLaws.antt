@@ -4,8 +4,8 @@ use Rattle.core_ast.specs.Model as m
 use Rattle.core_scan.specs.declared.token.Token.{Token}
 use Rattle.core_scan.specs.Bytes.{start}
 use Rattle.core_scan.specs.Lexed.{Lexed}
-use Rattle.core_grammar.specs.Spells.{SpellsModule}
-use Rattle.core_grammar.specs.Begins.{IsModule}
+use Rattle.core_parse_grammar.specs.Spells.{SpellsModule}
+use Rattle.core_parse_grammar.specs.Begins.{IsModule}
 use Rattle.core_scope.specs.Accepted.{IsSpelled}
 
 pub is_spelled : (x : m.Module) (text : List ℕ) (ts : List Token) → Lexed start text ts → SpellsModule ts x → IsSpelled x

@@ -1,36 +1,24 @@
 -- The table of bound names: what each of its steps keeps.
 use Rattle.std.proofs.Common.{◌≡◌, ℕ, zero, suc, ◌+◌, ◌-◌, ◌<◌, ◌≤◌, ◌⊎◌, inl, inr, ◌||◌, List, [], ◌∷◌, ◌++◌, take, drop, refl, sym, ap, ◌∙◌, subst, Bool, true, false, cond, length, get_or, Option, Some, None, slice_get, slice_index_or, slice_set, position, Result, Ok, Err, OnErr, eqb, eqb-true, eq-eqb, ltb, arith, length-append}
 use Rattle.std.specs.List.{list_any}
-use Rattle.std.specs.Borrow.{Bor}
-use Rattle.std.specs.Option.{option_copied}
 use Rattle.std.specs.Cmp.{IsEquivalence}
-use Rattle.std.proofs.lemmas.Bool.{lt-ltb, le-ltb, ltb-true, ltb-false}
-use Rattle.std.proofs.lemmas.List.{get_or-set_same, get_or-set_other, get_or_past, length-set}
+use Rattle.std.proofs.lemmas.Bool.{lt-ltb, le-ltb, ltb-true, ltb-false, or_parts}
+use Rattle.std.proofs.lemmas.List.{get_or-set_same, get_or-set_other, get_or_past, length-set, append_assoc, append-nil}
 use Rattle.std.proofs.lemmas.List.Quantifiers.{position-Some}
 use Rattle.std.proofs.lemmas.Option.{slice_get-get_or, slice_get_within, slice_get_past, get_or_from_slice_get}
-use Rattle.std.proofs.Math.Seq.{take-append_seam}
+use Rattle.std.proofs.Math.Seq.{take-append_seam, drop-nil}
+use Rattle.std.proofs.Math.Bool.{or-true}
+use Rattle.type_kinds.proofs.Lists.{get_last}
 use Rattle.indexmap.specs.IndexSet.{insert_key}
 use Rattle.core_scope.specs.declared.names.Binding.{Binding}
 use Rattle.core_scope.specs.steps.Trail.{Tells, key_and, bound_names, IsKept, Trail, IsTable, MaybeNewKey}
 
 -- ---- lists and tests
 
-or_false : (b : Bool) → (b || false) ≡ b
-or_false true = refl
-or_false false = refl
-
-or_true : (b : Bool) → (b || true) ≡ true
-or_true true = refl
-or_true false = refl
-
-no_end : {X : Type 0} (from : ℕ) → drop {A = X} from [] ≡ []
-no_end zero = refl
-no_end (suc from) = refl
-
 -- an item that fails the test, at the end of a list
 pub any_failing : {X : Type 0} (p : X → Bool) (k : X) → p k ≡ false → (xs : List X) (from : ℕ) → list_any p (drop from (xs ++ k ∷ [])) ≡ list_any p (drop from xs)
 any_failing p k failing [] zero = ap (λ b. b || false) failing
-any_failing p k failing [] (suc from) = ap (list_any p) (no_end from)
+any_failing p k failing [] (suc from) = ap (list_any p) (drop-nil from)
 any_failing p k failing (x ∷ xs) zero = ap (λ b. p x || b) (any_failing p k failing xs zero)
 any_failing p k failing (x ∷ xs) (suc from) = any_failing p k failing xs from
 
@@ -44,8 +32,8 @@ ltb_suc a b = by (ltb a b) refl
 -- an item that passes
 pub any_passing : {X : Type 0} (p : X → Bool) (k : X) → p k ≡ true → (xs : List X) (from : ℕ) → ltb from (length xs + 1) ≡ list_any p (drop from (xs ++ k ∷ []))
 any_passing p k passing [] zero = sym (ap (λ b. b || false) passing)
-any_passing p k passing [] (suc from) = le-ltb (suc from) 1 (omega arith) ∙ sym (ap (list_any p) (no_end from))
-any_passing p k passing (x ∷ xs) zero = lt-ltb 0 (length (x ∷ xs) + 1) (omega arith) ∙ sym (ap (λ b. p x || b) (sym (any_passing p k passing xs zero) ∙ lt-ltb 0 (length xs + 1) (omega arith)) ∙ or_true (p x))
+any_passing p k passing [] (suc from) = le-ltb (suc from) 1 (omega arith) ∙ sym (ap (list_any p) (drop-nil from))
+any_passing p k passing (x ∷ xs) zero = lt-ltb 0 (length (x ∷ xs) + 1) (omega arith) ∙ sym (ap (λ b. p x || b) (sym (any_passing p k passing xs zero) ∙ lt-ltb 0 (length xs + 1) (omega arith)) ∙ or-true (p x))
 any_passing p k passing (x ∷ xs) (suc from) = ap (ltb (suc from)) (let e : suc (length xs) + 1 ≡ suc (length xs + 1) = omega arith in e) ∙ ltb_suc from (length xs + 1) ∙ any_passing p k passing xs from
 
 -- equal names pass the same tests
@@ -63,33 +51,16 @@ get_more {X} [] k i x e = absurd (let n = slice_get_past {X = X} [] i (omega ari
 get_more (y ∷ xs) k zero x e = e
 get_more (y ∷ xs) k (suc i) x e = get_more xs k i x e
 
-pub get_seam : {X : Type 0} (xs : List X) (k : X) → slice_get (xs ++ k ∷ []) (length xs) ≡ Some k
-get_seam [] k = refl
-get_seam (y ∷ xs) k = get_seam xs k
-
 pub get_either : {X : Type 0} (xs : List X) (k : X) (i : ℕ) (x : X) → slice_get (xs ++ k ∷ []) i ≡ Some x → (slice_get xs i ≡ Some x) ⊎ ((i ≡ length xs) × (x ≡ k))
 get_either [] k zero x e = inr (refl, sym cc)
 get_either [] k (suc i) x e = absurd (let n = slice_get_past (k ∷ []) (suc i) (omega arith) in cc)
 get_either (y ∷ xs) k zero x e = inl e
 get_either (y ∷ xs) k (suc i) x e = elim (get_either xs k i x e) [ inl h ↦ inl h | inr h ↦ inr (ap suc h.0, h.1) ]
 
-append_assoc : {X : Type 0} (xs ys zs : List X) → (xs ++ ys) ++ zs ≡ xs ++ (ys ++ zs)
-append_assoc [] ys zs = refl
-append_assoc (x ∷ xs) ys zs = ap (λ l. x ∷ l) (append_assoc xs ys zs)
-
-pub append_nil : {X : Type 0} (xs : List X) → xs ++ [] ≡ xs
-append_nil [] = refl
-append_nil (x ∷ xs) = ap (λ l. x ∷ l) (append_nil xs)
-
--- where no item passes, none that is there does
-either_fails : (a b : Bool) → (a || b) ≡ false → (a ≡ false) × (b ≡ false)
-either_fails true b e = absurd cc
-either_fails false b e = (refl, e)
-
 pub fails_at : {X : Type 0} (p : X → Bool) (xs : List X) (i : ℕ) (x : X) → list_any p xs ≡ false → slice_get xs i ≡ Some x → p x ≡ false
 fails_at {X} p [] i x failing is = absurd (let n = slice_get_past {X = X} [] i (omega arith) in cc)
-fails_at p (y ∷ ys) zero x failing is = let e : y ≡ x = cc in ap p (sym e) ∙ (either_fails (p y) (list_any p ys) failing).0
-fails_at p (y ∷ ys) (suc i) x failing is = fails_at p ys i x (either_fails (p y) (list_any p ys) failing).1 is
+fails_at p (y ∷ ys) zero x failing is = let e : y ≡ x = cc in ap p (sym e) ∙ (or_parts (p y) (list_any p ys) failing).0
+fails_at p (y ∷ ys) (suc i) x failing is = fails_at p ys i x (or_parts (p y) (list_any p ys) failing).1 is
 
 -- what holds whatever the answer is
 pub on_err : {X E P : Type 0} (r : Result X E) → P → OnErr r P
@@ -116,7 +87,7 @@ module _ {T : Type 0} (eq : T → T → Bool) (q : IsEquivalence eq) where
       fails [] zero h = h
       fails [] (suc from) h = refl
       fails (x ∷ xs) zero h = h
-      fails (x ∷ xs) (suc from) h = fails xs from (either_fails (p x) (list_any p xs) h).1
+      fails (x ∷ xs) (suc from) h = fails xs from (or_parts (p x) (list_any p xs) h).1
 
   -- the names of a trail, one by one
   module _ (keys : List T) where
@@ -134,7 +105,7 @@ module _ {T : Type 0} (eq : T → T → Bool) (q : IsEquivalence eq) where
 
     -- a trail with one binding more
     pub longer : (count : ℕ) (names : List T) (bs : List Binding) (b : Binding) → Trail eq keys count names bs → IsKept eq keys count (names ++ bound_names keys bs) b → Trail eq keys count names (bs ++ b ∷ [])
-    longer count names [] b trail kept = (let P : List T → Type 0 = λ ns. IsKept eq keys count ns b in subst P (append_nil names) kept, tt)
+    longer count names [] b trail kept = (let P : List T → Type 0 = λ ns. IsKept eq keys count ns b in subst P (append-nil names) kept, tt)
     longer count names (c ∷ bs) b (first, trail) kept = (first, longer count (names ++ first.key ∷ []) bs b trail (let P : List T → Type 0 = λ ns. IsKept eq keys count ns b in subst P moved kept))
       where
         moved : names ++ bound_names keys (c ∷ bs) ≡ (names ++ first.key ∷ []) ++ bound_names keys bs
@@ -142,7 +113,7 @@ module _ {T : Type 0} (eq : T → T → Bool) (q : IsEquivalence eq) where
 
     -- and with its last one taken off
     pub shorter : (count : ℕ) (names : List T) (bs : List Binding) (b : Binding) → Trail eq keys count names (bs ++ b ∷ []) → Trail eq keys count names bs × IsKept eq keys count (names ++ bound_names keys bs) b
-    shorter count names [] b (kept, trail) = (tt, let P : List T → Type 0 = λ ns. IsKept eq keys count ns b in subst P (sym (append_nil names)) kept)
+    shorter count names [] b (kept, trail) = (tt, let P : List T → Type 0 = λ ns. IsKept eq keys count ns b in subst P (sym (append-nil names)) kept)
     shorter count names (c ∷ bs) b (first, trail) =
         let r = shorter count (names ++ first.key ∷ []) bs b trail in
         let P : List T → Type 0 = λ ns. IsKept eq keys count ns b in
@@ -173,14 +144,6 @@ module _ {T : Type 0} (eq : T → T → Bool) (q : IsEquivalence eq) where
         by (Some k) ns each rest = ap (λ c. c || list_any p ns) (each k refl) ∙ rest
 
 -- ---- what each step of the code says
-
-pub nothing_there : (last : List ℕ) (i : ℕ) (got : Option (Bor ℕ)) → got ≡ None → option_copied got ≡ slice_get last i → 0 ≡ slice_index_or last i 0
-nothing_there last i got none is = sym (by last i (sym is ∙ ap option_copied none))
-  where
-    by : (xs : List ℕ) (i : ℕ) → slice_get xs i ≡ None → slice_index_or xs i 0 ≡ 0
-    by [] i e = get_or_past [] i 0 (omega arith)
-    by (x ∷ xs) zero e = absurd cc
-    by (x ∷ xs) (suc i) e = by xs i e
 
 module _ {T : Type 0} (eq : T → T → Bool) (q : IsEquivalence eq) where
   -- a look-up
@@ -358,7 +321,7 @@ module _ {T : Type 0} (eq : T → T → Bool) (q : IsEquivalence eq) where
   inserted keys more name copy number same none is ins =
       let test : list_any (eq copy) keys ≡ false = ap (λ x. list_any (eq x) keys) same ∙ none in
       let all : more ≡ keys ++ copy ∷ [] = ins ∙ ap (λ b. cond b keys (keys ++ copy ∷ [])) test in
-      ap (λ ks. slice_get ks number) all ∙ ap (slice_get (keys ++ copy ∷ [])) is ∙ get_seam keys copy ∙ ap Some same
+      ap (λ ks. slice_get ks number) all ∙ ap (slice_get (keys ++ copy ∷ [])) is ∙ get_last keys copy ∙ ap Some same
 
   -- the steps of a binding
   pub roomy : (keys more : List T) (last room : List ℕ) (bound : List Binding) (k : T) (number : ℕ) → IsTable eq keys last bound → MaybeNewKey eq keys more → slice_get more number ≡ Some k

@@ -1,6 +1,9 @@
 -- The loops of the walk, and what ends again: what each round keeps, and each way out.
-use Rattle.std.proofs.Common.{◌≡◌, ℕ, suc, ◌+◌, ◌<◌, ◌||◌, Bool, List, [], ◌∷◌, ◌++◌, Some, OnOk, slice_get, length, take, drop, get_or, eqb, refl, sym, ap, ◌∙◌, subst, add-one, drop-cons}
-use Rattle.std.proofs.Math.Seq.{take-append_seam}
+use Rattle.std.proofs.Common.{◌≡◌, ℕ, ◌+◌, ◌<◌, ◌||◌, Bool, List, [], ◌∷◌, ◌++◌, Some, OnOk, slice_get, length, take, drop, get_or, eqb, refl, sym, ap, ◌∙◌, subst}
+use Rattle.std.proofs.Math.Seq.{take-append_seam, take-length}
+use Rattle.std.proofs.lemmas.List.{append_assoc, append-nil}
+use Rattle.std.proofs.lemmas.Result.{on_ok_weaker}
+use Rattle.type_kinds.proofs.Lists.{drop_next}
 use Rattle.type_kinds.specs.declared.atom.Atom.{Atom}
 use Rattle.core_ast.specs.declared.syntax.Mark.{Mark}
 use Rattle.core_ast.specs.declared.syntax.VarName.{VarName}
@@ -30,20 +33,12 @@ use Rattle.core_scope.specs.Names.{Scope, bound_by, patterns_bound, steps_bound,
 use Rattle.core_scope.specs.Asks.{one_value, width}
 use Rattle.core_scope.specs.Breaks.{unless, degree, arity_of, catches, new_variables, new_functions, breaks, all_breaks, pair_breaks, segment_breaks, step_breaks, clause_breaks, def_breaks, patterns_breaks}
 use Rattle.core_scope.specs.steps.State.{scope_of, scope_around, noting, binding, defining}
-use Rattle.core_scope.proofs.Tables.{append_nil}
-use Rattle.core_scope.proofs.States.{append_assoc, first_of-append, noted_twice, bound_twice, noted_as_bound}
-use Rattle.core_scope.proofs.ExpressionExits.{Answer, on_ok, next_step}
-
-take_all : {X : Type 0} (xs : List X) → take (length xs) xs ≡ xs
-take_all [] = refl
-take_all (x ∷ xs) = ap (λ l. x ∷ l) (take_all xs)
+use Rattle.core_scope.proofs.States.{first_of-append, noted_twice, bound_twice, noted_as_bound}
+use Rattle.core_scope.proofs.ExpressionExits.{Answer, next_step}
 
 pub drop_all : {X : Type 0} (xs : List X) → drop (length xs) xs ≡ []
 drop_all [] = refl
 drop_all (x ∷ xs) = drop_all xs
-
-pub next_item : {X : Type 0} (xs : List X) (i : ℕ) (x : X) → i < length xs → x ≡ get_or xs i x → drop i xs ≡ x ∷ drop (i + 1) xs
-next_item xs i x within is = drop-cons xs i x within ∙ ap (λ y. y ∷ drop (suc i) xs) (sym is) ∙ ap (λ n. x ∷ drop n xs) (sym (add-one i))
 
 -- The width of clauses is that of the first.
 pub first_width : (cs : List Clause) (c : Clause) (n : ℕ) → slice_get cs 0 ≡ Some c → n ≡ length (out-Clause c).patterns → n ≡ width (all_clauses cs)
@@ -84,7 +79,7 @@ pub clauses_round : (w w1 goal : Walk) (k : Ask) (n : ℕ) (cs : List Clause) (i
 clauses_round w w1 goal k n cs i c within is step before =
     let rest : m.Clauses = all_clauses (drop (i + 1) cs) in
     round w w1 goal (λ s. clause_breaks s k n (all_clauses (c ∷ []))) (λ s. clause_breaks s k n rest) (λ s. clause_breaks s k n (all_clauses (drop i cs))) step
-    (ap (clause_breaks (scope_of w) k n) (all_clauses-next cs i c within ∙ ap (λ x. let y = clause_parts x in m.and_clause y.mark y.patterns y.guard y.body rest) (sym is)) ∙ ap (λ l. l ++ clause_breaks (scope_of w) k n rest) (sym (append_nil _))) before
+    (ap (clause_breaks (scope_of w) k n) (all_clauses-next cs i c within ∙ ap (λ x. let y = clause_parts x in m.and_clause y.mark y.patterns y.guard y.body rest) (sym is)) ∙ ap (λ l. l ++ clause_breaks (scope_of w) k n rest) (sym (append-nil _))) before
 
 pub defs_round : (w w1 w2 goal : Walk) (ds : List (FunDefOf Expr)) (i : ℕ) (d : FunDefOf Expr) (params : List VarName) (body : Expr) → i < length ds → d ≡ get_or ds i d → w1 ≡ noting w (arity_of d.name d.mark d.fun.params) → params ≡ d.fun.params → body ≡ d.fun.body
     → w2 ≡ noting w1 (new_variables [] params ++ breaks (with_variables (scope_of w1) (bound_by params)) one_value (tree body))
@@ -109,18 +104,18 @@ noted_bound w xs ps qs = λ i. record { variables = w.variables ++ xs; functions
 pub let_exit : (r : Answer) (w w1 w2 : Walk) (step : StepOf Expr) (k : Mark) (xs ys : List VarName) (e : Expr) (n : ℕ) → step ≡ Let k xs e → n ≡ length xs → ys ≡ xs → w1 ≡ noting w (breaks (scope_of w) (Exactly n) (tree e)) → OnOk r (w2 ≡ binding w1 (bound_by ys) (new_variables [] ys))
     → OnOk r (w2 ≡ binding w (steps_bound (all_steps (step ∷ []))) (step_breaks (scope_of w) (all_steps (step ∷ []))))
 let_exit r w w1 w2 step k xs ys e n is count same one =
-    on_ok r (λ two. two ∙ ap (λ v. binding v (bound_by ys) (new_variables [] ys)) one ∙ noted_bound w (bound_by ys) (breaks (scope_of w) (Exactly n) (tree e)) (new_variables [] ys)
+    on_ok_weaker r (λ two. two ∙ ap (λ v. binding v (bound_by ys) (new_variables [] ys)) one ∙ noted_bound w (bound_by ys) (breaks (scope_of w) (Exactly n) (tree e)) (new_variables [] ys)
     ∙ ap (λ z. binding w (bound_by z) (breaks (scope_of w) (Exactly n) (tree e) ++ new_variables [] z)) same ∙ ap (λ z. binding w (bound_by xs) (breaks (scope_of w) (Exactly z) (tree e) ++ new_variables [] xs)) count
     ∙ nil_ended (bound_by xs) (breaks (scope_of w) (Exactly (length xs)) (tree e) ++ new_variables [] xs)
     ∙ ap (λ z. binding w (steps_bound (all_steps (z ∷ []))) (step_breaks (scope_of w) (all_steps (z ∷ [])))) (sym is))
   where
     nil_ended : (ys : List Atom) (bs : List Break) → binding w ys bs ≡ binding w (ys ++ []) (bs ++ [])
-    nil_ended ys bs = ap (λ z. binding w z bs) (sym (append_nil ys)) ∙ ap (binding w (ys ++ [])) (sym (append_nil bs))
+    nil_ended ys bs = ap (λ z. binding w z bs) (sym (append-nil ys)) ∙ ap (binding w (ys ++ [])) (sym (append-nil bs))
 
 pub do_exit : (r : Answer) (w w1 : Walk) (step : StepOf Expr) (k : Mark) (e : Expr) → step ≡ Do k e → OnOk r (w1 ≡ noting w (breaks (scope_of w) AnyNumber (tree e)))
     → OnOk r (w1 ≡ binding w (steps_bound (all_steps (step ∷ []))) (step_breaks (scope_of w) (all_steps (step ∷ []))))
 do_exit r w w1 step k e is =
-    on_ok r (λ one. one ∙ noted_as_bound w (breaks (scope_of w) AnyNumber (tree e)) ∙ ap (binding w []) (sym (append_nil (breaks (scope_of w) AnyNumber (tree e))))
+    on_ok_weaker r (λ one. one ∙ noted_as_bound w (breaks (scope_of w) AnyNumber (tree e)) ∙ ap (binding w []) (sym (append-nil (breaks (scope_of w) AnyNumber (tree e))))
     ∙ ap (λ z. binding w (steps_bound (all_steps (z ∷ []))) (step_breaks (scope_of w) (all_steps (z ∷ [])))) (sym is))
 
 pub ruleset step_exits = (let_exit, do_exit)
@@ -130,7 +125,7 @@ pub steps_round : (w w1 goal : Walk) (ss : List (StepOf Expr)) (i : ℕ) (x : St
 steps_round w w1 goal ss i x within is step before =
     ap (λ v. binding v (steps_bound (all_steps rest)) (step_breaks (scope_of v) (all_steps rest))) step
     ∙ bound_twice w (steps_bound (all_steps (x ∷ []))) (steps_bound (all_steps rest)) (step_breaks (scope_of w) (all_steps (x ∷ []))) (step_breaks (with_variables (scope_of w) (steps_bound (all_steps (x ∷ [])))) (all_steps rest))
-    ∙ split x ∙ ap (λ l. binding w (steps_bound (all_steps l)) (step_breaks (scope_of w) (all_steps l))) (sym (next_item ss i x within is)) ∙ before
+    ∙ split x ∙ ap (λ l. binding w (steps_bound (all_steps l)) (step_breaks (scope_of w) (all_steps l))) (sym (drop_next ss i x within is)) ∙ before
   where
     rest : List (StepOf Expr)
     rest = drop (i + 1) ss
@@ -138,11 +133,11 @@ steps_round w w1 goal ss i x within is step before =
     split : (x : StepOf Expr) → binding w (steps_bound (all_steps (x ∷ [])) ++ steps_bound (all_steps rest)) (step_breaks (scope_of w) (all_steps (x ∷ [])) ++ step_breaks (with_variables (scope_of w) (steps_bound (all_steps (x ∷ [])))) (all_steps rest))
         ≡ binding w (steps_bound (all_steps (x ∷ rest))) (step_breaks (scope_of w) (all_steps (x ∷ rest)))
     split (Let k xs e) =
-        ap (λ z. binding w (z ++ steps_bound (all_steps rest)) (step_breaks (scope_of w) (all_steps (Let k xs e ∷ [])) ++ step_breaks (with_variables (scope_of w) z) (all_steps rest))) (append_nil (bound_by xs))
-        ∙ ap (λ z. binding w (bound_by xs ++ steps_bound (all_steps rest)) (z ++ step_breaks (with_variables (scope_of w) (bound_by xs)) (all_steps rest))) (append_nil (breaks (scope_of w) (Exactly (length xs)) (tree e) ++ new_variables [] xs))
+        ap (λ z. binding w (z ++ steps_bound (all_steps rest)) (step_breaks (scope_of w) (all_steps (Let k xs e ∷ [])) ++ step_breaks (with_variables (scope_of w) z) (all_steps rest))) (append-nil (bound_by xs))
+        ∙ ap (λ z. binding w (bound_by xs ++ steps_bound (all_steps rest)) (z ++ step_breaks (with_variables (scope_of w) (bound_by xs)) (all_steps rest))) (append-nil (breaks (scope_of w) (Exactly (length xs)) (tree e) ++ new_variables [] xs))
     split (Do k e) =
-        ap (λ z. binding w (steps_bound (all_steps rest)) (step_breaks (scope_of w) (all_steps (Do k e ∷ [])) ++ step_breaks z (all_steps rest))) (λ i. record { variables = append_nil w.variables i; functions = w.functions })
-        ∙ ap (λ z. binding w (steps_bound (all_steps rest)) (z ++ step_breaks (scope_of w) (all_steps rest))) (append_nil (breaks (scope_of w) AnyNumber (tree e)))
+        ap (λ z. binding w (steps_bound (all_steps rest)) (step_breaks (scope_of w) (all_steps (Do k e ∷ [])) ++ step_breaks z (all_steps rest))) (λ i. record { variables = append-nil w.variables i; functions = w.functions })
+        ∙ ap (λ z. binding w (steps_bound (all_steps rest)) (z ++ step_breaks (scope_of w) (all_steps rest))) (append-nil (breaks (scope_of w) AnyNumber (tree e)))
 
 -- ---- what is bound and ends again
 
@@ -208,7 +203,7 @@ try_parts_exit r w0 w1 w2 w3 w4 k i p n arg body handler xs ys zs holds zs_are h
     let b : List Break = breaks (with_variables (scope_of w0) (bound_by p.vars)) k (tree p.body) in
     let q : List Break = new_variables [] p.catch_vars in
     let h : List Break = breaks (with_variables (scope_of w0) (bound_by p.catch_vars)) k (tree p.handler) in
-    on_ok r (λ three.
+    on_ok_weaker r (λ three.
     next_step w0 w3 w4 (c ++ a ++ (v ++ b)) handler_rest (next_step w0 w2 w3 (c ++ a) body_rest (next_step w0 w1 w2 c (λ s. breaks s (Exactly (length p.vars)) (tree p.arg)) first1 second) third)
     (three ∙ ap (λ z. noting w3 (new_variables [] z ++ breaks (with_variables (scope_of w3) (bound_by z)) k (tree handler))) ys_are ∙ ap (λ z. noting w3 (new_variables [] p.catch_vars ++ breaks (with_variables (scope_of w3) (bound_by p.catch_vars)) k (tree z))) handler_is)
     ∙ ap (noting w0) (ap (λ l. l ++ (q ++ h)) (sym (append_assoc (c ++ a) v b)) ∙ sym (append_assoc (c ++ a ++ v ++ b) q h)))
@@ -223,7 +218,7 @@ clause_exit w0 w1 w2 w3 w4 c k n len around ps vars len_is tested at ps_are one 
     let body : Scope → List Break = λ s. breaks s k (tree (out-Clause c).body) in
     let own : List Break = unless (eqb (how_many_patterns qs) n) Degrees ((out-Clause c).mark).place in
     let tested1 : w1 ≡ noting w0 own = tested ∙ ap (λ z. noting w0 (unless (eqb z n) Degrees ((out-Clause c).mark).place)) (len_is ∙ sym (how_many_patterns-length (out-Clause c).patterns)) in
-    let whole_scope : scope_around around w1 ≡ scope_of w1 = (λ j. record { variables = (ap (λ z. take z w1.variables) at ∙ take_all w1.variables) j; functions = w1.functions }) in
+    let whole_scope : scope_around around w1 ≡ scope_of w1 = (λ j. record { variables = (ap (λ z. take z w1.variables) at ∙ take-length w1.variables) j; functions = w1.functions }) in
     let one1 : w2 ≡ binding w1 xs (patterns_breaks (scope_of w1) [] qs) =
     one ∙ ap (λ z. binding w1 (patterns_bound (all_patterns z)) (patterns_breaks (scope_around around w1) (drop around w1.variables) (all_patterns z))) ps_are
     ∙ ap (λ z. binding w1 xs (patterns_breaks z (drop around w1.variables) qs)) whole_scope ∙ ap (λ z. binding w1 xs (patterns_breaks (scope_of w1) z qs)) (ap (λ z. drop z w1.variables) at ∙ drop_all w1.variables) in
@@ -232,5 +227,5 @@ clause_exit w0 w1 w2 w3 w4 c k n len around ps vars len_is tested at ps_are one 
     next_step w0 w1 (with_left w4 vars) own (λ s. pats s ++ rest (with_variables s xs)) tested1
     (under_exit w1 w2 w4 around vars xs (pats (scope_of w1)) rest at one1 (next_step w2 w3 w4 (guard (scope_of w2)) body two three) left_is)
     ∙ ap (noting w0) (sym (append_assoc own (pats (scope_of w0)) (rest (with_variables (scope_of w0) xs))) ∙ sym (append_assoc (own ++ pats (scope_of w0)) (guard (with_variables (scope_of w0) xs)) (body (with_variables (scope_of w0) xs)))
-    ∙ sym (append_nil (own ++ pats (scope_of w0) ++ guard (with_variables (scope_of w0) xs) ++ body (with_variables (scope_of w0) xs)))
+    ∙ sym (append-nil (own ++ pats (scope_of w0) ++ guard (with_variables (scope_of w0) xs) ++ body (with_variables (scope_of w0) xs)))
     ∙ ap (λ y. clause_breaks (scope_of w0) k n (clauses (y ∷ []))) (sym (clause-is c)))

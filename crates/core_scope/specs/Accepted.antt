@@ -4,7 +4,7 @@ use Rattle.core_ast.specs.Model as m
 use Rattle.core_scan.specs.declared.token.Token.{Token}
 use Rattle.core_scan.specs.Bytes.{start}
 use Rattle.core_scan.specs.Lexed.{Lexed}
-use Rattle.core_grammar.specs.Spells.{SpellsModule}
+use Rattle.core_parse_grammar.specs.Spells.{SpellsModule}
 use Rattle.core_scope.specs.declared.fault.ScopeRule.{ScopeRule}
 use Rattle.core_scope.specs.declared.fault.ScopeRule.TheVariants.{BoundVariables, DistinctVariables, DefinedFunctions, DistinctFunctions, DefinedExports, Degrees}
 use Rattle.core_scope.specs.declared.fault.Break.{Break}

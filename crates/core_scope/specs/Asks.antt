@@ -26,7 +26,7 @@ never_returning =
     function_name (codes "error") 1 ∷ function_name (codes "error") 2 ∷ function_name (codes "exit") 1
     ∷ function_name (codes "throw") 1 ∷ function_name (codes "halt") 0 ∷ function_name (codes "halt") 1 ∷ []
 
--- A call with this literal module and name, and so many arguments, never returns.
+-- A call with this literal module and name, and n arguments, never returns.
 abbrev pub never_returns : (home name : Atom) → ℕ → Bool
 never_returns home name n = same_atom home erlang && has_function never_returning (function_name name n)
 
@@ -39,8 +39,8 @@ abbrev pub call_gives : (home name : m.Tree) → ℕ → Ask
 call_gives (m.literal i (l.Atom home)) (m.literal j (l.Atom name)) n = if never_returns home name n then AnyNumber else one_value
 call_gives t u n = one_value
 
--- How many values an expression gives: a value list as many as it has, a form that hands what is asked
--- on to its parts, a primop and a call that never returns whatever is asked, and every other one.
+-- How many values an expression gives: a value list as many as it has, a form that passes on what is
+-- asked to its parts, a primop and a call that never returns whatever is asked, and every other one.
 abbrev pub gives : m.Tree → Ask
 gives (m.values k ts) = Exactly (how_many ts)
 gives (m.chain k ss t) = AnyNumber
@@ -56,14 +56,14 @@ gives t = one_value
 abbrev pub most_asked : ℕ
 most_asked = 255
 
--- A place that asks for so many is satisfied by an expression that gives so many.
+-- A place that asks for `ask` values is satisfied by an expression that gives `given`.
 abbrev pub suffices : (ask given : Ask) → Bool
 suffices AnyNumber given = true
 suffices (Exactly n) AnyNumber = leb n most_asked
 suffices (Exactly n) (Exactly k) = eqb n k && leb n most_asked
 
 -- How many values are asked of an expression. Where its place asks for any number the form says it: a
--- value list and the forms that hand what is asked on to their parts set none, every other one value.
+-- value list and the forms that pass on what is asked to their parts set none, every other one value.
 abbrev pub asked : Ask → m.Tree → ℕ
 asked (Exactly n) t = n
 asked AnyNumber (m.values k ts) = 0
@@ -74,7 +74,7 @@ asked AnyNumber (m.try k t xs u ys w) = 0
 asked AnyNumber (m.receive k cs t u) = 0
 asked AnyNumber t = 1
 
--- How many patterns the clauses of a `case` have, by the first of them. So many values are asked of its
+-- How many patterns the clauses of a `case` have, by the first of them. That many values are asked of its
 -- argument.
 abbrev pub width : m.Clauses → ℕ
 width m.no_clause = 0

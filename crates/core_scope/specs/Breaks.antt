@@ -61,7 +61,7 @@ catches k ys = unless (eqb (length ys) 2 || eqb (length ys) 3) Degrees k.place
 -- ---- what expressions and patterns break
 
 abbrev mutual
-  -- An expression that sees the scope, in a place that asks for so many values.
+  -- An expression that sees the scope, in a place that asks for k values.
   pub breaks : Scope → Ask → m.Tree → List Break
   breaks s k (m.variable i x) = degree k i (m.variable i x) ++ use_of_variable s x i.place
   breaks s k (m.local i f) = degree k i (m.local i f) ++ use_of_function s f i.place
@@ -100,21 +100,21 @@ abbrev mutual
   segment_breaks s m.no_segment = []
   segment_breaks s (m.and_segment value args ss) = breaks s one_value value ++ all_breaks s args ++ segment_breaks s ss
 
-  -- Steps, each of which sees what those before it bind. Of the expression of a `let` as many values are
-  -- asked as it has variables, and of the first expression of a `do` any number.
+  -- Steps, each of which sees what those before it bind. The expression of a `let` is asked for as many
+  -- values as it has variables, and the first expression of a `do` for any number.
   pub step_breaks : Scope → m.Steps → List Break
   step_breaks s m.no_step = []
   step_breaks s (m.and_let i xs t ss) = breaks s (Exactly (length xs)) t ++ new_variables [] xs ++ step_breaks (with_variables s (bound_by xs)) ss
   step_breaks s (m.and_do i t ss) = breaks s AnyNumber t ++ step_breaks s ss
 
-  -- Clauses with so many patterns each. A guard and a body see all that the patterns bind.
+  -- Clauses with n patterns each. A guard and a body see all that the patterns bind.
   pub clause_breaks : Scope → Ask → ℕ → m.Clauses → List Break
   clause_breaks s k n m.no_clause = []
   clause_breaks s k n (m.and_clause i ps guard t cs) =
       width_of n i ps ++ patterns_breaks s [] ps ++ breaks (with_variables s (patterns_bound ps)) one_value guard
       ++ breaks (with_variables s (patterns_bound ps)) k t ++ clause_breaks s k n cs
 
-  -- Definitions. Of the body of a fun one value is asked.
+  -- Definitions. The body of a fun is asked for one value.
   pub def_breaks : Scope → m.Defs → List Break
   def_breaks s m.no_def = []
   def_breaks s (m.and_def f i xs t ds) = arity_of f i xs ++ new_variables [] xs ++ breaks (with_variables s (bound_by xs)) one_value t ++ def_breaks s ds

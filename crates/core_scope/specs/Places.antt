@@ -117,7 +117,7 @@ piece_breaks (patterns s before ps) = patterns_breaks s before ps
 piece_breaks (pattern_pairs s before ps) = pat_pair_breaks s before ps
 piece_breaks (pattern_segments s before ss) = pat_segment_breaks s before ss
 
--- Each clause has so many patterns.
+-- Each clause has n patterns.
 abbrev pub HaveWidth : ℕ → m.Clauses → Type 0
 HaveWidth n m.no_clause = Unit {0}
 HaveWidth n (m.and_clause i ps guard t cs) = (how_many_patterns ps ≡ n) × HaveWidth n cs

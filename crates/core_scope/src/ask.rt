@@ -3,6 +3,6 @@
 pub enum Ask {
     /// Any number: nothing takes the values, as those of the first expression of a `do`.
     AnyNumber,
-    /// So many, and no other number.
+    /// This number, and no other.
     Exactly(usize),
 }

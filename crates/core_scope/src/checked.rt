@@ -53,7 +53,7 @@ impl AsChecked for Checked {
     }
 }
 
-/// Gives an accepted module up.
+/// Drops an accepted module.
 pub fn discard_checked(checked: Checked) {
     let Checked { source } = checked;
     discard_module(source);

@@ -37,7 +37,7 @@ impl Break {
 /// Accepts a module that some text spells, where it breaks no rule of scopes and degrees.
 ///
 /// A refusal names the first break: the one at the least place, and of those there the one of the
-/// lowest number (`ScopeRule` has them in their order). The module is given up then. `Memory`: allocation
+/// lowest number (`ScopeRule` has them in their order). The module is then dropped. `Memory`: allocation
 /// failed. This says nothing of the module.
 pub fn check(alloc: Global, source: Module) -> Result<Checked, ScopeFault>
     requires spelled { IsSpelled (module_tree source) }

@@ -11,7 +11,7 @@ use type_kinds::Atom;
 /// The greatest number of values that a place may ask for.
 pub const MOST_ASKED: usize = 255;
 
-/// Whether an expression that gives so many values satisfies a place that asks for so many.
+/// Whether an expression that gives `given` values satisfies a place that asks for `ask`.
 pub fn suffices(ask: Ask, given: Ask) -> bool
     ensures { result ≡ suffices ask given }
 {
@@ -31,7 +31,7 @@ pub fn is_text(name: &Atom, bytes: &[u8]) -> bool
     name.bytes() == bytes
 }
 
-// Whether a call of these, with so many arguments, never returns.
+// Whether a call of this module and name, with `arity` arguments, never returns.
 fn never_returns(home: &Atom, name: &Atom, arity: usize) -> bool
     ensures { result ≡ never_returns home.now name.now arity }
 {
@@ -47,7 +47,7 @@ fn never_returns(home: &Atom, name: &Atom, arity: usize) -> bool
     arity == 1 && (is_text(name, b"exit") || is_text(name, b"throw"))
 }
 
-/// How many values a call of this module and name gives, with so many arguments, where `AnyNumber` is whatever is
+/// How many values a call of this module and name gives, with `arity` arguments, where `AnyNumber` is whatever is
 /// asked: that of a built-in function that never returns, by literal names.
 pub fn call_gives(home: &Expr, name: &Expr, arity: usize) -> Ask
     ensures { result ≡ call_gives (tree home.now) (tree name.now) arity }

@@ -16,7 +16,7 @@ use core_ast::{
 };
 use type_kinds::Memory;
 
-/// An expression, in a place that asks for so many values.
+/// An expression, in a place that asks for `ask` values.
 #[cycle(scope)]
 #[tactic(auto, using(crate::proofs::ExpressionExits::expression_exits))]
 pub fn walk_expression(walk: &mut Walk, ask: Ask, expr: &Expr) -> Result<(), Memory>
@@ -99,7 +99,7 @@ pub fn walk_all(walk: &mut Walk, exprs: &[Expr]) -> Result<(), Memory>
     Ok(())
 }
 
-/// An expression that sees these variables besides, in a place that asks for so many values.
+/// An expression that also sees these variables, in a place that asks for `ask` values.
 #[cycle(scope)]
 pub fn walk_under(walk: &mut Walk, ask: Ask, vars: &[VarName], body: &Expr) -> Result<(), Memory>
     ensures { OnOk result (walk.new ≡ noting walk.old (new_variables [] vars.now ++ breaks (with_variables (scope_of walk.old) (bound_by vars.now)) ask (tree body.now))) }
@@ -162,7 +162,7 @@ pub fn width(clauses: &[Clause]) -> usize
     }
 }
 
-// Clauses with so many patterns each.
+// Clauses with `count` patterns each.
 #[cycle(scope)]
 fn walk_clauses(walk: &mut Walk, ask: Ask, count: usize, clauses: &[Clause]) -> Result<(), Memory>
     ensures { OnOk result (walk.new ≡ noting walk.old (clause_breaks (scope_of walk.old) ask count (all_clauses clauses.now))) }

@@ -49,7 +49,7 @@ pub enum ScopeFault {
 /// Why modules can't be analysed together.
 #[derive(Clone, Copy, Debug, PartialEq, Eq)]
 pub enum SetFault {
-    /// Two modules have one name: the least position whose module's name stands earlier, and the
+    /// Two modules have the same name: the least position whose module's name stands earlier, and the
     /// earliest position of that name.
     DuplicateModule { first: u32, second: u32 },
 }

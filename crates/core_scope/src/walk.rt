@@ -23,7 +23,7 @@ pub struct Walk {
     pub first: Option<Break>,
 }
 
-/// Gives a walk up.
+/// Drops a walk.
 pub fn discard_walk(_walk: Walk) {}
 
 impl ScopeRule {

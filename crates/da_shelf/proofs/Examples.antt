@@ -2,7 +2,7 @@
 use Rattle.std.proofs.Common.{◌≡◌, ◌-◌, ◌^◌, [], ◌∷◌, true, false, Some, None, inl, inr, refl, lit<, arith}
 use Rattle.da_shelf.specs.Counts.{raised, Rose}
 use Rattle.da_shelf.specs.Told.{appended}
-use Rattle.da_shelf.specs.ShelfState.{empty_shelf, read_fails, after_read}
+use Rattle.da_shelf.specs.ShelfState.{empty_shelf, read_fails, after_read, replace_fails, after_replace}
 use Rattle.da_shelf.specs.SinkState.{empty_sink, write_fails, bytes_taken, after_taking, after_fault}
 
 raised-once : raised 3 ≡ 4
@@ -54,3 +54,13 @@ write-without_room = refl
 
 write-listed : write_fails (after_fault (empty_sink 2 3 (2 ∷ []))) ≡ true
 write-listed = refl
+
+-- the second replace of three fails, whatever is read meanwhile
+second_replace-fails : replace_fails (after_read (after_replace (empty_shelf [] (2 ∷ [])))) ≡ true
+second_replace-fails = refl
+
+second_replace-counts : (after_replace (after_replace (empty_shelf [] (2 ∷ [])))).replace_faults ≡ 1
+second_replace-counts = refl
+
+third_replace-works : replace_fails (after_replace (after_replace (empty_shelf [] (2 ∷ [])))) ≡ false
+third_replace-works = refl

@@ -11,7 +11,7 @@ appended-appended (Some all) xs ys = ap Some (append_assoc all xs ys)
 take-take : (bytes : List ℕ) (done n : ℕ) → take done (take (done + n) bytes) ≡ take done bytes
 take-take bytes done n = grind (arith, common_steps)
 
--- A front, and a front of what is left, are a longer front.
+-- A prefix, and a prefix of what is left, are a longer prefix.
 take-plus : (bytes : List ℕ) (done n : ℕ) → take done bytes ++ take n (drop done bytes) ≡ take (done + n) bytes
 take-plus bytes done n =
     ap (λ front. front ++ take n (drop done bytes)) (sym (take-take bytes done n))
@@ -22,7 +22,7 @@ take-plus bytes done n =
 rest-is : (bytes : List ℕ) (done : ℕ) → take (length bytes - done) (drop done bytes) ≡ drop done bytes
 rest-is bytes done = take_all (length bytes - done) (drop done bytes) (omega (arith, length-drop done bytes))
 
--- A sink has taken a front, and takes some of what is left.
+-- A sink has taken a prefix, and takes some of what is left.
 pub written_further : (before was now : Option (List ℕ)) (bytes : List ℕ) (done n : ℕ) → was ≡ appended before (take done bytes) → now ≡ appended was (take n (take (length bytes - done) (drop done bytes))) → now ≡ appended before (take (done + n) bytes)
 written_further before was now bytes done n so_far more =
     more

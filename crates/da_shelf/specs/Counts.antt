@@ -12,3 +12,19 @@ raised count = min (count + 1) last_count
 -- A count rose in a call, or it stands at its last value, where it can't rise.
 abbrev pub Rose : ℕ → ℕ → Type 0
 Rose before now = (before < now) ⊎ (now ≡ last_count)
+
+-- How often reading and replacing files failed.
+pub record FaultCounts : Type 0 where
+  pub read_faults : ℕ
+  pub replace_faults : ℕ
+
+abbrev pub no_faults : FaultCounts
+no_faults = record { read_faults = 0; replace_faults = 0 }
+
+-- after one more read that failed
+abbrev pub after_failed_read : FaultCounts → FaultCounts
+after_failed_read counts = record counts { read_faults = raised counts.read_faults }
+
+-- after one more replace that failed
+abbrev pub after_failed_replace : FaultCounts → FaultCounts
+after_failed_replace counts = record counts { replace_faults = raised counts.replace_faults }

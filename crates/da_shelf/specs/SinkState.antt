@@ -47,7 +47,7 @@ bytes_taken sink piece = min (length piece) (min sink.cap sink.room)
 abbrev pub after_fault : SinkState → SinkState
 after_fault sink = record sink { writes = raised sink.writes; faults = raised sink.faults }
 
--- the sink after a write that takes so many bytes of a piece
+-- the sink after a write that takes n bytes of a piece
 abbrev pub after_taking : SinkState → ℕ → List ℕ → SinkState
 after_taking sink n piece =
     record sink { written = sink.written ++ take n piece; room = sink.room - n; writes = raised sink.writes }

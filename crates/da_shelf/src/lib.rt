@@ -1,4 +1,4 @@
-//! The outside of the analyser, as traits: a shelf that files are read from, a sink that output goes
+//! The outside of the analyser, as traits: a shelf where files are kept, a sink that output goes
 //! to, and a gate that workers pass. The shelf and the sink have a fake in memory, whose every answer
 //! contracts know, and an implementation on the host.
 #![tactic(auto)]
@@ -8,6 +8,7 @@ mod gate;
 mod listed;
 mod mem_shelf;
 mod mem_sink;
+mod second_file;
 mod shelf;
 mod sink;
 mod stdout_sink;

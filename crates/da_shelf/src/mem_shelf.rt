@@ -1,7 +1,7 @@
 ghost use Rattle.std.specs.Prelude.{◌≡◌, ◌↔◌, ◌≤◌, IfOk, OnOk, OnErr, IsErrOf, IsTrue, Some, None, option_copied};
 ghost use Rattle.std.specs.FinMap.{get};
 ghost use Rattle.da_shelf.specs.Counts.{raised};
-ghost use Rattle.da_shelf.specs.ShelfState.{empty_shelf, holding, read_fails, after_read};
+ghost use Rattle.da_shelf.specs.ShelfState.{empty_shelf, holding, read_fails, after_read, replace_fails, after_replace};
 
 use crate::listed::is_listed;
 use crate::shelf::{Shelf, ShelfFault};
@@ -10,8 +10,8 @@ use std::collections::VecDeque;
 use std::marker::Model;
 use type_kinds::{Bytes, List, Memory};
 
-/// A shelf in memory that fails at chosen reads, for tests. It keeps the allocator that it is made
-/// with.
+/// A shelf in memory that fails at chosen reads and replaces, for tests. It keeps the allocator that
+/// it is made with.
 #[derive(Drop)]
 pub struct MemShelf {
     alloc: Global,
@@ -19,6 +19,8 @@ pub struct MemShelf {
     files: VecDeque<(Bytes, Bytes)>,
     reads: u64,
     read_faults: u64,
+    replaces: u64,
+    replace_faults: u64,
     fail_reads: List<u32>,
     fail_replaces: List<u32>,
 }
@@ -35,6 +37,8 @@ impl Model for MemShelf {
       held = from_entries it.files.items;
       reads = it.reads;
       read_faults = it.read_faults;
+      replaces = it.replaces;
+      replace_faults = it.replace_faults;
       fail_reads = it.fail_reads;
       fail_replaces = it.fail_replaces;
     } };
@@ -42,7 +46,7 @@ impl Model for MemShelf {
 
 impl MemShelf {
     /// A shelf that holds nothing. Its reads are numbered from 1, and exactly the listed ones fail,
-    /// whatever is held. Its replaces are numbered apart from these, for the second list. Takes no
+    /// whatever is held; so are its replaces, apart from the reads, for the second list. Takes no
     /// memory.
     pub fn new(alloc: Global, fail_reads: List<u32>, fail_replaces: List<u32>) -> MemShelf
         ensures { result ≡ empty_shelf fail_reads fail_replaces }
@@ -52,6 +56,8 @@ impl MemShelf {
             files: VecDeque::new(alloc),
             reads: 0,
             read_faults: 0,
+            replaces: 0,
+            replace_faults: 0,
             fail_reads,
             fail_replaces,
         }
@@ -91,6 +97,8 @@ impl Shelf for MemShelf {
 
     ghost read_faults = { λ shelf. shelf.read_faults };
 
+    ghost replace_faults = { λ shelf. shelf.replace_faults };
+
     fn read(&mut self, name: &str) -> Result<Vec<u8>, ShelfFault>
         ensures read { IfOk result (λ bytes. get self.old.held name.now ≡ Some bytes.items) }
         ensures missing { IsErrOf result ShelfFault.Missing → get self.old.held name.now ≡ None }
@@ -104,6 +112,24 @@ impl Shelf for MemShelf {
             return Err(ShelfFault::Failed);
         }
         answer(self.alloc, self.look(name))
+    }
+
+    fn replace(&mut self, name: &str, bytes: &[u8]) -> Result<(), ShelfFault>
+        ensures replaced { OnOk result (self.new ≡ after_replace (holding self.old name.now bytes.now)) }
+        ensures kept { OnErr result (self.new ≡ after_replace self.old) }
+        ensures failed { IsErrOf result ShelfFault.Failed ↔ IsTrue (replace_fails self.old) }
+        ensures present { ¬ (IsErrOf result ShelfFault.Missing) }
+        ensures counted { self.old.replace_faults ≤ self.new.replace_faults }
+    {
+        self.replaces = self.replaces.saturating_add(1);
+        if is_listed(&self.fail_replaces, self.replaces) {
+            self.replace_faults = self.replace_faults.saturating_add(1);
+            return Err(ShelfFault::Failed);
+        }
+        match self.put(name, bytes) {
+            Ok(()) => Ok(()),
+            Err(Memory) => Err(ShelfFault::Memory),
+        }
     }
 }
 

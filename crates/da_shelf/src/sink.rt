@@ -1,6 +1,6 @@
 ghost use Rattle.std.specs.Prelude.{◌≡◌, ℕ, ◌<◌, ◌≤◌, List, length, take, Option, IfOk, OnOk, OnErr};
 ghost use Rattle.da_shelf.specs.Counts.{Rose};
-ghost use Rattle.da_shelf.specs.Told.{appended, IsFrontAppended};
+ghost use Rattle.da_shelf.specs.Told.{appended, IsPrefixAppended};
 
 /// A place that output is written to.
 pub trait Sink {
@@ -31,13 +31,13 @@ pub enum SinkFault {
     Failed,
 }
 
-/// Writes all bytes: hands the sink all that is left until nothing is left. Takes no memory.
+/// Writes all bytes: passes the sink all that is left until nothing is left. Takes no memory.
 ///
-/// `Failed`: the sink failed before all was written, and has counted it. A front of the bytes was
+/// `Failed`: the sink failed before all was written, and has counted it. A prefix of the bytes was
 /// written.
 pub fn give<K: Sink>(out: &mut K, bytes: &[u8]) -> Result<(), SinkFault>
     ensures all { OnOk result (K.written out.new ≡ appended (K.written out.old) bytes.now) }
-    ensures front { OnErr result (IsFrontAppended (K.written out.old) (K.written out.new) bytes.now) }
+    ensures front { OnErr result (IsPrefixAppended (K.written out.old) (K.written out.new) bytes.now) }
     ensures failed { OnErr result (Rose (K.faults out.old) (K.faults out.new)) }
     ensures counted { K.faults out.old ≤ K.faults out.new }
 {

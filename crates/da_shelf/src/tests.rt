@@ -4,7 +4,9 @@ use super::*;
 use std::alloc::Global;
 use std::cell::{Cell, RefCell};
 use std::fmt::Display;
+use std::fs::Permissions;
 use std::io::ErrorKind;
+use std::os::unix::fs::PermissionsExt;
 use std::test::Fail;
 use std::{env, fs, io};
 use type_kinds::{Bytes, List, Memory};
@@ -15,6 +17,10 @@ fn numbers(alloc: Global, these: &[u32]) -> Result<List<u32>, Memory> {
 
 fn read_by_bound<F: Shelf>(shelf: &mut F, name: &str) -> Result<Vec<u8>, ShelfFault> {
     shelf.read(name)
+}
+
+fn replace_by_bound<F: Shelf>(shelf: &mut F, name: &str, bytes: &[u8]) -> Result<(), ShelfFault> {
+    shelf.replace(name, bytes)
 }
 
 fn pass<G: Gate + Sync>(gate: &G) {
@@ -47,6 +53,29 @@ fn a_shelf_in_memory_fails_at_the_listed_reads(rt: HostRuntime) -> Result<(), Fa
         );
     }
     assert!(rt; shelf.read("a")?.as_slice() == b"second".as_slice());
+    Ok(())
+}
+
+#[test]
+fn a_shelf_in_memory_fails_at_the_listed_replaces(rt: HostRuntime) -> Result<(), Fail> {
+    let alloc = rt.alloc();
+    let mut shelf = MemShelf::new(alloc, List::new(alloc), numbers(alloc, &[2, 3])?);
+    shelf.put("a", b"first")?;
+    let rows: [(&str, &[u8], bool, &[u8]); 4] = [
+        ("a", b"second", true, b"second"),
+        ("a", b"third", false, b"second"),
+        ("a", b"", false, b"second"),
+        ("a", b"", true, b""),
+    ];
+    for (name, bytes, taken, held) in rows {
+        let answer = replace_by_bound(&mut shelf, name, bytes);
+        assert!(rt; answer.is_ok() == taken);
+        assert!(rt; taken || answer == Err(ShelfFault::Failed));
+        assert!(rt; shelf.look(name) == Some(held));
+    }
+    assert!(rt; replace_by_bound(&mut shelf, "b", b"new").is_ok());
+    assert!(rt; shelf.read("b")?.as_slice() == b"new".as_slice());
+    assert!(rt; shelf.look("a") == Some(b"".as_slice()));
     Ok(())
 }
 
@@ -97,6 +126,71 @@ fn files_are_read_whole_or_missing(rt: HostRuntime) -> Result<(), Fail> {
     assert!(rt; read?.as_slice() == b"module".as_slice());
     assert!(rt; read_by_bound(&mut shelf, name).err() == Some(ShelfFault::Missing));
     assert!(rt; read_by_bound(&mut shelf, "/").err() == Some(ShelfFault::Failed));
+    Ok(())
+}
+
+// Whether the host says that there is such a file or folder.
+fn is_there(rt: &HostRuntime, name: &str) -> bool {
+    fs::metadata(rt, name).is_ok()
+}
+
+// Whether a file holds these bytes, and nobody but its owner and its group may read it.
+fn holds(rt: &HostRuntime, shelf: &mut FileShelf<&HostRuntime>, name: &str, bytes: &[u8]) -> bool {
+    let mode = match fs::metadata(rt, name) {
+        Ok(data) => data.permissions().mode(),
+        Err(_) => return false,
+    };
+    match shelf.read(name) {
+        Ok(read) => read.as_slice() == bytes && mode & 0o777 == 0o640,
+        Err(_) => false,
+    }
+}
+
+// The first replace makes the file, the second keeps its permissions, and neither leaves the second
+// file. What isn't in a folder can't be replaced.
+fn replaced_whole(
+    rt: &HostRuntime,
+    shelf: &mut FileShelf<&HostRuntime>,
+    names: [&str; 3],
+) -> [bool; 4] {
+    let [name, second, below] = names;
+    let first = replace_by_bound(shelf, name, b"first").is_ok();
+    let closed = fs::set_permissions(rt, name, Permissions::from_mode(0o640)).is_ok();
+    let again = replace_by_bound(shelf, name, b"second").is_ok();
+    [
+        first && closed && again,
+        holds(rt, shelf, name, b"second"),
+        !is_there(rt, second),
+        replace_by_bound(shelf, below, b"") == Err(ShelfFault::Failed),
+    ]
+}
+
+#[test]
+fn files_are_replaced_whole(rt: HostRuntime) -> Result<(), Fail> {
+    let alloc = rt.alloc();
+    let mut path = env::temp_dir(&rt)?;
+    path.push("da_shelf_replaces_here")?;
+    let folder = path
+        .as_path()
+        .to_str()
+        .ok_or("the folder's name is no text")?;
+    let name = format!(in alloc; "{folder}/table")?;
+    let second = format!(in alloc; "{folder}/table.new0")?;
+    let below = format!(in alloc; "{folder}/table/below")?;
+    let beside = format!(in alloc; "{folder}.new0")?;
+    let mut shelf = FileShelf::new(&rt, alloc)?;
+    let made = fs::create_dir(&rt, folder).is_ok();
+    let names = [name.as_str(), second.as_str(), below.as_str()];
+    let whole = replaced_whole(&rt, &mut shelf, names);
+    // a folder isn't replaced, and what was tried is removed
+    let over_folder = replace_by_bound(&mut shelf, folder, b"third");
+    let left = is_there(&rt, beside.as_str());
+    let cleared = fs::remove_file(&rt, name.as_str()).is_ok()
+        && fs::remove_dir(&rt, folder).is_ok();
+    assert!(rt; made && cleared);
+    assert!(rt; whole == [true; 4]);
+    assert!(rt; over_folder == Err(ShelfFault::Failed));
+    assert!(rt; !left);
     Ok(())
 }
 

@@ -1,8 +1,12 @@
-mod AnswerExits
+mod BeginExits
 mod Causes
 mod CheckExits
 mod Joined
+mod KeptExits
 mod Numbers
-mod Truths
+mod Places
+mod PlanExits
+mod StoreExits
+mod Texts
 mod WordExits
 mod WorkerNumbers

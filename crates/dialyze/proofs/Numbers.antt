@@ -1,15 +1,15 @@
--- What the status of a refusal tells, and what the words of a command tell.
-use Rattle.std.proofs.Common.{◌≡◌, ◌≢◌, ℕ, ◌+◌, ◌<◌, ◌≤◌, List, [], ◌∷◌, ◌++◌, refl, sym, ◌∙◌, ap, subst, arith, length}
-use Rattle.std.specs.Prelude.{nat_eq, codes, if◌then◌else◌}
+-- What a status tells.
+use Rattle.std.proofs.Common.{◌≡◌, ◌≢◌, ℕ, ◌<◌, ◌≤◌, refl, sym, ◌∙◌, ap, arith}
+use Rattle.std.specs.Prelude.{nat_eq, if◌then◌else◌}
+use Rattle.table_file.specs.declared.faults.TableFault.{TableFault as FaultOfTable}
+use Rattle.table_file.specs.declared.faults.TableFault.TheVariants as t
 use Rattle.analysis.specs.declared.refusals.RefusalName.{RefusalName}
 use Rattle.analysis.specs.declared.refusals.RefusalName.TheVariants as r
 use Rattle.analysis.specs.declared.refusals.SourceFault.{SourceFault}
 use Rattle.analysis.specs.Refusals.{refusal_number, missing}
 use Rattle.dialyze.specs.declared.status.Status.{Status}
-use Rattle.dialyze.specs.declared.status.Status.TheVariants.{Refused}
-use Rattle.dialyze.specs.Lines.{refused}
-use Rattle.dialyze.specs.Words.{AreFiles, AreOptions, no_option, workers_option, IsCheck, most_files}
-use Rattle.dialyze.specs.Outcome.{Checks}
+use Rattle.dialyze.specs.declared.status.Status.TheVariants.{Clean, Refused, Warnings, TableFault, DeviceFault, Memory, Usage}
+use Rattle.dialyze.specs.Lines.{refused, table_fault_number, faulty_table}
 
 -- ---- a refusal's status tells its name and its line
 
@@ -91,44 +91,71 @@ not_other r.Degree = (λ e. absurd (omega (arith, e)), λ e. absurd (omega (arit
 not_other r.TooLong = (λ e. absurd (omega (arith, e)), λ e. absurd (omega (arith, e)))
 not_other r.Missing = (λ e. absurd (omega (arith, e)), λ e. absurd (omega (arith, e)))
 
--- ---- words
+-- ---- a table's fault is told by its number
 
-rest : List (List ℕ) → List (List ℕ)
-rest [] = []
-rest (w ∷ ws) = ws
+abbrev pub table_fault_by : ℕ → FaultOfTable
+table_fault_by n =
+    if nat_eq n 18 then t.NotATable
+    else if nat_eq n 19 then t.Version
+    else if nat_eq n 20 then t.Torn
+    else if nat_eq n 21 then t.Order
+    else if nat_eq n 22 then t.BadEntry
+    else if nat_eq n 23 then t.Rest
+    else t.Memory
 
-second : List (List ℕ) → List ℕ
-second ws = front (rest ws)
+table_told : (fault : FaultOfTable) → table_fault_by (table_fault_number fault) ≡ fault
+table_told t.NotATable = refl
+table_told t.Version = refl
+table_told t.Torn = refl
+table_told t.Order = refl
+table_told t.BadEntry = refl
+table_told t.Rest = refl
+table_told t.Memory = refl
+
+abbrev pub table_number_by : Status → ℕ
+table_number_by (TableFault number) = number
+table_number_by _ = 0
+
+pub one_table_fault : (f g : FaultOfTable) → faulty_table f ≡ faulty_table g → f ≡ g
+one_table_fault f g e = sym (table_told f) ∙ ap (λ s. table_fault_by (table_number_by s)) e ∙ table_told g
+
+pub table_number : (fault : FaultOfTable) → (fault ≡ t.Memory → ⊥) → (18 ≤ table_fault_number fault) × (table_fault_number fault ≤ 23)
+table_number t.NotATable some = (omega arith, omega arith)
+table_number t.Version some = (omega arith, omega arith)
+table_number t.Torn some = (omega arith, omega arith)
+table_number t.Order some = (omega arith, omega arith)
+table_number t.BadEntry some = (omega arith, omega arith)
+table_number t.Rest some = (omega arith, omega arith)
+table_number t.Memory some = absurd (some refl)
+
+-- ---- statuses are told apart
+
+-- a number for each kind of status, and for a refusal its own
+abbrev pub mark : Status → ℕ
+mark Clean = 100
+mark (Refused refusal) = refusal.number
+mark Warnings = 101
+mark (TableFault number) = 102
+mark (DeviceFault device) = 103
+mark Memory = 104
+mark Usage = 105
+
+-- a source is refused by none of the numbers of the other refusals
+pub mark_of : (name : RefusalName) → (refusal_number name < 27) × (refusal_number name ≢ 14) × (refusal_number name ≢ 24)
+mark_of name = (below name, (not_other name).0, (not_other name).1)
   where
-    front : List (List ℕ) → List ℕ
-    front [] = []
-    front (v ∷ vs) = v
-
--- files are told from the options before them
-one_split : (options others files those : List (List ℕ)) (v w : ℕ) → options ++ files ≡ others ++ those → AreOptions options v → AreOptions others w → AreFiles files → AreFiles those
-    → (options ≡ others) × (files ≡ those)
-unfolding rest second
-one_split options others files those v w e (no_option a x) (no_option b y) named also =
-    (a ∙ sym b, sym (ap (λ os. os ++ files) a) ∙ e ∙ ap (λ os. os ++ those) b)
-one_split options others files those v w e (no_option a x) (workers_option b least most) named also =
-    absurd ((subst AreFiles (sym (ap (λ os. os ++ files) a) ∙ e ∙ ap (λ os. os ++ those) b) named).0 refl)
-one_split options others files those v w e (workers_option a least most) (no_option b y) named also =
-    absurd ((subst AreFiles (sym (ap (λ os. os ++ those) b) ∙ sym e ∙ ap (λ os. os ++ files) a) also).0 refl)
-one_split options others files those v w e (workers_option a least most) (workers_option b few many) named also =
-    let whole = sym (ap (λ os. os ++ files) a) ∙ e ∙ ap (λ os. os ++ those) b in
-    (a ∙ ap (λ d. codes "--workers" ∷ d ∷ []) (ap second whole) ∙ sym b, ap (λ ws. rest (rest ws)) whole)
-
-one_check : {words files those : List (List ℕ)} {v w start other : ℕ} → IsCheck words v start files → IsCheck words w other those → (start ≡ other) × (files ≡ those)
-unfolding rest
-one_check {words} {files} {those} {v} {w} h k =
-    let same = one_split h.options k.options files those v w (ap rest (sym h.command ∙ k.command)) h.asked k.asked h.named k.named in
-    (h.place ∙ ap (λ os. 1 + length os) same.0 ∙ sym k.place, same.1)
-
-pub one_files : {words files those : List (List ℕ)} {start other : ℕ} → Checks words start files → Checks words other those → (start ≡ other) × (files ≡ those)
-one_files h k = one_check h.check k.check
-
-pub not_many : {words files those : List (List ℕ)} {w start other : ℕ} → Checks words start files → IsCheck words w other those → (most_files < length those) → ⊥
-not_many h k long = let few = h.few in let e = ap (λ fs. length fs) (one_check h.check k).1 in absurd (omega arith)
-
-pub start_late : {words files : List (List ℕ)} {start : ℕ} → Checks words start files → 1 ≤ start
-start_late h = let e = h.check.place in omega arith
+    below : (name : RefusalName) → refusal_number name < 27
+    below r.BadByte = omega arith
+    below r.OpenQuote = omega arith
+    below r.BadEscape = omega arith
+    below r.WideInteger = omega arith
+    below r.Syntax = omega arith
+    below r.TooDeep = omega arith
+    below r.Unbound = omega arith
+    below r.RepeatedVariable = omega arith
+    below r.UndefinedFunction = omega arith
+    below r.RepeatedFunction = omega arith
+    below r.BadExport = omega arith
+    below r.Degree = omega arith
+    below r.TooLong = omega arith
+    below r.Missing = omega arith

@@ -1,5 +1,5 @@
 -- The word that asks for a number of workers.
-use Rattle.std.proofs.Common.{◌≡◌, ◌↔◌, ℕ, zero, suc, ◌+◌, ◌-◌, ◌*◌, ◌^◌, ◌<◌, ◌≤◌, Bool, true, false, ◌&&◌, List, [], ◌∷◌, length, get_or, refl, sym, ap, ◌∙◌, subst, arith, append-nil, true≢false}
+use Rattle.std.proofs.Common.{◌≡◌, ◌↔◌, ℕ, zero, suc, ◌+◌, ◌-◌, ◌*◌, ◌^◌, ◌<◌, ◌≤◌, Bool, true, false, List, [], ◌∷◌, length, get_or, refl, sym, ap, ◌∙◌, subst, arith, append-nil, true≢false}
 use Rattle.std.specs.Prelude.{IsTrue}
 use Rattle.std.specs.Int.{IsInRange}
 use Rattle.std.specs.List.{fold, list_all, prefix_len}
@@ -8,6 +8,7 @@ use Rattle.std.proofs.lemmas.Fmt.{decimal-digits_value, decimal_digit, first_dec
 use Rattle.std.proofs.lemmas.Str.Parse.{IsNumeralModel, numerals_by_fold}
 use Rattle.std.proofs.lemmas.Bool.Decides.{nat_tests}
 use Rattle.std.proofs.lemmas.List.{take_all}
+use Rattle.std.proofs.lemmas.Bool.{and_parts, and_from}
 use Rattle.type_kinds.specs.Digits.{is_digit, number}
 use Rattle.type_kinds.proofs.DigitLaws.{front_digits, front_is, is_written}
 use Rattle.dialyze.specs.Words.{most_workers}
@@ -22,21 +23,13 @@ digit_range c h = grind (arith, nat_tests, h)
 range_digit : (c : ℕ) → IsInRange 48 57 c → is_digit c ≡ true
 range_digit c h = grind (arith, nat_tests, h)
 
-both : (b c : Bool) → (b && c) ≡ true → (b ≡ true) × (c ≡ true)
-both true c e = (refl, e)
-both false c e = absurd (true≢false (sym e))
-
-and_so : (b c : Bool) → b ≡ true → c ≡ true → (b && c) ≡ true
-and_so true c e f = f
-and_so false c e f = e
-
 numerals : IsNumeralModel AreDigits (number 10)
 numerals =
     numerals_by_fold AreDigits
     (record {
       empty = refl;
-      parts = λ c cs h. (let b = both (is_digit c) (list_all is_digit cs) h in (digit_range c b.0, b.1));
-      more = λ c cs h k. and_so (is_digit c) (list_all is_digit cs) (range_digit c h) k;
+      parts = λ c cs h. (let b = and_parts (is_digit c) (list_all is_digit cs) h in (digit_range c b.0, b.1));
+      more = λ c cs h k. and_from (is_digit c) (list_all is_digit cs) (range_digit c h) k;
     })
     (λ n ds. fold (λ n digit. n * 10 + (digit - 48)) n ds)
     (record { empty = λ n. refl; more = λ n c cs h. refl })
@@ -96,3 +89,7 @@ number_so text begins n tells holds digits is most = (spelled, some n (tells.0 h
     some : (k : ℕ) → Begins text → text ≡ decimal k → 1 ≤ k
     some zero h e = absurd (begun text h (e ∙ decimal_digit 0 (omega arith)))
     some (suc k) h e = omega arith
+
+-- a number is told by how it is printed
+pub decimal_once : (n m : ℕ) → n ≤ most_workers → m ≤ most_workers → decimal n ≡ decimal m → n ≡ m
+decimal_once n m few also e = sym (is_written n (omega arith)).spells ∙ ap (number 10) e ∙ (is_written m (omega arith)).spells

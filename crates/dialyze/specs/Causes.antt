@@ -1,63 +1,83 @@
 -- When each answer comes.
-use Rattle.std.specs.Prelude.{◌≡◌, ℕ, ◌+◌, List, Option, Some}
-use Rattle.std.specs.List.{concat}
-use Rattle.core_ast.specs.Model as m
-use Rattle.da_shelf.specs.Told.{Files, appended}
+use Rattle.std.specs.Prelude.{◌≡◌, ℕ, ◌+◌, List, Some, false}
+use Rattle.da_shelf.specs.Told.{Files, Holds, Lacks}
+use Rattle.table_file.specs.declared.tables.Table.{Table}
+use Rattle.table_file.specs.declared.faults.TableFault.{TableFault as FaultOfTable}
+use Rattle.table_file.specs.Lengths.{is_short_table}
+use Rattle.table_keep.specs.Model.{Source, trees}
 use Rattle.analysis.specs.declared.refusals.RefusalName.{RefusalName}
 use Rattle.analysis.specs.declared.refusals.RefusalName.TheVariants as r
 use Rattle.analysis.specs.Reading.{HoldsAt, IsMissingAt}
-use Rattle.analysis.specs.Reports.{IsAnalysis}
-use Rattle.dialyze.specs.Outcome.{Checks, ReadsAll, HaveOwnNames, IsDuplicate}
-use Rattle.dialyze.specs.Truths.{NothingIsFalse}
+use Rattle.dialyze.specs.declared.status.Status.{Status}
+use Rattle.dialyze.specs.declared.status.Status.TheVariants.{Clean, Warnings}
+use Rattle.dialyze.specs.declared.words.Command.{Command}
+use Rattle.dialyze.specs.Lines.{refused, too_long}
+use Rattle.dialyze.specs.Outcome.{Names, NamesTable, Begins, IsFaultOf, ReadsAll, HaveOwnNames, IsDuplicate, Analyses}
 
--- The word at this position names a file, all files before it are read, and it isn't held.
-pub record NamesMissing (words : List (List ℕ)) (held : Files) (word : ℕ) : Type 0 where
-  pub start : ℕ
-  pub files : List (List ℕ)
-  pub checks : Checks words start files
-  pub at : ℕ
-  pub place : word ≡ start + at
-  pub missing_at : IsMissingAt (Some held) files at
+-- The word at this position names the table to begin with, or a file, what stands before it is read, and it isn't held.
+pub data NamesMissing (words : List (List ℕ)) (held : Files) (word : ℕ) : Type 0 where
+  as_table : (name : List ℕ) → NamesTable words word name → Lacks (Some held) name → NamesMissing words held word
+  as_file : (command : Command) (files : List (List ℕ)) (at : ℕ) → word ≡ command.start + at → Begins words (Some held) command files
+      → IsMissingAt (Some held) files at → NamesMissing words held word
 
--- The word at this position names a file, all files before it are read, it is held, and of its bytes, with the number that it may
+-- The words name a table to begin with, it is held, and its bytes have this first fault.
+pub record NamesBadTable (words : List (List ℕ)) (held : Files) (fault : FaultOfTable) : Type 0 where
+  pub word : ℕ
+  pub name : List ℕ
+  pub bytes : List ℕ
+  pub names : NamesTable words word name
+  pub held_so : Holds (Some held) name bytes
+  pub is : IsFaultOf bytes fault
+
+-- The word at this position names a file, what stands before it is read, it is held, and of its bytes, with the number that it may
 -- have, this holds.
 pub record NamesSource (words : List (List ℕ)) (held : Files) (word : ℕ) (Is : (most : ℕ) → List ℕ → Type 0) : Type 0 where
-  pub start : ℕ
+  pub command : Command
   pub files : List (List ℕ)
-  pub checks : Checks words start files
+  pub begins : Begins words (Some held) command files
   pub at : ℕ
-  pub place : word ≡ start + at
+  pub place : word ≡ command.start + at
   pub source : HoldsAt (Some held) files at Is
 
 -- The words name files that are all read, and the module of that at the position `word` is the first that has the name of one
 -- before it, of which that at the position `other` is the earliest.
 pub record NamesTwice (words : List (List ℕ)) (held : Files) (word other : ℕ) : Type 0 where
-  pub start : ℕ
+  pub command : Command
   pub files : List (List ℕ)
-  pub checks : Checks words start files
+  pub begins : Begins words (Some held) command files
   pub first : ℕ
   pub second : ℕ
-  pub place : word ≡ start + second
-  pub other_place : other ≡ start + first
-  pub twice : IsDuplicate (Some held) files first second
+  pub place : word ≡ command.start + second
+  pub other_place : other ≡ command.start + first
+  pub duplicate_module : IsDuplicate (Some held) files first second
 
--- The words name files that are all read, and their modules have names of their own.
+-- The words name files that are all read, as these sources, whose modules have names of their own, and the table to begin with is read,
+-- if one is named.
 pub record NamesModules (words : List (List ℕ)) (held : Files) : Type 0 where
-  pub start : ℕ
+  pub command : Command
   pub files : List (List ℕ)
-  pub checks : Checks words start files
-  pub modules : List m.Module
-  pub read : ReadsAll (Some held) files modules
-  pub names : HaveOwnNames modules
+  pub begins : Begins words (Some held) command files
+  pub sources : List Source
+  pub read : ReadsAll (Some held) files sources
+  pub names : HaveOwnNames (trees sources)
 
--- The words name files that are all read, their modules have names of their own, the reports on them were written, and nothing that
--- these report is false of a run of the modules, but for unknown functions, which say nothing of runs.
-pub record WritesNothingFalse (words : List (List ℕ)) (held : Files) (written_before written_now : Option (List ℕ)) : Type 0 where
-  pub named : NamesModules words held
+-- The word at this position names the table to write, all steps before are passed, and of the new table a count or a length doesn't
+-- fit.
+pub record NamesLongTable (words : List (List ℕ)) (held : Files) (word : ℕ) : Type 0 where
+  pub command : Command
   pub reports : List (List ℕ)
-  pub analysed : IsAnalysis named.modules reports
-  pub written : written_now ≡ appended written_before (concat reports)
-  pub sound : NothingIsFalse named.modules
+  pub new : Table
+  pub analyses : Analyses words (Some held) command reports new
+  pub name : List ℕ
+  pub out : Names words command.out word name
+  pub long : is_short_table new ≡ false
+
+-- The status of a run of which all sources are accepted and no names are equal: it is clean, or has warnings, or the table to write
+-- has a count or a length that doesn't fit.
+pub data IsAnalysed (words : List (List ℕ)) (held : Files) (status : Status) : Type 0 where
+  is_clean : status ≡ Clean → IsAnalysed words held status
+  is_warned : status ≡ Warnings → IsAnalysed words held status
+  is_long : (word : ℕ) → status ≡ refused word too_long → NamesLongTable words held word → IsAnalysed words held status
 
 -- The steps of reading a file, each of which may refuse it.
 pub data Step : Type 0 where

@@ -1,2 +1,2 @@
-pub mod Judged
 pub mod Options
+pub mod Plans

@@ -1,30 +1,22 @@
-//! What a run means to answer: all of it but the writing.
-ghost use Rattle.std.specs.Prelude.{◌≡◌, ℕ, ◌+◌, ◌<◌, ◌≤◌, ◌^◌, ◌∷◌, List, ◌++◌, Some, length, slice_get, IfOk, OnOk};
+//! What a run answers: its status, and the bytes that it writes.
+ghost use Rattle.std.specs.Prelude.{◌≡◌, ◌≢◌, IfOk};
 ghost use Rattle.std.specs.List.{concat};
-ghost use Rattle.da_shelf.specs.Told.{Files};
-ghost use Rattle.analysis.specs.Reading.{trees_of};
-ghost use Rattle.analysis.specs.Refusals.{line, refusal_line};
-ghost use Rattle.analysis.specs.Words.{texts};
-ghost use Rattle.dialyze.specs.Lines.{usage_line, refused, too_many, too_many_line, duplicate, duplicate_line, read_fault_line};
-ghost use Rattle.dialyze.specs.Outcome.{Intended};
-ghost use Rattle.dialyze.specs.Words.{most_workers};
-ghost use Rattle.dialyze.specs.steps.Judged.{Judged, SaysWhether, first_of, second_of};
+ghost use Rattle.analysis.specs.Refusals.{refusal_line};
+ghost use Rattle.table_file.specs.declared.faults.TableFault.TheVariants as table_fault;
+ghost use Rattle.dialyze.specs.Lines.{usage_line, refused, too_long, too_many, too_many_line, duplicate, duplicate_line, read_fault_line, replace_fault_line, faulty_table, table_fault_line, table_fault_number, table_fault_text};
+ghost use Rattle.dialyze.specs.Outcome.{SaysWhether};
 
 use crate::status::Status;
-use crate::words::command_of;
-use analysis::{
-    Device, Fault, ReadFault, Refusal, Source, SourceFault, analyse, discard_sources, read_sources,
-};
-use core_scope::SetFault;
-use da_shelf::{Gate, Shelf};
-use finding_laws::findings_hold;
+use analysis::{Device, Refusal, RefusalName, SourceFault};
 use std::alloc::Global;
-use std::sync::Wait;
-use std::thread::Threads;
+use table_file::TableFault;
 use type_kinds::{Bytes, List, Memory};
 
-/// How many files a check may name.
-pub const MOST_FILES: usize = 1024;
+/// The refusal of a table that is to be written and whose counts and lengths don't fit.
+pub const TOO_LONG: SourceFault = SourceFault {
+    name: RefusalName::TooLong,
+    line: 0,
+};
 
 /// The status that a run means to end with, and its output.
 #[derive(Drop)]
@@ -33,121 +25,8 @@ pub struct Answer {
     pub output: Bytes,
 }
 
-/// What a run means to answer.
-#[tactic(auto, using(crate::proofs::AnswerExits::intended_exits))]
-pub fn intended<R: Threads + Wait + Sync, F: Shelf, G: Gate + Sync>(
-    rt: &R,
-    alloc: Global,
-    words: &[&str],
-    shelf: &mut F,
-    gate: &G,
-) -> Result<Answer, Memory>
-    ensures intended { IfOk result (λ a. Intended (texts words.now) (F.held shelf.old) (F.read_faults shelf.old) (F.read_faults shelf.new) a.status a.output) }
-    ensures held { F.held shelf.new ≡ F.held shelf.old }
-    ensures counted { F.read_faults shelf.old ≤ F.read_faults shelf.new }
-{
-    let Some(command) = command_of(words) else {
-        return usage(alloc);
-    };
-    let files = &words[command.start..];
-    if files.len() > MOST_FILES {
-        return too_many(alloc);
-    }
-    let start = command.start as u32;
-    match read_sources(alloc, words, start, shelf) {
-        Ok(sources) => judge(rt, alloc, files, start, sources, command.workers, gate),
-        Err(ReadFault::Refused(word, fault)) => refuse(alloc, words[word as usize], word, fault),
-        Err(ReadFault::Failed(word)) => unread(alloc, words[word as usize], word),
-        Err(ReadFault::Memory) => Err(Memory),
-    }
-}
-
-// What a check of the sources that files hold answers, where the first file is the word at the position `start`. The sources are
-// given up.
-fn judge<R: Threads + Wait + Sync, G: Gate + Sync>(
-    rt: &R,
-    alloc: Global,
-    files: &[&str],
-    start: u32,
-    sources: List<Source>,
-    workers: u32,
-    gate: &G,
-) -> Result<Answer, Memory>
-    requires few { start + length files.now < 2 ^ 32 }
-    requires least { 1 ≤ workers }
-    requires most { workers ≤ most_workers }
-    requires whole { length files.now ≡ length (trees_of sources) }
-    ensures { IfOk result (λ a. Judged start (texts files.now) (trees_of sources) a.status a.output) }
-{
-    let answer = judged(rt, alloc, files, start, sources.as_slice(), workers, gate);
-    discard_sources(sources);
-    answer
-}
-
-// The same for sources that are kept.
-fn judged<R: Threads + Wait + Sync, G: Gate + Sync>(
-    rt: &R,
-    alloc: Global,
-    files: &[&str],
-    start: u32,
-    sources: &[Source],
-    workers: u32,
-    gate: &G,
-) -> Result<Answer, Memory>
-    requires few { start + length files.now < 2 ^ 32 }
-    requires least { 1 ≤ workers }
-    requires most { workers ≤ most_workers }
-    requires whole { length files.now ≡ length (trees_of sources.now) }
-    ensures { IfOk result (λ a. Judged start (texts files.now) (trees_of sources.now) a.status a.output) }
-{
-    findings_hold();
-    match analyse(rt, alloc, sources, workers, gate) {
-        Ok(analysis) => reported(alloc, analysis.reports.as_slice()),
-        Err(Fault::Set(fault)) => twice(alloc, files, start, first_of(fault), second_of(fault)),
-        Err(Fault::Memory) => Err(Memory),
-    }
-}
-
-// The position of the first of two modules of one name.
-fn first_of(fault: SetFault) -> u32
-    ensures { result ≡ first_of fault }
-{
-    match fault {
-        SetFault::DuplicateModule { first, .. } => first,
-    }
-}
-
-// The position of the second of them.
-fn second_of(fault: SetFault) -> u32
-    ensures { result ≡ second_of fault }
-{
-    match fault {
-        SetFault::DuplicateModule { second, .. } => second,
-    }
-}
-
-// The answer where the modules of the files at these positions have one name, where the first file is the word at the position
-// `start`.
-fn twice(
-    alloc: Global,
-    files: &[&str],
-    start: u32,
-    first: u32,
-    second: u32,
-) -> Result<Answer, Memory>
-    requires first { first < length files.now }
-    requires second { second < length files.now }
-    requires few { start + length files.now < 2 ^ 32 }
-    ensures status { IfOk result (λ a. a.status ≡ duplicate (start + second) (start + first)) }
-    ensures output { IfOk result (λ a. (file other : List ℕ) → slice_get (texts files.now) second ≡ Some file → slice_get (texts files.now) first ≡ Some other → a.output ≡ duplicate_line file other) }
-{
-    let file = files[second as usize];
-    let other = files[first as usize];
-    duplicate(alloc, file, start + second, other, start + first)
-}
-
-// The reports one after the other.
-fn reported(alloc: Global, reports: &[Bytes]) -> Result<Answer, Memory>
+/// The reports one after the other.
+pub fn reported(alloc: Global, reports: &[Bytes]) -> Result<Answer, Memory>
     ensures output { IfOk result (λ a. a.output ≡ concat reports.now) }
     ensures status { IfOk result (λ a. SaysWhether a.status a.output) }
 {
@@ -171,8 +50,8 @@ fn joined(alloc: Global, reports: &[Bytes]) -> Result<Bytes, Memory>
     Ok(output)
 }
 
-// The answer to a file that is refused.
-fn refuse(alloc: Global, file: &str, word: u32, fault: SourceFault) -> Result<Answer, Memory>
+/// The answer to a file, or a table, that is refused.
+pub fn refuse(alloc: Global, file: &str, word: u32, fault: SourceFault) -> Result<Answer, Memory>
     ensures status { IfOk result (λ a. a.status ≡ refused word fault) }
     ensures output { IfOk result (λ a. a.output ≡ refusal_line file.now fault) }
 {
@@ -182,8 +61,8 @@ fn refuse(alloc: Global, file: &str, word: u32, fault: SourceFault) -> Result<An
     Ok(Answer { status, output })
 }
 
-// The answer to two files whose modules have one name, each with its position among the words.
-fn duplicate(
+/// The answer to two files whose modules have the same name, each with its position among the words.
+pub fn duplicate(
     alloc: Global,
     file: &str,
     word: u32,
@@ -207,8 +86,8 @@ fn duplicate(
     Ok(Answer { status, output })
 }
 
-// The answer where the shelf failed.
-fn unread(alloc: Global, file: &str, word: u32) -> Result<Answer, Memory>
+/// The answer where the shelf failed to read.
+pub fn unread(alloc: Global, file: &str, word: u32) -> Result<Answer, Memory>
     ensures status { IfOk result (λ a. a.status ≡ Status.DeviceFault (Device.Read word)) }
     ensures output { IfOk result (λ a. a.output ≡ read_fault_line file.now) }
 {
@@ -220,8 +99,8 @@ fn unread(alloc: Global, file: &str, word: u32) -> Result<Answer, Memory>
     Ok(Answer { status, output })
 }
 
-// The answer to a check of too many files.
-fn too_many(alloc: Global) -> Result<Answer, Memory>
+/// The answer to a check of too many files.
+pub fn too_many(alloc: Global) -> Result<Answer, Memory>
     ensures status { IfOk result (λ a. a.status ≡ too_many) }
     ensures output { IfOk result (λ a. a.output ≡ too_many_line) }
 {
@@ -237,8 +116,8 @@ fn too_many(alloc: Global) -> Result<Answer, Memory>
     Ok(Answer { status, output })
 }
 
-// The answer to words that are no command.
-fn usage(alloc: Global) -> Result<Answer, Memory>
+/// The answer to words that are no command.
+pub fn usage(alloc: Global) -> Result<Answer, Memory>
     ensures status { IfOk result (λ a. a.status ≡ Status.Usage) }
     ensures output { IfOk result (λ a. a.output ≡ usage_line) }
 {
@@ -249,4 +128,62 @@ fn usage(alloc: Global) -> Result<Answer, Memory>
         status: Status::Usage,
         output,
     })
+}
+
+/// The answer to a table whose bytes have this fault.
+pub fn bad_table(alloc: Global, name: &str, fault: TableFault) -> Result<Answer, Memory>
+    ensures status { IfOk result (λ a. a.status ≡ faulty_table fault) }
+    ensures output { IfOk result (λ a. a.output ≡ table_fault_line name.now fault) }
+{
+    let number = number_of(fault);
+    let mut output: Bytes = List::new(alloc);
+    output.append(name.as_bytes())?;
+    output.append(b": table fault ")?;
+    output.append_decimal(number as u32)?;
+    output.append(b" ")?;
+    output.append(text_of(fault).as_bytes())?;
+    output.append(b"\n")?;
+    let status = Status::TableFault(number);
+    Ok(Answer { status, output })
+}
+
+// The number of a table's fault, and 0 for a failed allocation, which is none.
+fn number_of(fault: TableFault) -> u8
+    ensures { result ≡ table_fault_number fault }
+{
+    match fault {
+        TableFault::NotATable => 18,
+        TableFault::Version => 19,
+        TableFault::Torn => 20,
+        TableFault::Order => 21,
+        TableFault::BadEntry => 22,
+        TableFault::Rest => 23,
+        TableFault::Memory => 0,
+    }
+}
+
+// Its name, as the output has it.
+fn text_of(fault: TableFault) -> &'static str
+    ensures { result.now ≡ table_fault_text fault }
+{
+    match fault {
+        TableFault::NotATable => "NotATable",
+        TableFault::Version => "Version",
+        TableFault::Torn => "Torn",
+        TableFault::Order => "Order",
+        TableFault::BadEntry => "BadEntry",
+        TableFault::Rest => "Rest",
+        TableFault::Memory => "",
+    }
+}
+
+/// The line that is written where the shelf doesn't take the new table.
+pub fn unreplaced_line(alloc: Global, name: &str) -> Result<Bytes, Memory>
+    ensures { IfOk result (λ line. line ≡ replace_fault_line name.now) }
+{
+    let mut line: Bytes = List::new(alloc);
+    line.append(name.as_bytes())?;
+    line.append(b": device fault replace")?;
+    line.append(b"\n")?;
+    Ok(line)
 }

@@ -11,8 +11,11 @@ ghost use Rattle.dialyze.specs.Words.{IsNoCommand};
 ghost use Rattle.dialyze.specs.Outcome.{IsAnswer, IsPossible};
 
 mod answer;
+mod begin;
 mod check;
+mod plan;
 mod status;
+mod store;
 mod words;
 
 use crate::check::dialyze;

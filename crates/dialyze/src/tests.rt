@@ -5,6 +5,8 @@ mod functions;
 mod notes;
 mod refusals;
 mod reports;
+mod stored;
+mod tables;
 mod together;
 
 use crate::check::dialyze;
@@ -154,6 +156,11 @@ const NO_COMMANDS: &[&[&str]] = &[
     &["m.core", "check"],
     &["check", "m.core", "-m.core"],
     &["check", "--plt", "t"],
+    &["check", "e.core", "--out", "t"],
+    &["check", "--plt", "t", "--plt", "t", "m.core"],
+    &["check", "--out", "-t", "m.core"],
+    &["check", "--out", "t", "--workers", "2"],
+    &["check", "--plt", "", "m.core"],
     &["check", "--plt=t", "m.core"],
     &["check", "m.core", ""],
     &["check", "--workers", "2"],
@@ -262,7 +269,7 @@ fn tells_of_devices(rt: HostRuntime) -> Result<(), Fail> {
     Ok(())
 }
 
-// Each write of the report fails in turn: what was written before is a front of the report.
+// Each write of the report fails in turn: what was written before is a prefix of the report.
 #[test]
 fn stops_at_a_failed_write(rt: HostRuntime) -> Result<(), Fail> {
     let alloc = rt.alloc();

@@ -5,20 +5,20 @@ use Rattle.core_ast.specs.Model as m
 use Rattle.type_lattice.specs.Types.{Type4, AreBelow, any}
 use Rattle.type_lattice.specs.Inclusion.{is_same}
 use Rattle.cons_tree.specs.Facts.{TypeFacts}
-use Rattle.flow_state.specs.declared.states.Gift.{Gift}
-use Rattle.flow_state.specs.declared.states.Gift.TheVariants.{Enters, Returns}
+use Rattle.module_flow_state.specs.declared.states.Contribution.{Contribution}
+use Rattle.module_flow_state.specs.declared.states.Contribution.TheVariants.{Enters, Returns}
 use Rattle.module_flow.specs.Flow.{Callees, after_rounds, first_state, last_round, last_state, made_of, world}
-use Rattle.flow_walk.specs.Gifts.{gifts_of_functions}
-use Rattle.flow_state.specs.Scopes.{outermost}
-use Rattle.flow_state.specs.Settled.{AreCounted, AreTaken, AreWhollyTaken, EachBelow, GiveCounted, IsWhollyTaken, labels_of}
-use Rattle.flow_state.specs.States.{FlowState, anys, changed, entered, entered_with, joined_rounds, next_state, parameters_of, returning, takes, takes_one, widened, widened_parameters}
-use Rattle.flow_calls.specs.TypeLists.{are_same, joins}
-use Rattle.flow_state.proofs.Labels.{takes_labels}
-use Rattle.flow_state.proofs.Taking.{Covers, Grow, covers_anys, covers_itself, grow_itself, grow_through, one_grows, widened_parameters_of}
+use Rattle.module_flow_walk.specs.Contributions.{contributions_of_functions}
+use Rattle.module_flow_state.specs.Scopes.{outermost}
+use Rattle.module_flow_state.specs.Settled.{AreCounted, AreTaken, AreWhollyTaken, EachBelow, GiveCounted, IsWhollyTaken, labels_of}
+use Rattle.module_flow_state.specs.States.{FlowState, anys, changed, entered, entered_with, joined_rounds, next_state, parameters_of, returning, takes, takes_one, widened, widened_parameters}
+use Rattle.module_flow_calls.specs.TypeLists.{are_same, joins}
+use Rattle.module_flow_state.proofs.Labels.{takes_labels}
+use Rattle.module_flow_state.proofs.Taking.{Covers, Grow, covers_anys, covers_itself, grow_itself, grow_through, one_grows, widened_parameters_of}
 
 -- ---- lengths
 
--- so many types, where there are types
+-- n types, where there are types
 abbrev pub Counted : ℕ → Option (List Type4) → Type 0
 Counted n p = (us : List Type4) → p ≡ Some us → length us ≡ n
 
@@ -69,7 +69,7 @@ module _ (counts : ℕ → ℕ) where
       by true more = (h.0, h.1)
       by false more = (h.0, more)
 
-  pub takes_counted : (st : FlowState) (gs : List Gift) → GiveCounted counts gs → AreCounted counts st → AreCounted counts (takes st gs)
+  pub takes_counted : (st : FlowState) (gs : List Contribution) → GiveCounted counts gs → AreCounted counts st → AreCounted counts (takes st gs)
   takes_counted st [] g h = h
   takes_counted st (Enters l ts ∷ gs) g h = takes_counted (takes_one st (Enters l ts)) gs g.1 (entered_all st l ts g.0 h)
   takes_counted st (Returns l t ∷ gs) g h = takes_counted (takes_one st (Returns l t)) gs g (given_all st l t h)
@@ -104,7 +104,7 @@ module _ (counts : ℕ → ℕ) where
   all_below (t ∷ ts) [] e h = absurd cc
   all_below (t ∷ ts) (u ∷ us) e h = let k : length ts ≡ length us = cc in (h.0, all_below ts us k h.1)
 
-  pub wholly : (st : FlowState) (gs : List Gift) → AreCounted counts st → GiveCounted counts gs → AreTaken st gs → AreWhollyTaken st gs
+  pub wholly : (st : FlowState) (gs : List Contribution) → AreCounted counts st → GiveCounted counts gs → AreTaken st gs → AreWhollyTaken st gs
   wholly st [] h g t = tt
   wholly st (Enters l ts ∷ gs) h g t = (here, wholly st gs h g.1 t.1)
     where
@@ -117,7 +117,7 @@ module _ (counts : ℕ → ℕ) where
   module _ (same : (s t : Type4) → IsTrue (is_same s t) ↔ (s ≡ t)) (F : TypeFacts) where
     -- ---- a function that may be entered with anything stays so
 
-    takes_grow : (st : FlowState) (gs : List Gift) (l : ℕ) → Grow (parameters_of st l) (parameters_of (takes st gs) l)
+    takes_grow : (st : FlowState) (gs : List Contribution) (l : ℕ) → Grow (parameters_of st l) (parameters_of (takes st gs) l)
     takes_grow st [] l = grow_itself (parameters_of st l)
     takes_grow st (g ∷ gs) l =
         grow_through (parameters_of st l) (parameters_of (takes_one st g) l) (parameters_of (takes (takes_one st g) gs) l) (one_grows same F st g l)
@@ -151,30 +151,30 @@ module _ (counts : ℕ → ℕ) where
     still_open n None g h = absurd g
     still_open n (Some us) g h = ap Some (covered_anys n us g (h us refl))
 
-    module _ (callees : Callees) (x : m.Module) (first : AreCounted counts (first_state x)) (gives : (st : FlowState) → GiveCounted counts (gifts_of_functions (world callees x st) outermost x.defs)) where
+    module _ (callees : Callees) (x : m.Module) (first : AreCounted counts (first_state x)) (gives : (st : FlowState) → GiveCounted counts (contributions_of_functions (world callees x st) outermost x.defs)) where
       abbrev pub states : ℕ → FlowState
       states = after_rounds callees x
 
       pub rounds_counted : (k : ℕ) → AreCounted counts (states k)
       rounds_counted zero = first
       rounds_counted (suc k) =
-          let gifts = gifts_of_functions (world callees x (states k)) outermost x.defs in
-          next_counted k (states k) (made_of callees x (states k)) (takes_labels (states k) gifts) (rounds_counted k)
-          (takes_counted (states k) gifts (gives (states k)) (rounds_counted k))
+          let contributions = contributions_of_functions (world callees x (states k)) outermost x.defs in
+          next_counted k (states k) (made_of callees x (states k)) (takes_labels (states k) contributions) (rounds_counted k)
+          (takes_counted (states k) contributions (gives (states k)) (rounds_counted k))
 
       rounds_grow : (k l : ℕ) → Grow (parameters_of (first_state x) l) (parameters_of (states k) l)
       rounds_grow zero l = grow_itself (parameters_of (first_state x) l)
       rounds_grow (suc k) l =
-          let gifts = gifts_of_functions (world callees x (states k)) outermost x.defs in
+          let contributions = contributions_of_functions (world callees x (states k)) outermost x.defs in
           grow_through (parameters_of (first_state x) l) (parameters_of (states k) l) (parameters_of (states (suc k)) l) (rounds_grow k l)
-          (next_grows k (states k) (made_of callees x (states k)) l (takes_labels (states k) gifts) (takes_grow (states k) gifts l))
+          (next_grows k (states k) (made_of callees x (states k)) l (takes_labels (states k) contributions) (takes_grow (states k) contributions l))
 
       pub stays_open : (k l : ℕ) → parameters_of (first_state x) l ≡ Some (replicate (counts l) any) → parameters_of (states k) l ≡ Some (replicate (counts l) any)
       stays_open k l e =
           still_open (counts l) (parameters_of (states k) l) (subst (λ p. Grow p (parameters_of (states k) l)) e (rounds_grow k l))
           (counted_at (states k) l (rounds_counted k))
 
-      pub last_wholly : AreTaken (last_state callees x) (gifts_of_functions (world callees x (last_state callees x)) outermost x.defs) → AreWhollyTaken (last_state callees x) (gifts_of_functions (world callees x (last_state callees x)) outermost x.defs)
+      pub last_wholly : AreTaken (last_state callees x) (contributions_of_functions (world callees x (last_state callees x)) outermost x.defs) → AreWhollyTaken (last_state callees x) (contributions_of_functions (world callees x (last_state callees x)) outermost x.defs)
       last_wholly taken =
-          wholly (last_state callees x) (gifts_of_functions (world callees x (last_state callees x)) outermost x.defs)
+          wholly (last_state callees x) (contributions_of_functions (world callees x (last_state callees x)) outermost x.defs)
           (rounds_counted (last_round callees x)) (gives (last_state callees x)) taken

@@ -39,9 +39,9 @@ noted_more before after ls i l q h is kept here noted k among =
     by (inl one) = kept k q (noted k one)
     by (inr e) = subst (λ j. Contains (readers after j) q) e here
 
--- the places of one label more
-pub places_more : (table : List (List ℕ)) (ls : List ℕ) (i l : ℕ) (before after : List ℕ) → i < length ls → l ≡ get_or ls i 0 → after ≡ before ++ readers table l → ((k q : ℕ) → Contains (take i ls) k → Contains (readers table k) q → Contains before q) → (k q : ℕ) → Contains (take (i + 1) ls) k → Contains (readers table k) q → Contains after q
-places_more table ls i l before after h is added all k q among reads =
+-- the positions of one label more
+pub positions_more : (table : List (List ℕ)) (ls : List ℕ) (i l : ℕ) (before after : List ℕ) → i < length ls → l ≡ get_or ls i 0 → after ≡ before ++ readers table l → ((k q : ℕ) → Contains (take i ls) k → Contains (readers table k) q → Contains before q) → (k q : ℕ) → Contains (take (i + 1) ls) k → Contains (readers table k) q → Contains after q
+positions_more table ls i l before after h is added all k q among reads =
     subst (λ xs. Contains xs q) (sym added)
     (by (Contains-push_cases (take i ls) l k (subst (λ xs. Contains xs k) (take_more ls i 0 h ∙ ap (λ x. take i ls ++ x ∷ []) (sym is)) among)))
   where
@@ -67,7 +67,7 @@ noted_still before after vs kept noted = record {
   given = λ q v at l among. kept l q (noted.given q v at l among);
 }
 
--- an item of a list with one more item, and of one with another item at a place
+-- an item of a list with one more item, and of one with another item at a position
 of_longer : (vs : List Visit) (w v : Visit) (q : ℕ) → slice_get (vs ++ w ∷ []) q ≡ Some v → (slice_get vs q ≡ Some v) ⊎ ((q ≡ length vs) × (w ≡ v))
 of_longer [] w v zero e = inr (refl, cc)
 of_longer [] w v (suc q) e = absurd cc

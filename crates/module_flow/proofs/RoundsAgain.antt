@@ -4,29 +4,29 @@ use Rattle.core_ast.specs.declared.syntax.FunName.{FunName}
 use Rattle.core_ast.specs.declared.syntax.Module.{Module}
 use Rattle.core_ast.specs.Tree.{all_defs, module_tree}
 use Rattle.core_scope.specs.Names.{defined_names}
-use Rattle.flow_state.specs.declared.states.Gift.{Gift}
+use Rattle.module_flow_state.specs.declared.states.Contribution.{Contribution}
 use Rattle.module_flow.specs.declared.visits.Visit.{Visit}
 use Rattle.module_flow.specs.Flow.{Callees, made_of}
-use Rattle.flow_calls.specs.Functions.{defined_labels}
-use Rattle.flow_state.specs.States.{FlowState, next_state, takes}
-use Rattle.flow_state.specs.World.{World}
-use Rattle.flow_state.specs.steps.Reading.{Alike}
-use Rattle.module_flow.specs.steps.Visits.{AreSettled, Definition, gifts_again, visits_again}
-use Rattle.flow_state.specs.steps.Changes.{Noted, in_round}
-use Rattle.flow_state.proofs.Absorbing.{JoinFacts}
+use Rattle.module_flow_calls.specs.Functions.{defined_labels}
+use Rattle.module_flow_state.specs.States.{FlowState, next_state, takes}
+use Rattle.module_flow_state.specs.World.{World}
+use Rattle.module_flow_state.specs.steps.Reading.{Alike}
+use Rattle.module_flow.specs.steps.Visits.{AreSettled, Definition, contributions_again, visits_again}
+use Rattle.module_flow_state.specs.steps.Changes.{Noted, in_round}
+use Rattle.module_flow_state.proofs.Absorbing.{JoinFacts}
 use Rattle.module_flow.proofs.Beginnings.{round_made}
-use Rattle.flow_state.proofs.Skipping.{after}
+use Rattle.module_flow_state.proofs.Skipping.{after}
 use Rattle.module_flow.proofs.Visiting.{round_again, settled_again}
 
 module _ (F : JoinFacts) (callees : Callees) (source : Module) (names : List FunName) (labels : List ℕ) where
   abbrev In : FlowState → World
   In st = record { callee = callees; home = source.name; names = names; labels = labels; state = st }
 
-  -- what the code has behind a round: the gifts, what is known of the functions, and the state
-  module _ (st next : FlowState) (rounds later : List ℕ) (k : ℕ) (ds : List Definition) (vs new : List Visit) (gs taken : List Gift) (c : Bool) (is_all : ds ≡ source.defs) (settled : AreSettled (In st) rounds k source.defs vs)
-      (gifts : gs ≡ gifts_again (In st) rounds k ds vs) (visits : new ≡ visits_again (In st) rounds k ds vs) (all_taken : taken ≡ gs) (after_it : next ≡ next_state k st (takes st taken)) where
-    taken_again : next ≡ after k st (gifts_again (In st) rounds k source.defs vs)
-    taken_again = after_it ∙ ap (after k st) (all_taken ∙ gifts ∙ ap (λ xs. gifts_again (In st) rounds k xs vs) is_all)
+  -- what the code has behind a round: the contributions, what is known of the functions, and the state
+  module _ (st next : FlowState) (rounds later : List ℕ) (k : ℕ) (ds : List Definition) (vs new : List Visit) (gs taken : List Contribution) (c : Bool) (is_all : ds ≡ source.defs) (settled : AreSettled (In st) rounds k source.defs vs)
+      (contributions : gs ≡ contributions_again (In st) rounds k ds vs) (visits : new ≡ visits_again (In st) rounds k ds vs) (all_taken : taken ≡ gs) (after_it : next ≡ next_state k st (takes st taken)) where
+    taken_again : next ≡ after k st (contributions_again (In st) rounds k source.defs vs)
+    taken_again = after_it ∙ ap (after k st) (all_taken ∙ contributions ∙ ap (λ xs. contributions_again (In st) rounds k xs vs) is_all)
 
     pub is_made : names ≡ defined_names (all_defs source.defs) → labels ≡ defined_labels (all_defs source.defs) → next ≡ next_state k st (made_of callees (module_tree source) st)
     is_made n l =

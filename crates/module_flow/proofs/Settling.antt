@@ -5,12 +5,12 @@ use Rattle.core_ast.specs.Model as m
 use Rattle.type_lattice.specs.Types.{Type4}
 use Rattle.type_lattice.specs.Inclusion.{is_same}
 use Rattle.module_flow.specs.Flow.{Callees, after_rounds, first_state, last_round, last_state, made_of, world}
-use Rattle.flow_walk.specs.Gifts.{gifts_of_functions}
-use Rattle.flow_state.specs.Scopes.{outermost}
-use Rattle.flow_state.specs.Settled.{labels_of}
-use Rattle.flow_state.specs.States.{FlowState, joined_rounds, next_state, widened}
-use Rattle.flow_state.proofs.Labels.{next_labels, same_length, takes_labels, takes_length}
-use Rattle.flow_state.proofs.Widening.{Turn, narrow_count, count_within, turns, widened_itself, all_wide}
+use Rattle.module_flow_walk.specs.Contributions.{contributions_of_functions}
+use Rattle.module_flow_state.specs.Scopes.{outermost}
+use Rattle.module_flow_state.specs.Settled.{labels_of}
+use Rattle.module_flow_state.specs.States.{FlowState, joined_rounds, next_state, widened}
+use Rattle.module_flow_state.proofs.Labels.{next_labels, same_length, takes_labels, takes_length}
+use Rattle.module_flow_state.proofs.Widening.{Turn, narrow_count, count_within, turns, widened_itself, all_wide}
 
 module _ (same : (s t : Type4) → IsTrue (is_same s t) ↔ (s ≡ t)) where
   -- a state that a round leaves as it is, is left so by later rounds
@@ -33,7 +33,7 @@ module _ (same : (s t : Type4) → IsTrue (is_same s t) ↔ (s ≡ t)) where
           ap (λ x. cond x made (widened st made)) q ∙ was
 
   module _ (callees : Callees) (x : m.Module) where
-    -- the state after so many rounds, and what the next one makes of it
+    -- the state after k rounds, and what the next one makes of it
     abbrev pub states : ℕ → FlowState
     states = after_rounds callees x
 
@@ -43,14 +43,14 @@ module _ (same : (s t : Type4) → IsTrue (is_same s t) ↔ (s ≡ t)) where
     pub round_labels : (k : ℕ) → labels_of (states k) ≡ labels_of (first_state x)
     round_labels zero = refl
     round_labels (suc k) =
-        next_labels k (states k) (made k) (takes_labels (states k) (gifts_of_functions (world callees x (states k)) outermost x.defs))
+        next_labels k (states k) (made k) (takes_labels (states k) (contributions_of_functions (world callees x (states k)) outermost x.defs))
         ∙ round_labels k
 
     pub round_length : (k : ℕ) → length (states k) ≡ length (first_state x)
     round_length k = same_length (first_state x) (states k) (round_labels k)
 
     made_length : (k : ℕ) → length (made k) ≡ length (states k)
-    made_length k = takes_length (states k) (gifts_of_functions (world callees x (states k)) outermost x.defs)
+    made_length k = takes_length (states k) (contributions_of_functions (world callees x (states k)) outermost x.defs)
 
     -- ---- where a round changes nothing
 

@@ -1,12 +1,12 @@
 -- The loop that walks functions again, and where it begins.
 use Rattle.std.proofs.Common.{◌≡◌, ℕ, zero, suc, ◌+◌, ◌≤◌, true, false, cond, List, [], ◌∷◌, ◌++◌, length, set, drop, take, map, slice_get, Some, refl, sym, ap, ap₂, ◌∙◌, subst, arith, append_assoc, append-nil}
-use Rattle.std.proofs.lemmas.List.{drop-set-lt, take_more_set}
+use Rattle.std.proofs.lemmas.List.{drop-set-lt, take_more_set, drop_all}
 use Rattle.std.proofs.lemmas.Option.{slice_get_within}
-use Rattle.flow_state.specs.declared.states.Gift.{Gift}
+use Rattle.module_flow_state.specs.declared.states.Contribution.{Contribution}
 use Rattle.module_flow.specs.declared.visits.Visit.{Visit}
-use Rattle.flow_state.specs.World.{World}
-use Rattle.flow_state.specs.steps.Reading.{labels_given}
-use Rattle.module_flow.specs.steps.Visits.{AreSettled, Definition, first_visit, gifts_again, gifts_of_one, is_touched, visits_again}
+use Rattle.module_flow_state.specs.World.{World}
+use Rattle.module_flow_state.specs.steps.Reading.{labels_given}
+use Rattle.module_flow.specs.steps.Visits.{AreSettled, Definition, first_visit, contributions_again, contributions_of_one, is_touched, visits_again}
 
 next_is : {X : Type 0} (xs : List X) (i : ℕ) (x : X) → slice_get xs i ≡ Some x → drop i xs ≡ x ∷ drop (suc i) xs
 next_is [] zero x e = absurd cc
@@ -26,12 +26,6 @@ taken_more {X = X} xs i x e = ap (λ n. take n xs) (let k : i + 1 ≡ suc i = om
     by (y ∷ ys) zero f = let q : y ≡ x = cc in ap (λ z. z ∷ []) q
     by (y ∷ ys) (suc j) f = ap (λ zs. y ∷ zs) (by ys j f)
 
-none_left : {X : Type 0} (xs : List X) (i : ℕ) → length xs ≤ i → drop i xs ≡ []
-none_left [] zero h = refl
-none_left [] (suc i) h = refl
-none_left (x ∷ xs) zero h = absurd (omega arith)
-none_left (x ∷ xs) (suc i) h = none_left xs i (omega arith)
-
 all_taken : {X : Type 0} (xs : List X) (i : ℕ) → length xs ≤ i → take i xs ≡ xs
 all_taken [] zero h = refl
 all_taken [] (suc i) h = refl
@@ -39,17 +33,17 @@ all_taken (x ∷ xs) zero h = absurd (omega arith)
 all_taken (x ∷ xs) (suc i) h = ap (λ ys. x ∷ ys) (all_taken xs i (omega arith))
 
 module _ (W : World) (rounds : List ℕ) (k : ℕ) where
-  abbrev gifts_from : List Definition → List Visit → List Gift
-  gifts_from ds vs = gifts_again W rounds k ds vs
+  abbrev contributions_from : List Definition → List Visit → List Contribution
+  contributions_from ds vs = contributions_again W rounds k ds vs
 
   abbrev visits_from : List Definition → List Visit → List Visit
   visits_from ds vs = visits_again W rounds k ds vs
 
   -- a function that isn't walked
-  pub gifts_off : (ds : List Definition) (vs : List Visit) (i : ℕ) (d : Definition) (v : Visit) (gs goal : List Gift) → slice_get ds i ≡ Some d → slice_get vs i ≡ Some v → is_touched rounds k v ≡ false → gs ++ gifts_from (drop i ds) (drop i vs) ≡ goal → gs ++ gifts_from (drop (i + 1) ds) (drop (i + 1) vs) ≡ goal
-  gifts_off ds vs i d v gs goal a b off before =
-      sym (ap₂ (λ xs ys. gs ++ gifts_from xs ys) (next_at ds i d a) (next_at vs i v b)
-      ∙ ap (λ c. gs ++ (cond c (gifts_of_one W d) [] ++ gifts_from (drop (i + 1) ds) (drop (i + 1) vs))) off)
+  pub contributions_off : (ds : List Definition) (vs : List Visit) (i : ℕ) (d : Definition) (v : Visit) (gs goal : List Contribution) → slice_get ds i ≡ Some d → slice_get vs i ≡ Some v → is_touched rounds k v ≡ false → gs ++ contributions_from (drop i ds) (drop i vs) ≡ goal → gs ++ contributions_from (drop (i + 1) ds) (drop (i + 1) vs) ≡ goal
+  contributions_off ds vs i d v gs goal a b off before =
+      sym (ap₂ (λ xs ys. gs ++ contributions_from xs ys) (next_at ds i d a) (next_at vs i v b)
+      ∙ ap (λ c. gs ++ (cond c (contributions_of_one W d) [] ++ contributions_from (drop (i + 1) ds) (drop (i + 1) vs))) off)
       ∙ before
 
   pub visits_off : (ds : List Definition) (vs : List Visit) (i : ℕ) (d : Definition) (v : Visit) (goal : List Visit) → slice_get ds i ≡ Some d → slice_get vs i ≡ Some v → is_touched rounds k v ≡ false → take i vs ++ visits_from (drop i ds) (drop i vs) ≡ goal → take (i + 1) vs ++ visits_from (drop (i + 1) ds) (drop (i + 1) vs) ≡ goal
@@ -58,23 +52,23 @@ module _ (W : World) (rounds : List ℕ) (k : ℕ) where
       ap (λ xs. xs ++ rest) (taken_more vs i v b)
       ∙ append_assoc (take i vs) (v ∷ []) rest
       ∙ sym (ap₂ (λ xs ys. take i vs ++ visits_from xs ys) (next_at ds i d a) (next_at vs i v b)
-      ∙ ap (λ c. take i vs ++ (cond c (record { own = v.own; given = labels_given (gifts_of_one W d) }) v ∷ rest)) off)
+      ∙ ap (λ c. take i vs ++ (cond c (record { own = v.own; given = labels_given (contributions_of_one W d) }) v ∷ rest)) off)
       ∙ before
 
   -- and one that is
-  pub gifts_on : (ds : List Definition) (vs new : List Visit) (i : ℕ) (d : Definition) (v w : Visit) (gs hs goal : List Gift) → slice_get ds i ≡ Some d → slice_get vs i ≡ Some v → is_touched rounds k v ≡ true → hs ≡ gs ++ gifts_of_one W d → new ≡ set vs i w → gs ++ gifts_from (drop i ds) (drop i vs) ≡ goal → hs ++ gifts_from (drop (i + 1) ds) (drop (i + 1) new) ≡ goal
-  gifts_on ds vs new i d v w gs hs goal a b on given is before =
-      let rest = gifts_from (drop (i + 1) ds) (drop (i + 1) vs) in
+  pub contributions_on : (ds : List Definition) (vs new : List Visit) (i : ℕ) (d : Definition) (v w : Visit) (gs hs goal : List Contribution) → slice_get ds i ≡ Some d → slice_get vs i ≡ Some v → is_touched rounds k v ≡ true → hs ≡ gs ++ contributions_of_one W d → new ≡ set vs i w → gs ++ contributions_from (drop i ds) (drop i vs) ≡ goal → hs ++ contributions_from (drop (i + 1) ds) (drop (i + 1) new) ≡ goal
+  contributions_on ds vs new i d v w gs hs goal a b on given is before =
+      let rest = contributions_from (drop (i + 1) ds) (drop (i + 1) vs) in
       let left : drop (i + 1) new ≡ drop (i + 1) vs = ap (drop (i + 1)) is ∙ drop-set-lt (i + 1) vs i w (omega arith) in
-      ap₂ (λ xs ys. xs ++ gifts_from (drop (i + 1) ds) ys) given left
-      ∙ append_assoc gs (gifts_of_one W d) rest
-      ∙ sym (ap₂ (λ xs ys. gs ++ gifts_from xs ys) (next_at ds i d a) (next_at vs i v b)
-      ∙ ap (λ c. gs ++ (cond c (gifts_of_one W d) [] ++ rest)) on)
+      ap₂ (λ xs ys. xs ++ contributions_from (drop (i + 1) ds) ys) given left
+      ∙ append_assoc gs (contributions_of_one W d) rest
+      ∙ sym (ap₂ (λ xs ys. gs ++ contributions_from xs ys) (next_at ds i d a) (next_at vs i v b)
+      ∙ ap (λ c. gs ++ (cond c (contributions_of_one W d) [] ++ rest)) on)
       ∙ before
 
-  pub visits_on : (ds : List Definition) (vs new : List Visit) (i : ℕ) (d : Definition) (v : Visit) (goal : List Visit) → slice_get ds i ≡ Some d → slice_get vs i ≡ Some v → is_touched rounds k v ≡ true → new ≡ set vs i (record { own = v.own; given = labels_given (gifts_of_one W d) }) → take i vs ++ visits_from (drop i ds) (drop i vs) ≡ goal → take (i + 1) new ++ visits_from (drop (i + 1) ds) (drop (i + 1) new) ≡ goal
+  pub visits_on : (ds : List Definition) (vs new : List Visit) (i : ℕ) (d : Definition) (v : Visit) (goal : List Visit) → slice_get ds i ≡ Some d → slice_get vs i ≡ Some v → is_touched rounds k v ≡ true → new ≡ set vs i (record { own = v.own; given = labels_given (contributions_of_one W d) }) → take i vs ++ visits_from (drop i ds) (drop i vs) ≡ goal → take (i + 1) new ++ visits_from (drop (i + 1) ds) (drop (i + 1) new) ≡ goal
   visits_on ds vs new i d v goal a b on is before =
-      let w : Visit = record { own = v.own; given = labels_given (gifts_of_one W d) } in
+      let w : Visit = record { own = v.own; given = labels_given (contributions_of_one W d) } in
       let rest = visits_from (drop (i + 1) ds) (drop (i + 1) vs) in
       let left : drop (i + 1) new ≡ drop (i + 1) vs = ap (drop (i + 1)) is ∙ drop-set-lt (i + 1) vs i w (omega arith) in
       let passed : take (i + 1) new ≡ take i vs ++ w ∷ [] = ap (take (i + 1)) is ∙ take_more_set vs i w (slice_get_within vs i v b) in
@@ -85,12 +79,12 @@ module _ (W : World) (rounds : List ℕ) (k : ℕ) where
       ∙ before
 
   -- where none is left
-  pub gifts_end : (ds : List Definition) (vs : List Visit) (i : ℕ) (gs goal : List Gift) → length ds ≤ i → gs ++ gifts_from (drop i ds) (drop i vs) ≡ goal → gs ≡ goal
-  gifts_end ds vs i gs goal h before = sym (append-nil gs) ∙ ap (λ xs. gs ++ gifts_from xs (drop i vs)) (sym (none_left ds i h)) ∙ before
+  pub contributions_end : (ds : List Definition) (vs : List Visit) (i : ℕ) (gs goal : List Contribution) → length ds ≤ i → gs ++ contributions_from (drop i ds) (drop i vs) ≡ goal → gs ≡ goal
+  contributions_end ds vs i gs goal h before = sym (append-nil gs) ∙ ap (λ xs. gs ++ contributions_from xs (drop i vs)) (sym (drop_all i ds h)) ∙ before
 
   pub visits_end : (ds : List Definition) (vs : List Visit) (i : ℕ) (goal : List Visit) → length ds ≤ i → length vs ≡ length ds → take i vs ++ visits_from (drop i ds) (drop i vs) ≡ goal → vs ≡ goal
   visits_end ds vs i goal h e before =
-      sym (all_taken vs i (omega arith)) ∙ sym (append-nil (take i vs)) ∙ ap (λ xs. take i vs ++ visits_from xs (drop i vs)) (sym (none_left ds i h)) ∙ before
+      sym (all_taken vs i (omega arith)) ∙ sym (append-nil (take i vs)) ∙ ap (λ xs. take i vs ++ visits_from xs (drop i vs)) (sym (drop_all i ds h)) ∙ before
 
   pub settled_long : (ds : List Definition) (vs : List Visit) → AreSettled W rounds k ds vs → length vs ≡ length ds
   settled_long [] [] s = refl

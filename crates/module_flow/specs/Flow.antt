@@ -12,16 +12,16 @@ use Rattle.cons_tree.specs.declared.parts.Callee.{Callee}
 use Rattle.cons_tree.specs.declared.parts.Callee.TheVariants.{Known, Local, Undefined, Unknown}
 use Rattle.warn_list.specs.declared.finding.Finding.{Finding}
 use Rattle.warn_list.specs.declared.finding.FindingKind.TheVariants.{NoReturn, NeverCalled}
-use Rattle.flow_calls.specs.declared.around.Around.{Around}
-use Rattle.flow_calls.specs.Around.{under, at_node}
-use Rattle.flow_calls.specs.Escapes.{escaping}
-use Rattle.flow_walk.specs.Findings.{found_in_functions}
-use Rattle.flow_calls.specs.Functions.{defined_labels}
-use Rattle.flow_walk.specs.Gifts.{gifts_of_functions}
-use Rattle.flow_state.specs.Scopes.{outermost}
-use Rattle.flow_state.specs.States.{FlowState, parameters_of, takes, next_state, joined_rounds}
-use Rattle.flow_calls.specs.Unknown.{unknown_functions}
-use Rattle.flow_state.specs.World.{World}
+use Rattle.module_flow_calls.specs.declared.node_context.NodeContext.{NodeContext}
+use Rattle.module_flow_calls.specs.NodeContext.{under, at_node}
+use Rattle.module_flow_calls.specs.Escapes.{escaping}
+use Rattle.module_flow_walk.specs.Findings.{found_in_functions}
+use Rattle.module_flow_calls.specs.Functions.{defined_labels}
+use Rattle.module_flow_walk.specs.Contributions.{contributions_of_functions}
+use Rattle.module_flow_state.specs.Scopes.{outermost}
+use Rattle.module_flow_state.specs.States.{FlowState, parameters_of, takes, next_state, joined_rounds}
+use Rattle.module_flow_calls.specs.Unknown.{unknown_functions}
+use Rattle.module_flow_state.specs.World.{World}
 
 -- what stands under each module and name
 abbrev pub Callees : Type 0
@@ -44,18 +44,18 @@ open_labels x = exported_labels x.exports x.defs ++ escaping x.defs
 
 -- A function of this name begins entered with anything if it is open, and else not entered. It has no result yet.
 abbrev pub begins_one : List ℕ → LabelledFunction → Option FunName → FlowState
-begins_one open_ones f None = []
-begins_one open_ones f (Some name) =
+begins_one escaping_labels f None = []
+begins_one escaping_labels f (Some name) =
     record {
       label = f.label;
       name = name;
-      params = cond (has_label open_ones f.label) (Some (replicate (length f.parameters) any)) None;
+      params = cond (has_label escaping_labels f.label) (Some (replicate (length f.parameters) any)) None;
       result = none;
     } ∷ []
 
 abbrev pub begins : List ℕ → List LabelledFunction → FlowState
-begins open_ones [] = []
-begins open_ones (f ∷ fs) = begins_one open_ones f f.name ++ begins open_ones fs
+begins escaping_labels [] = []
+begins escaping_labels (f ∷ fs) = begins_one escaping_labels f f.name ++ begins escaping_labels fs
 
 abbrev pub first_state : m.Module → FlowState
 first_state x = begins (open_labels x) (functions_of x)
@@ -74,7 +74,7 @@ unless_entered None found = found
 unless_entered (Some ts) found = []
 
 -- functions of the module that have no local return, and those that are never called
-abbrev pub functions_reported : World → Around → m.Defs → List Finding
+abbrev pub functions_reported : World → NodeContext → m.Defs → List Finding
 functions_reported W a m.no_def = []
 functions_reported W a (m.and_def f i xs t ds) =
     cond (gives_nothing (W.callee W.home f)) (at_node (under a i.note) i (NoReturn f)) []
@@ -91,7 +91,7 @@ module _ (callees : Callees) (x : m.Module) where
 
   -- what a round makes of a state: its join with what a walk of every function that is entered gives
   abbrev pub made_of : FlowState → FlowState
-  made_of st = takes st (gifts_of_functions (world st) outermost x.defs)
+  made_of st = takes st (contributions_of_functions (world st) outermost x.defs)
 
   abbrev pub after_rounds : ℕ → FlowState
   after_rounds zero = first_state x
@@ -107,7 +107,7 @@ module _ (callees : Callees) (x : m.Module) where
 
   -- ---- the report
 
-  abbrev pub around_module : Around
+  abbrev pub around_module : NodeContext
   around_module = under (record { quiet = false; line = None }) x.note
 
   -- what is found in a state: of the functions, by its walk, and of unknown names

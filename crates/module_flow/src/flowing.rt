@@ -5,22 +5,22 @@ ghost use Rattle.core_scope.specs.Checked.{tree_of};
 ghost use Rattle.core_scope.specs.Names.{defined_names};
 ghost use Rattle.cons_tree.specs.Callees.{found};
 ghost use Rattle.warn_list.specs.declared.finding.FindingKind.TheVariants.{NeverCalled, NoReturn};
-ghost use Rattle.flow_calls.specs.Around.{at_node};
-ghost use Rattle.flow_walk.specs.Findings.{found_in_functions};
+ghost use Rattle.module_flow_calls.specs.NodeContext.{at_node};
+ghost use Rattle.module_flow_walk.specs.Findings.{found_in_functions};
 ghost use Rattle.module_flow.specs.Flow.{findings, functions_reported, gives_nothing, last_state, unless_entered};
-ghost use Rattle.flow_calls.specs.Functions.{defined_labels};
-ghost use Rattle.flow_state.specs.Scopes.{outermost};
-ghost use Rattle.flow_state.specs.States.{parameters_of};
-ghost use Rattle.flow_calls.specs.Unknown.{unknown_functions};
-ghost use Rattle.flow_state.specs.steps.Walking.{noting, world_of};
+ghost use Rattle.module_flow_calls.specs.Functions.{defined_labels};
+ghost use Rattle.module_flow_state.specs.Scopes.{outermost};
+ghost use Rattle.module_flow_state.specs.States.{parameters_of};
+ghost use Rattle.module_flow_calls.specs.Unknown.{unknown_functions};
+ghost use Rattle.module_flow_state.specs.steps.Walking.{noting, world_of};
 
 use crate::rounds::{first_state, walk_module};
-use crate::visits::{first_places, first_visits, walk_again};
+use crate::visits::{first_positions, first_visits, walk_again};
 use cons_tree::{Callee, Summaries, type_facts};
 use core_ast::{FunDef, Module};
 use core_scope::Checked;
-use flow_calls::{Around, Functions, unknown_functions};
-use flow_state::{About, Changes, FlowFun, FlowStates, FlowWalk, JOINED_ROUNDS};
+use module_flow_calls::{Functions, NodeContext, unknown_functions};
+use module_flow_state::{Changes, FlowFun, FlowStates, FlowWalk, JOINED_ROUNDS, WalkContext};
 use std::alloc::Global;
 use type_kinds::{List, Memory, Shared};
 use type_lattice::decision_laws;
@@ -43,19 +43,19 @@ pub fn flow(alloc: Global, checked: &Checked, known: &Summaries) -> Result<FlowO
 {
     let source = checked.module();
     let tops = Functions::of_module(alloc, source.defs.as_slice())?;
-    let around = Around {
+    let around = NodeContext {
         quiet: false,
         line: None,
     };
     let around = around.under(source.note);
     let state = last_state(alloc, source, &tops, known, around)?;
-    let about = About {
+    let context = WalkContext {
         home: &source.name,
         tops: &tops,
         known,
         state: &state,
     };
-    let findings = findings(alloc, &about, around, source.defs.as_slice())?;
+    let findings = findings(alloc, &context, around, source.defs.as_slice())?;
     Ok(FlowOut {
         functions: state.into_functions(),
         findings,
@@ -68,7 +68,7 @@ fn last_state(
     source: &Module,
     tops: &Functions,
     known: &Summaries,
-    around: Around,
+    around: NodeContext,
 ) -> Result<FlowStates, Memory>
     requires names { tops.now.names ≡ defined_names (all_defs source.now.defs) }
     requires labels { tops.now.labels ≡ defined_labels (all_defs source.now.defs) }
@@ -79,30 +79,30 @@ fn last_state(
     let defs = source.defs.as_slice();
     let mut state = first_state(alloc, source)?;
     let mut visits = first_visits(alloc, defs)?;
-    let mut places = first_places(alloc, defs.len())?;
+    let mut positions = first_positions(alloc, defs.len())?;
     let mut changes = Changes::new(alloc);
     let count = state.functions().len();
     for round in 0..JOINED_ROUNDS + 2 * count {
-        let about = About {
+        let context = WalkContext {
             home: &source.name,
             tops,
             known,
             state: &state,
         };
-        let gifts = walk_again(
+        let contributions = walk_again(
             alloc,
-            &about,
+            &context,
             around,
             defs,
             &mut visits,
             &changes,
             round,
-            places.as_slice(),
+            positions.as_slice(),
         )?;
-        if !state.take_round(gifts.as_slice(), &mut changes, round, round + 1)? {
+        if !state.take_round(contributions.as_slice(), &mut changes, round, round + 1)? {
             return Ok(state);
         }
-        places = visits.candidates(&changes)?;
+        positions = visits.candidates(&changes)?;
     }
     Ok(state)
 }
@@ -110,13 +110,13 @@ fn last_state(
 // What the walk of all functions finds.
 fn found_by_walk(
     alloc: Global,
-    about: &About,
-    around: Around,
+    context: &WalkContext,
+    around: NodeContext,
     defs: &[Shared<FunDef>],
 ) -> Result<List<Finding>, Memory>
-    ensures { IfOk result (λ list. list ≡ found_in_functions (world_of about.now) around outermost (all_defs defs.now)) }
+    ensures { IfOk result (λ list. list ≡ found_in_functions (world_of context.now) around outermost (all_defs defs.now)) }
 {
-    let walker = walk_module(alloc, about, around, defs, true)?;
+    let walker = walk_module(alloc, context, around, defs, true)?;
     let FlowWalk { found, .. } = walker;
     Ok(found)
 }
@@ -134,17 +134,17 @@ fn add_findings(list: &mut List<Finding>, more: List<Finding>) -> Result<(), Mem
 // What is found: of the functions, by the walk of the state, and of unknown names.
 fn findings(
     alloc: Global,
-    about: &About,
-    around: Around,
+    context: &WalkContext,
+    around: NodeContext,
     defs: &[Shared<FunDef>],
 ) -> Result<List<Finding>, Memory>
-    ensures { IfOk result (λ list. list ≡ functions_reported (world_of about.now) around (all_defs defs.now) ++ found_in_functions (world_of about.now) around outermost (all_defs defs.now) ++ unknown_functions (found about.now.known.now) around (all_defs defs.now)) }
+    ensures { IfOk result (λ list. list ≡ functions_reported (world_of context.now) around (all_defs defs.now) ++ found_in_functions (world_of context.now) around outermost (all_defs defs.now) ++ unknown_functions (found context.now.known.now) around (all_defs defs.now)) }
 {
-    let mut findings = report_functions(alloc, about, around, defs)?;
-    add_findings(&mut findings, found_by_walk(alloc, about, around, defs)?)?;
+    let mut findings = report_functions(alloc, context, around, defs)?;
+    add_findings(&mut findings, found_by_walk(alloc, context, around, defs)?)?;
     add_findings(
         &mut findings,
-        unknown_functions(alloc, about.known, around, defs)?,
+        unknown_functions(alloc, context.known, around, defs)?,
     )?;
     Ok(findings)
 }
@@ -152,15 +152,15 @@ fn findings(
 // Functions that have no local return, and those that are never called.
 fn report_functions(
     alloc: Global,
-    about: &About,
-    around: Around,
+    context: &WalkContext,
+    around: NodeContext,
     defs: &[Shared<FunDef>],
 ) -> Result<List<Finding>, Memory>
-    ensures { IfOk result (λ list. list ≡ functions_reported (world_of about.now) around (all_defs defs.now)) }
+    ensures { IfOk result (λ list. list ≡ functions_reported (world_of context.now) around (all_defs defs.now)) }
 {
     let mut walker = FlowWalk::new(alloc, true);
     for def in defs {
-        report_function(&mut walker, about, around, def.get())?;
+        report_function(&mut walker, context, around, def.get())?;
     }
     let FlowWalk { found, .. } = walker;
     Ok(found)
@@ -179,27 +179,27 @@ fn gives_nothing(callee: &Callee) -> bool
 // What is reported of a function of the module by itself.
 fn report_function(
     walker: &mut FlowWalk,
-    about: &About,
-    around: Around,
+    context: &WalkContext,
+    around: NodeContext,
     def: &FunDef,
 ) -> Result<(), Memory>
-    ensures { OnOk result (walker.new ≡ noting walker.old [] (functions_reported (world_of about.now) around (all_defs (def.now ∷ [])))) }
+    ensures { OnOk result (walker.new ≡ noting walker.old [] (functions_reported (world_of context.now) around (all_defs (def.now ∷ [])))) }
 {
     let around = around.under(def.mark.note);
-    report_no_return(walker, about, around, def)?;
-    report_never_called(walker, about, around, def)
+    report_no_return(walker, context, around, def)?;
+    report_never_called(walker, context, around, def)
 }
 
 // Reports a function that has no local return.
 fn report_no_return(
     walker: &mut FlowWalk,
-    about: &About,
-    around: Around,
+    context: &WalkContext,
+    around: NodeContext,
     def: &FunDef,
 ) -> Result<(), Memory>
-    ensures { OnOk result (walker.new ≡ noting walker.old [] (cond (gives_nothing (found about.now.known.now about.now.home.now def.now.name)) (at_node around def.now.mark (NoReturn def.now.name)) [])) }
+    ensures { OnOk result (walker.new ≡ noting walker.old [] (cond (gives_nothing (found context.now.known.now context.now.home.now def.now.name)) (at_node around def.now.mark (NoReturn def.now.name)) [])) }
 {
-    if !gives_nothing(about.known.find(about.home, &def.name)) {
+    if !gives_nothing(context.known.find(context.home, &def.name)) {
         return Ok(());
     }
     let name = def.name.copy(walker.alloc)?;
@@ -209,13 +209,13 @@ fn report_no_return(
 // Reports a function that is never entered.
 fn report_never_called(
     walker: &mut FlowWalk,
-    about: &About,
-    around: Around,
+    context: &WalkContext,
+    around: NodeContext,
     def: &FunDef,
 ) -> Result<(), Memory>
-    ensures { OnOk result (walker.new ≡ noting walker.old [] (unless_entered (parameters_of about.now.state.now def.now.mark.label) (at_node around def.now.mark (NeverCalled def.now.name)))) }
+    ensures { OnOk result (walker.new ≡ noting walker.old [] (unless_entered (parameters_of context.now.state.now def.now.mark.label) (at_node around def.now.mark (NeverCalled def.now.name)))) }
 {
-    if about.state.parameters(def.mark.label).is_some() {
+    if context.state.parameters(def.mark.label).is_some() {
         return Ok(());
     }
     let name = def.name.copy(walker.alloc)?;

@@ -3,10 +3,10 @@ ghost use Rattle.std.specs.Prelude.{◌≡◌, ◌≤◌, ℕ, replicate, Some};
 ghost use Rattle.core_ast.specs.Model as m;
 ghost use Rattle.type_lattice.specs.Types.{any};
 ghost use Rattle.module_flow.specs.Flow.{Callees, after_rounds, first_state, last_round, last_state, made_of, world};
-ghost use Rattle.flow_walk.specs.Gifts.{gifts_of_functions};
-ghost use Rattle.flow_state.specs.Scopes.{outermost};
-ghost use Rattle.flow_state.specs.Settled.{AreCounted, AreTaken, AreWhollyTaken, GiveCounted, labels_of};
-ghost use Rattle.flow_state.specs.States.{FlowState, joined_rounds, next_state, parameters_of, widened};
+ghost use Rattle.module_flow_walk.specs.Contributions.{contributions_of_functions};
+ghost use Rattle.module_flow_state.specs.Scopes.{outermost};
+ghost use Rattle.module_flow_state.specs.Settled.{AreCounted, AreTaken, AreWhollyTaken, GiveCounted, labels_of};
+ghost use Rattle.module_flow_state.specs.States.{FlowState, joined_rounds, next_state, parameters_of, widened};
 
 use cons_tree::type_facts;
 use type_lattice::decision_laws;
@@ -20,9 +20,9 @@ pub fn last_state_laws()
     ensures late { (callees : Callees) (x : m.Module) (k : ℕ) → joined_rounds ≤ k → next_state k (last_state callees x) (made_of callees x (last_state callees x)) ≡ last_state callees x }
     ensures ends { (callees : Callees) (x : m.Module) (k : ℕ) → last_round callees x ≤ k → after_rounds callees x k ≡ last_state callees x }
     ensures labels { (callees : Callees) (x : m.Module) → labels_of (last_state callees x) ≡ labels_of (first_state x) }
-    ensures taken { (callees : Callees) (x : m.Module) → AreTaken (last_state callees x) (gifts_of_functions (world callees x (last_state callees x)) outermost x.defs) }
-    ensures wholly { (callees : Callees) (x : m.Module) (counts : ℕ → ℕ) → AreCounted counts (first_state x) → ((st : FlowState) → GiveCounted counts (gifts_of_functions (world callees x st) outermost x.defs)) → AreWhollyTaken (last_state callees x) (gifts_of_functions (world callees x (last_state callees x)) outermost x.defs) }
-    ensures stays_open { (callees : Callees) (x : m.Module) (counts : ℕ → ℕ) → AreCounted counts (first_state x) → ((st : FlowState) → GiveCounted counts (gifts_of_functions (world callees x st) outermost x.defs)) → (l : ℕ) → parameters_of (first_state x) l ≡ Some (replicate (counts l) any) → parameters_of (last_state callees x) l ≡ Some (replicate (counts l) any) }
+    ensures taken { (callees : Callees) (x : m.Module) → AreTaken (last_state callees x) (contributions_of_functions (world callees x (last_state callees x)) outermost x.defs) }
+    ensures wholly { (callees : Callees) (x : m.Module) (counts : ℕ → ℕ) → AreCounted counts (first_state x) → ((st : FlowState) → GiveCounted counts (contributions_of_functions (world callees x st) outermost x.defs)) → AreWhollyTaken (last_state callees x) (contributions_of_functions (world callees x (last_state callees x)) outermost x.defs) }
+    ensures stays_open { (callees : Callees) (x : m.Module) (counts : ℕ → ℕ) → AreCounted counts (first_state x) → ((st : FlowState) → GiveCounted counts (contributions_of_functions (world callees x st) outermost x.defs)) → (l : ℕ) → parameters_of (first_state x) l ≡ Some (replicate (counts l) any) → parameters_of (last_state callees x) l ≡ Some (replicate (counts l) any) }
 {
     type_facts();
     decision_laws();

@@ -7,7 +7,7 @@ ghost use Rattle.module_flow.specs.steps.Readers.{IsReader, KeepsReaders, reader
 use std::alloc::Global;
 use type_kinds::{List, Memory};
 
-/// Of each label the places of the functions of the module that read it, or once did.
+/// For each label, the positions of the functions of the module that read it, or once did.
 #[derive(Drop)]
 pub struct Readers {
     alloc: Global,
@@ -25,31 +25,31 @@ impl Readers {
         }
     }
 
-    /// Notes that the function at this place reads these labels.
-    pub fn note_all(&mut self, labels: &[u32], place: usize) -> Result<(), Memory>
+    /// Notes that the function at this position reads these labels.
+    pub fn note_all(&mut self, labels: &[u32], position: usize) -> Result<(), Memory>
         ensures kept { KeepsReaders self.old.table self.new.table }
-        ensures noted { OnOk result (IsReader self.new.table labels.now place) }
+        ensures noted { OnOk result (IsReader self.new.table labels.now position) }
     {
         for label in labels {
-            self.note(*label, place)?;
+            self.note(*label, position)?;
         }
         Ok(())
     }
 
-    // Notes that the function at this place reads this label.
-    fn note(&mut self, label: u32, place: usize) -> Result<(), Memory>
+    // Notes that the function at this position reads this label.
+    fn note(&mut self, label: u32, position: usize) -> Result<(), Memory>
         ensures kept { KeepsReaders self.old.table self.new.table }
-        ensures noted { OnOk result (Contains (readers self.new.table label) place) }
+        ensures noted { OnOk result (Contains (readers self.new.table label) position) }
     {
         let at = label as usize;
         self.reach(at + 1)?;
-        if is_last(self.table.at(at).as_slice(), place) {
+        if is_last(self.table.at(at).as_slice(), position) {
             return Ok(());
         }
-        self.table.add_at(at, place)
+        self.table.add_at(at, position)
     }
 
-    // Has at least so many labels.
+    // Extends the table to at least `count` labels.
     fn reach(&mut self, count: usize) -> Result<(), Memory>
         ensures same { (l : ℕ) → readers self.new.table l ≡ readers self.old.table l }
         ensures reached { OnOk result (count ≤ length self.new.table) }
@@ -61,47 +61,47 @@ impl Readers {
         Ok(())
     }
 
-    /// The places of the functions that read one of these labels, in ascending order. A place may come more than once.
+    /// The positions of the functions that read one of these labels, in ascending order. A position may come more than once.
     pub fn of(&self, labels: &[u32]) -> Result<List<usize>, Memory>
-        ensures ascending { IfOk result (λ places. IsNonDecreasing places) }
-        ensures all { IfOk result (λ places. (l q : ℕ) → Contains labels.now l → Contains (readers self.now.table l) q → Contains places q) }
+        ensures ascending { IfOk result (λ positions. IsNonDecreasing positions) }
+        ensures all { IfOk result (λ positions. (l q : ℕ) → Contains labels.now l → Contains (readers self.now.table l) q → Contains positions q) }
     {
-        let mut places = List::new(self.alloc);
+        let mut positions = List::new(self.alloc);
         for label in labels {
-            self.add_readers(*label, &mut places)?;
+            self.add_readers(*label, &mut positions)?;
         }
-        let mut places = places.into_vec();
-        places.sort_unstable();
-        Ok(List::from_vec(places))
+        let mut positions = positions.into_vec();
+        positions.sort_unstable();
+        Ok(List::from_vec(positions))
     }
 
-    // Adds the places of the functions that read this label.
-    fn add_readers(&self, label: u32, places: &mut List<usize>) -> Result<(), Memory>
-        ensures { OnOk result (places.new ≡ places.old ++ readers self.now.table label) }
+    // Adds the positions of the functions that read this label.
+    fn add_readers(&self, label: u32, positions: &mut List<usize>) -> Result<(), Memory>
+        ensures { OnOk result (positions.new ≡ positions.old ++ readers self.now.table label) }
     {
         match self.table.get(label as usize) {
-            Some(list) => add_places(places, list.as_slice()),
+            Some(list) => add_positions(positions, list.as_slice()),
             None => Ok(()),
         }
     }
 }
 
-// Whether the last of these places is this one.
-fn is_last(places: &[usize], place: usize) -> bool
-    ensures { result ≡ true → Contains places.now place }
+// Whether the last of these positions is this one.
+fn is_last(positions: &[usize], position: usize) -> bool
+    ensures { result ≡ true → Contains positions.now position }
 {
-    match places.last() {
-        Some(last) => *last == place,
+    match positions.last() {
+        Some(last) => *last == position,
         None => false,
     }
 }
 
-// Adds places last.
-fn add_places(places: &mut List<usize>, more: &[usize]) -> Result<(), Memory>
-    ensures { OnOk result (places.new ≡ places.old ++ more.now) }
+// Adds positions last.
+fn add_positions(positions: &mut List<usize>, more: &[usize]) -> Result<(), Memory>
+    ensures { OnOk result (positions.new ≡ positions.old ++ more.now) }
 {
-    for place in more {
-        places.add(*place)?;
+    for position in more {
+        positions.add(*position)?;
     }
     Ok(())
 }

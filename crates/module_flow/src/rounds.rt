@@ -2,19 +2,19 @@
 ghost use Rattle.std.specs.Prelude.{◌≡◌, ◌∷◌, ◌++◌, ◌||◌, [], ℕ, cond, map, nat_eq, None, replicate, Some, IfOk, OnOk};
 ghost use Rattle.core_ast.specs.Tree.{all_defs, module_tree};
 ghost use Rattle.type_lattice.specs.Types.{any};
-ghost use Rattle.flow_walk.specs.Findings.{found_in_functions};
+ghost use Rattle.module_flow_walk.specs.Findings.{found_in_functions};
 ghost use Rattle.module_flow.specs.Flow.{exported_labels, first_state, has_label};
-ghost use Rattle.flow_walk.specs.Gifts.{gifts_of_functions};
-ghost use Rattle.flow_state.specs.Scopes.{outermost};
-ghost use Rattle.module_flow.specs.steps.Beginning.{begun};
-ghost use Rattle.flow_state.specs.steps.Walking.{world_of};
+ghost use Rattle.module_flow_walk.specs.Contributions.{contributions_of_functions};
+ghost use Rattle.module_flow_state.specs.Scopes.{outermost};
+ghost use Rattle.module_flow.specs.steps.Beginning.{initial_function};
+ghost use Rattle.module_flow_state.specs.steps.Walking.{world_of};
 
 use core_ast::{FunDef, FunName, Module};
 use core_scope::Names;
-use flow_calls::{Around, DefinedFunction, any_types, names_of_module};
-use flow_state::{About, FlowFun, FlowStates, FlowWalk};
-use flow_walk::walk_function;
 use indexmap::IndexSet;
+use module_flow_calls::{DefinedFunction, NodeContext, any_types, names_of_module};
+use module_flow_state::{FlowFun, FlowStates, FlowWalk, WalkContext};
+use module_flow_walk::walk_function;
 use std::alloc::{AllocFailed, Global};
 use std::marker::Model;
 use type_kinds::{List, Memory, Shared};
@@ -34,7 +34,7 @@ impl Model for Labels {
     ghost view = { λ it. it.labels.keys };
 }
 
-// Gives up what a set handed back.
+// Drops what a set returned.
 fn discard_failed(_failed: AllocFailed<u32>) {}
 
 impl Labels {
@@ -118,25 +118,29 @@ fn open_labels(
 }
 
 // The parameters of a function as the flow begins.
-fn begun_parameters(
+fn initial_parameters(
     alloc: Global,
-    open_ones: &Labels,
+    escaping_labels: &Labels,
     function: &DefinedFunction,
 ) -> Result<Option<List<Ty>>, Memory>
-    ensures { IfOk result (λ params. params ≡ cond (has_label open_ones.now function.now.label) (Some (replicate function.now.count any)) None) }
+    ensures { IfOk result (λ params. params ≡ cond (has_label escaping_labels.now function.now.label) (Some (replicate function.now.count any)) None) }
 {
-    if open_ones.has(function.label) {
+    if escaping_labels.has(function.label) {
         return Ok(Some(any_types(alloc, function.count)?));
     }
     Ok(None)
 }
 
 // A function as the flow begins.
-fn begun(alloc: Global, open_ones: &Labels, function: &DefinedFunction) -> Result<FlowFun, Memory>
-    ensures { IfOk result (λ f. f ≡ begun open_ones.now function.now) }
+fn initial_function(
+    alloc: Global,
+    escaping_labels: &Labels,
+    function: &DefinedFunction,
+) -> Result<FlowFun, Memory>
+    ensures { IfOk result (λ f. f ≡ initial_function escaping_labels.now function.now) }
 {
     let name = function.name.copy(alloc)?;
-    let params = begun_parameters(alloc, open_ones, function)?;
+    let params = initial_parameters(alloc, escaping_labels, function)?;
     Ok(FlowFun {
         label: function.label,
         name,
@@ -146,16 +150,16 @@ fn begun(alloc: Global, open_ones: &Labels, function: &DefinedFunction) -> Resul
 }
 
 // All functions as the flow begins.
-fn all_begun(
+fn initial_functions(
     alloc: Global,
-    open_ones: &Labels,
+    escaping_labels: &Labels,
     functions: &[DefinedFunction],
 ) -> Result<FlowStates, Memory>
-    ensures { IfOk result (λ state. state ≡ map (begun open_ones.now) functions.now) }
+    ensures { IfOk result (λ state. state ≡ map (initial_function escaping_labels.now) functions.now) }
 {
     let mut state = FlowStates::new(alloc);
     for function in functions {
-        state.add(begun(alloc, open_ones, function)?)?;
+        state.add(initial_function(alloc, escaping_labels, function)?)?;
     }
     Ok(state)
 }
@@ -168,24 +172,24 @@ pub fn first_state(alloc: Global, source: &Module) -> Result<FlowStates, Memory>
     let names = names_of_module(alloc, defs)?;
     let exports = source.exports.as_slice();
     let labels = open_labels(alloc, exports, defs, names.labels.as_slice())?;
-    let open_ones = Labels::of(alloc, labels.as_slice())?;
-    all_begun(alloc, &open_ones, names.functions.as_slice())
+    let escaping_labels = Labels::of(alloc, labels.as_slice())?;
+    initial_functions(alloc, &escaping_labels, names.functions.as_slice())
 }
 
 /// One walk of all functions that are entered.
 pub fn walk_module(
     alloc: Global,
-    about: &About,
-    around: Around,
+    context: &WalkContext,
+    around: NodeContext,
     defs: &[Shared<FunDef>],
     reporting: bool,
 ) -> Result<FlowWalk, Memory>
-    ensures gifts { IfOk result (λ walker. walker.gifts ≡ gifts_of_functions (world_of about.now) outermost (all_defs defs.now)) }
-    ensures found { IfOk result (λ walker. walker.found ≡ cond reporting (found_in_functions (world_of about.now) around outermost (all_defs defs.now)) []) }
+    ensures contributions { IfOk result (λ walker. walker.contributions ≡ contributions_of_functions (world_of context.now) outermost (all_defs defs.now)) }
+    ensures found { IfOk result (λ walker. walker.found ≡ cond reporting (found_in_functions (world_of context.now) around outermost (all_defs defs.now)) []) }
 {
     let mut walker = FlowWalk::new(alloc, reporting);
     for def in defs {
-        walk_function(&mut walker, about, around, def.get())?;
+        walk_function(&mut walker, context, around, def.get())?;
     }
     Ok(walker)
 }

@@ -1,16 +1,16 @@
 //! Which functions a round walks again.
 ghost use Rattle.std.specs.Prelude.{◌≡◌, ◌++◌, ◌∷◌, ◌<◌, ℕ, [], length, map, slice_get, slice_index, slice_set, true, Some, IfOk, OnOk};
 ghost use Rattle.module_flow.specs.declared.visits.Visit.{Visit};
-ghost use Rattle.flow_state.specs.steps.Reading.{labels_given, labels_named};
-ghost use Rattle.flow_state.specs.steps.Changes.{AllListed};
-ghost use Rattle.module_flow.specs.steps.Visits.{AreCandidates, first_visit, gifts_again, gifts_of_one, is_touched, visits_again};
-ghost use Rattle.flow_state.specs.steps.Walking.{world_of};
+ghost use Rattle.module_flow_state.specs.steps.Reading.{labels_given, labels_named};
+ghost use Rattle.module_flow_state.specs.steps.Changes.{AllListed};
+ghost use Rattle.module_flow.specs.steps.Visits.{AreCandidates, first_visit, contributions_again, contributions_of_one, is_touched, visits_again};
+ghost use Rattle.module_flow_state.specs.steps.Walking.{world_of};
 
 use crate::readers::Readers;
 use core_ast::FunDef;
-use flow_calls::{Around, DefinedFunction, names_of_function};
-use flow_state::{About, Changes, FlowWalk, Gift};
-use flow_walk::walk_function;
+use module_flow_calls::{DefinedFunction, NodeContext, names_of_function};
+use module_flow_state::{Changes, Contribution, FlowWalk, WalkContext};
+use module_flow_walk::walk_function;
 use std::alloc::Global;
 use std::marker::Model;
 use type_kinds::{List, Memory, Shared};
@@ -65,44 +65,44 @@ impl Visits {
     fn add(&mut self, visit: Visit) -> Result<(), Memory>
         ensures { OnOk result (self.new ≡ self.old ++ visit ∷ []) }
     {
-        let place = self.all.len();
-        self.readers.note_all(visit.own.as_slice(), place)?;
-        self.readers.note_all(visit.given.as_slice(), place)?;
+        let position = self.all.len();
+        self.readers.note_all(visit.own.as_slice(), position)?;
+        self.readers.note_all(visit.given.as_slice(), position)?;
         self.all.add(visit)?;
         Ok(())
     }
 
-    // What the last walk of the function at a place read.
-    fn at(&self, place: usize) -> &Visit
-        requires { place < length self.now }
-        ensures { slice_get self.now place ≡ Some result.now }
+    // What the last walk of the function at a position read.
+    fn at(&self, position: usize) -> &Visit
+        requires { position < length self.now }
+        ensures { slice_get self.now position ≡ Some result.now }
     {
-        self.all.at(place)
+        self.all.at(position)
     }
 
-    // Notes a walk of the function at a place that gave this.
-    fn walked(&mut self, place: usize, gifts: &[Gift]) -> Result<(), Memory>
-        requires { place < length self.old }
-        ensures { OnOk result ((v : Visit) → slice_get self.old place ≡ Some v → self.new ≡ slice_set self.old place (record { own = v.own; given = labels_given gifts.now })) }
+    // Notes a walk of the function at a position that gave this.
+    fn walked(&mut self, position: usize, contributions: &[Contribution]) -> Result<(), Memory>
+        requires { position < length self.old }
+        ensures { OnOk result ((v : Visit) → slice_get self.old position ≡ Some v → self.new ≡ slice_set self.old position (record { own = v.own; given = labels_given contributions.now })) }
     {
-        let given = labels_given(self.alloc, gifts)?;
-        let before = self.all.at(place);
+        let given = labels_given(self.alloc, contributions)?;
+        let before = self.all.at(position);
         if are_same_labels(before.given.as_slice(), given.as_slice()) {
             return Ok(());
         }
         let own = before.own.copy(self.alloc)?;
-        self.readers.note_all(given.as_slice(), place)?;
-        discard_visit(self.all.replace(place, Visit { own, given }));
+        self.readers.note_all(given.as_slice(), position)?;
+        discard_visit(self.all.replace(position, Visit { own, given }));
         Ok(())
     }
 
-    /// The places, in ascending order, of the functions for which something changed before the round for which changes were
+    /// The positions, in ascending order, of the functions for which something changed before the round for which changes were
     /// noted last, and perhaps of others.
     pub fn candidates(&self, changes: &Changes) -> Result<List<usize>, Memory>
-        ensures { IfOk result (λ places. (k : ℕ) → AllListed changes.now.rounds k changes.now.latest → AreCandidates changes.now.rounds k self.now places) }
+        ensures { IfOk result (λ positions. (k : ℕ) → AllListed changes.now.rounds k changes.now.latest → AreCandidates changes.now.rounds k self.now positions) }
     {
-        let places = self.readers.of(changes.latest.as_slice())?;
-        Ok(places)
+        let positions = self.readers.of(changes.latest.as_slice())?;
+        Ok(positions)
     }
 }
 
@@ -124,13 +124,13 @@ fn labels_named(alloc: Global, functions: &[DefinedFunction]) -> Result<List<u32
     Ok(labels)
 }
 
-// The labels of the functions that gifts are for.
-fn labels_given(alloc: Global, gifts: &[Gift]) -> Result<List<u32>, Memory>
-    ensures { IfOk result (λ labels. labels ≡ labels_given gifts.now) }
+// The labels of the functions that contributions are for.
+fn labels_given(alloc: Global, contributions: &[Contribution]) -> Result<List<u32>, Memory>
+    ensures { IfOk result (λ labels. labels ≡ labels_given contributions.now) }
 {
     let mut labels = List::new(alloc);
-    for gift in gifts {
-        labels.add(gift.label())?;
+    for contribution in contributions {
+        labels.add(contribution.label())?;
     }
     Ok(labels)
 }
@@ -158,16 +158,16 @@ pub fn first_visits(alloc: Global, defs: &[Shared<FunDef>]) -> Result<Visits, Me
     Ok(visits)
 }
 
-/// The places of all functions, where there are so many: all of them are walked in the first round.
-pub fn first_places(alloc: Global, count: usize) -> Result<List<usize>, Memory>
-    ensures many { IfOk result (λ places. length places ≡ count) }
-    ensures each { IfOk result (λ places. (q : ℕ) → q < count → slice_index places q ≡ q) }
+/// The positions of all functions, where there are `count`: all of them are walked in the first round.
+pub fn first_positions(alloc: Global, count: usize) -> Result<List<usize>, Memory>
+    ensures many { IfOk result (λ positions. length positions ≡ count) }
+    ensures each { IfOk result (λ positions. (q : ℕ) → q < count → slice_index positions q ≡ q) }
 {
-    let mut places = List::new(alloc);
-    for place in 0..count {
-        places.add(place)?;
+    let mut positions = List::new(alloc);
+    for position in 0..count {
+        positions.add(position)?;
     }
-    Ok(places)
+    Ok(positions)
 }
 
 // Whether something changed of what it read, before this round.
@@ -181,76 +181,84 @@ fn is_touched(changes: &Changes, round: usize, visit: &Visit) -> bool
 // What the walk of one function gives.
 fn walk_one(
     alloc: Global,
-    about: &About,
-    around: Around,
+    context: &WalkContext,
+    around: NodeContext,
     def: &FunDef,
-) -> Result<List<Gift>, Memory>
-    ensures { IfOk result (λ gifts. gifts ≡ gifts_of_one (world_of about.now) def.now) }
+) -> Result<List<Contribution>, Memory>
+    ensures { IfOk result (λ contributions. contributions ≡ contributions_of_one (world_of context.now) def.now) }
 {
     let mut walker = FlowWalk::new(alloc, false);
-    walk_function(&mut walker, about, around, def)?;
-    let FlowWalk { gifts, .. } = walker;
-    Ok(gifts)
+    walk_function(&mut walker, context, around, def)?;
+    let FlowWalk { contributions, .. } = walker;
+    Ok(contributions)
 }
 
-// Adds gifts last.
-fn add_gifts(list: &mut List<Gift>, more: List<Gift>) -> Result<(), Memory>
+// Adds contributions last.
+fn add_contributions(list: &mut List<Contribution>, more: List<Contribution>) -> Result<(), Memory>
     ensures { OnOk result (list.new ≡ list.old ++ more) }
 {
-    for gift in more.into_vec() {
-        list.add(gift)?;
+    for contribution in more.into_vec() {
+        list.add(contribution)?;
     }
     Ok(())
 }
 
-// Walks the function at a place again.
+// Walks the function at a position again.
 fn walk_at(
     alloc: Global,
-    about: &About,
-    around: Around,
+    context: &WalkContext,
+    around: NodeContext,
     def: &FunDef,
     visits: &mut Visits,
-    place: usize,
-    gifts: &mut List<Gift>,
+    position: usize,
+    contributions: &mut List<Contribution>,
 ) -> Result<(), Memory>
-    requires { place < length visits.old }
-    ensures gifts { OnOk result (gifts.new ≡ gifts.old ++ gifts_of_one (world_of about.now) def.now) }
-    ensures visits { OnOk result ((v : Visit) → slice_get visits.old place ≡ Some v → visits.new ≡ slice_set visits.old place (record { own = v.own; given = labels_given (gifts_of_one (world_of about.now) def.now) })) }
+    requires { position < length visits.old }
+    ensures contributions { OnOk result (contributions.new ≡ contributions.old ++ contributions_of_one (world_of context.now) def.now) }
+    ensures visits { OnOk result ((v : Visit) → slice_get visits.old position ≡ Some v → visits.new ≡ slice_set visits.old position (record { own = v.own; given = labels_given (contributions_of_one (world_of context.now) def.now) })) }
 {
-    let given = walk_one(alloc, about, around, def)?;
-    visits.walked(place, given.as_slice())?;
-    add_gifts(gifts, given)
+    let given = walk_one(alloc, context, around, def)?;
+    visits.walked(position, given.as_slice())?;
+    add_contributions(contributions, given)
 }
 
-/// Walks all functions again for which something changed before this round. They are among those at these places, which
+/// Walks all functions again for which something changed before this round. They are among those at these positions, which
 /// stand in ascending order.
 pub fn walk_again(
     alloc: Global,
-    about: &About,
-    around: Around,
+    context: &WalkContext,
+    around: NodeContext,
     defs: &[Shared<FunDef>],
     visits: &mut Visits,
     changes: &Changes,
     round: usize,
-    places: &[usize],
-) -> Result<List<Gift>, Memory>
+    positions: &[usize],
+) -> Result<List<Contribution>, Memory>
     requires many { length visits.old ≡ length defs.now }
-    requires places { AreCandidates changes.now.rounds round visits.old places.now }
-    ensures gifts { IfOk result (λ gifts. gifts ≡ gifts_again (world_of about.now) changes.now.rounds round defs.now visits.old) }
-    ensures visits { OnOk result (visits.new ≡ visits_again (world_of about.now) changes.now.rounds round defs.now visits.old) }
+    requires positions { AreCandidates changes.now.rounds round visits.old positions.now }
+    ensures contributions { IfOk result (λ contributions. contributions ≡ contributions_again (world_of context.now) changes.now.rounds round defs.now visits.old) }
+    ensures visits { OnOk result (visits.new ≡ visits_again (world_of context.now) changes.now.rounds round defs.now visits.old) }
 {
-    let mut gifts = List::new(alloc);
+    let mut contributions = List::new(alloc);
     let mut from = 0;
-    for candidate in places {
-        let place = *candidate;
-        if place < from || place >= defs.len() {
+    for candidate in positions {
+        let position = *candidate;
+        if position < from || position >= defs.len() {
             continue;
         }
-        let def = defs[place].get();
-        if is_touched(changes, round, visits.at(place)) {
-            walk_at(alloc, about, around, def, visits, place, &mut gifts)?;
+        let def = defs[position].get();
+        if is_touched(changes, round, visits.at(position)) {
+            walk_at(
+                alloc,
+                context,
+                around,
+                def,
+                visits,
+                position,
+                &mut contributions,
+            )?;
         }
-        from = place + 1;
+        from = position + 1;
     }
-    Ok(gifts)
+    Ok(contributions)
 }

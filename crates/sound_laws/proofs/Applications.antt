@@ -1,7 +1,8 @@
 -- The forms that enter functions: `apply`, `call`, and the primops.
 use Rattle.std.proofs.Common.{◌≡◌, ℕ, ◌+◌, Bool, true, false, [], ◌∷◌, ◌++◌, Option, Some, None, if◌then◌else◌, refl, sym, ap, subst, arith}
+use Rattle.std.proofs.lemmas.Option.{same_Some}
 use Rattle.type_kinds.specs.declared.atom.Atom.{Atom}
-use Rattle.type_model.specs.Values.{Value, atom, Values, no_value, and_value, Env, count}
+use Rattle.type_lattice_model.specs.Values.{Value, atom, Values, no_value, and_value, Env, count}
 use Rattle.type_lattice.specs.Types.{HasType}
 use Rattle.core_ast.specs.Model as m
 use Rattle.core_ast.specs.Lengths.{how_many}
@@ -16,19 +17,19 @@ use Rattle.cons_tree.specs.Environments.{Assignment}
 use Rattle.core_meaning.specs.Programs.{Program}
 use Rattle.core_meaning.specs.Environments.{function_of}
 use Rattle.core_meaning.specs.Meaning.{Outcome, gives, Trace, AllGive, give_none, give_next, Enter, Called, Apply}
-use Rattle.cons_rows.specs.Slots.{slots_from}
-use Rattle.cons_rows.specs.Scopes.{Scope}
-use Rattle.cons_rows.specs.Words.{Rows, bound, never, function_type, literal_type}
-use Rattle.cons_rows.specs.Passes.{Knowledge, called_rows, applied_rows}
+use Rattle.cons_gen_rows.specs.Slots.{slots_from}
+use Rattle.cons_gen_rows.specs.Scopes.{Scope}
+use Rattle.cons_gen_rows.specs.Words.{Rows, bound, never, function_type, literal_type}
+use Rattle.cons_gen_rows.specs.Passes.{Knowledge, called_rows, applied_rows}
 use Rattle.cons_gen.specs.Spans.{unless_named, span, spans, value_slots}
-use Rattle.cons_rows.specs.Counts.{whatever_asked, call_results, both_atoms, call_names}
+use Rattle.cons_gen_rows.specs.Counts.{whatever_asked, call_results, both_atoms, call_names}
 use Rattle.cons_gen.specs.Rows.{named_or, rows, all_rows}
 use Rattle.sound_laws.specs.Assignments.{Extension}
 use Rattle.sound_laws.specs.Facts.{Facts}
 use Rattle.sound_laws.specs.Knowledge.{IsHonest, AllBearOut}
 use Rattle.sound_laws.specs.Satisfied.{AreAsked, Hold, SatRows, Meets}
 use Rattle.sound_laws.specs.Scopes.{StandsFor}
-use Rattle.sound_laws.proofs.Calls.{the_same, entered_one, called_one, applied_one, applied_function, called_holds, applied_holds}
+use Rattle.sound_laws.proofs.Calls.{entered_one, called_one, applied_one, applied_function, called_holds, applied_holds}
 use Rattle.sound_laws.proofs.Extensions.{and_next, mapped, wider}
 use Rattle.sound_laws.proofs.Parts.{Extends, part_extends, parts_extend, front_bears, back_bears}
 use Rattle.sound_laws.proofs.Plain.{with_one}
@@ -50,11 +51,11 @@ one_result_of k (Exactly i) v n = refl
 pub both_given : (o p : Option Atom) (x : Atom × Atom) → both_atoms o p ≡ Some x → (o ≡ Some x.0) × (p ≡ Some x.1)
 both_given None p x h = absurd cc
 both_given (Some y) None x h = absurd cc
-both_given (Some y) (Some z) x h = let same = the_same h in (ap (λ w. Some w.0) same, ap (λ w. Some w.1) same)
+both_given (Some y) (Some z) x h = let same = same_Some _ _ h in (ap (λ w. Some w.0) same, ap (λ w. Some w.1) same)
 
 -- the tree of a literal atom
 pub literal_is : (t : m.Tree) (x : Atom) → literal_atom t ≡ Some x → (i : Mark) × (t ≡ m.literal i (c.Atom x))
-literal_is (m.literal i (c.Atom y)) x h = (i, ap (λ z. m.literal i (c.Atom z)) (the_same h))
+literal_is (m.literal i (c.Atom y)) x h = (i, ap (λ z. m.literal i (c.Atom z)) (same_Some _ _ h))
 literal_is (m.literal i (c.Int n)) x h = absurd cc
 literal_is (m.literal i (c.Float n)) x h = absurd cc
 literal_is (m.literal i c.Nil) x h = absurd cc

@@ -1,7 +1,9 @@
 -- What calls and applications give satisfies what they add to the rows.
-use Rattle.std.proofs.Common.{◌≡◌, ℕ, suc, ◌&&◌, Bool, true, false, if◌then◌else◌, List, [], ◌∷◌, length, Option, Some, None, nat_eq, refl, sym, ap, ◌∙◌, subst, true≢false, eqb-true, eq-eqb}
+use Rattle.std.proofs.Common.{◌≡◌, ℕ, suc, ◌&&◌, Bool, true, false, if◌then◌else◌, List, [], ◌∷◌, length, Option, Some, None, nat_eq, refl, sym, ap, ◌∙◌, subst, eqb-true, eq-eqb}
+use Rattle.std.proofs.lemmas.Option.{same_Some}
+use Rattle.type_kinds.proofs.Truths.{second}
 use Rattle.type_kinds.specs.declared.atom.Atom.{Atom}
-use Rattle.type_model.specs.Values.{Value, closure, Values, no_value, and_value, Env, no_variable, and_variable, and_frame, Local, count}
+use Rattle.type_lattice_model.specs.Values.{Value, closure, Values, no_value, and_value, Env, no_variable, and_variable, and_frame, Local, count}
 use Rattle.type_lattice.specs.Kinds.{HasArity}
 use Rattle.type_lattice.specs.Types.{HasType, HasTypes, none}
 use Rattle.core_ast.specs.declared.syntax.FunName.{FunName}
@@ -21,8 +23,8 @@ use Rattle.bif_types.specs.Table.{looked_up}
 use Rattle.core_meaning.specs.Programs.{Program, module_named, function_named, closure_of, locals_of, top_of_module, top_function, exported, hidden, built_in, outside, Found, found_in}
 use Rattle.core_meaning.specs.Environments.{or_outer, local_function, function_of}
 use Rattle.core_meaning.specs.Meaning.{Outcome, gives, gave, Trace, Enter, enter_gives, Called, call_built_in, call_enters, call_outside, Apply, apply_closure, apply_external, apply_foreign}
-use Rattle.cons_rows.specs.Words.{bound}
-use Rattle.cons_rows.specs.Passes.{Knowledge, signature, by_summary, by_names, by_name, built_in_rows, with_result, called_rows, applied_rows}
+use Rattle.cons_gen_rows.specs.Words.{bound}
+use Rattle.cons_gen_rows.specs.Passes.{Knowledge, signature, by_summary, by_names, by_name, built_in_rows, with_result, called_rows, applied_rows}
 use Rattle.sound_laws.specs.Facts.{Facts}
 use Rattle.sound_laws.specs.Knowledge.{Allows, IsHonest, summary_of, Within, BearsOut, AllBearOut}
 use Rattle.sound_laws.specs.Satisfied.{SatRows}
@@ -30,19 +32,12 @@ use Rattle.sound_laws.proofs.Parts.{back_bears}
 
 -- ---- the arity of a function that is found by its name
 
-second_true : (b c : Bool) → (b && c) ≡ true → c ≡ true
-second_true true c h = h
-second_true false c h = absurd (true≢false (sym h))
-
-pub the_same : {A : Type 0} {x y : A} → Some x ≡ Some y → x ≡ y
-the_same e = cc
-
 named_arity : (ds : List Local) (f : FunName) (d : Local) → function_named ds f ≡ Some d → d.arity ≡ f.arity
 named_arity [] f d h = absurd cc
 named_arity (x ∷ ds) f d h = by (same_atom x.name f.name && nat_eq x.arity f.arity) refl (named_arity ds f d) h
   where
     by : (c : Bool) → (same_atom x.name f.name && nat_eq x.arity f.arity) ≡ c → (function_named ds f ≡ Some d → d.arity ≡ f.arity) → (if c then Some x else function_named ds f) ≡ Some d → d.arity ≡ f.arity
-    by true e more q = subst (λ z. z.arity ≡ f.arity) (the_same q) (eqb-true x.arity f.arity (second_true (same_atom x.name f.name) (nat_eq x.arity f.arity) e))
+    by true e more q = subst (λ z. z.arity ≡ f.arity) (same_Some _ _ q) (eqb-true x.arity f.arity (second (same_atom x.name f.name) (nat_eq x.arity f.arity) e))
     by false e more q = more q
 
 closure_arity : (home : Atom) (env : Env) (ds : List Local) (f : FunName) (c : Value) → closure_of home env (function_named ds f) ≡ Some c → HasArity c f.arity
@@ -50,7 +45,7 @@ closure_arity home env ds f c h = by (function_named ds f) refl h
   where
     by : (o : Option Local) → function_named ds f ≡ o → closure_of home env o ≡ Some c → HasArity c f.arity
     by None e q = absurd cc
-    by (Some d) e q = subst (λ z. HasArity z f.arity) (the_same q) (named_arity ds f d e)
+    by (Some d) e q = subst (λ z. HasArity z f.arity) (same_Some _ _ q) (named_arity ds f d e)
 
 -- what is found first, or else further out
 outer_cases : (o p : Option Value) (c : Value) (G : Value → Type 0) → or_outer o p ≡ Some c → (o ≡ Some c → G c) → (p ≡ Some c → G c) → G c
@@ -90,7 +85,7 @@ module _ (F : Facts) (P : Knowledge) (U : Program) (W : Value → Type 0) (hones
   pub entered_one : {c : Value} {vs ws : Values} {tr : Trace} → Enter U W E c vs (gives ws) tr → (v : Value) × (ws ≡ and_value v no_value)
   entered_one x = enters_one x
 
-  -- ---- what is applied is a function of so many arguments
+  -- ---- what is applied is a function of as many arguments
 
   enters_function : {c : Value} {vs ws : Values} {tr : Trace} → Enter U W E c vs (gives ws) tr → HasArity c (count vs)
   enters_function (enter_gives a e n x) = a

@@ -1,7 +1,7 @@
 -- Every expression that gives values meets its rows, with any fuel.
 use Rattle.std.proofs.Common.{◌≡◌, ℕ, zero, suc, ◌∷◌, ◌++◌}
 use Rattle.type_kinds.specs.declared.atom.Atom.{Atom}
-use Rattle.type_model.specs.Values.{Value, Values, Env}
+use Rattle.type_lattice_model.specs.Values.{Value, Values, Env}
 use Rattle.core_ast.specs.Model as m
 use Rattle.core_scope.specs.declared.ask.Ask.{Ask}
 use Rattle.cons_tree.specs.Environments.{Assignment}
@@ -10,8 +10,8 @@ use Rattle.core_meaning.specs.Meaning.{Failure, Outcome, gives, fails, Trace, ap
 use Rattle.core_meaning.specs.Meaning.{Step, step_variable, step_literal, step_function, step_name, step_external, step_list, step_tuple, step_values, step_new_map, step_map, step_binary, step_chain, step_case, step_letrec}
 use Rattle.core_meaning.specs.Meaning.{step_apply_name, step_apply, step_call, step_primop, step_try, step_handle, step_catch, step_caught, step_receive, step_timeout}
 use Rattle.core_meaning.specs.Runs.{EvalWith}
-use Rattle.cons_rows.specs.Scopes.{Scope}
-use Rattle.cons_rows.specs.Passes.{Knowledge}
+use Rattle.cons_gen_rows.specs.Scopes.{Scope}
+use Rattle.cons_gen_rows.specs.Passes.{Knowledge}
 use Rattle.sound_laws.specs.Facts.{Facts}
 use Rattle.sound_laws.specs.Knowledge.{IsHonest, AllBearOut}
 use Rattle.sound_laws.specs.Satisfied.{AreAsked, Meets}
@@ -22,7 +22,7 @@ use Rattle.sound_laws.proofs.Choices.{case_extends, receive_extends, timeout_ext
 use Rattle.sound_laws.proofs.Parts.{Extends, back_bears}
 use Rattle.sound_laws.proofs.Plain.{variable_extends, literal_extends, function_extends, name_extends, external_extends, list_extends, tuple_extends, new_map_extends, updated_map_extends, binary_extends, values_extend}
 
-no_values : {vs : Values} {f : Failure} → gives vs ≡ fails f → ⊥
+pub no_values : {vs : Values} {f : Failure} → gives vs ≡ fails f → ⊥
 no_values e = cc
 
 module _ (F : Facts) (P : Knowledge) (U : Program) (W : Value → Type 0) (honest : IsHonest P U) where

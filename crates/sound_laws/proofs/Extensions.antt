@@ -1,10 +1,10 @@
 -- How extensions of assignments are chained, and slots given values.
 use Rattle.std.proofs.Common.{◌≡◌, ℕ, zero, suc, ◌+◌, ◌<◌, ◌≤◌, List, [], ◌∷◌, refl, sym, ap, ap₂, ◌∙◌, arith, Bool, true, false, if◌then◌else◌, eqb, le_trans}
 use Rattle.std.proofs.lemmas.Bool.{eqb-true, eq-eqb}
-use Rattle.type_model.specs.Values.{Value, Values, no_value, and_value, count}
+use Rattle.type_lattice_model.specs.Values.{Value, Values, no_value, and_value, count}
 use Rattle.cons_tree.specs.Environments.{Assignment}
 use Rattle.cons_tree.specs.Satisfied.{values_of}
-use Rattle.cons_rows.specs.Slots.{slots_from}
+use Rattle.cons_gen_rows.specs.Slots.{slots_from}
 use Rattle.sound_laws.specs.Assignments.{Alike, Extension}
 
 pub and_next : {a : Assignment} {m n : ℕ} (k : ℕ) {P Q : Assignment → Type 0} → m ≤ k → k ≤ n → Extension a m k P → ((b : Assignment) → Alike m a b → P b → Extension b k n Q) → Extension a m n (λ b. P b × Q b)

@@ -1,7 +1,7 @@
 -- What is claimed of each expression, and what follows of the parts that a form evaluates.
 use Rattle.std.proofs.Common.{◌≡◌, ℕ, suc, ◌+◌, ◌≤◌, [], ◌∷◌, ◌++◌, refl, ap, ap₂, subst, arith}
 use Rattle.type_kinds.specs.declared.atom.Atom.{Atom}
-use Rattle.type_model.specs.Values.{Value, Values, no_value, and_value, Env, count}
+use Rattle.type_lattice_model.specs.Values.{Value, Values, no_value, and_value, Env, count}
 use Rattle.core_ast.specs.Model as m
 use Rattle.core_ast.specs.Lengths.{how_many}
 use Rattle.core_scope.specs.declared.ask.Ask.{Ask}
@@ -11,12 +11,12 @@ use Rattle.cons_tree.specs.Environments.{Assignment}
 use Rattle.cons_tree.specs.Satisfied.{values_of}
 use Rattle.core_meaning.specs.Programs.{Program}
 use Rattle.core_meaning.specs.Meaning.{Outcome, gives, Trace, with_last, both_rows, in_pairs, in_segments, AllGive, give_none, give_next}
-use Rattle.cons_rows.specs.Slots.{slots_from}
-use Rattle.cons_rows.specs.Scopes.{Scope}
-use Rattle.cons_rows.specs.Words.{equals}
-use Rattle.cons_rows.specs.Passes.{Knowledge}
+use Rattle.cons_gen_rows.specs.Slots.{slots_from}
+use Rattle.cons_gen_rows.specs.Scopes.{Scope}
+use Rattle.cons_gen_rows.specs.Words.{equals}
+use Rattle.cons_gen_rows.specs.Passes.{Knowledge}
 use Rattle.cons_gen.specs.Spans.{span, spans, pair_spans, segment_spans, value_slots}
-use Rattle.cons_rows.specs.Counts.{handed_on, call_results, result_count, results}
+use Rattle.cons_gen_rows.specs.Counts.{passed_on, call_results, result_count, results}
 use Rattle.cons_gen.specs.Rows.{rows, all_rows, pair_rows, segment_rows}
 use Rattle.sound_laws.specs.Assignments.{Extension}
 use Rattle.sound_laws.specs.Knowledge.{AllBearOut}
@@ -68,29 +68,6 @@ one_result (m.primop i x ts) = refl
 one_result (m.try i t xs u ys w) = refl
 one_result (m.receive i cs t u) = refl
 one_result (m.catch i t) = refl
-
--- the results come first
-pub results_within : (k : Ask) (t : m.Tree) → result_count k t ≤ span k t
-results_within k (m.variable i x) = omega arith
-results_within k (m.local i f) = omega arith
-results_within k (m.external i x f) = omega arith
-results_within k (m.literal i c) = omega arith
-results_within k (m.function i xs t) = omega arith
-results_within k (m.listed i ts t) = omega arith
-results_within k (m.tuple i ts) = omega arith
-results_within k (m.new_map i ps) = omega arith
-results_within k (m.updated_map i ps t) = omega arith
-results_within k (m.binary i ss) = omega arith
-results_within k (m.values i ts) = omega arith
-results_within k (m.chain i ss t) = omega arith
-results_within k (m.case i t cs) = omega arith
-results_within k (m.letrec i ds t) = omega arith
-results_within k (m.apply i t ts) = omega arith
-results_within k (m.call i t u ts) = omega arith
-results_within k (m.primop i x ts) = omega arith
-results_within k (m.try i t xs u ys w) = omega arith
-results_within k (m.receive i cs t u) = omega arith
-results_within k (m.catch i t) = omega arith
 
 -- the slot of the one value
 pub value_at_slot : (t : m.Tree) (b : Assignment) (s : ℕ) (v : Value) → values_of b (results (Exactly 1) s t) ≡ and_value v no_value → b s ≡ v
@@ -193,10 +170,10 @@ module _ (P : Knowledge) (U : Program) (E : Atom → Env → m.Tree → Outcome 
       (λ b h. joined _ (segment_rows P home sc rest ss) b (joined (rows P home sc s (Exactly 1) t) (all_rows P home sc second ts) b h.0.0 h.1.0.0) h.1.1)
 
   -- a body whose values are those of the whole, in the slots from r on
-  pub body_extends : {env : Env} {t : m.Tree} {vs : Values} {tr : Trace} (sc : Scope) (r s : ℕ) (a : Assignment) (k : Ask) → E home env t (gives vs) tr → AllBearOut P U tr → StandsFor home s a sc env → AreAsked k vs → r + handed_on k ≤ s → Hold k a (slots_from r (handed_on k)) vs → Extension a s (s + span k t) (λ b. SatRows (rows P home sc s k t) b × SatRows (equals (slots_from r (handed_on k)) (results k s t)) b)
+  pub body_extends : {env : Env} {t : m.Tree} {vs : Values} {tr : Trace} (sc : Scope) (r s : ℕ) (a : Assignment) (k : Ask) → E home env t (gives vs) tr → AllBearOut P U tr → StandsFor home s a sc env → AreAsked k vs → r + passed_on k ≤ s → Hold k a (slots_from r (passed_on k)) vs → Extension a s (s + span k t) (λ b. SatRows (rows P home sc s k t) b × SatRows (equals (slots_from r (passed_on k)) (results k s t)) b)
   body_extends {t = t} {vs = vs} sc r s a k x g st n l h =
       mapped
       (and_next s (omega arith) (omega arith)
-      (kept (λ b. Hold k b (slots_from r (handed_on k)) vs) (λ b q. still_held k s (slots_from r (handed_on k)) a b vs (under_end r (handed_on k) s l) q h))
+      (kept (λ b. Hold k b (slots_from r (passed_on k)) vs) (λ b q. still_held k s (slots_from r (passed_on k)) a b vs (under_end r (passed_on k) s l) q h))
       (λ b q z. each home _ _ _ _ sc s b k x g (stands_in (omega arith) q st) n))
       (λ b q. (q.1.0, equal_results k r (results k s t) b vs q.0 q.1.1))

@@ -1,8 +1,8 @@
 -- A pattern that matches satisfies its rows: the slots get the values that its parts are matched with.
 use Rattle.std.proofs.Common.{◌≡◌, ℕ, ◌+◌, ◌<◌, List, [], ◌∷◌, ◌++◌, refl, sym, ap, ap₂, ◌∙◌, subst, arith, append_assoc}
 use Rattle.type_kinds.specs.declared.atom.Atom.{Atom}
-use Rattle.type_model.specs.Values.{Value, Values, no_value, and_value, Env, count, cons, tuple, bits}
-use Rattle.type_model.specs.Values as value
+use Rattle.type_lattice_model.specs.Values.{Value, Values, no_value, and_value, Env, count, cons, tuple, bits}
+use Rattle.type_lattice_model.specs.Values as value
 use Rattle.type_lattice.specs.Kinds.{of_kind}
 use Rattle.type_lattice.specs.Types.{HasType}
 use Rattle.type_lattice.specs.declared.kinds.Kind.TheVariants.{Bitstring, Map}
@@ -13,10 +13,10 @@ use Rattle.cons_tree.specs.Environments.{Assignment}
 use Rattle.cons_tree.specs.Satisfied.{values_of}
 use Rattle.core_meaning.specs.Environments.{with_variable}
 use Rattle.core_meaning.specs.Matching.{Match, match_variable, match_literal, match_list, match_tuple, match_map, match_binary, match_alias, MatchEach, match_none, match_next, MatchList, match_rest, match_head, MatchPairs, match_no_pair, match_pair, MatchSegments, match_no_segment, match_segment}
-use Rattle.cons_rows.specs.Slots.{slots_from}
-use Rattle.cons_rows.specs.Scopes.{Scope, binding, with_bindings}
-use Rattle.cons_rows.specs.Words.{equal, bound, list_rows, inner_cells, literal_type}
-use Rattle.cons_rows.specs.Patterns.{pattern_span, pattern_spans, pat_pair_spans, pat_segment_spans, pattern_slots, outer_span, pattern_bindings, patterns_bindings, pat_pairs_bindings, pat_segments_bindings, outer_bindings, segment_rows, pattern_rows, patterns_rows, pat_pairs_rows, pat_segments_rows, outer_rows}
+use Rattle.cons_gen_rows.specs.Slots.{slots_from}
+use Rattle.cons_gen_rows.specs.Scopes.{Scope, binding, with_bindings}
+use Rattle.cons_gen_rows.specs.Words.{equal, bound, list_rows, inner_cells, literal_type}
+use Rattle.cons_gen_rows.specs.Patterns.{pattern_span, pattern_spans, pat_pair_spans, pat_segment_spans, pattern_slots, outer_span, pattern_bindings, patterns_bindings, pat_pairs_bindings, pat_segments_bindings, outer_bindings, segment_rows, pattern_rows, patterns_rows, pat_pairs_rows, pat_segments_rows, outer_rows}
 use Rattle.sound_laws.specs.Assignments.{Extension}
 use Rattle.sound_laws.specs.Facts.{Facts}
 use Rattle.sound_laws.specs.Satisfied.{SatRows}

@@ -1,8 +1,8 @@
 -- The forms that give one value of those of their parts: each meets its rows.
 use Rattle.std.proofs.Common.{◌≡◌, ℕ, ◌+◌, ◌≤◌, Bool, List, [], ◌∷◌, ◌++◌, length, Option, Some, None, refl, sym, ap, ◌∙◌, subst, arith}
 use Rattle.type_kinds.specs.declared.atom.Atom.{Atom}
-use Rattle.type_model.specs.Values.{Value, bits, tuple, closure, external, Values, no_value, and_value, ValuePairs, Env, count}
-use Rattle.type_model.specs.Values as value
+use Rattle.type_lattice_model.specs.Values.{Value, bits, tuple, closure, external, Values, no_value, and_value, ValuePairs, Env, count}
+use Rattle.type_lattice_model.specs.Values as value
 use Rattle.type_lattice.specs.Kinds.{HasArity, of_kind}
 use Rattle.type_lattice.specs.Types.{HasType}
 use Rattle.type_lattice.specs.declared.kinds.Kind.TheVariants.{Bitstring, Map}
@@ -20,14 +20,14 @@ use Rattle.core_meaning.specs.Programs.{Program}
 use Rattle.core_meaning.specs.Environments.{value_of, function_of}
 use Rattle.core_meaning.specs.Matching.{LiteralIs}
 use Rattle.core_meaning.specs.Meaning.{Outcome, gives, Trace, with_last, in_pairs, in_segments, list_value, AllGive}
-use Rattle.cons_rows.specs.Slots.{slots_from}
-use Rattle.cons_rows.specs.Scopes.{Scope, slot_of}
-use Rattle.cons_rows.specs.Words.{bound, equals, list_rows, inner_cells, function_type, literal_type}
-use Rattle.cons_rows.specs.Passes.{Knowledge}
+use Rattle.cons_gen_rows.specs.Slots.{slots_from}
+use Rattle.cons_gen_rows.specs.Scopes.{Scope, slot_of}
+use Rattle.cons_gen_rows.specs.Words.{bound, equals, list_rows, inner_cells, function_type, literal_type}
+use Rattle.cons_gen_rows.specs.Passes.{Knowledge}
 use Rattle.cons_gen.specs.Spans.{span, spans, pair_spans, value_slots}
-use Rattle.cons_rows.specs.Counts.{handed_on}
+use Rattle.cons_gen_rows.specs.Counts.{passed_on}
 use Rattle.cons_gen.specs.Rows.{rows, all_rows, pair_rows, segment_rows}
-use Rattle.cons_rows.specs.Words.{variable_rows}
+use Rattle.cons_gen_rows.specs.Words.{variable_rows}
 use Rattle.sound_laws.specs.Assignments.{Alike, Extension}
 use Rattle.sound_laws.specs.Facts.{Facts}
 use Rattle.sound_laws.specs.Knowledge.{AllBearOut}
@@ -51,14 +51,14 @@ pub with_one : {a : Assignment} {n : ℕ} {Q : Assignment → Type 0} (s : ℕ) 
 with_one {a} s v l f = and_next (s + 1) (omega arith) l (set_one a s v) f
 
 -- the slots of all results first
-pub with_results : {a : Assignment} {n : ℕ} {Q : Assignment → Type 0} (s : ℕ) (k : Ask) (vs : Values) → AreAsked k vs → s + handed_on k ≤ n → ((b : Assignment) → Alike s a b → Hold k b (slots_from s (handed_on k)) vs → Extension b (s + handed_on k) n Q) → Extension a s n (λ b. Hold k b (slots_from s (handed_on k)) vs × Q b)
-with_results {a} s k vs n l f = and_next (s + handed_on k) (omega arith) l (set_results k vs s a n) f
+pub with_results : {a : Assignment} {n : ℕ} {Q : Assignment → Type 0} (s : ℕ) (k : Ask) (vs : Values) → AreAsked k vs → s + passed_on k ≤ n → ((b : Assignment) → Alike s a b → Hold k b (slots_from s (passed_on k)) vs → Extension b (s + passed_on k) n Q) → Extension a s n (λ b. Hold k b (slots_from s (passed_on k)) vs × Q b)
+with_results {a} s k vs n l f = and_next (s + passed_on k) (omega arith) l (set_results k vs s a n) f
 
 variable_holds : (o : Option ℕ) (s r : ℕ) (b : Assignment) (v : Value) → o ≡ Some r → b r ≡ v → b s ≡ v → SatRows (variable_rows o s) b
 variable_holds None s r b v h e i = tt
 variable_holds (Some q) s r b v h e i = let same : q ≡ r = cc in (ap b same ∙ e ∙ sym i, tt)
 
-equal_values : (k : Ask) (s : ℕ) (ss : List ℕ) (b : Assignment) (vs : Values) → Hold k b (slots_from s (handed_on k)) vs → values_of b ss ≡ vs → SatRows (equals (slots_from s (handed_on k)) ss) b
+equal_values : (k : Ask) (s : ℕ) (ss : List ℕ) (b : Assignment) (vs : Values) → Hold k b (slots_from s (passed_on k)) vs → values_of b ss ≡ vs → SatRows (equals (slots_from s (passed_on k)) ss) b
 equal_values AnyNumber s ss b vs h e = tt
 equal_values (Exactly n) s ss b vs h e = equal_slots (slots_from s n) ss b (h ∙ sym e)
 
@@ -71,7 +71,7 @@ module _ (F : Facts) (P : Knowledge) (U : Program) (E : Atom → Env → m.Tree 
   pub literal_extends : (i : Mark) (c : Literal) (v : Value) (sc : Scope) (s : ℕ) (a : Assignment) (k : Ask) → LiteralIs c v → Meets P home sc s a k (m.literal i c) (and_value v no_value)
   literal_extends i c v sc s a k is = alone s k v (λ b. SatRows (bound s (literal_type c)) b) (λ b h e. (subst (λ z. HasType z (literal_type c)) (sym e) (literal_in F c v is), tt))
 
-  -- a value that is a function of so many arguments
+  -- a value that is a function of n arguments
   function_alone : (s : ℕ) (a : Assignment) (k : Ask) (n : ℕ) (v : Value) → HasArity v n → Extension a s (s + 1) (λ b. SatRows (bound s (function_type n)) b × Hold k b (s ∷ []) (and_value v no_value))
   function_alone s a k n v is = alone s k v (λ b. SatRows (bound s (function_type n)) b) (λ b h e. (subst (λ z. HasType z (function_type n)) (sym e) (function_in F n v is), tt))
 
@@ -145,7 +145,7 @@ module _ (F : Facts) (P : Knowledge) (U : Program) (E : Atom → Env → m.Tree 
 
   pub values_extend : {env : Env} {vs : Values} {tr : Trace} (i : Mark) (ts : m.Trees) (sc : Scope) (s : ℕ) (a : Assignment) (k : Ask) → AllGive (E home) env ts vs tr → AllBearOut P U tr → StandsFor home s a sc env → AreAsked k vs → Meets P home sc s a k (m.values i ts) vs
   values_extend {vs = vs} i ts sc s a k xs g st n =
-      let first = s + handed_on k in
+      let first = s + passed_on k in
       mapped
       (with_results {n = s + span k (m.values i ts)} s k vs n (omega arith) (λ b h e. wider {n = first + spans ts} (omega arith) (parts_extend P U E each home sc first b xs g (stands_in (omega arith) h st))))
-      (λ b h. (joined (all_rows P home sc first ts) (equals (slots_from s (handed_on k)) (value_slots first ts)) b h.1.0 (equal_values k s (value_slots first ts) b vs h.0 h.1.1), h.0))
+      (λ b h. (joined (all_rows P home sc first ts) (equals (slots_from s (passed_on k)) (value_slots first ts)) b h.1.0 (equal_values k s (value_slots first ts) b vs h.0 h.1.1), h.0))

@@ -2,19 +2,20 @@
 use Rattle.std.proofs.Common.{◌≡◌, ℕ, suc, ◌+◌, ◌<◌, ◌≤◌, ◌&&◌, ◌||◌, Bool, true, false, if◌then◌else◌, List, [], ◌∷◌, ◌++◌, length, Option, Some, None, nat_eq, refl, sym, ap, ap₂, ◌∙◌, subst, arith, le_trans, append_assoc, append-nil, true≢false, eqb-true, eq-eqb}
 use Rattle.std.specs.List.{list_any}
 use Rattle.std.specs.Cmp.Lexicographic.{bytes_decides}
+use Rattle.std.proofs.lemmas.Bool.{and_parts}
 use Rattle.type_kinds.specs.declared.atom.Atom.{Atom}
 use Rattle.core_ast.specs.declared.syntax.VarName.{VarName}
 use Rattle.core_ast.specs.declared.syntax.FunName.{FunName}
 use Rattle.core_ast.specs.Model as m
 use Rattle.core_scope.specs.Names.{same_atom, same_function, has_function, wildcard, defined_names}
-use Rattle.type_model.specs.Values.{Value, Values, no_value, and_value, Env, and_variable, and_frame, count}
+use Rattle.type_lattice_model.specs.Values.{Value, Values, no_value, and_value, Env, and_variable, and_frame, count}
 use Rattle.cons_tree.specs.Environments.{Assignment}
 use Rattle.cons_tree.specs.Satisfied.{values_of}
 use Rattle.core_meaning.specs.Programs.{function_named, closure_of, locals_of}
 use Rattle.core_meaning.specs.Environments as run
 use Rattle.core_meaning.specs.Environments.{value_of, local_function, with_variable, with_variables}
-use Rattle.cons_rows.specs.Slots.{slots_from}
-use Rattle.cons_rows.specs.Scopes.{Scope, Binding, slot_of, or_outer, binding, bindings, with_bindings, with_functions}
+use Rattle.cons_gen_rows.specs.Slots.{slots_from}
+use Rattle.cons_gen_rows.specs.Scopes.{Scope, Binding, slot_of, or_outer, binding, bindings, with_bindings, with_functions}
 use Rattle.sound_laws.specs.Assignments.{Alike, Extension}
 use Rattle.sound_laws.specs.Scopes.{StandsFor}
 use Rattle.sound_laws.proofs.Extensions.{and_next, mapped, wider, kept, set_one}
@@ -28,7 +29,7 @@ stands_in l h x = record {
 
 -- ---- variables
 
-outer_assoc : (o p q : Option ℕ) → or_outer (or_outer o p) q ≡ or_outer o (or_outer p q)
+pub outer_assoc : (o p q : Option ℕ) → or_outer (or_outer o p) q ≡ or_outer o (or_outer p q)
 outer_assoc None p q = refl
 outer_assoc (Some s) p q = refl
 
@@ -92,14 +93,10 @@ any_none p (f ∷ fs) gs h = by (p f) (any_none p fs gs) h
     by true more e = absurd (true≢false e)
     by false more e = more e
 
-true_both : (b c : Bool) → (b && c) ≡ true → (b ≡ true) × (c ≡ true)
-true_both true c h = (refl, h)
-true_both false c h = absurd (true≢false (sym h))
-
 -- the tests of two names, either way round
 name_back : (f g : FunName) → (same_atom g.name f.name && nat_eq g.arity f.arity) ≡ true → same_function f g ≡ true
 name_back f g h =
-    let both = true_both (same_atom g.name f.name) (nat_eq g.arity f.arity) h in
+    let both = and_parts (same_atom g.name f.name) (nat_eq g.arity f.arity) h in
     let names : same_atom f.name g.name ≡ true = (bytes_decides f.name g.name).1 (sym ((bytes_decides g.name f.name).0 both.0)) in
     let arities : nat_eq f.arity g.arity ≡ true = eq-eqb f.arity g.arity (sym (eqb-true g.arity f.arity both.1)) in
     ap₂ (λ b c. b && c) names arities

@@ -1,6 +1,8 @@
 -- What a function gave lies in the solution of its constraint, and so, in every run, in its signature where all are closed.
 use Rattle.std.proofs.Common.{◌≡◌, ℕ, zero, suc, ◌+◌, ◌≤◌, Bool, true, false, ◌&&◌, if◌then◌else◌, List, [], ◌∷◌, length, Option, Some, None, take, replicate, nat_eq, inl, inr, refl, sym, ap, ◌∙◌, subst, arith}
 use Rattle.std.proofs.lemmas.List.{length-replicate}
+use Rattle.std.proofs.lemmas.Option.{same_Some}
+use Rattle.type_lattice.proofs.ListOrder.{are_long, types_more}
 use Rattle.type_kinds.specs.declared.atom.Atom.{Atom}
 use Rattle.core_ast.specs.Model as m
 use Rattle.core_ast.specs.declared.syntax.VarName.{VarName}
@@ -8,8 +10,8 @@ use Rattle.core_ast.specs.declared.syntax.FunName.{FunName}
 use Rattle.core_scope.specs.Functions.{LabelledFunction}
 use Rattle.core_scope.specs.Names.{same_atom}
 use Rattle.core_scope.specs.declared.ask.Ask.TheVariants.{Exactly}
-use Rattle.type_model.specs.Values.{Value, nil, closure, Values, no_value, and_value, Env, no_variable, Local, count}
-use Rattle.type_lattice.specs.Types.{Type4, HasType, HasTypes, AreBelow, any}
+use Rattle.type_lattice_model.specs.Values.{Value, nil, closure, Values, no_value, and_value, Env, no_variable, Local, count}
+use Rattle.type_lattice.specs.Types.{HasType, HasTypes, any}
 use Rattle.cons_tree.specs.Environments.{Types, State, Assignment, type_at, LiesIn, LiesInState}
 use Rattle.cons_tree.specs.Satisfied.{values_of}
 use Rattle.cons_tree.specs.declared.parts.Sig.{Sig}
@@ -17,14 +19,13 @@ use Rattle.core_meaning.specs.Programs.{Program, AreAtLabels, module_named, func
 use Rattle.core_meaning.specs.Environments.{with_variables}
 use Rattle.core_meaning.specs.Meaning.{gives, Event, made, chosen, applied, entered, gave, back, Trace, Among}
 use Rattle.core_meaning.specs.Runs.{EvalWith, IsOutside, Eval, Run}
-use Rattle.cons_rows.specs.Slots.{slots_from}
+use Rattle.cons_gen_rows.specs.Slots.{slots_from}
 use Rattle.cons_gen.specs.Made.{parameter_scope, definition_constraint, definition_slots}
-use Rattle.cons_rows.specs.Passes.{Knowledge, signature}
+use Rattle.cons_gen_rows.specs.Passes.{Knowledge, signature}
 use Rattle.sound_laws.specs.Facts.{Facts, SolutionFacts}
 use Rattle.sound_laws.specs.Knowledge.{IsHonest, Within, EachEvent, AllBearOut}
 use Rattle.sound_laws.specs.Scopes.{StandsFor}
 use Rattle.sound_laws.specs.Summaries.{definition_named, definition_in, definition_of, solved, HasCall, IsWithin, Signatures, IsClosed, CallIsIn}
-use Rattle.sound_laws.proofs.Calls.{the_same}
 use Rattle.sound_laws.proofs.Expressions.{every_extends}
 use Rattle.sound_laws.proofs.Parts.{value_at_slot}
 use Rattle.sound_laws.proofs.Scopes.{stands_in, bound_in_turn}
@@ -39,20 +40,6 @@ have_front a (suc n) s (t ∷ ts) h l =
     let first : s + 0 ≡ s = omega arith in
     (subst (λ j. HasType (a j) t) first (h 0), have_front a n (s + 1) ts (λ i. let later : s + suc i ≡ s + 1 + i = omega arith in subst (λ j. HasType (a j) (type_at ts i)) later (h (suc i))) (omega (arith, l)))
 
-pub same_length : (ts us : Types) → AreBelow ts us → length ts ≡ length us
-same_length [] [] h = refl
-same_length [] (u ∷ us) h = absurd h
-same_length (t ∷ ts) [] h = absurd h
-same_length (t ∷ ts) (u ∷ us) h = ap suc (same_length ts us h.1)
-
-pub below_have : (vs : Values) (ts us : List Type4) → AreBelow ts us → HasTypes vs ts → HasTypes vs us
-below_have no_value [] [] l h = tt
-below_have no_value [] (u ∷ us) l h = absurd l
-below_have no_value (t ∷ ts) us l h = absurd h
-below_have (and_value v vs) [] us l h = absurd h
-below_have (and_value v vs) (t ∷ ts) [] l h = absurd l
-below_have (and_value v vs) (t ∷ ts) (u ∷ us) l h = (l.0 v h.0, below_have vs ts us l.1 h.1)
-
 -- ---- functions of a module
 
 -- in each module of the program, each definition is the function that is found at its label
@@ -66,8 +53,8 @@ found_named U home (m.and_def g k xs t ds) f d c at h e = by (same_atom g.name f
   where
     by : (b : Bool) → (function_named (locals_of ds) f ≡ Some d → definition_named ds f ≡ Some (record { parameters = c.parameters; body = c.body })) → (if b then Some (record { name = g.name; arity = g.arity; label = k.label }) else function_named (locals_of ds) f) ≡ Some d → (if b then Some (record { parameters = xs; body = t }) else definition_named ds f) ≡ Some (record { parameters = c.parameters; body = c.body })
     by true more q =
-        let label : k.label ≡ d.label = ap (λ z. z.label) (the_same q) in
-        let same = the_same (sym at.0 ∙ ap (function_at U home) label ∙ e) in
+        let label : k.label ≡ d.label = ap (λ z. z.label) (same_Some _ _ q) in
+        let same = same_Some _ _ (sym at.0 ∙ ap (function_at U home) label ∙ e) in
         ap (λ z. Some (record { parameters = z.parameters; body = z.body })) same
     by false more q = more q
 
@@ -81,8 +68,8 @@ has_name U home (m.and_def g k xs t ds) f d c at h e none = by (same_atom g.name
 
     by : (b : Bool) → (function_named (locals_of ds) f ≡ Some d → ⊥) → (if b then Some (record { name = g.name; arity = g.arity; label = k.label }) else function_named (locals_of ds) f) ≡ Some d → ⊥
     by true more q =
-        let label : k.label ≡ d.label = ap (λ z. z.label) (the_same q) in
-        let same = the_same (sym at.0 ∙ ap (function_at U home) label ∙ e) in
+        let label : k.label ≡ d.label = ap (λ z. z.label) (same_Some _ _ q) in
+        let same = same_Some _ _ (sym at.0 ∙ ap (function_at U home) label ∙ e) in
         named_not {x = g} (ap (λ z. z.name) same ∙ none)
     by false more q = more q
 
@@ -113,7 +100,7 @@ of_module U home f other label arity env stand h = in_module (module_named U hom
     at_name : (p : m.Module) → module_named U home ≡ Some p → (o : Option Local) → function_named (locals_of p.defs) f ≡ o → closure_of home no_variable o ≡ Some (closure other label arity env) → IsOfModule U home f other label env
     at_name p e None named q = absurd cc
     at_name p e (Some d) named q =
-        let is = the_same q in
+        let is = same_Some _ _ q in
         let homes : home ≡ other = ap home_of is in
         let labels : d.label ≡ label = ap label_of is in
         record {
@@ -165,7 +152,7 @@ module _ (F : Facts) (P : Knowledge) (U : Program) (W : Value → Type 0) (hones
         by : (r : State) → solved P home xs t ≡ r → LiesInState h.0 r → HasCall (length xs) r vs v
         by None e l = absurd l
         by (Some ts) e l =
-            let long : length ts ≡ definition_slots xs t = same_length ts (replicate (definition_slots xs t) any) (R.below (definition_constraint P home xs t) (replicate (definition_slots xs t) any) ts e) ∙ length-replicate (definition_slots xs t) any in
+            let long : length ts ≡ definition_slots xs t = are_long ts (replicate (definition_slots xs t) any) (R.below (definition_constraint P home xs t) (replicate (definition_slots xs t) any) ts e) ∙ length-replicate (definition_slots xs t) any in
             let shifted : (i : ℕ) → HasType (h.0 (0 + i)) (type_at ts i) = λ i. let same : i ≡ 0 + i = omega arith in subst (λ j. HasType (h.0 j) (type_at ts i)) same (l i) in
             (subst (λ z. HasTypes z (take (length xs) ts)) h.1.0 (have_front h.0 (length xs) 0 ts shifted (omega (arith, long))), subst (λ z. HasType z (type_at ts (length xs))) h.1.1.0 (l (length xs)))
 
@@ -176,7 +163,7 @@ module _ (F : Facts) (P : Knowledge) (U : Program) (W : Value → Type 0) (hones
 
 within_signature : (n : ℕ) (r : State) (s : Sig) (vs : Values) (v : Value) → IsWithin n r s → HasCall n r vs v → Within s vs v
 within_signature n None s vs v l h = absurd h
-within_signature n (Some ts) s vs v l h = (below_have vs (take n ts) s.args l.0 h.0, l.1 v h.1)
+within_signature n (Some ts) s vs v l h = (types_more vs (take n ts) s.args l.0 h.0, l.1 v h.1)
 
 module _ (F : Facts) (R : SolutionFacts) (U : Program) (stand : LabelsStand U) (S : Signatures) (closed : IsClosed U S) where
   -- what a function that a module defines gave is in its signature

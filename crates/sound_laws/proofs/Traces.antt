@@ -3,7 +3,7 @@ use Rattle.std.proofs.Common.{◌≡◌, ℕ, zero, suc, [], ◌∷◌, ◌++◌
 use Rattle.type_kinds.specs.declared.atom.Atom.{Atom}
 use Rattle.core_ast.specs.Model as m
 use Rattle.core_scope.specs.Functions.{LabelledFunction}
-use Rattle.type_model.specs.Values.{Value, closure, Values, no_value, and_value, Env, count}
+use Rattle.type_lattice_model.specs.Values.{Value, closure, Values, no_value, and_value, Env, count}
 use Rattle.core_meaning.specs.Programs.{Program, function_at}
 use Rattle.core_meaning.specs.Environments.{with_variables}
 use Rattle.core_meaning.specs.Meaning.{Failure, Outcome, gives, fails, Event, made, chosen, applied, entered, gave, back, Trace, back_by, AllGive, give_none, give_next, OneFails, fail_here, fail_later, Chained, chain_ends, let_gives, let_fails, do_gives, do_fails}

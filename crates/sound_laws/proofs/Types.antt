@@ -1,15 +1,15 @@
 -- The types that rows name have the values that forms give.
 use Rattle.std.proofs.Common.{◌≡◌, ℕ, ◌<◌, ◌^◌, ℤ, pos, Bool, true, false, ◌&&◌, cond, [], ◌∷◌, refl, sym, ap, ◌∙◌, subst, arith, nat_lt, codes}
 use Rattle.std.proofs.lemmas.Bool.{ltb-true, le-leb}
-use Rattle.type_sets.specs.Names as names
-use Rattle.type_sets.specs.Names.{Name}
-use Rattle.type_sets.specs.Numbers as numbers
-use Rattle.type_sets.specs.declared.ends.Low.TheVariants.{Min, Zero}
-use Rattle.type_sets.specs.declared.ends.High.TheVariants.{Max}
-use Rattle.type_sets.proofs.NameLaws as by_name
-use Rattle.type_sets.proofs.NumberLaws as by_number
-use Rattle.type_model.specs.Values.{Value, int, atom, bits, float, nil, closure, external, foreign, ValuePairs}
-use Rattle.type_model.specs.Values as value
+use Rattle.type_kinds_sets.specs.Names as names
+use Rattle.type_kinds_sets.specs.Names.{Name}
+use Rattle.type_kinds_sets.specs.Numbers as numbers
+use Rattle.type_kinds_sets.specs.declared.ends.Low.TheVariants.{Min, Zero}
+use Rattle.type_kinds_sets.specs.declared.ends.High.TheVariants.{Max}
+use Rattle.type_kinds_sets.proofs.NameLaws as by_name
+use Rattle.type_kinds_sets.proofs.NumberLaws as by_number
+use Rattle.type_lattice_model.specs.Values.{Value, int, atom, bits, float, nil, closure, external, foreign, ValuePairs}
+use Rattle.type_lattice_model.specs.Values as value
 use Rattle.type_lattice.specs.Kinds.{HasArity, IsFunction, of_kind}
 use Rattle.type_lattice.specs.Types.{HasType, of_atoms, of_ints}
 use Rattle.type_lattice.specs.declared.kinds.Kind.TheVariants.{Float, Bitstring, Map, AnyFun, FunOf, Nil}
@@ -20,8 +20,8 @@ use Rattle.cons_tree.specs.Environments.{Assignment}
 use Rattle.cons_tree.specs.Named.{integers, naturals, floats, just_true}
 use Rattle.cons_tree.specs.Satisfied.{IsInteger, IsNatural, IsFloat, true_value}
 use Rattle.core_meaning.specs.Matching.{LiteralIs, IsBits, IsOfKind}
-use Rattle.cons_rows.specs.Words.{function_type, literal_type}
-use Rattle.cons_rows.specs.Patterns.{segment_rows}
+use Rattle.cons_gen_rows.specs.Words.{function_type, literal_type}
+use Rattle.cons_gen_rows.specs.Patterns.{segment_rows}
 use Rattle.sound_laws.specs.Facts.{Facts}
 use Rattle.sound_laws.specs.Satisfied.{SatRows}
 

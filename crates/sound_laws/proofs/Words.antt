@@ -1,6 +1,6 @@
 -- What satisfies the rows that are put together of others: joined rows, equal slots, the cells of a list.
 use Rattle.std.proofs.Common.{◌≡◌, ℕ, suc, ◌+◌, List, [], ◌∷◌, ◌++◌, inl, inr, refl, sym, ap, ◌∙◌, subst, arith}
-use Rattle.type_model.specs.Values.{Value, cons, Values, no_value, and_value, count}
+use Rattle.type_lattice_model.specs.Values.{Value, cons, Values, no_value, and_value, count}
 use Rattle.cons_tree.specs.Constraints.{Cons, any_of, listed}
 use Rattle.cons_tree.specs.Environments.{Assignment}
 use Rattle.cons_tree.specs.Satisfied.{Sat, values_of}
@@ -8,9 +8,9 @@ use Rattle.cons_tree.specs.declared.parts.Part.{Part}
 use Rattle.core_scope.specs.declared.ask.Ask.{Ask}
 use Rattle.core_scope.specs.declared.ask.Ask.TheVariants.{AnyNumber, Exactly}
 use Rattle.core_meaning.specs.Meaning.{list_value}
-use Rattle.cons_rows.specs.Slots.{slots_from}
-use Rattle.cons_rows.specs.Counts.{handed_on, whatever_asked}
-use Rattle.cons_rows.specs.Words.{Rows, equals, cell_rows, list_rows, inner_cells}
+use Rattle.cons_gen_rows.specs.Slots.{slots_from}
+use Rattle.cons_gen_rows.specs.Counts.{passed_on, whatever_asked}
+use Rattle.cons_gen_rows.specs.Words.{Rows, equals, cell_rows, list_rows, inner_cells}
 use Rattle.sound_laws.specs.Assignments.{Alike, Extension}
 use Rattle.sound_laws.specs.Satisfied.{AreAsked, Hold, SatRows}
 use Rattle.sound_laws.proofs.Extensions.{wider, kept, set_all, AreUnder, same_values, first_value, later_values}
@@ -41,7 +41,7 @@ held_one AnyNumber b s v e = tt
 held_one (Exactly n) b s v e = ap (λ w. and_value w no_value) e
 
 -- the slots of results get the values
-pub set_results : (k : Ask) (vs : Values) (s : ℕ) (a : Assignment) → AreAsked k vs → Extension a s (s + handed_on k) (λ b. Hold k b (slots_from s (handed_on k)) vs)
+pub set_results : (k : Ask) (vs : Values) (s : ℕ) (a : Assignment) → AreAsked k vs → Extension a s (s + passed_on k) (λ b. Hold k b (slots_from s (passed_on k)) vs)
 set_results AnyNumber vs s a h = wider (omega arith) (kept {n = s} (λ b. Unit {0}) (λ b h. tt))
 set_results (Exactly n) vs s a h = subst (λ i. Extension a s (s + i) (λ b. values_of b (slots_from s i) ≡ vs)) h (set_all vs s a)
 
@@ -58,7 +58,7 @@ equal_slots [] ss b e = tt
 equal_slots (r ∷ rs) [] b e = tt
 equal_slots (r ∷ rs) (s ∷ ss) b e = (first_value e, equal_slots rs ss b (later_values e))
 
-pub equal_results : (k : Ask) (s : ℕ) (ss : List ℕ) (b : Assignment) (vs : Values) → Hold k b (slots_from s (handed_on k)) vs → Hold k b ss vs → SatRows (equals (slots_from s (handed_on k)) ss) b
+pub equal_results : (k : Ask) (s : ℕ) (ss : List ℕ) (b : Assignment) (vs : Values) → Hold k b (slots_from s (passed_on k)) vs → Hold k b ss vs → SatRows (equals (slots_from s (passed_on k)) ss) b
 equal_results AnyNumber s ss b vs h g = tt
 equal_results (Exactly n) s ss b vs h g = equal_slots (slots_from s n) ss b (h ∙ sym g)
 

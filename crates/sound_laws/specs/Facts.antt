@@ -1,9 +1,9 @@
 -- What the laws rest on: facts of types, of built-in functions and of solutions, each the clause of a law of a crate below.
 use Rattle.std.specs.Prelude.{◌≡◌, ◌↔◌, ◌<◌, ◌^◌, ℕ, Bool, List, Some, length}
 use Rattle.type_kinds.specs.declared.atom.Atom.{Atom}
-use Rattle.type_sets.specs.Names.{Names}
-use Rattle.type_sets.specs.Numbers.{Numbers}
-use Rattle.type_model.specs.Values.{Value}
+use Rattle.type_kinds_sets.specs.Names.{Names}
+use Rattle.type_kinds_sets.specs.Numbers.{Numbers}
+use Rattle.type_lattice_model.specs.Values.{Value}
 use Rattle.type_lattice.specs.Kinds.{HasAtom, HasInt, IsKind, of_kind}
 use Rattle.type_lattice.specs.Types.{HasType, AreBelow, any, of_atoms, of_ints}
 use Rattle.type_lattice.specs.declared.kinds.Kind.{Kind}

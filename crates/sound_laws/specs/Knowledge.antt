@@ -2,7 +2,7 @@
 use Rattle.std.specs.Prelude.{◌≡◌, false, [], ◌∷◌, Option, Some, None}
 use Rattle.type_kinds.specs.declared.atom.Atom.{Atom}
 use Rattle.core_ast.specs.declared.syntax.FunName.{FunName}
-use Rattle.type_model.specs.Values.{Value, Values}
+use Rattle.type_lattice_model.specs.Values.{Value, Values}
 use Rattle.type_lattice.specs.Types.{HasType, HasTypes}
 use Rattle.cons_tree.specs.declared.parts.Sig.{Sig}
 use Rattle.cons_tree.specs.declared.parts.Summary.{Summary}
@@ -10,7 +10,7 @@ use Rattle.cons_tree.specs.declared.parts.Callee.{Callee}
 use Rattle.cons_tree.specs.declared.parts.Callee.TheVariants.{Known, Local, Undefined, Unknown}
 use Rattle.core_meaning.specs.Programs.{Program, top_function, Found, built_in, exported, hidden, outside, found}
 use Rattle.core_meaning.specs.Meaning.{Event, made, chosen, applied, entered, gave, back, Trace}
-use Rattle.cons_rows.specs.Passes.{Knowledge, signature}
+use Rattle.cons_gen_rows.specs.Passes.{Knowledge, signature}
 
 -- What may be known of a function by what a call of it finds: of an exported one its summary or nothing, and of one of another
 -- module nothing. A call of a built-in function asks nothing of what is known, and one that its module doesn't export is never

@@ -2,17 +2,17 @@
 use Rattle.std.specs.Prelude.{◌≡◌, ℕ, ◌+◌, List}
 use Rattle.type_kinds.specs.declared.atom.Atom.{Atom}
 use Rattle.core_ast.specs.Model as m
-use Rattle.type_model.specs.Values.{Values, count}
+use Rattle.type_lattice_model.specs.Values.{Values, count}
 use Rattle.cons_tree.specs.Environments.{Assignment}
 use Rattle.cons_tree.specs.Satisfied.{Sat, values_of}
 use Rattle.core_scope.specs.declared.ask.Ask.{Ask}
 use Rattle.core_scope.specs.declared.ask.Ask.TheVariants.{AnyNumber, Exactly}
-use Rattle.cons_rows.specs.Scopes.{Scope}
-use Rattle.cons_rows.specs.Passes.{Knowledge}
+use Rattle.cons_gen_rows.specs.Scopes.{Scope}
+use Rattle.cons_gen_rows.specs.Passes.{Knowledge}
 use Rattle.cons_gen.specs.Spans.{span}
-use Rattle.cons_rows.specs.Counts.{results}
+use Rattle.cons_gen_rows.specs.Counts.{results}
 use Rattle.cons_gen.specs.Rows.{rows}
-use Rattle.cons_rows.specs.Words.{Rows, together}
+use Rattle.cons_gen_rows.specs.Words.{Rows, together}
 use Rattle.sound_laws.specs.Assignments.{Extension}
 
 -- as many values as are asked

@@ -6,7 +6,7 @@ use Rattle.core_ast.specs.Model as m
 use Rattle.core_ast.specs.declared.syntax.VarName.{VarName}
 use Rattle.core_ast.specs.declared.syntax.FunName.{FunName}
 use Rattle.core_scope.specs.Names.{same_atom}
-use Rattle.type_model.specs.Values.{Value, Values}
+use Rattle.type_lattice_model.specs.Values.{Value, Values}
 use Rattle.type_lattice.specs.Types.{HasType, HasTypes, Below, AreBelow, any}
 use Rattle.cons_tree.specs.Environments.{State, Assignment, type_at}
 use Rattle.cons_tree.specs.Satisfied.{Sat, values_of}
@@ -16,8 +16,8 @@ use Rattle.cons_tree.specs.declared.parts.Callee.{Callee}
 use Rattle.cons_solve.specs.Environments.{solution}
 use Rattle.core_meaning.specs.Programs.{Program, module_named}
 use Rattle.cons_gen.specs.Made.{definition_constraint, definition_slots}
-use Rattle.cons_rows.specs.Passes.{Knowledge, signature}
-use Rattle.cons_rows.specs.Slots.{slots_from}
+use Rattle.cons_gen_rows.specs.Passes.{Knowledge, signature}
+use Rattle.cons_gen_rows.specs.Slots.{slots_from}
 use Rattle.sound_laws.specs.Knowledge.{IsHonest, summary_of}
 
 -- ---- definitions

@@ -1,40 +1,25 @@
 -- Lists of something for each number below another.
-use Rattle.std.proofs.Common.{◌≡◌, ℕ, ◌+◌, zero, suc, List, [], ◌∷◌, ◌++◌, length, map, replicate, get_or, slice_get, refl, ap, add-one, ◌∙◌, arith, ◌<◌, inl, inr, subst, length-append}
+use Rattle.std.proofs.Common.{◌≡◌, ℕ, ◌+◌, zero, suc, [], ◌∷◌, ◌++◌, length, map, replicate, get_or, slice_get, refl, ap, add-one, ◌∙◌, arith, ◌<◌, inl, inr, subst, length-append}
 use Rattle.std.specs.declared.option.Option.TheVariants.{Some}
 use Rattle.std.proofs.lemmas.Option.{none-some, same_Some}
+use Rattle.std.proofs.lemmas.List.{get_or_push, get_or_append_left}
 use Rattle.summary_board.proofs.Sets.{same_or_not, below_other}
 use Rattle.summary_board.specs.Calls.{each_below}
 
 pub each_below_more : {X : Type 0} (n : ℕ) (f : ℕ → X) → each_below (n + 1) f ≡ each_below n f ++ f n ∷ []
 each_below_more n f = rw (add-one n) refl
 
-replicate_suc : {X : Type 0} (n : ℕ) (x : X) → replicate (suc n) x ≡ replicate n x ++ x ∷ []
-replicate_suc zero x = refl
-replicate_suc (suc n) x = ap (λ xs. x ∷ xs) (replicate_suc n x)
-
-pub replicate_more : {X : Type 0} (n : ℕ) (x : X) → replicate (n + 1) x ≡ replicate n x ++ x ∷ []
-replicate_more n x = rw (add-one n) (replicate_suc n x)
-
 pub length_each_below : {X : Type 0} (n : ℕ) (f : ℕ → X) → length (each_below n f) ≡ n
 length_each_below zero f = refl
 length_each_below (suc n) f = omega (arith, length-append (each_below n f) (f n ∷ []), length_each_below n f)
-
-get_last : {X : Type 0} (xs : List X) (x d : X) → get_or (xs ++ x ∷ []) (length xs) d ≡ x
-get_last [] x d = refl
-get_last (y ∷ ys) x d = get_last ys x d
-
-get_before : {X : Type 0} (xs : List X) (x d : X) (c : ℕ) → c < length xs → get_or (xs ++ x ∷ []) c d ≡ get_or xs c d
-get_before [] x d c within = absurd (omega arith)
-get_before (y ∷ ys) x d zero within = refl
-get_before (y ∷ ys) x d (suc c) within = get_before ys x d c (omega arith)
 
 pub get_each_below : {X : Type 0} (n : ℕ) (f : ℕ → X) (c : ℕ) (d : X) → c < n → get_or (each_below n f) c d ≡ f c
 get_each_below zero f c d within = absurd (omega arith)
 get_each_below (suc n) f c d within =
     let long = length_each_below n f in
     elim (same_or_not c n) [
-      | inl same ↦ rw (same) (let P : ℕ → Type 0 = λ k. get_or (each_below n f ++ f n ∷ []) k d ≡ f n in subst P long (get_last (each_below n f) (f n) d))
-      | inr other ↦ let less : c < n = below_other c n other within in get_before (each_below n f) (f n) d c (omega (arith, long, less)) ∙ get_each_below n f c d less
+      | inl same ↦ rw (same) (let P : ℕ → Type 0 = λ k. get_or (each_below n f ++ f n ∷ []) k d ≡ f n in subst P long (get_or_push (each_below n f) (f n) d (length (each_below n f)) refl))
+      | inr other ↦ let less : c < n = below_other c n other within in get_or_append_left (each_below n f) ((f n) ∷ []) d c (omega (arith, long, less)) ∙ get_each_below n f c d less
     ]
 
 pub get_replicate : {X : Type 0} (n : ℕ) (x y : X) (c : ℕ) → slice_get (replicate n x) c ≡ Some y → x ≡ y

@@ -1,9 +1,10 @@
 -- What a board keeps besides what it shows, after each of its calls.
-use Rattle.std.proofs.Common.{◌≡◌, ◌≢◌, ◌↔◌, ℕ, zero, suc, ◌+◌, ◌*◌, ◌^◌, ◌<◌, ◌≤◌, List, [], ◌∷◌, All, length, replicate, slice_get, slice_set, refl, sym, ap, ◌∙◌, subst, arith}
+use Rattle.std.proofs.Common.{◌≡◌, ◌≢◌, ◌↔◌, ℕ, ◌+◌, ◌*◌, ◌^◌, ◌<◌, ◌≤◌, List, [], ◌∷◌, All, length, replicate, slice_get, slice_set, refl, sym, ap, ◌∙◌, subst, arith}
 use Rattle.std.proofs.lemmas.List.{length-map, map-set}
 use Rattle.std.proofs.lemmas.List.Elements.{All-head, All-tail, All-cons, All-nil}
 use Rattle.std.proofs.lemmas.Option.{slice_get_within, same_Some}
 use Rattle.std.specs.declared.option.Option.TheVariants.{Some}
+use Rattle.type_kinds.proofs.Lists.{item_at}
 use Rattle.summary_board.specs.declared.progress.Progress.{Progress}
 use Rattle.summary_board.specs.declared.progress.Progress.TheVariants.{Waiting, Out, Done}
 use Rattle.summary_board.specs.Ascending.{AscendsBelow}
@@ -21,12 +22,6 @@ use Rattle.summary_board.proofs.Tracking.{AreSettled, tracks_taken, tracks_calls
 pub least_ready : (callees : List (List ℕ)) (standings : List Standing) (ready : List ℕ) (c : ℕ) → ((k : ℕ) → IsMarked ready k ↔ IsReady callees standings k) → IsLeastMarked ready c
     → IsReady callees standings c × ((k : ℕ) → k < c → IsReady callees standings k → ⊥)
 least_ready callees standings ready c exact least = ((exact c).0 least.0, λ k below is. least.1 k below ((exact k).1 is))
-
--- a component that there is, of as many parts as progress
-item_at : {X : Type 0} (xs : List X) (c : ℕ) → c < length xs → (x : X) × (slice_get xs c ≡ Some x)
-item_at [] c within = absurd (omega (arith, within))
-item_at (x ∷ xs) zero within = (x, refl)
-item_at (x ∷ xs) (suc c) within = item_at xs c (omega (arith, within))
 
 module _ {O : Type 0} where
   -- none is unfinished just where all are done

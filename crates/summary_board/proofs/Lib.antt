@@ -1,4 +1,4 @@
-mod Below
+pub mod Below
 mod BoardTracks
 mod Counts
 mod Lowering

@@ -185,9 +185,9 @@ least_marked row at none some small =
     let low = trailing_zeros w64 word in
     let known = bit_at-trailing_zeros w64 word some small in
     let within : low < 64 = known.0 in
-    let place : (64 * at + low) / 64 ≡ at = omega (arith, within) in
+    let position : (64 * at + low) / 64 ≡ at = omega (arith, within) in
     let bit : (64 * at + low) % 64 ≡ low = omega (arith, within) in (
-      rw (place, bit) known.1,
+      rw (position, bit) known.1,
       λ k below marked.
           elim (cases_eq (k / 64) at) [
             | inl same ↦
@@ -252,6 +252,6 @@ pub least_of_rows : (rows above : List (List ℕ)) (row : List ℕ) (at word : �
 least_of_rows rows above row at word is read some small none =
     rw (is, read) (least_marked row at none (omega (arith, read, some)) (omega (arith, read, small)))
 
--- the place of a word that isn't 0, and of a bit in it, is no large number
-pub place_small : (row : List ℕ) (at word : ℕ) → word ≡ word_at row at → (word ≡ 0 → ⊥) → length row ≤ 2 ^ 26 → 64 * at + count_trailing_zeros 64 word < 2 ^ 64
-place_small row at word read some few = omega (arith, used_within row at (omega (arith, read, some)), few, trailing_le 64 word)
+-- the position of a word that isn't 0, and of a bit in it, is no large number
+pub position_small : (row : List ℕ) (at word : ℕ) → word ≡ word_at row at → (word ≡ 0 → ⊥) → length row ≤ 2 ^ 26 → 64 * at + count_trailing_zeros 64 word < 2 ^ 64
+position_small row at word read some few = omega (arith, used_within row at (omega (arith, read, some)), few, trailing_le 64 word)

@@ -4,12 +4,9 @@ use Rattle.std.specs.List.{All}
 use Rattle.std.specs.Option.{option_to_list}
 use Rattle.std.proofs.lemmas.List.Elements.{All-head, All-tail}
 use Rattle.std.specs.declared.option.Option.TheVariants.{Some}
+use Rattle.type_kinds.proofs.Lists.{get_last}
 use Rattle.summary_board.specs.Solved.{picked, solved}
 use Rattle.summary_board.proofs.Sets.{same_or_not, below_other}
-
-get_last : {X : Type 0} (xs : List X) (x : X) → slice_get (xs ++ x ∷ []) (length xs) ≡ Some x
-get_last [] x = refl
-get_last (y ∷ ys) x = get_last ys x
 
 get_before : {X : Type 0} (xs : List X) (x : X) (c : ℕ) → c < length xs → slice_get (xs ++ x ∷ []) c ≡ slice_get xs c
 get_before [] x c within = absurd (omega arith)

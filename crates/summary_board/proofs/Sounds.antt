@@ -4,6 +4,7 @@ use Rattle.std.proofs.lemmas.List.{length-set, map-set, length-replicate}
 use Rattle.std.proofs.lemmas.List.Elements.{All-weaker, All-head, All-tail}
 use Rattle.std.proofs.lemmas.Option.{slice_get-map, slice_get_within, same_Some, none-some}
 use Rattle.std.specs.declared.option.Option.TheVariants.{Some}
+use Rattle.summary_board.proofs.Tracking.{out_waiting, done_waiting}
 use Rattle.summary_board.specs.declared.event.Event.{Event}
 use Rattle.summary_board.specs.declared.event.Event.TheVariants.{Taken, Finished, Stopped}
 use Rattle.summary_board.specs.declared.progress.Progress.{Progress}
@@ -23,12 +24,6 @@ waiting_done is = cc
 
 out_done : (seat : ℕ) → out seat ≡ done → ⊥
 out_done seat is = cc
-
-out_waiting : (seat : ℕ) → Some (out seat) ≡ Some waiting → ⊥
-out_waiting seat is = cc
-
-done_waiting : Some done ≡ Some waiting → ⊥
-done_waiting is = cc
 
 module _ {O : Type 0} where
   -- the component isn't done

@@ -10,10 +10,10 @@ use Rattle.summary_board.specs.steps.Rows.{IsMarked}
 use Rattle.summary_board.proofs.Counts.{lowers, times_open, open_stays, none_open_done, done_none_open, unfinished_set, all_waiting_open, open_at_first, waiting_below}
 use Rattle.summary_board.proofs.Sets.{get_set_same, get_set_other, same_or_not}
 
-out_waiting : (seat : ℕ) → Some (out seat) ≡ Some waiting → ⊥
+pub out_waiting : (seat : ℕ) → Some (out seat) ≡ Some waiting → ⊥
 out_waiting seat is = cc
 
-done_waiting : Some done ≡ Some waiting → ⊥
+pub done_waiting : Some done ≡ Some waiting → ⊥
 done_waiting is = cc
 
 out_done : (seat : ℕ) → Some (out seat) ≡ Some done → ⊥

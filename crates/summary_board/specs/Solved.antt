@@ -2,7 +2,7 @@
 use Rattle.std.specs.Prelude.{ℕ, zero, suc, List, [], ◌∷◌, ◌++◌, slice_get}
 use Rattle.std.specs.Option.{option_to_list}
 
--- The items at these places, in the order of the places.
+-- The items at these positions, in the order of the positions.
 abbrev pub picked : {X : Type 0} → List X → List ℕ → List X
 picked xs [] = []
 picked xs (c ∷ cs) = option_to_list (slice_get xs c) ++ picked xs cs

@@ -7,7 +7,7 @@ use crate::work::Work;
 use std::alloc::Global;
 use type_kinds::{List, Memory, Shared};
 
-// Adds a second owner of the item at a place, if there is one.
+// Adds a second owner of the item at a position, if there is one.
 #[tactic(auto, using(crate::proofs::Picks::nothing_there))]
 fn add_at<T: Drop>(
     picked: &mut List<Shared<T>>,
@@ -23,17 +23,17 @@ fn add_at<T: Drop>(
     }
 }
 
-// The items at these places.
+// The items at these positions.
 #[tactic(auto, using(crate::proofs::Picks::picked_next))]
 fn pick<T: Drop>(
     alloc: Global,
     items: &List<Shared<T>>,
-    places: &List<u32>,
+    positions: &List<u32>,
 ) -> Result<List<Shared<T>>, Memory>
-    ensures { IfOk result (λ it. it ≡ picked items.now places.now) }
+    ensures { IfOk result (λ it. it ≡ picked items.now positions.now) }
 {
     let mut picked: List<Shared<T>> = List::new(alloc);
-    for at in places.as_slice() {
+    for at in positions.as_slice() {
         add_at(&mut picked, items, *at as usize)?;
     }
     Ok(picked)

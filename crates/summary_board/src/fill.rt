@@ -36,8 +36,8 @@ pub fn callees_of<W: Work>(alloc: Global, work: &W, count: u32) -> Result<List<L
     Ok(callees)
 }
 
-/// The progress of so many components that all wait.
-#[tactic(auto, using(crate::proofs::Below::replicate_more))]
+/// The progress of `count` components that all wait.
+#[tactic(auto, using(std::proofs::lemmas::Grind::replicate_next))]
 pub fn all_waiting<O: Drop>(alloc: Global, count: u32) -> Result<List<Progress<O>>, Memory>
     ensures { IfOk result (λ progress. progress ≡ replicate count Progress.Waiting) }
 {

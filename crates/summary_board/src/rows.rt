@@ -63,7 +63,7 @@ impl Rows {
     }
 }
 
-// So many words that are 0.
+// A row of `words` words that are 0.
 fn zero_words(alloc: Global, words: usize) -> Result<List<u64>, Memory>
     ensures { IfOk result (λ row. row ≡ replicate words 0) }
 {
@@ -74,7 +74,7 @@ fn zero_words(alloc: Global, words: usize) -> Result<List<u64>, Memory>
     }
 }
 
-// Rows over a lowest row of so many words, that mark no number.
+// Rows over a lowest row of `words` words, that mark no number.
 fn zero_rows(alloc: Global, words: usize) -> Result<Vec<List<u64>>, Memory>
     requires some { 0 < words }
     requires few { words ≤ 2 ^ 26 }
@@ -93,7 +93,7 @@ fn zero_rows(alloc: Global, words: usize) -> Result<Vec<List<u64>>, Memory>
     }
 }
 
-// The word of a row at a place, and 0 past the end.
+// The word of a row at a position, and 0 past the end.
 fn word(row: &List<u64>, at: usize) -> u64
     ensures { result ≡ word_at row.now at }
 {

@@ -1,10 +1,10 @@
 -- What stands of used functions, used functions and exports, as they are read.
 use Rattle.std.proofs.Common.{◌≡◌, ℕ, true, List, [], ◌∷◌, ◌++◌, ◌<◌, length, refl, sym, ap, ◌∙◌, arith}
 use Rattle.std.specs.Prelude.{nat_lt}
-use Rattle.std.proofs.lemmas.Bool.{lt-ltb}
+use Rattle.std.proofs.lemmas.Bool.{lt-ltb, and_from}
 use Rattle.std.proofs.lemmas.List.{nil_from_length}
-use Rattle.type_sets.proofs.Truths.{both, first, second}
-use Rattle.type_sets.specs.Names.{Name}
+use Rattle.type_kinds.proofs.Truths.{first, second}
+use Rattle.type_kinds_sets.specs.Names.{Name}
 use Rattle.core_ast.specs.declared.syntax.FunName.{FunName}
 use Rattle.cons_tree.specs.declared.parts.Summary.{Summary}
 use Rattle.cons_tree.specs.declared.parts.Callee.{Callee}
@@ -153,8 +153,8 @@ pub export_found : {bytes after more rest : List ℕ} (byte : ℕ) (x : FunName 
     → Found anything text_bytes bytes x.0.name after → after ≡ byte ∷ more → x.0.arity ≡ byte → byte < 256
     → Found (is_summary x.0.arity) summary_bytes more x.1 rest → Found is_short_export export_bytes bytes x rest
 export_found {bytes = bytes} {after = after} {more = more} {rest = rest} byte x found is same small summary = record {
-  kept = both (is_export x) (is_short_summary x.1)
-      (both (nat_lt x.0.arity 256) (takes x.1 x.0.arity) (lt-ltb x.0.arity 256 (omega arith))
+  kept = and_from (is_export x) (is_short_summary x.1)
+      (and_from (nat_lt x.0.arity 256) (takes x.1 x.0.arity) (lt-ltb x.0.arity 256 (omega arith))
       (second (is_short_summary x.1) (takes x.1 x.0.arity) summary.kept))
       (first (is_short_summary x.1) (takes x.1 x.0.arity) summary.kept);
   spelled =

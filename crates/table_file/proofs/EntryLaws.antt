@@ -2,8 +2,8 @@
 use Rattle.std.proofs.Common.{◌≡◌, ℕ, true, ◌&&◌, List, [], ◌∷◌, ◌++◌, length, refl, sym, ap, ◌∙◌, append_assoc}
 use Rattle.std.specs.Prelude.{nat_eq}
 use Rattle.std.specs.List.{list_all}
-use Rattle.std.proofs.lemmas.Bool.{eqb-true, eq-eqb}
-use Rattle.type_sets.proofs.Truths.{both, first, second}
+use Rattle.std.proofs.lemmas.Bool.{eqb-true, eq-eqb, and_from}
+use Rattle.type_kinds.proofs.Truths.{first, second}
 use Rattle.type_bytes.specs.ShortNames.{has_short_names}
 use Rattle.type_bytes.specs.Spelling.{bytes_of}
 use Rattle.core_ast.specs.declared.syntax.FunName.{FunName}
@@ -70,16 +70,16 @@ pub parts_from : (p : Parts) → length p.digest.0 ≡ 32 → list_all has_short
     → list_all is_short_export p.exports ≡ true → parts_fit p ≡ true
 unfolding parts_fit
 parts_from p d u x =
-    both (nat_eq (length p.digest.0) 32) (list_all has_short_callee p.used && list_all is_short_export p.exports)
+    and_from (nat_eq (length p.digest.0) 32) (list_all has_short_callee p.used && list_all is_short_export p.exports)
     (eq-eqb (length p.digest.0) 32 d)
-    (both (list_all has_short_callee p.used) (list_all is_short_export p.exports) u x)
+    (and_from (list_all has_short_callee p.used) (list_all is_short_export p.exports) u x)
 
 all_both : (xs : List (FunName × Summary)) → list_all is_export xs ≡ true
     → list_all (λ x. is_short_summary x.1) xs ≡ true → list_all is_short_export xs ≡ true
 all_both [] p q = refl
 all_both (x ∷ xs) p q =
-    both (is_short_export x) (list_all is_short_export xs)
-    (both (is_export x) (is_short_summary x.1) (first (is_export x) (list_all is_export xs) p)
+    and_from (is_short_export x) (list_all is_short_export xs)
+    (and_from (is_export x) (is_short_summary x.1) (first (is_export x) (list_all is_export xs) p)
     (first (is_short_summary x.1) (list_all (λ y. is_short_summary y.1) xs) q))
     (all_both xs (second (is_export x) (list_all is_export xs) p)
     (second (is_short_summary x.1) (list_all (λ y. is_short_summary y.1) xs) q))
@@ -88,7 +88,7 @@ all_second : (xs : List (FunName × Summary)) → list_all is_short_export xs �
     → list_all (λ x. is_short_summary x.1) xs ≡ true
 all_second [] p = refl
 all_second (x ∷ xs) p =
-    both (is_short_summary x.1) (list_all (λ y. is_short_summary y.1) xs)
+    and_from (is_short_summary x.1) (list_all (λ y. is_short_summary y.1) xs)
     (second (is_export x) (is_short_summary x.1) (first (is_short_export x) (list_all is_short_export xs) p))
     (all_second xs (second (is_short_export x) (list_all is_short_export xs) p))
 
@@ -103,7 +103,7 @@ entry_fits e ok =
 pub entry_short : (e : Entry) → parts_fit (parts_of e) ≡ true → has_short_types e ≡ true
 unfolding has_short_types
 entry_short e ok =
-    both (list_all has_short_callee e.used) (list_all (λ x. is_short_summary x.1) e.exports)
+    and_from (list_all has_short_callee e.used) (list_all (λ x. is_short_summary x.1) e.exports)
     (used_fit (parts_of e) ok) (all_second e.exports (exports_fit (parts_of e) ok))
 
 -- ---- each once

@@ -1,7 +1,7 @@
 -- What stands behind an entry's name, as it is read.
 use Rattle.std.proofs.Common.{◌≡◌, ℕ, ◌<◌, List, ◌++◌, length, refl, sym, ap, ◌∙◌, length-append, arith}
 use Rattle.std.specs.List.{list_all}
-use Rattle.type_sets.specs.Names.{Name}
+use Rattle.type_kinds_sets.specs.Names.{Name}
 use Rattle.core_ast.specs.declared.syntax.FunName.{FunName}
 use Rattle.cons_tree.specs.declared.parts.Summary.{Summary}
 use Rattle.table_file.specs.Spelling.{counted, text_bytes, used_bytes, export_bytes}

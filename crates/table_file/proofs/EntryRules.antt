@@ -1,8 +1,9 @@
 -- The rules of an entry, and its order.
 use Rattle.std.proofs.Common.{◌≡◌, ℕ, zero, suc, ◌<◌, ◌-◌, Bool, true, false, ◌&&◌, List, [], ◌∷◌, ◌++◌, length, get_or, refl, sym, ap, ◌∙◌, arith, true≢false}
 use Rattle.std.specs.List.{list_all}
-use Rattle.type_sets.proofs.Truths.{both, first, second}
-use Rattle.type_sets.specs.Names.{Name}
+use Rattle.std.proofs.lemmas.Bool.{and_from}
+use Rattle.type_kinds.proofs.Truths.{first, second}
+use Rattle.type_kinds_sets.specs.Names.{Name}
 use Rattle.core_ast.specs.declared.syntax.FunName.{FunName}
 use Rattle.cons_tree.specs.declared.parts.Summary.{Summary}
 use Rattle.table_file.specs.Faults.{names_of, rises_on, IsOutOfOrder, IsNoEntry}
@@ -34,8 +35,8 @@ pub record Kept (name : Name) (p : Parts) : Type 0 where
 
 pub kept_all : (name : Name) (p : Parts) → Kept name p → keeps name p ≡ true
 unfolding keeps
-kept_all name p k = both _ _
-    (both _ _ (both _ _ (both _ _ (both _ _ k.group k.calls) k.own) k.used) k.outside) k.exports
+kept_all name p k = and_from _ _
+    (and_from _ _ (and_from _ _ (and_from _ _ (and_from _ _ k.group k.calls) k.own) k.used) k.outside) k.exports
 
 pub kept_each : (name : Name) (p : Parts) → keeps name p ≡ true → Kept name p
 unfolding keeps
@@ -66,7 +67,7 @@ pub but_exports : (name : Name) (p : Parts) (b : Bool) → rises is_name_before 
     → list_all (is_outside p.group p.calls) p.used ≡ true → rises is_export_before p.exports ≡ b → b ≡ keeps name p
 unfolding keeps
 but_exports name p b g k o u l x = sym x
-    ∙ sym (ap (λ t. t && rises is_export_before p.exports) (both _ _ (both _ _ (both _ _ (both _ _ g k) o) u) l))
+    ∙ sym (ap (λ t. t && rises is_export_before p.exports) (and_from _ _ (and_from _ _ (and_from _ _ (and_from _ _ g k) o) u) l))
 
 -- what a test found of a list, where the list was passed as a slice
 pub tested : {X : Type 0} (test : X → Bool) {x y : X} {r b : Bool} → y ≡ x → r ≡ test y → r ≡ b → test x ≡ b
@@ -98,7 +99,7 @@ no_entry name p broken e n q =
 all_exports : (xs : List (FunName × Summary)) → list_all is_short_export xs ≡ true → list_all is_export xs ≡ true
 all_exports [] p = refl
 all_exports (x ∷ xs) p =
-    both (is_export x) (list_all is_export xs)
+    and_from (is_export x) (list_all is_export xs)
     (first (is_export x) (is_short_summary x.1) (first (is_short_export x) (list_all is_short_export xs) p))
     (all_exports xs (second (is_short_export x) (list_all is_short_export xs) p))
 

@@ -1,9 +1,10 @@
 -- Values of several fields, read one field after the other.
-use Rattle.std.proofs.Common.{◌≡◌, ℕ, ◌+◌, ◌<◌, Bool, true, ◌&&◌, List, [], ◌∷◌, ◌++◌, length, refl, sym, ap, ◌∙◌, append_assoc, length-append, arith}
+use Rattle.std.proofs.Common.{◌≡◌, ℕ, ◌+◌, ◌<◌, Bool, true, ◌&&◌, List, [], ◌∷◌, ◌++◌, length, refl, sym, ap, ◌∙◌, append_assoc, arith}
 use Rattle.std.specs.Prelude.{nat_eq}
 use Rattle.std.specs.List.{flat_map, list_all}
-use Rattle.std.proofs.lemmas.Bool.{eqb-true, eq-eqb}
-use Rattle.type_sets.proofs.Truths.{both, first, second}
+use Rattle.std.proofs.lemmas.Bool.{eqb-true, eq-eqb, and_from}
+use Rattle.std.proofs.lemmas.List.{length_push}
+use Rattle.type_kinds.proofs.Truths.{first, second}
 use Rattle.table_file.specs.Spelling.{four_bytes, counted}
 use Rattle.table_file.specs.steps.Reads.{anything, Found, NoneFirst, Once, SoFar}
 use Rattle.table_file.proofs.OnceLaws.{four_once, flat_none}
@@ -61,19 +62,16 @@ flat_more f (y ∷ ys) x rest =
 
 all_more : {X : Type 0} (test : X → Bool) (xs : List X) (x : X) → list_all test xs ≡ true → test x ≡ true
     → list_all test (xs ++ x ∷ []) ≡ true
-all_more test [] x p q = both (test x) true q refl
+all_more test [] x p q = and_from (test x) true q refl
 all_more test (y ∷ ys) x p q =
-    both (test y) (list_all test (ys ++ x ∷ [])) (first (test y) (list_all test ys) p)
+    and_from (test y) (list_all test (ys ++ x ∷ [])) (first (test y) (list_all test ys) p)
     (all_more test ys x (second (test y) (list_all test ys) p) q)
-
-length_more : {X : Type 0} (xs : List X) (x : X) → length (xs ++ x ∷ []) ≡ length xs + 1
-length_more xs x = simp (length-append)
 
 pub so_far_more : {X : Type 0} {test : X → Bool} {f : X
     → List ℕ} {bytes : List ℕ} {xs : List X} {rest : List ℕ} {n : ℕ} {x : X} {left : List ℕ} (ys : List X)
     → ys ≡ xs ++ x ∷ [] → SoFar test f bytes xs rest n → Found test f rest x left → SoFar test f bytes ys left (n + 1)
 so_far_more {test = test} {f = f} {xs = xs} {x = x} {left = left} ys e s found = record {
-  count = ap length e ∙ length_more xs x ∙ ap (λ k. k + 1) s.count;
+  count = ap length e ∙ length_push xs x ∙ ap (λ k. k + 1) s.count;
   kept = ap (list_all test) e ∙ all_more test xs x s.kept found.kept;
   spelled = s.spelled ∙ ap (λ w. flat_map f xs ++ w) found.spelled ∙ flat_more f xs x left
       ∙ ap (λ zs. flat_map f zs ++ left) (sym e);
@@ -99,7 +97,7 @@ pub listed_found : {X : Type 0} {test : X → Bool} {f : X
     → Found (λ ys. list_all test ys && nat_eq (length ys) count) (flat_map f) bytes xs rest
 listed_found {test = test} {xs = xs} count s is =
     record {
-      kept = both (list_all test xs) (nat_eq (length xs) count) s.kept
+      kept = and_from (list_all test xs) (nat_eq (length xs) count) s.kept
           (eq-eqb (length xs) count (s.count ∙ is));
       spelled = s.spelled;
     }

@@ -1,15 +1,13 @@
 -- Spellings of what stands of functions: none begins another, and each is the spelling of one value.
 use Rattle.std.proofs.Common.{◌≡◌, ℕ, true, List, ◌∷◌, ◌++◌, length, refl, sym, ap, ◌∙◌, append_assoc, true≢false}
-use Rattle.std.specs.Prelude.{IsTrue, nat_eq, nat_lt}
-use Rattle.std.specs.Coded.{Coded-set, coded_bool}
+use Rattle.std.specs.Prelude.{nat_eq, nat_lt}
 use Rattle.std.specs.List.{flat_map, list_all}
-use Rattle.std.proofs.lemmas.Bool.{eqb-true}
-use mathlib.Core.HLevel.{is_prop→PathP}
-use Rattle.type_sets.proofs.Truths.{both, first, second}
+use Rattle.std.proofs.lemmas.Bool.{eqb-true, and_from}
+use Rattle.cons_tree.proofs.Copied.{same_signature}
+use Rattle.type_kinds.proofs.Truths.{first, second}
 use Rattle.type_bytes.specs.ShortNames.{has_short_names}
 use Rattle.type_bytes.specs.Spelling.{bytes_of}
 use Rattle.core_ast.specs.declared.syntax.FunName.{FunName}
-use Rattle.cons_tree.specs.Signatures.{agree}
 use Rattle.cons_tree.specs.declared.parts.Sig.{Sig}
 use Rattle.cons_tree.specs.declared.parts.Summary.{Summary}
 use Rattle.cons_tree.specs.declared.parts.Callee.{Callee}
@@ -26,19 +24,11 @@ use Rattle.table_file.proofs.SameLaws.{same_used}
 
 -- ---- signatures
 
-pub same_sig : (s t : Sig) → s.args ≡ t.args → s.result ≡ t.result → s ≡ t
-same_sig s t e f = λ i. record {
-  args = e i;
-  result = f i;
-  agreed = is_prop→PathP (λ j. IsTrue (agree (f j ∷ e j)))
-      (λ j. Coded-set coded_bool (agree (f j ∷ e j)) true) s.agreed t.agreed i;
-}
-
 pub sig_args : (n : ℕ) (s : Sig) → is_sig n s ≡ true → are_types n s.args ≡ true
 unfolding is_short_sig
 sig_args n s ok =
     let short = first (is_short_sig s) (nat_eq (length s.args) n) ok in
-    both (list_all has_short_names s.args) (nat_eq (length s.args) n)
+    and_from (list_all has_short_names s.args) (nat_eq (length s.args) n)
     (second (has_short_names s.result) (list_all has_short_names s.args) short)
     (second (is_short_sig s) (nat_eq (length s.args) n) ok)
 
@@ -54,7 +44,7 @@ sig_parts s = refl
 pub summary_strict : (n : ℕ) (s : Summary) → is_summary n s ≡ true → is_sig n s.strict ≡ true
 unfolding is_short_summary
 summary_strict n s ok =
-    both (is_short_sig s.strict) (nat_eq (length s.strict.args) n)
+    and_from (is_short_sig s.strict) (nat_eq (length s.strict.args) n)
     (first (is_short_sig s.strict) (is_short_sig s.lenient) (first (is_short_summary s) (takes s n) ok))
     (first (nat_eq (length s.strict.args) n) (nat_eq (length s.lenient.args) n)
     (second (is_short_summary s) (takes s n) ok))
@@ -62,7 +52,7 @@ summary_strict n s ok =
 pub summary_lenient : (n : ℕ) (s : Summary) → is_summary n s ≡ true → is_sig n s.lenient ≡ true
 unfolding is_short_summary
 summary_lenient n s ok =
-    both (is_short_sig s.lenient) (nat_eq (length s.lenient.args) n)
+    and_from (is_short_sig s.lenient) (nat_eq (length s.lenient.args) n)
     (second (is_short_sig s.strict) (is_short_sig s.lenient) (first (is_short_summary s) (takes s n) ok))
     (second (nat_eq (length s.strict.args) n) (nat_eq (length s.lenient.args) n)
     (second (is_short_summary s) (takes s n) ok))
@@ -96,11 +86,11 @@ unfolding export_bytes
 export_parts x = refl
 
 pub used_callee : (u : Used) → has_short_callee u ≡ true → is_callee u.name.arity u.callee ≡ true
-used_callee u ok = both (is_short_callee u.callee) (is_stored u.callee u.name.arity) ok u.stored
+used_callee u ok = and_from (is_short_callee u.callee) (is_stored u.callee u.name.arity) ok u.stored
 
 pub export_summary : (x : FunName × Summary) → is_short_export x ≡ true → is_summary x.0.arity x.1 ≡ true
 export_summary x ok =
-    both (is_short_summary x.1) (takes x.1 x.0.arity) (second (is_export x) (is_short_summary x.1) ok)
+    and_from (is_short_summary x.1) (takes x.1 x.0.arity) (second (is_export x) (is_short_summary x.1) ok)
     (second (nat_lt x.0.arity 256) (takes x.1 x.0.arity) (first (is_export x) (is_short_summary x.1) ok))
 
 -- ---- each once
@@ -126,7 +116,7 @@ module _ (T : Once has_short_names bytes_of) where
         ∙ ap (λ w. w ++ a) (sym (sig_parts s)) ∙ e ∙ ap (λ w. w ++ b) (sig_parts t)
         ∙ append_assoc (flat_map bytes_of t.args) (bytes_of t.result) b) in
         let returned = T.only s.result t.result a b (sig_result n s p) (sig_result n t q) args.1 in
-        (same_sig s t args.0 returned.0, returned.1);
+        (same_signature s t args.0 returned.0, returned.1);
   }
 
   pub summary_once : (n : ℕ) → Once (is_summary n) summary_bytes

@@ -72,7 +72,7 @@ text_found bytes after text rest n found long t r =
           ∙ ap (λ bs. four_bytes (length text) ++ bs) parts ∙ sym (append_assoc (four_bytes (length text)) text rest);
     }
 
--- so many bytes from the front
+-- the first k bytes
 pub front_found : (k : ℕ) (bytes front rest : List ℕ) → front ≡ take k bytes → rest ≡ drop k bytes
     → bytes ≡ front ++ rest
 front_found k bytes front rest f r = sym (take-append-drop k bytes) ∙ cc

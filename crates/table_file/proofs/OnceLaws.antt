@@ -1,13 +1,13 @@
 -- No spelling begins another, and each is the spelling of one value: numbers, names and lists.
 use Rattle.std.proofs.Common.{◌≡◌, ℕ, ◌/◌, ◌%◌, ◌^◌, ◌<◌, Bool, true, List, [], ◌∷◌, ◌++◌, length, refl, sym, ap, ◌∙◌, append_assoc, arith}
 use Rattle.std.specs.List.{flat_map, list_all}
-use Rattle.type_sets.proofs.Truths.{first, second}
+use Rattle.type_kinds.proofs.Truths.{first, second}
 use Rattle.table_file.specs.Spelling.{four_bytes, counted, text_bytes}
 use Rattle.table_file.specs.steps.Reads.{anything, NoneFirst, Once}
 
 -- ---- pieces of lists
 
--- lists that go on from fronts of one length
+-- lists that go on from prefixes of the same length
 pub apart : {X : Type 0} (xs ys a b : List X) → length xs ≡ length ys → xs ++ a ≡ ys ++ b → (xs ≡ ys) × (a ≡ b)
 apart [] [] a b n e = (refl, e)
 apart [] (y ∷ ys) a b n e = absurd (omega arith)

@@ -9,16 +9,17 @@ use Rattle.std.specs.declared.cmp.Ordering.TheVariants.{Less, Equal, Greater}
 use Rattle.std.proofs.lemmas.Bool.{cases_lt}
 use Rattle.std.proofs.lemmas.List.Folds.{list_any_at, list_any_none}
 use Rattle.std.proofs.lemmas.List.Sorted.{searchable_from_sorted}
-use Rattle.type_sets.specs.Names.{Name, name_cmp}
-use Rattle.type_sets.proofs.NameLaws.{name_total, name_same}
-use Rattle.type_sets.proofs.AscendingLaws as ascending
-use Rattle.type_sets.proofs.Truths.{first, second, and_true}
+use Rattle.std.proofs.Math.Bool.{and-true}
+use Rattle.type_kinds.proofs.Truths.{first, second}
+use Rattle.type_kinds_sets.specs.Names.{Name, name_cmp}
+use Rattle.type_kinds_sets.proofs.NameLaws.{name_total, name_same}
+use Rattle.type_kinds_sets.proofs.AscendingLaws as ascending
 use Rattle.table_file.specs.Order.{rises, rises_from, is_name_before, has_name}
 
 -- one more item behind a list that rises
 rises_from_behind : {X : Type 0} (before : X → X → Bool) (x : X) (xs : List X) (z d : X)
     → rises_from before x xs ≡ true → rises_from before x (xs ++ z ∷ []) ≡ before (get_or (x ∷ xs) (length xs) d) z
-rises_from_behind before x [] z d up = and_true (before x z)
+rises_from_behind before x [] z d up = and-true (before x z)
 rises_from_behind before x (y ∷ ys) z d up =
     ap (λ b. b && rises_from before y (ys ++ z ∷ [])) (first (before x y) (rises_from before y ys) up)
     ∙ rises_from_behind before y ys z d (second (before x y) (rises_from before y ys) up)

@@ -2,7 +2,8 @@
 use Rattle.std.proofs.Common.{◌≡◌, ℕ, false, List, ◌∷◌, length, sym, ap, ◌∙◌, true≢false}
 use Rattle.std.specs.Prelude.{nat_eq}
 use Rattle.std.specs.List.{flat_map, list_all}
-use Rattle.type_sets.proofs.Truths.{both, first, second}
+use Rattle.std.proofs.lemmas.Bool.{and_from}
+use Rattle.type_kinds.proofs.Truths.{first, second}
 use Rattle.type_lattice.specs.Types.{Type4}
 use Rattle.type_bytes.specs.ShortNames.{has_short_names}
 use Rattle.type_bytes.specs.Spelling.{bytes_of}
@@ -50,8 +51,8 @@ pub sig_found : (n : ℕ) {bytes after rest : List ℕ} (s : Sig)
     → Found (is_sig n) sig_bytes bytes s rest
 unfolding sig_bytes is_short_sig
 sig_found n {bytes = bytes} {after = after} {rest = rest} s args returned = record {
-  kept = both (is_short_sig s) (nat_eq (length s.args) n)
-      (both (has_short_names s.result) (list_all has_short_names s.args) returned.kept
+  kept = and_from (is_short_sig s) (nat_eq (length s.args) n)
+      (and_from (has_short_names s.result) (list_all has_short_names s.args) returned.kept
       (first (list_all has_short_names s.args) (nat_eq (length s.args) n) args.kept))
       (second (list_all has_short_names s.args) (nat_eq (length s.args) n) args.kept);
   spelled = behind bytes (flat_map bytes_of s.args) after (bytes_of s.result) rest args.spelled returned.spelled;
@@ -80,11 +81,11 @@ pub summary_found : (n : ℕ) {bytes after rest : List ℕ} (s : Summary)
     → Found (is_summary n) summary_bytes bytes s rest
 unfolding summary_bytes is_short_summary
 summary_found n {bytes = bytes} {after = after} {rest = rest} s strict lenient = record {
-  kept = both (is_short_summary s) (takes s n)
-      (both (is_short_sig s.strict) (is_short_sig s.lenient)
+  kept = and_from (is_short_summary s) (takes s n)
+      (and_from (is_short_sig s.strict) (is_short_sig s.lenient)
       (first (is_short_sig s.strict) (nat_eq (length s.strict.args) n) strict.kept)
       (first (is_short_sig s.lenient) (nat_eq (length s.lenient.args) n) lenient.kept))
-      (both (nat_eq (length s.strict.args) n) (nat_eq (length s.lenient.args) n)
+      (and_from (nat_eq (length s.strict.args) n) (nat_eq (length s.lenient.args) n)
       (second (is_short_sig s.strict) (nat_eq (length s.strict.args) n) strict.kept)
       (second (is_short_sig s.lenient) (nat_eq (length s.lenient.args) n) lenient.kept));
   spelled = behind bytes (sig_bytes s.strict) after (sig_bytes s.lenient) rest strict.spelled lenient.spelled;

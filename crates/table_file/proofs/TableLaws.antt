@@ -1,12 +1,12 @@
 -- Bytes spell one table, or have one first fault.
 use Rattle.std.proofs.Common.{◌≡◌, ℕ, suc, ◌+◌, ◌-◌, ◌<◌, ◌≤◌, true, ◌&&◌, inl, inr, List, [], ◌∷◌, ◌++◌, length, take, drop, refl, sym, ap, subst, ◌∙◌, append_assoc, length-append, arith, true≢false}
 use Rattle.std.specs.List.{flat_map, list_all}
-use Rattle.std.proofs.lemmas.Bool.{cases_lt}
+use Rattle.std.proofs.lemmas.Bool.{cases_lt, and_from}
 use Rattle.std.proofs.lemmas.List.{take_at, drop_at, append-nil}
+use Rattle.type_kinds.proofs.Truths.{first, second}
 use Rattle.sha2.specs.Sha256.{sha256}
 use Rattle.sha2.proofs.Facts256.{length-sha256}
-use Rattle.type_sets.proofs.Truths.{both, first, second}
-use Rattle.type_sets.specs.Names.{Name}
+use Rattle.type_kinds_sets.specs.Names.{Name}
 use Rattle.core_ast.specs.declared.syntax.FunName.{FunName}
 use Rattle.cons_tree.specs.declared.parts.Summary.{Summary}
 use Rattle.table_file.specs.Faults.{names_of, rises_on, Stands, IsTorn, IsOutOfOrder, IsNoEntry, IsFirst}
@@ -74,7 +74,7 @@ all_callees : (us : List Used) → list_all is_short_used us ≡ true → list_a
 unfolding is_short_used
 all_callees [] p = refl
 all_callees (u ∷ us) p =
-    both (is_short_callee u.callee) (list_all (λ v. is_short_callee v.callee) us)
+    and_from (is_short_callee u.callee) (list_all (λ v. is_short_callee v.callee) us)
     (second (is_short u.home && is_short u.name.name) (is_short_callee u.callee)
     (first (is_short_used u) (list_all is_short_used us) p))
     (all_callees us (second (is_short_used u) (list_all is_short_used us) p))
@@ -84,7 +84,7 @@ all_summaries : (xs : List (FunName × Summary)) → list_all is_short_export xs
 unfolding is_short_export
 all_summaries [] p = refl
 all_summaries (x ∷ xs) p =
-    both (is_short_summary x.1) (list_all (λ y. is_short_summary y.1) xs)
+    and_from (is_short_summary x.1) (list_all (λ y. is_short_summary y.1) xs)
     (second (is_short x.0.name) (is_short_summary x.1) (first (is_short_export x) (list_all is_short_export xs) p))
     (all_summaries xs (second (is_short_export x) (list_all is_short_export xs) p))
 
@@ -97,14 +97,14 @@ short_entry e p =
     (are_short is_short_used e.used) p4 in
     let exports = second
     (is_short e.name && are_short is_short e.group && are_short is_short e.calls && are_short is_short_used e.used) (are_short is_short_export e.exports) p5 in
-    both (list_all (λ u. is_short_callee u.callee) e.used) (list_all (λ x. is_short_summary x.1) e.exports)
+    and_from (list_all (λ u. is_short_callee u.callee) e.used) (list_all (λ x. is_short_summary x.1) e.exports)
     (all_callees e.used (second (is_short e.used) (list_all is_short_used e.used) used))
     (all_summaries e.exports (second (is_short e.exports) (list_all is_short_export e.exports) exports))
 
 all_short : (es : List Entry) → list_all is_short_entry es ≡ true → list_all has_short_types es ≡ true
 all_short [] p = refl
 all_short (e ∷ es) p =
-    both (has_short_types e) (list_all has_short_types es)
+    and_from (has_short_types e) (list_all has_short_types es)
     (short_entry e (first (is_short_entry e) (list_all is_short_entry es) p))
     (all_short es (second (is_short_entry e) (list_all is_short_entry es) p))
 
@@ -194,9 +194,9 @@ record Stopped (bytes : List ℕ) (k : Stop) : Type 0 where
 rises_front : (x : Name) (xs : List Name) (y : Name) (ys : List Name)
     → rises_from is_name_before x (xs ++ y ∷ ys) ≡ true → rises_from is_name_before x (xs ++ y ∷ []) ≡ true
 rises_front x [] y ys p =
-    both (is_name_before x y) true (first (is_name_before x y) (rises_from is_name_before y ys) p) refl
+    and_from (is_name_before x y) true (first (is_name_before x y) (rises_from is_name_before y ys) p) refl
 rises_front x (z ∷ zs) y ys p =
-    both (is_name_before x z) (rises_from is_name_before z (zs ++ y ∷ []))
+    and_from (is_name_before x z) (rises_from is_name_before z (zs ++ y ∷ []))
     (first (is_name_before x z) (rises_from is_name_before z (zs ++ y ∷ ys)) p)
     (rises_front z zs y ys (second (is_name_before x z) (rises_from is_name_before z (zs ++ y ∷ ys)) p))
 
@@ -253,11 +253,11 @@ level : Once has_short_types entry_bytes → {bytes : List ℕ} {j k : Stop} (s 
     → length s.es ≡ length t.es → j ≡ k
 level once {j = j} {k = k} s t n =
     let same = same_content s.stands t.stands in
-    let both = flat_once once s.es t.es s.rest t.rest n s.stands.short t.stands.short same.1 in
+    let and_from = flat_once once s.es t.es s.rest t.rest n s.stands.short t.stands.short same.1 in
     let left : s.left ≡ t.left = omega (arith, same.0) in
     same_stop j k t.es t.left t.rest
-    (subst (λ es. At j es t.left t.rest) both.0
-    (subst (λ l. At j s.es l t.rest) left (subst (At j s.es s.left) both.1 s.at))) t.at
+    (subst (λ es. At j es t.left t.rest) and_from.0
+    (subst (λ l. At j s.es l t.rest) left (subst (At j s.es s.left) and_from.1 s.at))) t.at
 
 stop_once : Once has_short_types entry_bytes → {bytes : List ℕ} {j k : Stop} → Stopped bytes j → Stopped bytes k → j ≡ k
 stop_once once s t =
@@ -318,7 +318,7 @@ spelled_without_fault once faults.Rest t p f =
     absurd (let e : more ≡ end = stop_once once (stop_rest f) (stop_table t p) in cc)
 spelled_without_fault once faults.Memory t p f = refl
 
--- the faults but want of memory, by number
+-- the faults apart from `Memory`, by number
 abbrev number : TableFault → ℕ
 number faults.NotATable = 18
 number faults.Version = 19

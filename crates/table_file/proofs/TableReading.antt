@@ -1,8 +1,8 @@
 -- Tables, as they are read.
-use Rattle.std.proofs.Common.{◌≡◌, ℕ, zero, suc, ◌+◌, ◌-◌, ◌≤◌, true, false, List, [], ◌∷◌, ◌++◌, length, take, drop, refl, sym, ap, ◌∙◌, append_assoc, arith, true≢false}
+use Rattle.std.proofs.Common.{◌≡◌, ℕ, suc, ◌+◌, ◌-◌, ◌≤◌, true, false, List, [], ◌++◌, length, take, drop, sym, ap, ◌∙◌, append_assoc, arith, true≢false}
 use Rattle.std.specs.Prelude.{◌==◌}
 use Rattle.std.specs.List.{flat_map}
-use Rattle.std.proofs.lemmas.List.{take-append-drop, append-nil, nil_from_length}
+use Rattle.std.proofs.lemmas.List.{take-append-drop, append-nil, nil_from_length, take-take}
 use Rattle.std.proofs.lemmas.Bool.{eqb-true}
 use Rattle.sha2.specs.Sha256.{sha256}
 use Rattle.table_file.specs.Faults.{names_of, Stands, IsFirst}
@@ -18,12 +18,6 @@ use Rattle.table_file.specs.steps.Reads.{anything, Found, SoFar}
 
 -- ---- what stands between the version and the digest
 
-take_take : {X : Type 0} (k n : ℕ) (xs : List X) → k ≤ n → take k (take n xs) ≡ take k xs
-take_take zero n xs le = refl
-take_take (suc k) zero xs le = absurd (omega arith)
-take_take (suc k) (suc n) [] le = refl
-take_take (suc k) (suc n) (x ∷ xs) le = ap (λ ys. x ∷ ys) (take_take k n xs (omega arith))
-
 pub content_found : (bytes after front trailer content : List ℕ) → bytes ≡ magic ++ after
     → (2 ≤ length after → take 2 after ≡ version) → 46 ≤ length bytes
     → front ≡ take (length bytes - 32) bytes → trailer ≡ drop (length bytes - 32) bytes → trailer ≡ sha256 front
@@ -32,7 +26,7 @@ unfolding sealed
 content_found bytes after front trailer content begins same long f t digest c =
     let more : 2 ≤ length after = omega (arith, ap length begins) in
     let head : take 10 front ≡ magic ++ version = ap (take 10) f
-    ∙ take_take 10 (length bytes - 32) bytes (omega arith) ∙ ap (take 10) begins
+    ∙ take-take 10 (length bytes - 32) bytes (omega arith) ∙ ap (take 10) begins
     ∙ ap (λ w. magic ++ w) (same more) in
     let whole : front ≡ magic ++ version ++ content = sym (take-append-drop 10 front)
     ∙ ap (λ w. w ++ drop 10 front) head ∙ ap (λ w. magic ++ version ++ w) (sym c) in

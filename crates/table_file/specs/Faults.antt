@@ -2,7 +2,7 @@
 use Rattle.std.specs.Prelude.{◌≡◌, ℕ, suc, Bool, ◌+◌, ◌-◌, ◌<◌, ◌≤◌, false, ◌⊎◌, List, [], ◌∷◌, ◌++◌, length, take, drop, map, IsTrue}
 use Rattle.std.specs.List.{flat_map, list_all}
 use Rattle.sha2.specs.Sha256.{sha256}
-use Rattle.type_sets.specs.Names.{Name}
+use Rattle.type_kinds_sets.specs.Names.{Name}
 use Rattle.table_file.specs.Lengths.{has_short_types}
 use Rattle.table_file.specs.Order.{rises, is_name_before}
 use Rattle.table_file.specs.Spelling.{four_bytes, text_bytes, entry_bytes, magic, version, sealed}
@@ -18,8 +18,7 @@ abbrev pub rises_on : List Entry → Name → Bool
 rises_on entries name = rises is_name_before (names_of entries ++ name ∷ [])
 
 -- The bytes have the head and the digest of a table. Between these stand the count of entries, some entries that
--- rise, and a
--- rest, in which so many entries are still to come by the count.
+-- rise, and a rest, in which `left` entries are still to come by the count.
 pub record Stands (bytes : List ℕ) (entries : List Entry) (left : ℕ) (rest : List ℕ) : Type 0 where
   pub whole : bytes ≡ sealed
       (magic ++ version ++ four_bytes (length entries + left) ++ flat_map entry_bytes entries ++ rest)
@@ -39,7 +38,7 @@ IsOutOfOrder entries rest = (name : Name) × (more : List ℕ) × (rest ≡ text
 abbrev pub IsNoEntry : List ℕ → Type 0
 IsNoEntry rest = (e : Entry) (more : List ℕ) → IsTrue (has_short_types e) → rest ≡ entry_bytes e ++ more → ⊥
 
--- The fault is the first one of the bytes. Nothing is said of want of memory.
+-- The fault is the first one of the bytes. Nothing is said of `Memory`.
 abbrev pub IsFirst : TableFault → List ℕ → Type 0
 IsFirst faults.NotATable bytes = take 8 bytes ≡ magic → ⊥
 IsFirst faults.Version bytes = (take 8 bytes ≡ magic) × (10 ≤ length bytes) × (take 2 (drop 8 bytes) ≡ version → ⊥)

@@ -3,8 +3,8 @@ use Rattle.std.specs.Prelude.{Bool, true, false, ◌&&◌, nat_lt, List, [], ◌
 use Rattle.std.specs.declared.cmp.Ordering.{Ordering}
 use Rattle.std.specs.declared.cmp.Ordering.TheVariants.{Less, Equal, Greater}
 use Rattle.std.specs.Ordering.{is_lt}
-use Rattle.type_sets.specs.Ascending.{has_item}
-use Rattle.type_sets.specs.Names.{Name, name_cmp}
+use Rattle.type_kinds_sets.specs.Ascending.{has_item}
+use Rattle.type_kinds_sets.specs.Names.{Name, name_cmp}
 use Rattle.core_ast.specs.declared.syntax.FunName.{FunName}
 
 -- whether the item stands before the first of the list, and each of the list before the next one

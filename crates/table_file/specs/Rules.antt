@@ -1,6 +1,6 @@
 -- The rules of an entry's used functions and exports.
 use Rattle.std.specs.Prelude.{Bool, not, ◌&&◌, nat_lt, List}
-use Rattle.type_sets.specs.Names.{Name, name_cmp}
+use Rattle.type_kinds_sets.specs.Names.{Name, name_cmp}
 use Rattle.core_ast.specs.declared.syntax.FunName.{FunName}
 use Rattle.cons_tree.specs.declared.parts.Summary.{Summary}
 use Rattle.table_file.specs.Order.{by_first, is_function_before, has_name}

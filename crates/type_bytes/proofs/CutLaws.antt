@@ -3,8 +3,9 @@ use Rattle.std.proofs.Common.{◌≡◌, inl, inr, ℕ, zero, suc, ◌-◌, ◌<
 use Rattle.std.specs.Prelude.{nat_lt, nat_le, Ok, Err, replicate}
 use Rattle.std.proofs.lemmas.List.{take-append-drop, length-append, length-drop, length-replicate}
 use Rattle.std.proofs.Math.Seq.{drop-append_seam}
+use Rattle.std.proofs.lemmas.Bool.{cases_Bool, and_from}
+use Rattle.type_kinds.proofs.Truths.{first as first_true, second as second_true}
 use borrow.Author.Tests.{ltb-true, ltb-false, le-ltb, leb-true, le-leb}
-use Rattle.type_sets.proofs.Truths.{first as first_true, second as second_true, both as both_true, decided}
 use Rattle.type_bytes.specs.declared.faults.ShapeFault.{ShapeFault}
 use Rattle.type_bytes.specs.declared.faults.ShapeFault.TheVariants.{Short, Broken}
 use Rattle.type_bytes.specs.Shapes.{Nothing, Bytes, Both, Many, Begins, Counted, Where}
@@ -79,21 +80,21 @@ skip_tells n = record {
   reads = λ x rest e.
       let long : nat_lt (length (x ++ rest)) n ≡ false = le-ltb (length (x ++ rest)) n (omega (arith, length-append x rest)) in
       ap (λ b. cond b (Err Short) (Ok (drop n (x ++ rest)))) long ∙ ap Ok (ap (λ k. drop k (x ++ rest)) (sym e) ∙ drop-append_seam x rest);
-  ends = λ bytes rest e. elim (decided (nat_lt (length bytes) n)) [
+  ends = λ bytes rest e. elim (cases_Bool (nat_lt (length bytes) n)) [
     | inl h ↦ absurd (ok_not_err rest Short (sym e ∙ ap (λ b. cond b (Err Short) (Ok (drop n bytes))) h))
     | inr h ↦
         let left = same_left (drop n bytes) rest (sym (ap (λ b. cond b (Err Short) (Ok (drop n bytes))) h) ∙ e) in
         let long = ltb-false (length bytes) n h in
         (take n bytes, (sym (take-append-drop n bytes) ∙ ap (λ r. take n bytes ++ r) left, omega (arith, ap length (take-append-drop n bytes), length-append (take n bytes) (drop n bytes), length-drop n bytes)))
   ];
-  short = λ bytes e. elim (decided (nat_lt (length bytes) n)) [
+  short = λ bytes e. elim (cases_Bool (nat_lt (length bytes) n)) [
     | inl h ↦
         let few = ltb-true (length bytes) n h in
         let k = length-zeros (n - length bytes) in
         (zeros (n - length bytes), (zeros_some (n - length bytes) (omega arith), omega (arith, length-append bytes (zeros (n - length bytes)))))
     | inr h ↦ absurd (ok_not_err (drop n bytes) Short (sym (ap (λ b. cond b (Err Short) (Ok (drop n bytes))) h) ∙ e))
   ];
-  broken = λ bytes more e. elim (decided (nat_lt (length bytes) n)) [
+  broken = λ bytes more e. elim (cases_Bool (nat_lt (length bytes) n)) [
     | inl h ↦ absurd (broken_not_short (sym (sym (ap (λ b. cond b (Err Short) (Ok (drop n bytes))) h) ∙ e)))
     | inr h ↦ absurd (ok_not_err (drop n bytes) Broken (sym (ap (λ b. cond b (Err Short) (Ok (drop n bytes))) h) ∙ e))
   ];
@@ -134,7 +135,7 @@ module _ {P Q : List ℕ → Type 0} {f g : List ℕ → Cut} (t : Tells P f) (u
     broken = λ bytes more e. both_broken bytes more (f bytes) refl e;
   }
 
--- so many items, of which there are some
+-- n items, of a kind of which there are some
 pub many_some : (P : List ℕ → Type 0) (some : List ℕ) → P some → (n : ℕ) → (x : List ℕ) × Many n P x
 many_some P some k zero = ([], refl)
 many_some P some k (suc n) = let later = many_some P some k n in (some ++ later.0, (some, (later.0, (refl, (k, later.1)))))
@@ -185,4 +186,4 @@ counted_tells {P = P} t some k most b = test_tells (nat_le 1 b && nat_le b most)
     let least = leb-true 1 b (first_true (nat_le 1 b) (nat_le b most) h) in
     let few = leb-true b most (second_true (nat_le 1 b) (nat_le b most) h) in
     same_tells (λ x m. (least, (few, m))) (λ x m. m.1.1) (many_tells t some k b))
-    (λ h. never_tells (λ x m. true≢false (sym (both_true (nat_le 1 b) (nat_le b most) (le-leb 1 b m.0) (le-leb b most m.1.0)) ∙ h)))
+    (λ h. never_tells (λ x m. true≢false (sym (and_from (nat_le 1 b) (nat_le b most) (le-leb 1 b m.0) (le-leb b most m.1.0)) ∙ h)))

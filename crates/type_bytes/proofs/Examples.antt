@@ -1,10 +1,10 @@
 -- The bytes of some types, as the definition computes them.
 use Rattle.std.proofs.Common.{◌≡◌, [], ◌∷◌, None, refl, pos, codes}
-use Rattle.type_sets.specs.Names as names
-use Rattle.type_sets.specs.Numbers as numbers
-use Rattle.type_sets.specs.declared.bits.Bits.TheVariants.{No}
-use Rattle.type_model.specs.Shapes.{no_function, tags, sizes, TypeAt}
-use Rattle.type_model.specs.Operations.{ops, no_flags, plain_none, of_plain}
+use Rattle.type_kinds_sets.specs.Names as names
+use Rattle.type_kinds_sets.specs.Numbers as numbers
+use Rattle.type_kinds_sets.specs.declared.bits.Bits.TheVariants.{No}
+use Rattle.type_lattice_model.specs.Shapes.{no_function, tags, sizes, TypeAt}
+use Rattle.type_lattice_model.specs.Operations.{ops, no_flags, plain_none, of_plain}
 use Rattle.type_bytes.specs.Spelling.{two_bytes, four_bytes, int_bytes, bytes_at}
 
 -- 'ok' | 1

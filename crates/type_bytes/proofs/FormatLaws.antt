@@ -6,9 +6,11 @@ use Rattle.std.specs.Int.{w32, from_be_bytes}
 use Rattle.std.proofs.lemmas.List.{take-append-drop, length-append, length-take}
 use Rattle.std.proofs.lemmas.Nat.{be_bytes_4, from_be_bytes-to_be_bytes_4}
 use Rattle.std.proofs.Math.Seq.{drop-append_seam, take-append_seam}
+use Rattle.std.proofs.lemmas.Bool.{and_from}
+use Rattle.std.proofs.lemmas.Option.{some_pair_parts}
+use Rattle.type_kinds.proofs.Truths.{first, second}
 use borrow.Author.Tests.{ltb-true, ltb-false, lt-ltb, le-ltb}
-use Rattle.type_sets.specs.Names.{Name}
-use Rattle.type_sets.proofs.Truths.{first as first_true, second as second_true, both as both_true}
+use Rattle.type_kinds_sets.specs.Names.{Name}
 use Rattle.type_bytes.specs.Spelling.{four_bytes, name_bytes}
 use Rattle.type_bytes.specs.ShortNames.{is_short}
 use Rattle.type_bytes.specs.steps.Reading.{◌>>=◌, many, given, number_at, name_at}
@@ -71,10 +73,7 @@ pub granted : {A : Type 0} (b : Bool) (r : Option A) (y : A) → cond b r None �
 granted true r y e = (refl, e)
 granted false r y e = never y e
 
-pub same_found : {A B : Type 0} (x y : A) (r s : B) → ◌≡◌ {A = Option (A × B)} (Some (x, r)) (Some (y, s)) → (x ≡ y) × (r ≡ s)
-same_found {A = A} {B = B} x y r s e = (ap (λ (o : Option (A × B)). elim o as (λ _. A) [ None ↦ x | Some p ↦ p.0 ]) e, ap (λ (o : Option (A × B)). elim o as (λ _. B) [ None ↦ r | Some p ↦ p.1 ]) e)
-
--- ---- so many items
+-- ---- n items
 
 abbrev pub Each : {X : Type 0} → (X → Type 0) → List X → Type 0
 Each P [] = Unit {0}
@@ -93,14 +92,14 @@ module _ {X : Type 0} {Good : X → Type 0} {spelled : X → List ℕ} {f : List
 
   many_sound : (n : ℕ) (bytes : List ℕ) (xs : List X) (rest : List ℕ) → AreBytes bytes → many n f bytes ≡ Some (xs, rest) → ((length xs ≡ n) × Each Good xs) × (bytes ≡ flat_map spelled xs ++ rest)
   many_sound zero bytes xs rest k e =
-      let s = same_found [] xs bytes rest e in
+      let s = some_pair_parts [] xs bytes rest e in
       subst (λ ys. ((length ys ≡ 0) × Each Good ys) × (bytes ≡ flat_map spelled ys ++ rest)) s.0 ((refl, tt), s.1)
   many_sound (suc n) bytes xs rest k e =
       let x = bound (f bytes) (λ y. many n f y.1 >>= λ ys. Some (y.0 ∷ ys.0, ys.1)) (xs, rest) e in
       let ys = bound (many n f x.0.1) (λ ys. Some (x.0.0 ∷ ys.0, ys.1)) (xs, rest) x.1.1 in
       let head = t.sound bytes x.0.0 x.0.1 k x.1.0 in
       let tail = many_sound n x.0.1 ys.0.0 ys.0.1 (bytes_left t bytes x.0.0 x.0.1 k x.1.0) ys.1.0 in
-      let s = same_found (x.0.0 ∷ ys.0.0) xs ys.0.1 rest ys.1.1 in
+      let s = some_pair_parts (x.0.0 ∷ ys.0.0) xs ys.0.1 rest ys.1.1 in
       subst (λ zs. ((length zs ≡ suc n) × Each Good zs) × (bytes ≡ flat_map spelled zs ++ rest)) s.0
       ((ap suc tail.0.0, (head.0, tail.0.1)), head.1 ∙ ap (λ b. spelled x.0.0 ++ b) (tail.1 ∙ ap (λ r. flat_map spelled ys.0.0 ++ r) s.1) ∙ sym (append_assoc (spelled x.0.0) (flat_map spelled ys.0.0) rest))
 
@@ -135,7 +134,7 @@ number_format = record {
       ap (λ b. cond b None (Some (from_be_bytes w32 (take 4 bytes), drop 4 bytes))) long ∙ (λ i. Some (from_be_bytes w32 (front i), back i)) ∙ ap (λ m. Some (m, rest)) (four_from n h);
   sound = λ bytes n rest k e.
       let p = passed (nat_lt (length bytes) 4) (Some (from_be_bytes w32 (take 4 bytes), drop 4 bytes)) (n, rest) e in
-      let s = same_found (from_be_bytes w32 (take 4 bytes)) n (drop 4 bytes) rest p.1 in
+      let s = some_pair_parts (from_be_bytes w32 (take 4 bytes)) n (drop 4 bytes) rest p.1 in
       let long = ltb-false (length bytes) 4 p.0 in
       let l : length (take 4 bytes) ≡ 4 = omega (arith, length-take 4 bytes) in
       let front = bytes_front (take 4 bytes) (drop 4 bytes) (subst AreBytes (sym (take-append-drop 4 bytes)) k) in
@@ -157,7 +156,7 @@ name_format = record {
   sound = λ bytes a rest k e.
       let n = bound (number_at bytes) (λ n. cond (nat_lt (length n.1) n.0) None (Some (take n.0 n.1, drop n.0 n.1))) (a, rest) e in
       let p = passed (nat_lt (length n.0.1) n.0.0) (Some (take n.0.0 n.0.1, drop n.0.0 n.0.1)) (a, rest) n.1.1 in
-      let s = same_found (take n.0.0 n.0.1) a (drop n.0.0 n.0.1) rest p.1 in
+      let s = some_pair_parts (take n.0.0 n.0.1) a (drop n.0.0 n.0.1) rest p.1 in
       let number = number_format.sound bytes n.0.0 n.0.1 k n.1.0 in
       let long = ltb-false (length n.0.1) n.0.0 p.0 in
       let l : length a ≡ n.0.0 = ap length (sym s.0) ∙ omega (arith, length-take n.0.0 n.0.1) in
@@ -168,8 +167,8 @@ name_format = record {
 -- each name of a list is short
 pub short_each : (xs : List Name) → IsTrue (list_all is_short xs) → Each (λ a. IsTrue (is_short a)) xs
 short_each [] k = tt
-short_each (x ∷ xs) k = (first_true (is_short x) (list_all is_short xs) k, short_each xs (second_true (is_short x) (list_all is_short xs) k))
+short_each (x ∷ xs) k = (first (is_short x) (list_all is_short xs) k, short_each xs (second (is_short x) (list_all is_short xs) k))
 
 pub each_short : (xs : List Name) → Each (λ a. IsTrue (is_short a)) xs → IsTrue (list_all is_short xs)
 each_short [] k = refl
-each_short (x ∷ xs) k = both_true (is_short x) (list_all is_short xs) k.0 (each_short xs k.1)
+each_short (x ∷ xs) k = and_from (is_short x) (list_all is_short xs) k.0 (each_short xs k.1)

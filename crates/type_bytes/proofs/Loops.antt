@@ -2,8 +2,8 @@
 use Rattle.std.proofs.Common.{◌≡◌, ℕ, zero, suc, ◌-◌, ◌+◌, ◌≤◌, ◌<◌, true, false, cond, ◌&&◌, List, [], ◌∷◌, ◌++◌, Option, Some, None, Ok, Err, refl, sym, ap, ◌∙◌, arith, append_assoc}
 use Rattle.std.proofs.lemmas.List.{append-nil}
 use Rattle.std.specs.Prelude.{nat_le, ◌==◌}
+use Rattle.std.proofs.lemmas.Bool.{false_from_ne_true, and_from}
 use borrow.Author.Tests.{eqb-true, le-leb}
-use Rattle.type_sets.proofs.Truths.{both, is_false}
 use Rattle.type_bytes.specs.declared.faults.ShapeFault.{ShapeFault}
 use Rattle.type_bytes.specs.declared.faults.ShapeFault.TheVariants.{Broken}
 use Rattle.type_bytes.specs.declared.faults.BytesFault.{BytesFault}
@@ -33,8 +33,8 @@ pub tags_of_body : (f : List ℕ → Cut) (n b : ℕ) (bytes rest : List ℕ) �
 unfolding body_cut tags_cut
 tags_of_body f zero b bytes rest e some size few = absurd (size refl)
 tags_of_body f (suc n) b bytes rest e some size few =
-    let not_zero : (b == 0) ≡ false = is_false (b == 0) (λ h. some (eqb-true b 0 h)) in
-    let in_range : (nat_le 1 b && nat_le b 13) ≡ true = both (nat_le 1 b) (nat_le b 13) (le-leb 1 b (omega arith)) (le-leb b 13 few) in
+    let not_zero : (b == 0) ≡ false = false_from_ne_true (b == 0) (λ h. some (eqb-true b 0 h)) in
+    let in_range : (nat_le 1 b && nat_le b 13) ≡ true = and_from (nat_le 1 b) (nat_le b 13) (le-leb 1 b (omega arith)) (le-leb b 13 few) in
     let one_less : n ≡ suc n - 1 = omega arith in
     ap (body_cut f (suc n)) e
     ∙ ap (λ c. cond c (many (suc n) f rest) (tags_cut f (suc n) b rest)) not_zero

@@ -2,8 +2,8 @@
 use Rattle.std.proofs.Common.{◌≡◌, ℕ, zero, suc, ◌+◌, ◌*◌, ◌/◌, ◌<◌, ◌≤◌, Bool, true, false, cond, refl, arith}
 use Rattle.std.specs.Prelude.{◌==◌}
 use Rattle.std.specs.Int.{bit_at}
+use Rattle.std.proofs.lemmas.Bool.{false_from_ne_true}
 use borrow.Author.Tests.{eqb-true, eq-eqb}
-use Rattle.type_sets.proofs.Truths.{is_false}
 
 -- what a bit adds
 abbrev pub one_if : Bool → ℕ
@@ -15,7 +15,7 @@ few false = omega arith
 
 bit_is : (b : Bool) (n : ℕ) → n ≡ one_if b → (n == 1) ≡ b
 bit_is true n e = eq-eqb n 1 e
-bit_is false n e = is_false (n == 1) (λ h. let one = eqb-true n 1 h in absurd (omega arith))
+bit_is false n e = false_from_ne_true (n == 1) (λ h. let one = eqb-true n 1 h in absurd (omega arith))
 
 pub bit_adds : (n : ℕ) → n < 2 → one_if (n == 1) ≡ n
 bit_adds zero h = refl

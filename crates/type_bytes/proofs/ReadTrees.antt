@@ -3,24 +3,24 @@ use Rattle.std.proofs.Common.{◌≡◌, ◌⊎◌, inl, inr, ℕ, zero, suc, �
 use Rattle.std.specs.Prelude.{nat_le, nat_lt, ◌==◌}
 use Rattle.std.specs.declared.cmp.Ordering.{Ordering}
 use Rattle.std.specs.declared.cmp.Ordering.TheVariants.{Less, Equal, Greater}
-use Rattle.std.specs.Ordering.{nat_cmp, is_lt, is_ge}
+use Rattle.std.specs.Ordering.{nat_cmp, is_lt}
 use Rattle.std.specs.Cmp.{IsTotalOrder, nat_cmp_is}
 use Rattle.std.specs.FinSet.{IsAntisymmetric}
 use Rattle.std.proofs.lemmas.List.{get_or-map, length-map, take_all}
-use Rattle.type_sets.proofs.AscendingLaws.{ascending-more, not_ascending}
+use Rattle.std.proofs.lemmas.Bool.{false_from_ne_true, cases_Bool}
+use Rattle.type_kinds_sets.proofs.AscendingLaws.{ascending-more, not_ascending}
 use borrow.Author.Tests.{ltb-true, ltb-false, eqb-true, eq-eqb, leb-true, le-leb}
-use Rattle.type_sets.specs.Ascending.{is_ascending}
-use Rattle.type_sets.proofs.Truths.{is_false, decided}
-use Rattle.type_model.specs.Tables.{keys}
-use Rattle.type_model.specs.Shapes.{PlainParts, TypeAt, Body}
-use Rattle.type_model.specs.Operations.{ops, plain_none, of_plain}
-use Rattle.type_trees.specs.declared.node.Node.{Node}
-use Rattle.type_trees.specs.declared.node.Node.TheVariants as v
-use Rattle.type_trees.specs.declared.node.PartsOf.{PartsOf}
-use Rattle.type_trees.specs.declared.node.SizeOf.{SizeOf}
-use Rattle.type_trees.specs.declared.node.TagOf.{TagOf}
-use Rattle.type_trees.specs.View.{view, row_view, tags_view, body_view, sizes_view, parts_view, Fits, EachInParts, PartsFit}
-use Rattle.type_trees.proofs.Views.{view_any, view_of, fits_of, normal_parts, one_more}
+use Rattle.type_kinds_sets.specs.Ascending.{is_ascending}
+use Rattle.type_lattice_model.specs.Tables.{keys}
+use Rattle.type_lattice_model.specs.Shapes.{PlainParts, TypeAt, Body}
+use Rattle.type_lattice_model.specs.Operations.{ops, plain_none, of_plain}
+use Rattle.type_lattice_trees.specs.declared.node.Node.{Node}
+use Rattle.type_lattice_trees.specs.declared.node.Node.TheVariants as v
+use Rattle.type_lattice_trees.specs.declared.node.PartsOf.{PartsOf}
+use Rattle.type_lattice_trees.specs.declared.node.SizeOf.{SizeOf}
+use Rattle.type_lattice_trees.specs.declared.node.TagOf.{TagOf}
+use Rattle.type_lattice_trees.specs.View.{view, row_view, tags_view, body_view, sizes_view, parts_view, Fits, EachInParts, PartsFit}
+use Rattle.type_lattice_trees.proofs.Views.{view_any, view_of, fits_of, normal_parts, one_more}
 use Rattle.type_bytes.specs.declared.faults.BytesFault.{BytesFault}
 use Rattle.type_bytes.specs.declared.faults.BytesFault.TheVariants as faults
 use Rattle.type_bytes.specs.Spelling.{is_any}
@@ -37,7 +37,7 @@ any_read zero b bytes e = ap (λ c. given c (true, bytes)) (eq-eqb b 1 e) ∙ ap
 any_read (suc d) b bytes e = ap (λ c. cond c (Some ((ops (suc d)).any, bytes)) (cond (b == 2) (masked_at (ops d) (element_at d) bytes >>= λ p. given (not (is_any (suc d) p.0)) p) None)) (eq-eqb b 1 e) ∙ ap (λ t. Some (t, bytes)) (sym (view_any v.Any refl (suc d)))
 
 not_1 : (b : ℕ) → (b ≡ 1 → ⊥) → (b == 1) ≡ false
-not_1 b h = is_false (b == 1) (λ e. h (eqb-true b 1 e))
+not_1 b h = false_from_ne_true (b == 1) (λ e. h (eqb-true b 1 e))
 
 pub none_read : (d b : ℕ) (bytes : List ℕ) → (b ≡ 1 → ⊥) → (d ≡ 0) ⊎ (b ≡ 2 → ⊥) → behind_at d b bytes ≡ None
 unfolding behind_at
@@ -45,7 +45,7 @@ none_read zero b bytes h k = ap (λ c. given c (true, bytes)) (not_1 b h)
 none_read (suc d) b bytes h (inl z) = absurd (omega arith)
 none_read (suc d) b bytes h (inr k) =
     ap (λ c. cond c (Some ((ops (suc d)).any, bytes)) (cond (b == 2) (masked_at (ops d) (element_at d) bytes >>= λ p. given (not (is_any (suc d) p.0)) p) None)) (not_1 b h)
-    ∙ ap (λ c. cond c (masked_at (ops d) (element_at d) bytes >>= λ p. given (not (is_any (suc d) p.0)) p) None) (is_false (b == 2) (λ e. k (eqb-true b 2 e)))
+    ∙ ap (λ c. cond c (masked_at (ops d) (element_at d) bytes >>= λ p. given (not (is_any (suc d) p.0)) p) None) (false_from_ne_true (b == 2) (λ e. k (eqb-true b 2 e)))
 
 two : (d b : ℕ) (bytes : List ℕ) → b ≡ 2 → behind_at (suc d) b bytes ≡ (masked_at (ops d) (element_at d) bytes >>= λ p. given (not (is_any (suc d) p.0)) p)
 unfolding behind_at
@@ -75,7 +75,7 @@ next_of : (d b : ℕ) (bytes rest : List ℕ) (p q : PartsOf Node) (n : Node) �
 next_of d b bytes rest p q n e k each read made is =
     let fit = parts_fit d bytes rest p k each read in
     let same = made.value d fit in
-    let not_any : is_any (suc d) (parts_view d p) ≡ false = is_false (is_any (suc d) (parts_view d p)) (λ a. (fits_of n q is d (made.fits d fit)).1 (sym (view_of n q is d) ∙ same ∙ any_is_all (suc d) (parts_view d p) a)) in
+    let not_any : is_any (suc d) (parts_view d p) ≡ false = false_from_ne_true (is_any (suc d) (parts_view d p)) (λ a. (fits_of n q is d (made.fits d fit)).1 (sym (view_of n q is d) ∙ same ∙ any_is_all (suc d) (parts_view d p) a)) in
     (made.fits d fit, two d b bytes e ∙ ap (λ r. r >>= λ x. given (not (is_any (suc d) x.0)) x) read ∙ ap (λ c. given (not c) (parts_view d p, rest)) not_any ∙ ap (λ x. Some (x, rest)) (sym same))
 
 next_any : (d b : ℕ) (bytes rest : List ℕ) (p : PartsOf Node) (n : Node) → b ≡ 2 → AreBytes bytes → EachInParts (Fits d) p → masked_at (ops d) (element_at d) bytes ≡ Some (parts_view d p, rest) → IsMade p n → n ≡ v.Any → behind_at (suc d) b bytes ≡ None
@@ -105,7 +105,7 @@ no_tags zero h = refl
 no_tags (suc d) h = absurd (omega arith)
 
 not_0 : (n : ℕ) → (n ≡ 0 → ⊥) → (n == 0) ≡ false
-not_0 n h = is_false (n == 0) (λ e. h (eqb-true n 0 e))
+not_0 n h = false_from_ne_true (n == 0) (λ e. h (eqb-true n 0 e))
 
 module _ (d n b : ℕ) (bytes rest : List ℕ) (e : bytes ≡ b ∷ rest) (some : b ≡ 0 → ⊥) where
   abbrev later : Option (Body (TypeAt d) × List ℕ)
@@ -134,7 +134,7 @@ module _ (d n b : ℕ) (bytes rest : List ℕ) (e : bytes ≡ b ∷ rest) (some 
   body_not_read (inr (inl z)) =
       body_later ∙ ap (λ c. cond (n == 0) None (cond c (cond (nat_le b 13) (tags_at (ops d) (element_at d) (n - 1) b rest) None) None)) (no_tags d z) ∙ or_none (n == 0)
   body_not_read (inr (inr many)) =
-      let too_many : nat_le b 13 ≡ false = is_false (nat_le b 13) (λ h. let few = leb-true b 13 h in absurd (omega arith)) in
+      let too_many : nat_le b 13 ≡ false = false_from_ne_true (nat_le b 13) (λ h. let few = leb-true b 13 h in absurd (omega arith)) in
       body_later ∙ ap (λ c. cond (n == 0) None (cond (ops d).has_tags (cond c (tags_at (ops d) (element_at d) (n - 1) b rest) None) None)) too_many ∙ ap (λ r. cond (n == 0) None r) (or_none (ops d).has_tags) ∙ or_none (n == 0)
 
 -- ---- one item more
@@ -163,16 +163,11 @@ size_keys d (s ∷ ss) = ap (λ r. s.size ∷ r) (size_keys d ss)
 
 -- ---- keys that ascend
 
-pub not_under : (r : Ordering) (b : Bool) → is_ge r ≡ b → is_lt r ≡ not b
-not_under Less b h = ap not h
-not_under Equal b h = ap not h
-not_under Greater b h = ap not h
-
 pub below : (a b : ℕ) → a < b → is_lt (nat_cmp a b) ≡ true
 below a b h = ap is_lt (sym (nat_cmp_is a b Less h))
 
 pub not_below : (a b : ℕ) → b ≤ a → is_lt (nat_cmp a b) ≡ false
-not_below a b h = elim (decided (nat_lt b a)) [
+not_below a b h = elim (cases_Bool (nat_lt b a)) [
   | inl k ↦ ap is_lt (sym (nat_cmp_is a b Greater (ltb-true b a k)))
   | inr k ↦ ap is_lt (sym (nat_cmp_is a b Equal (let other = ltb-false b a k in omega arith)))
 ]

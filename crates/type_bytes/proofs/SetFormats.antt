@@ -9,31 +9,33 @@ use Rattle.std.proofs.lemmas.Int.{to_z-of_z, of_z-to_z}
 use Rattle.std.proofs.lemmas.Nat.{div-mul-add, mod-mul-add}
 use Rattle.std.proofs.Math.Seq.{drop-append_seam, take-append_seam}
 use Rattle.std.proofs.Math.Facts as facts
+use Rattle.std.proofs.lemmas.Bool.{false_from_ne_true}
+use Rattle.std.proofs.lemmas.Option.{some_pair_parts}
+use Rattle.type_kinds.proofs.Truths.{first as first_true, second as second_true}
 use mir.Val.{SFits}
 use native.Mathlib.Nat as nat
 use borrow.Author.Tests.{ltb-true, ltb-false, lt-ltb, le-ltb, eqb-true, eqb-false, leb-true, le-leb}
 use Rattle.type_kinds.specs.declared.digits.TheConstants.{MAGNITUDE_LIMIT}
-use Rattle.type_sets.specs.Ascending.{is_ascending}
-use Rattle.type_sets.specs.Few.{are_few}
-use Rattle.type_sets.specs.Ends.{is_range}
-use Rattle.type_sets.specs.Names as names
-use Rattle.type_sets.specs.Names.{Name, Names, name_cmp}
-use Rattle.type_sets.specs.Numbers as numbers
-use Rattle.type_sets.specs.Numbers.{Numbers, is_narrow}
-use Rattle.type_sets.specs.declared.ends.Low.{Low}
-use Rattle.type_sets.specs.declared.ends.Low.TheVariants as low
-use Rattle.type_sets.specs.declared.ends.High.{High}
-use Rattle.type_sets.specs.declared.ends.High.TheVariants as high
-use Rattle.type_sets.specs.declared.bits.Bits.{Bits}
-use Rattle.type_sets.specs.declared.bits.Bits.TheVariants.{No, Whole, Any}
-use Rattle.type_sets.proofs.Truths.{first as first_true, second as second_true, is_false}
-use Rattle.type_model.specs.Shapes.{Functions, no_function, of_arity, all_functions}
-use Rattle.type_model.specs.Operations.{is_no_bits, is_no_function}
-use Rattle.type_model.specs.Normal.{NormalFunctions}
+use Rattle.type_kinds_sets.specs.Ascending.{is_ascending}
+use Rattle.type_kinds_sets.specs.Few.{are_few}
+use Rattle.type_kinds_sets.specs.Ends.{is_range}
+use Rattle.type_kinds_sets.specs.Names as names
+use Rattle.type_kinds_sets.specs.Names.{Name, Names, name_cmp}
+use Rattle.type_kinds_sets.specs.Numbers as numbers
+use Rattle.type_kinds_sets.specs.Numbers.{Numbers, is_narrow}
+use Rattle.type_kinds_sets.specs.declared.ends.Low.{Low}
+use Rattle.type_kinds_sets.specs.declared.ends.Low.TheVariants as low
+use Rattle.type_kinds_sets.specs.declared.ends.High.{High}
+use Rattle.type_kinds_sets.specs.declared.ends.High.TheVariants as high
+use Rattle.type_kinds_sets.specs.declared.bits.Bits.{Bits}
+use Rattle.type_kinds_sets.specs.declared.bits.Bits.TheVariants.{No, Whole, Any}
+use Rattle.type_lattice_model.specs.Shapes.{Functions, no_function, of_arity, all_functions}
+use Rattle.type_lattice_model.specs.Operations.{is_no_bits, is_no_function}
+use Rattle.type_lattice_model.specs.Normal.{NormalFunctions}
 use Rattle.type_bytes.specs.Spelling.{int_bytes, name_bytes, four_bytes, atoms_bytes, ints_bytes, bits_bytes, functions_bytes, low_number, high_number}
 use Rattle.type_bytes.specs.ShortNames.{is_short, are_short}
 use Rattle.type_bytes.specs.steps.Reading.{◌>>=◌, first, many, given, number_at, name_at, int_at, names_at, atoms_at, low_at, high_at, interval_at, numbers_at, ints_at, bits_at, functions_at}
-use Rattle.type_bytes.proofs.FormatLaws.{AreBytes, bytes_front, byte_at, Format, bound, was_given, chosen, never, passed, granted, same_found, Each, many_format, number_format, name_format, short_each, each_short}
+use Rattle.type_bytes.proofs.FormatLaws.{AreBytes, bytes_front, byte_at, Format, bound, was_given, chosen, never, passed, granted, Each, many_format, number_format, name_format, short_each, each_short}
 
 -- ---- integers of sixteen bytes
 
@@ -99,10 +101,6 @@ to_16 n fits =
     let high : n / 1329227995784915872903807060280344576 ≡ n / 1329227995784915872903807060280344576 % 256 = omega arith in
     joined_16 _ _ _ _ _ _ _ _ _ _ _ _ _ _ _ _ n _ _ _ _ _ _ _ _ _ _ _ _ _ _ _ low (byte_and_rest n 256) (byte_and_rest n 65536) (byte_and_rest n 16777216) (byte_and_rest n 4294967296) (byte_and_rest n 1099511627776) (byte_and_rest n 281474976710656) (byte_and_rest n 72057594037927936) (byte_and_rest n 18446744073709551616) (byte_and_rest n 4722366482869645213696) (byte_and_rest n 1208925819614629174706176) (byte_and_rest n 309485009821345068724781056) (byte_and_rest n 79228162514264337593543950336) (byte_and_rest n 20282409603651670423947251286016) (byte_and_rest n 5192296858534827628530496329220096) high
 
-length-int : (n : ℤ) → length (int_bytes n) ≡ 16
-unfolding int_bytes
-length-int n = refl
-
 pub int_format : Format (λ n. SFits w128 n) int_bytes int_at
 unfolding int_at int_bytes
 int_format = record {
@@ -119,7 +117,7 @@ int_format = record {
       ∙ ap (λ m. Some (m, rest)) (to_z-of_z w128 n fits);
   sound = λ bytes n rest k e.
       let p = passed (nat_lt (length bytes) 16) (Some (cast_signed w128 (from_be_bytes w128 (take 16 bytes)), drop 16 bytes)) (n, rest) e in
-      let s = same_found (cast_signed w128 (from_be_bytes w128 (take 16 bytes))) n (drop 16 bytes) rest p.1 in
+      let s = some_pair_parts (cast_signed w128 (from_be_bytes w128 (take 16 bytes))) n (drop 16 bytes) rest p.1 in
       let long = ltb-false (length bytes) 16 p.0 in
       let l : length (take 16 bytes) ≡ 16 = omega (arith, length-take 16 bytes) in
       let front = bytes_front (take 16 bytes) (drop 16 bytes) (subst AreBytes (sym (take-append-drop 16 bytes)) k) in
@@ -158,7 +156,7 @@ atoms_format = record { complete = complete; sound = sound }
     complete (names.some (x ∷ xs) e) rest k =
         let n = length (x ∷ xs) in
         let later = flat_map name_bytes (x ∷ xs) ++ rest in
-        let some : (n == 0) ≡ false = is_false (n == 0) (λ h. let z = eqb-true n 0 h in absurd (omega arith)) in
+        let some : (n == 0) ≡ false = false_from_ne_true (n == 0) (λ h. let z = eqb-true n 0 h in absurd (omega arith)) in
         ap (λ b. cond b (Some (names.every, later)) (cond (nat_le n 13) (names_at n later) None)) some
         ∙ ap (λ b. cond b (names_at n later) None) (few n (second_true (is_ascending name_cmp (x ∷ xs)) (are_few (x ∷ xs)) e))
         ∙ names_complete (x ∷ xs) e rest (short_each (x ∷ xs) k.1)
@@ -167,7 +165,7 @@ atoms_format = record { complete = complete; sound = sound }
     sound [] s rest k e = never (s, rest) e
     sound (b ∷ bytes) s rest k e = elim (chosen (b == 0) (Some (names.every, bytes)) (cond (nat_le b 13) (names_at b bytes) None) (Some (s, rest)) e) [
       | inl c ↦
-          let f = same_found names.every s bytes rest c.1 in
+          let f = some_pair_parts names.every s bytes rest c.1 in
           subst (λ t. ((names.is_none t ≡ false) × IsTrue (are_short t)) × (b ∷ bytes ≡ atoms_bytes t ++ rest)) f.0 ((refl, refl), (λ i. eqb-true b 0 c.0 i ∷ f.1 i))
       | inr c ↦
           let g = granted (nat_le b 13) (names_at b bytes) (s, rest) c.1 in
@@ -261,8 +259,8 @@ listed x xs e rest =
     let later = flat_map int_bytes (x ∷ xs) ++ rest in
     let are_few_here = second_true (is_ascending int_cmp (x ∷ xs)) (are_few (x ∷ xs)) (first_true (is_ascending int_cmp (x ∷ xs) && are_few (x ∷ xs)) (list_all is_narrow (x ∷ xs)) e) in
     let below = ltb-true n 14 are_few_here in
-    let no_interval : nat_le 128 n ≡ false = is_false (nat_le 128 n) (λ h. let k = leb-true 128 n h in absurd (omega arith)) in
-    let some : (n == 0) ≡ false = is_false (n == 0) (λ h. let z = eqb-true n 0 h in absurd (omega arith)) in
+    let no_interval : nat_le 128 n ≡ false = false_from_ne_true (nat_le 128 n) (λ h. let k = leb-true 128 n h in absurd (omega arith)) in
+    let some : (n == 0) ≡ false = false_from_ne_true (n == 0) (λ h. let z = eqb-true n 0 h in absurd (omega arith)) in
     ap (λ b. cond b (interval_at (n - 128) later) (cond (n == 0) None (cond (nat_le n 13) (numbers_at n later) None))) no_interval
     ∙ ap (λ b. cond b None (cond (nat_le n 13) (numbers_at n later) None)) some
     ∙ ap (λ b. cond b (numbers_at n later) None) (few n are_few_here)
@@ -320,10 +318,10 @@ bits_format = record { complete = complete; sound = sound }
     sound : (bytes : List ℕ) (s : Bits) (rest : List ℕ) → AreBytes bytes → first {X = Bits × List ℕ} (λ b rest. cond (b == 1) (Some (Whole, rest)) (cond (b == 2) (Some (Any, rest)) None)) bytes ≡ Some (s, rest) → (is_no_bits s ≡ false) × (bytes ≡ bits_bytes s ++ rest)
     sound [] s rest k e = never (s, rest) e
     sound (b ∷ bytes) s rest k e = elim (chosen (b == 1) (Some (Whole, bytes)) (cond (b == 2) (Some (Any, bytes)) None) (Some (s, rest)) e) [
-      | inl c ↦ let f = same_found Whole s bytes rest c.1 in subst (λ t. (is_no_bits t ≡ false) × (b ∷ bytes ≡ bits_bytes t ++ rest)) f.0 (refl, (λ i. eqb-true b 1 c.0 i ∷ f.1 i))
+      | inl c ↦ let f = some_pair_parts Whole s bytes rest c.1 in subst (λ t. (is_no_bits t ≡ false) × (b ∷ bytes ≡ bits_bytes t ++ rest)) f.0 (refl, (λ i. eqb-true b 1 c.0 i ∷ f.1 i))
       | inr c ↦
           let g = granted (b == 2) (Some (Any, bytes)) (s, rest) c.1 in
-          let f = same_found Any s bytes rest g.1 in
+          let f = some_pair_parts Any s bytes rest g.1 in
           subst (λ t. (is_no_bits t ≡ false) × (b ∷ bytes ≡ bits_bytes t ++ rest)) f.0 (refl, (λ i. eqb-true b 2 g.0 i ∷ f.1 i))
     ]
 
@@ -339,11 +337,11 @@ functions_format = record { complete = complete; sound = sound }
     sound : (bytes : List ℕ) (s : Functions) (rest : List ℕ) → AreBytes bytes → first {X = Functions × List ℕ} (λ b rest. cond (b == 0) (Some (all_functions, rest)) (cond (b == 1) (number_at rest >>= λ n. Some (of_arity n.0, n.1)) None)) bytes ≡ Some (s, rest) → ((is_no_function s ≡ false) × NormalFunctions s) × (bytes ≡ functions_bytes s ++ rest)
     sound [] s rest k e = never (s, rest) e
     sound (b ∷ bytes) s rest k e = elim (chosen (b == 0) (Some (all_functions, bytes)) (cond (b == 1) (number_at bytes >>= λ n. Some (of_arity n.0, n.1)) None) (Some (s, rest)) e) [
-      | inl c ↦ let f = same_found all_functions s bytes rest c.1 in subst (λ t. ((is_no_function t ≡ false) × NormalFunctions t) × (b ∷ bytes ≡ functions_bytes t ++ rest)) f.0 ((refl, tt), (λ i. eqb-true b 0 c.0 i ∷ f.1 i))
+      | inl c ↦ let f = some_pair_parts all_functions s bytes rest c.1 in subst (λ t. ((is_no_function t ≡ false) × NormalFunctions t) × (b ∷ bytes ≡ functions_bytes t ++ rest)) f.0 ((refl, tt), (λ i. eqb-true b 0 c.0 i ∷ f.1 i))
       | inr c ↦
           let g = granted (b == 1) (number_at bytes >>= λ n. Some (of_arity n.0, n.1)) (s, rest) c.1 in
           let n = bound (number_at bytes) (λ n. Some (of_arity n.0, n.1)) (s, rest) g.1 in
-          let f = same_found (of_arity n.0.0) s n.0.1 rest n.1.1 in
+          let f = some_pair_parts (of_arity n.0.0) s n.0.1 rest n.1.1 in
           let number = number_format.sound bytes n.0.0 n.0.1 k.1 n.1.0 in
           subst (λ t. ((is_no_function t ≡ false) × NormalFunctions t) × (b ∷ bytes ≡ functions_bytes t ++ rest)) f.0 ((refl, lt-ltb n.0.0 (2 ^ 32) number.0), (λ i. eqb-true b 1 g.0 i ∷ (number.1 ∙ ap (λ r. four_bytes n.0.0 ++ r) f.1) i))
     ]

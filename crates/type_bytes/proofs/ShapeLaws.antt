@@ -4,8 +4,9 @@ use Rattle.std.specs.Prelude.{nat_lt, nat_le, ◌==◌, Ok, Err}
 use Rattle.std.specs.Int.{w32, from_be_bytes, bit_at}
 use Rattle.std.proofs.lemmas.List.{append-nil, take-append-drop, length-append, length-take}
 use Rattle.std.proofs.Math.Seq.{drop-append_seam, take-append_seam}
+use Rattle.std.proofs.lemmas.Bool.{cases_Bool, and_from}
+use Rattle.type_kinds.proofs.Truths.{first, second}
 use borrow.Author.Tests.{ltb-true, ltb-false, lt-ltb, le-ltb, eqb-true, eqb-false, leb-true, le-leb}
-use Rattle.type_sets.proofs.Truths.{first as first_true, second as second_true, both as both_true, decided}
 use Rattle.type_bytes.specs.declared.faults.ShapeFault.TheVariants.{Short, Broken}
 use Rattle.type_bytes.specs.Shapes.{Nothing, Bytes, Both, Begins, Counted, Where, NameShape, AtomsShape, IntsShape, BitsShape, FunctionsShape, CellShape, TagShape, TagsShape, SizeShape, TuplesShape, PartsShape, MaskedShape, ElementBehind, TypeShape, IsShort}
 use Rattle.type_bytes.specs.steps.Cuts.{Cut, ◌>>=◌, skip, where_set, name_cut, atoms_cut, ints_cut, bits_cut, functions_cut, cell_cut, tag_cut, tags_cut, body_cut, size_cut, tuples_cut, parts_cut, masked_cut, behind_cut, type_cut}
@@ -33,10 +34,6 @@ counted_name count name rest l =
 front_4 : (bytes : List ℕ) → nat_lt (length bytes) 4 ≡ false → length (take 4 bytes) ≡ 4
 front_4 bytes h = let long = ltb-false (length bytes) 4 h in omega (arith, length-take 4 bytes)
 
-whole_name : (bytes more : List ℕ) → nat_lt (length bytes) 4 ≡ false → name_cut (bytes ++ more) ≡ skip (from_be_bytes w32 (take 4 bytes)) (drop 4 bytes ++ more)
-whole_name bytes more h =
-    ap name_cut (ap (λ b. b ++ more) (sym (take-append-drop 4 bytes)) ∙ append_assoc (take 4 bytes) (drop 4 bytes) more) ∙ counted_name (take 4 bytes) (drop 4 bytes) more (front_4 bytes h)
-
 name_left : (bytes : List ℕ) → nat_lt (length bytes) 4 ≡ false → name_cut bytes ≡ skip (from_be_bytes w32 (take 4 bytes)) (drop 4 bytes)
 unfolding name_cut
 name_left bytes h = ap (λ c. cond c (Err Short) (skip (from_be_bytes w32 (take 4 bytes)) (drop 4 bytes))) h
@@ -57,13 +54,13 @@ name_tells = record {
       let count = k.0 in
       let name = k.1.0 in
       ap name_cut (ap (λ b. b ++ rest) k.1.1.0 ∙ append_assoc count name rest) ∙ counted_name count name rest k.1.1.1.0 ∙ (skip_tells (from_be_bytes w32 count)).reads name rest k.1.1.1.1;
-  ends = λ bytes rest e. elim (decided (nat_lt (length bytes) 4)) [
+  ends = λ bytes rest e. elim (cases_Bool (nat_lt (length bytes) 4)) [
     | inl h ↦ absurd (ok_not_err rest Short (sym e ∙ few_left bytes h))
     | inr h ↦
         let x = (skip_tells (from_be_bytes w32 (take 4 bytes))).ends (drop 4 bytes) rest (sym (name_left bytes h) ∙ e) in
         (take 4 bytes ++ x.0, (sym (take-append-drop 4 bytes) ∙ ap (λ b. take 4 bytes ++ b) x.1.0 ∙ sym (append_assoc (take 4 bytes) x.0 rest), (take 4 bytes, (x.0, (refl, (front_4 bytes h, x.1.1))))))
   ];
-  short = λ bytes e. elim (decided (nat_lt (length bytes) 4)) [
+  short = λ bytes e. elim (cases_Bool (nat_lt (length bytes) 4)) [
     | inl h ↦
         let few = ltb-true (length bytes) 4 h in
         let lacking = zeros (4 - length bytes) in
@@ -75,7 +72,7 @@ name_tells = record {
         let m = (skip_tells (from_be_bytes w32 (take 4 bytes))).short (drop 4 bytes) (sym (name_left bytes h) ∙ e) in
         (m.0, (m.1.0, (take 4 bytes, (drop 4 bytes ++ m.0, (ap (λ b. b ++ m.0) (sym (take-append-drop 4 bytes)) ∙ append_assoc (take 4 bytes) (drop 4 bytes) m.0, (front_4 bytes h, m.1.1))))))
   ];
-  broken = λ bytes more e. elim (decided (nat_lt (length bytes) 4)) [
+  broken = λ bytes more e. elim (cases_Bool (nat_lt (length bytes) 4)) [
     | inl h ↦ absurd (broken_not_short (sym e ∙ few_left bytes h))
     | inr h ↦ absurd (skip_whole (from_be_bytes w32 (take 4 bytes)) (drop 4 bytes) (sym (name_left bytes h) ∙ e))
   ];
@@ -116,11 +113,11 @@ unfolding ints_cut
 ints_tells = first_tells
     (λ b. test_tells (nat_le 128 b && nat_lt b 140)
     (λ h.
-    let low = leb-true 128 b (first_true (nat_le 128 b) (nat_lt b 140) h) in
-    let high = ltb-true b 140 (second_true (nat_le 128 b) (nat_lt b 140) h) in
+    let low = leb-true 128 b (first (nat_le 128 b) (nat_lt b 140) h) in
+    let high = ltb-true b 140 (second (nat_le 128 b) (nat_lt b 140) h) in
     same_tells (λ x k. inr (low, (high, k))) (λ x k. elim k as (λ _. Nothing x) [ inl c ↦ absurd (let few = c.1.0 in omega arith) | inr r ↦ r.1.1 ]) nothing_tells)
     (λ h. same_tells (λ x k. inl k)
-    (λ x k. elim k as (λ _. Counted 13 (Bytes 16) b x) [ inl c ↦ c | inr r ↦ absurd (true≢false (sym (both_true (nat_le 128 b) (nat_lt b 140) (le-leb 128 b r.0) (lt-ltb b 140 r.1.0)) ∙ h)) ])
+    (λ x k. elim k as (λ _. Counted 13 (Bytes 16) b x) [ inl c ↦ c | inr r ↦ absurd (true≢false (sym (and_from (nat_le 128 b) (nat_lt b 140) (le-leb 128 b r.0) (lt-ltb b 140 r.1.0)) ∙ h)) ])
     (counted_tells (skip_tells 16) (zeros 16) (length-zeros 16) 13 b)))
     128 [] (inr (omega arith, (omega arith, refl)))
 
@@ -128,8 +125,8 @@ bits_tells : Tells BitsShape bits_cut
 unfolding bits_cut
 bits_tells = first_tells
     (λ b. test_tells (nat_le 1 b && nat_le b 2)
-    (λ h. same_tells (λ x k. (leb-true 1 b (first_true (nat_le 1 b) (nat_le b 2) h), (leb-true b 2 (second_true (nat_le 1 b) (nat_le b 2) h), k))) (λ x k. k.1.1) nothing_tells)
-    (λ h. never_tells (λ x k. true≢false (sym (both_true (nat_le 1 b) (nat_le b 2) (le-leb 1 b k.0) (le-leb b 2 k.1.0)) ∙ h))))
+    (λ h. same_tells (λ x k. (leb-true 1 b (first (nat_le 1 b) (nat_le b 2) h), (leb-true b 2 (second (nat_le 1 b) (nat_le b 2) h), k))) (λ x k. k.1.1) nothing_tells)
+    (λ h. never_tells (λ x k. true≢false (sym (and_from (nat_le 1 b) (nat_le b 2) (le-leb 1 b k.0) (le-leb b 2 k.1.0)) ∙ h))))
     1 [] (omega arith, (omega arith, refl))
 
 functions_tells : Tells FunctionsShape functions_cut
@@ -240,7 +237,7 @@ type_tells = first_tells (λ b. zero_or b nothing_tells (behind_tells 4 b) (abov
 
 -- ---- what is found
 
--- where a shape ends, or none can begin, the bytes are no front of a shape
+-- where a shape ends, or none can begin, the bytes are no prefix of a shape
 pub not_short : (bytes rest : List ℕ) → type_cut bytes ≡ Ok rest → IsShort bytes → ⊥
 not_short bytes rest e k =
     let found : type_cut (bytes ++ k.0) ≡ Ok [] = ap type_cut (sym (append-nil (bytes ++ k.0))) ∙ type_tells.reads (bytes ++ k.0) [] k.1.1 in
@@ -259,6 +256,6 @@ broken_not_short_front bytes e k =
 pub is_short_front : (bytes : List ℕ) → type_cut bytes ≡ Err Short → IsShort bytes
 is_short_front bytes e = type_tells.short bytes e
 
--- no shape is a proper front of another
+-- no shape is a proper prefix of another
 pub shapes_apart : (x rest : List ℕ) → TypeShape x → TypeShape (x ++ rest) → rest ≡ []
 shapes_apart x rest k l = same_left rest [] (sym (type_tells.reads x rest k) ∙ ap type_cut (sym (append-nil (x ++ rest))) ∙ type_tells.reads (x ++ rest) [] l)

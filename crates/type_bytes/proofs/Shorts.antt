@@ -3,17 +3,17 @@ use Rattle.std.proofs.Common.{◌≡◌, ℕ, zero, suc, ◌+◌, ◌-◌, ◌<�
 use Rattle.std.specs.Prelude.{slice_index_or}
 use Rattle.std.specs.List.{list_all}
 use Rattle.std.proofs.lemmas.List.Folds.{list_all-map, list_all_at, list_all_more}
-use Rattle.type_sets.specs.Names.{Name}
-use Rattle.type_sets.proofs.Truths.{both}
-use Rattle.type_model.specs.Shapes.{Body, TypeAt}
-use Rattle.type_model.specs.Operations.{ops}
-use Rattle.type_trees.specs.declared.node.Node.{Node}
-use Rattle.type_trees.specs.declared.node.Node.TheVariants as v
-use Rattle.type_trees.specs.declared.node.PartsOf.{PartsOf}
-use Rattle.type_trees.specs.declared.node.SizeOf.{SizeOf}
-use Rattle.type_trees.specs.declared.node.TagOf.{TagOf}
-use Rattle.type_trees.specs.View.{view, row_view, tags_view, body_view, sizes_view, parts_view, Fits}
-use Rattle.type_trees.proofs.Views.{view_any, view_of, of_above}
+use Rattle.std.proofs.lemmas.Bool.{and_from}
+use Rattle.type_kinds_sets.specs.Names.{Name}
+use Rattle.type_lattice_model.specs.Shapes.{Body, TypeAt}
+use Rattle.type_lattice_model.specs.Operations.{ops}
+use Rattle.type_lattice_trees.specs.declared.node.Node.{Node}
+use Rattle.type_lattice_trees.specs.declared.node.Node.TheVariants as v
+use Rattle.type_lattice_trees.specs.declared.node.PartsOf.{PartsOf}
+use Rattle.type_lattice_trees.specs.declared.node.SizeOf.{SizeOf}
+use Rattle.type_lattice_trees.specs.declared.node.TagOf.{TagOf}
+use Rattle.type_lattice_trees.specs.View.{view, row_view, tags_view, body_view, sizes_view, parts_view, Fits}
+use Rattle.type_lattice_trees.proofs.Views.{view_any, view_of, of_above}
 use Rattle.type_bytes.specs.ShortNames.{are_short_parts, is_short_at}
 
 -- ---- a list that is seen as another, item by item
@@ -26,7 +26,7 @@ module _ {A E : Type 0} (test : E → Bool) (f : List A → List E) (g : A → E
   one_more xs i x h is r k passes so_far =
       let here : test (g (slice_index_or xs i x)) ≡ true = ap (λ y. test (g y)) (sym is) ∙ sym k ∙ passes in
       let before : list_all (λ y. test (g y)) (take i xs) ≡ true = sym (list_all-map test g (take i xs)) ∙ ap (list_all test) (sym (same (take i xs))) ∙ so_far in
-      ap (list_all test) (same (take (i + 1) xs)) ∙ list_all-map test g (take (i + 1) xs) ∙ list_all_more (λ y. test (g y)) xs i x h ∙ both _ _ before here
+      ap (list_all test) (same (take (i + 1) xs)) ∙ list_all-map test g (take (i + 1) xs) ∙ list_all_more (λ y. test (g y)) xs i x h ∙ and_from _ _ before here
 
 pub same_list : {A : Type 0} (xs : List A) → xs ≡ map (λ x. x) xs
 same_list [] = refl

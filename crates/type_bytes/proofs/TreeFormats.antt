@@ -6,22 +6,23 @@ use Rattle.std.specs.Int.{bit_at}
 use Rattle.std.specs.Coded.{Coded-set, coded_bool}
 use Rattle.std.specs.Ordering.{nat_cmp}
 use Rattle.std.proofs.lemmas.List.{append-nil}
+use Rattle.std.proofs.lemmas.Bool.{false_from_ne_true}
+use Rattle.std.proofs.lemmas.Option.{some_pair_parts}
 use borrow.Author.Tests.{ltb-true, lt-ltb, eqb-true, leb-true, le-leb, not-true}
-use Rattle.type_sets.specs.Names as names
-use Rattle.type_sets.specs.Names.{Name, Names, name_cmp}
-use Rattle.type_sets.specs.Numbers as numbers
-use Rattle.type_sets.specs.Numbers.{Numbers}
-use Rattle.type_sets.specs.declared.bits.Bits.{Bits}
-use Rattle.type_sets.specs.declared.bits.Bits.TheVariants.{No, Whole, Any}
-use Rattle.type_sets.proofs.Truths.{is_false}
-use Rattle.type_model.specs.Tables.{is_table}
-use Rattle.type_model.specs.Shapes.{Functions, no_function, of_arity, all_functions, Cell, Body, product, tags, Tuples, sizes, all_tuples, Parts}
-use Rattle.type_model.specs.Operations.{Ops, is_no_bits, is_no_function}
-use Rattle.type_model.specs.Normal.{NormalFunctions}
+use Rattle.type_kinds_sets.specs.Names as names
+use Rattle.type_kinds_sets.specs.Names.{Name, Names, name_cmp}
+use Rattle.type_kinds_sets.specs.Numbers as numbers
+use Rattle.type_kinds_sets.specs.Numbers.{Numbers}
+use Rattle.type_kinds_sets.specs.declared.bits.Bits.{Bits}
+use Rattle.type_kinds_sets.specs.declared.bits.Bits.TheVariants.{No, Whole, Any}
+use Rattle.type_lattice_model.specs.Tables.{is_table}
+use Rattle.type_lattice_model.specs.Shapes.{Functions, no_function, of_arity, all_functions, Cell, Body, product, tags, Tuples, sizes, all_tuples, Parts}
+use Rattle.type_lattice_model.specs.Operations.{Ops, is_no_bits, is_no_function}
+use Rattle.type_lattice_model.specs.Normal.{NormalFunctions}
 use Rattle.type_bytes.specs.Spelling.{two_bytes, name_bytes, atoms_bytes, ints_bytes, bits_bytes, functions_bytes, cell_bytes, tag_bytes, body_bytes, size_bytes, tuples_bytes, atoms_part, ints_part, bits_part, functions_part, has_tuples, cell_part, tuples_part, parts_of, mask, part_bytes, some_bytes, all_bytes}
 use Rattle.type_bytes.specs.ShortNames.{is_short, are_short}
 use Rattle.type_bytes.specs.steps.Reading.{◌>>=◌, first, many, given, where_set, name_at, atoms_at, ints_at, bits_at, functions_at, cell_at, is_open, product_at, tag_at, tags_at, body_at, size_at, sizes_at, tuples_at, mask_flags, parts_at, masked_at}
-use Rattle.type_bytes.proofs.FormatLaws.{AreBytes, Format, bytes_left, bound, was_given, chosen, never, passed, granted, same_found, Each, many_format, name_format}
+use Rattle.type_bytes.proofs.FormatLaws.{AreBytes, Format, bytes_left, bound, was_given, chosen, never, passed, granted, Each, many_format, name_format}
 use Rattle.type_bytes.proofs.SetFormats.{atoms_format, ints_format, bits_format, functions_format}
 use Rattle.type_bytes.proofs.MaskLaws.{bit_adds, number_of, AreBits, bits_of, of_bits}
 use Rattle.type_bytes.proofs.Writes.{no_bytes}
@@ -31,7 +32,7 @@ same_format : {X : Type 0} {P Q : X → Type 0} {spelled : X → List ℕ} {f : 
 same_format to from t = record { complete = λ x rest k. t.complete x rest (from x k); sound = λ bytes x rest k e. let s = t.sound bytes x rest k e in (to x s.0, s.1) }
 
 some_of : (n : ℕ) → 1 ≤ n → (n == 0) ≡ false
-some_of n h = is_false (n == 0) (λ e. let z = eqb-true n 0 e in absurd (omega arith))
+some_of n h = false_from_ne_true (n == 0) (λ e. let z = eqb-true n 0 e in absurd (omega arith))
 
 above : (n : ℕ) → (n == 0) ≡ false → 1 ≤ n
 above zero h = absurd (true≢false h)
@@ -65,7 +66,7 @@ module _ {E : Type 0} (o : Ops E) (GoodE : E → Type 0) (bytes_of : E → List 
           let g = granted (nat_le b 1) (element bytes >>= λ x. Some (Some (record { element = x.0; is_proper = b == 1 }), x.1)) (c, rest) e in
           let x = bound (element bytes) (λ x. Some (Some (record { element = x.0; is_proper = b == 1 }), x.1)) (c, rest) g.1 in
           let here : Cell E = record { element = x.0.0; is_proper = b == 1 } in
-          let f = same_found (Some here) c x.0.1 rest x.1.1 in
+          let f = some_pair_parts (Some here) c x.0.1 rest x.1.1 in
           let s = t.sound bytes x.0.0 x.0.1 k.1 x.1.0 in
           let least = leb-true b 1 g.0 in
           let byte : b ≡ cond (b == 1) 1 0 = sym (bit_adds b (omega arith)) in
@@ -87,7 +88,7 @@ module _ {E : Type 0} (o : Ops E) (GoodE : E → Type 0) (bytes_of : E → List 
     sound = λ bytes g rest k e.
         let a = bound (name_at bytes) (λ a. many n element a.1 >>= λ es. Some ((a.0, es.0), es.1)) (g, rest) e in
         let es = bound (many n element a.0.1) (λ es. Some ((a.0.0, es.0), es.1)) (g, rest) a.1.1 in
-        let f = same_found (a.0.0, es.0.0) g es.0.1 rest es.1.1 in
+        let f = some_pair_parts (a.0.0, es.0.0) g es.0.1 rest es.1.1 in
         let name = name_format.sound bytes a.0.0 a.0.1 k a.1.0 in
         let row = (many_format t n).sound a.0.1 es.0.0 es.0.1 (bytes_left name_format bytes a.0.0 a.0.1 k a.1.0) es.1.0 in
         subst (λ h. GoodTag n h × (bytes ≡ tag_bytes bytes_of h ++ rest)) f.0
@@ -171,7 +172,7 @@ module _ {E : Type 0} (o : Ops E) (GoodE : E → Type 0) (bytes_of : E → List 
       sound (n ∷ bytes) s rest k e =
           let g = granted (nat_le n 64) (body_at o element n bytes >>= λ b. Some ((n, b.0), b.1)) (s, rest) e in
           let b = bound (body_at o element n bytes) (λ b. Some ((n, b.0), b.1)) (s, rest) g.1 in
-          let f = same_found (n, b.0.0) s b.0.1 rest b.1.1 in
+          let f = some_pair_parts (n, b.0.0) s b.0.1 rest b.1.1 in
           let body = (body_format n).sound bytes b.0.0 b.0.1 k.1 b.1.0 in
           subst (λ x. GoodSize x × (n ∷ bytes ≡ size_bytes bytes_of x ++ rest)) f.0 ((leb-true n 64 g.0, body.0), ap (λ r. n ∷ r) (body.1 ∙ ap (λ r. body_bytes bytes_of b.0.0 ++ r) f.1))
 
@@ -204,7 +205,7 @@ module _ {E : Type 0} (o : Ops E) (GoodE : E → Type 0) (bytes_of : E → List 
       sound : (bytes : List ℕ) (u : Tuples E) (rest : List ℕ) → AreBytes bytes → first tuples_behind bytes ≡ Some (u, rest) → ((has_tuples bytes_of u ≡ true) × GoodTuples u) × (bytes ≡ tuples_bytes bytes_of u ++ rest)
       sound [] u rest k e = never (u, rest) e
       sound (b ∷ bytes) u rest k e = elim (chosen (b == 0) (Some (all_tuples, bytes)) (cond (nat_le b 8) (sizes_at o element b bytes) None) (Some (u, rest)) e) [
-        | inl h ↦ let f = same_found all_tuples u bytes rest h.1 in subst (λ x. ((has_tuples bytes_of x ≡ true) × GoodTuples x) × (b ∷ bytes ≡ tuples_bytes bytes_of x ++ rest)) f.0 ((refl, tt), (λ i. eqb-true b 0 h.0 i ∷ f.1 i))
+        | inl h ↦ let f = some_pair_parts all_tuples u bytes rest h.1 in subst (λ x. ((has_tuples bytes_of x ≡ true) × GoodTuples x) × (b ∷ bytes ≡ tuples_bytes bytes_of x ++ rest)) f.0 ((refl, tt), (λ i. eqb-true b 0 h.0 i ∷ f.1 i))
         | inr h ↦
             let few = granted (nat_le b 8) (sizes_at o element b bytes) (u, rest) h.1 in
             let m = bound (many b (size_at o element) bytes) (λ x. given (is_table nat_cmp x.0) (sizes x.0, x.1)) (u, rest) few.1 in
@@ -226,7 +227,7 @@ module _ {E : Type 0} (o : Ops E) (GoodE : E → Type 0) (bytes_of : E → List 
   where_format some Good spelled f none u is_none good only false = record {
     complete = λ x rest k. ap (λ b. Some (none, cond b (spelled x) [] ++ rest)) k.0 ∙ ap (λ y. Some (y, rest)) (sym (only x k.0));
     sound = λ bytes x rest k e.
-        let s = same_found none x bytes rest e in
+        let s = some_pair_parts none x bytes rest e in
         subst (λ y. ((some y ≡ false) × Good y) × (bytes ≡ cond (some y) (spelled y) [] ++ rest)) s.0 ((is_none, good), s.1 ∙ ap (λ b. cond b (spelled none) [] ++ rest) (sym is_none));
   }
 
@@ -356,7 +357,7 @@ module _ {E : Type 0} (o : Ops E) (GoodE : E → Type 0) (bytes_of : E → List 
       let f = bound (where_set (bit_at m 7 == 1) no_function functions_at b.0.1) (then_cell m a.0.0 i.0.0 b.0.0) (p, rest) b.1.1 in
       let c = bound (where_set (bit_at m 9 == 1) None (cell_at o element) f.0.1) (then_tuples m a.0.0 i.0.0 b.0.0 f.0.0) (p, rest) f.1.1 in
       let u = bound (where_set (bit_at m 10 == 1) (sizes []) (tuples_at o element) c.0.1) (λ v. Some (made_of m a.0.0 i.0.0 b.0.0 f.0.0 c.0.0 v.0, v.1)) (p, rest) c.1.1 in
-      let s = same_found (made_of m a.0.0 i.0.0 b.0.0 f.0.0 c.0.0 u.0.0) p u.0.1 rest u.1.1 in
+      let s = some_pair_parts (made_of m a.0.0 i.0.0 b.0.0 f.0.0 c.0.0 u.0.0) p u.0.1 rest u.1.1 in
       let ka = bytes_left (atoms_where (bit_at m 0 == 1)) bytes a.0.0 a.0.1 k a.1.0 in
       let ki = bytes_left (ints_where (bit_at m 1 == 1)) a.0.1 i.0.0 i.0.1 ka i.1.0 in
       let kb = bytes_left (bits_where (bit_at m 3 == 1)) i.0.1 b.0.0 b.0.1 ki b.1.0 in

@@ -3,23 +3,25 @@ use Rattle.std.proofs.Common.{◌≡◌, inl, inr, ℕ, zero, suc, ◌<◌, ◌�
 use Rattle.std.specs.Prelude.{IsTrue, ◌==◌}
 use Rattle.std.specs.List.{list_all}
 use Rattle.std.proofs.lemmas.List.{length-append}
+use Rattle.std.proofs.lemmas.Bool.{false_from_ne_true, or_parts, cases_Bool, and_from}
+use Rattle.std.proofs.lemmas.Option.{some_pair_parts}
+use Rattle.type_kinds.proofs.Truths.{first, second}
 use borrow.Author.Tests.{ltb-true, lt-ltb, eqb-true, eqb-false, not-true, not-false}
-use Rattle.type_sets.specs.Names as names
-use Rattle.type_sets.specs.Names.{Name, name_cmp}
-use Rattle.type_sets.specs.Numbers as numbers
-use Rattle.type_sets.proofs.Truths.{first as first_true, second as second_true, both as both_true, is_false, decided}
-use Rattle.type_model.specs.Shapes.{Flags, Cell, Body, product, tags, Tuples, sizes, all_tuples, Parts, TypeAt}
-use Rattle.type_model.specs.Operations.{Ops, ops, is_empty, is_no_bits, is_no_flag, is_no_function, is_atoms, is_only_atoms, no_cell, no_tuples, parts_is_none}
-use Rattle.type_model.specs.Normal.{NormalCell, AreElements, FirstIsOpen, NormalRows, NormalBody, NormalSizes, NormalTuples, NormalParts, NormalAt}
-use Rattle.type_model.specs.Values.{nil}
-use Rattle.type_model.proofs.CellLaws.{filled-not_none}
-use Rattle.type_model.proofs.LevelLaws.{level_laws}
+use Rattle.type_kinds_sets.specs.Names as names
+use Rattle.type_kinds_sets.specs.Names.{Name}
+use Rattle.type_kinds_sets.specs.Numbers as numbers
+use Rattle.type_lattice_model.specs.Shapes.{Flags, Cell, Body, product, tags, Tuples, sizes, all_tuples, Parts, TypeAt}
+use Rattle.type_lattice_model.specs.Operations.{Ops, ops, is_empty, is_no_bits, is_no_flag, is_no_function, is_atoms, is_only_atoms, no_cell, no_tuples, parts_is_none}
+use Rattle.type_lattice_model.specs.Normal.{NormalCell, AreElements, FirstIsOpen, NormalRows, NormalBody, NormalSizes, NormalTuples, NormalParts, NormalAt}
+use Rattle.type_lattice_model.specs.Values.{nil}
+use Rattle.type_lattice_model.proofs.CellLaws.{filled-not_none}
+use Rattle.type_lattice_model.proofs.LevelLaws.{level_laws}
 use Rattle.type_lattice.specs.Types.{Type4, same_type}
 use Rattle.type_bytes.specs.Spelling.{has_tuples, parts_of, mask, all_bytes, is_any, bytes_at, bytes_of}
 use Rattle.type_bytes.specs.ShortNames.{is_short, are_short, is_short_cell, is_short_tag, is_short_body, is_short_size, are_short_tuples, are_short_parts, is_short_at, has_short_names}
 use Rattle.type_bytes.specs.Shapes.{BeginNoType}
 use Rattle.type_bytes.specs.steps.Reading.{◌>>=◌, given, is_open, masked_at, behind_at, element_at, type_at}
-use Rattle.type_bytes.proofs.FormatLaws.{AreBytes, Format, bound, was_given, chosen, never, granted, same_found, Each}
+use Rattle.type_bytes.proofs.FormatLaws.{AreBytes, Format, bound, was_given, chosen, never, granted, Each}
 use Rattle.type_bytes.proofs.MaskLaws.{one_if, number_of}
 use Rattle.type_bytes.proofs.TreeFormats.{GoodCell, GoodTag, GoodBody, GoodSize, GoodTuples, GoodMasked, masked_format}
 use Rattle.type_bytes.proofs.Writes.{any_is_all, any_bytes}
@@ -30,10 +32,6 @@ use Rattle.type_bytes.proofs.Shorts.{any_short}
 zero_bit : (b : Bool) → one_if b ≡ 0 → b ≡ false
 zero_bit true e = absurd (omega arith)
 zero_bit false e = refl
-
-neither : (a b : Bool) → (a || b) ≡ false → (a ≡ false) × (b ≡ false)
-neither true b h = absurd (true≢false h)
-neither false b h = (refl, h)
 
 no_flags_there : (k : Flags) → k.float ≡ false → k.pid ≡ false → k.port ≡ false → k.reference ≡ false → k.nil ≡ false → k.map ≡ false → is_no_flag k ≡ true
 no_flags_there k a b c d e f = λ i. not (a i || b i || c i || d i || e i || f i)
@@ -78,30 +76,30 @@ module _ {E : Type 0} (o : Ops E) (spelled : E → List ℕ) where
   mask_of_none : (p : Parts E) → parts_is_none o p ≡ true → mask (parts_of spelled p) ≡ 0
   mask_of_none p h =
       let q = p.plain in
-      let a = first_true (names.is_none q.atoms) (is_only_atoms o p) h in
-      let rest = second_true (names.is_none q.atoms) (is_only_atoms o p) h in
-      let u = tuples_missing p.tuples (second_true (is_atoms q && no_cell o p.cell) (no_tuples o p.tuples) rest) in
-      let lists = first_true (is_atoms q && no_cell o p.cell) (no_tuples o p.tuples) rest in
-      let c = cell_missing p.cell (second_true (is_atoms q) (no_cell o p.cell) lists) in
-      let plain = first_true (is_atoms q) (no_cell o p.cell) lists in
-      let f = second_true (numbers.is_none q.ints && is_no_bits q.bits && is_no_flag q.flags) (is_no_function q.functions) plain in
-      let flags = first_true (numbers.is_none q.ints && is_no_bits q.bits && is_no_flag q.flags) (is_no_function q.functions) plain in
-      let k = not-true _ (second_true (numbers.is_none q.ints && is_no_bits q.bits) (is_no_flag q.flags) flags) in
-      let sets = first_true (numbers.is_none q.ints && is_no_bits q.bits) (is_no_flag q.flags) flags in
-      let i = first_true (numbers.is_none q.ints) (is_no_bits q.bits) sets in
-      let b = second_true (numbers.is_none q.ints) (is_no_bits q.bits) sets in
-      let maps = neither _ q.flags.map k in
-      let nils = neither _ q.flags.nil maps.0 in
-      let reference = neither _ q.flags.reference nils.0 in
-      let port = neither _ q.flags.port reference.0 in
-      let pid = neither q.flags.float q.flags.pid port.0 in
+      let a = first (names.is_none q.atoms) (is_only_atoms o p) h in
+      let rest = second (names.is_none q.atoms) (is_only_atoms o p) h in
+      let u = tuples_missing p.tuples (second (is_atoms q && no_cell o p.cell) (no_tuples o p.tuples) rest) in
+      let lists = first (is_atoms q && no_cell o p.cell) (no_tuples o p.tuples) rest in
+      let c = cell_missing p.cell (second (is_atoms q) (no_cell o p.cell) lists) in
+      let plain = first (is_atoms q) (no_cell o p.cell) lists in
+      let f = second (numbers.is_none q.ints && is_no_bits q.bits && is_no_flag q.flags) (is_no_function q.functions) plain in
+      let flags = first (numbers.is_none q.ints && is_no_bits q.bits && is_no_flag q.flags) (is_no_function q.functions) plain in
+      let k = not-true _ (second (numbers.is_none q.ints && is_no_bits q.bits) (is_no_flag q.flags) flags) in
+      let sets = first (numbers.is_none q.ints && is_no_bits q.bits) (is_no_flag q.flags) flags in
+      let i = first (numbers.is_none q.ints) (is_no_bits q.bits) sets in
+      let b = second (numbers.is_none q.ints) (is_no_bits q.bits) sets in
+      let maps = or_parts _ q.flags.map k in
+      let nils = or_parts _ q.flags.nil maps.0 in
+      let reference = or_parts _ q.flags.reference nils.0 in
+      let port = or_parts _ q.flags.port reference.0 in
+      let pid = or_parts q.flags.float q.flags.pid port.0 in
       (λ j. number_of (not (a j)) (not (i j)) (pid.0 j) (not (b j)) (pid.1 j) (port.1 j) (reference.1 j) (not (f j)) (nils.1 j) (c j) (u j) (maps.1 j))
 
   mask_some : (p : Parts E) → parts_is_none o p ≡ false → (mask (parts_of spelled p) == 0) ≡ false
-  mask_some p h = is_false (mask (parts_of spelled p) == 0) (λ z. true≢false (sym (no_mask p (eqb-true (mask (parts_of spelled p)) 0 z)) ∙ h))
+  mask_some p h = false_from_ne_true (mask (parts_of spelled p) == 0) (λ z. true≢false (sym (no_mask p (eqb-true (mask (parts_of spelled p)) 0 z)) ∙ h))
 
   some_mask : (p : Parts E) → (mask (parts_of spelled p) == 0) ≡ false → parts_is_none o p ≡ false
-  some_mask p h = is_false (parts_is_none o p) (λ n. eqb-false (mask (parts_of spelled p)) 0 h (mask_of_none p n))
+  some_mask p h = false_from_ne_true (parts_is_none o p) (λ n. eqb-false (mask (parts_of spelled p)) 0 h (mask_of_none p n))
 
 -- ---- types in normal form with short names, and what is read and spelled
 
@@ -111,11 +109,11 @@ module _ {E : Type 0} (Normal : E → Type 0) (o : Ops E) (short : E → Bool) (
 
   to_elements : (es : List E) → Each Good es → AreElements Normal o es × IsTrue (list_all short es)
   to_elements [] k = (tt, refl)
-  to_elements (e ∷ es) k = let later = to_elements es k.1 in (((k.0.0, k.0.1.0), later.0), both_true (short e) (list_all short es) k.0.1.1 later.1)
+  to_elements (e ∷ es) k = let later = to_elements es k.1 in (((k.0.0, k.0.1.0), later.0), and_from (short e) (list_all short es) k.0.1.1 later.1)
 
   from_elements : (es : List E) → AreElements Normal o es → IsTrue (list_all short es) → Each Good es
   from_elements [] k h = tt
-  from_elements (e ∷ es) k h = ((k.0.0, (k.0.1, first_true (short e) (list_all short es) h)), from_elements es k.1 (second_true (short e) (list_all short es) h))
+  from_elements (e ∷ es) k h = ((k.0.0, (k.0.1, first (short e) (list_all short es) h)), from_elements es k.1 (second (short e) (list_all short es) h))
 
   to_cell : (c : Option (Cell E)) → GoodCell o Good spelled element t c → NormalCell Normal o c × IsTrue (is_short_cell short c)
   to_cell None k = (tt, refl)
@@ -132,13 +130,13 @@ module _ {E : Type 0} (Normal : E → Type 0) (o : Ops E) (short : E → Bool) (
   to_tags n (g ∷ m) k =
       let row = to_elements g.1 k.0.1.1 in
       let later = to_tags n m k.1 in
-      (((k.0.1.0, row.0), later.0), both_true (is_short_tag short g) (list_all (is_short_tag short) m) (both_true (is_short g.0) (list_all short g.1) k.0.0 row.1) later.1)
+      (((k.0.1.0, row.0), later.0), and_from (is_short_tag short g) (list_all (is_short_tag short) m) (and_from (is_short g.0) (list_all short g.1) k.0.0 row.1) later.1)
 
   from_tags : (n : ℕ) (m : List (Name × List E)) → NormalRows Normal o n m → IsTrue (list_all (is_short_tag short) m) → Each (GoodTag o Good spelled element t n) m
   from_tags n [] k h = tt
   from_tags n (g ∷ m) k h =
-      let here = first_true (is_short_tag short g) (list_all (is_short_tag short) m) h in
-      ((first_true (is_short g.0) (list_all short g.1) here, (k.0.0, from_elements g.1 k.0.1 (second_true (is_short g.0) (list_all short g.1) here))), from_tags n m k.1 (second_true (is_short_tag short g) (list_all (is_short_tag short) m) h))
+      let here = first (is_short_tag short g) (list_all (is_short_tag short) m) h in
+      ((first (is_short g.0) (list_all short g.1) here, (k.0.0, from_elements g.1 k.0.1 (second (is_short g.0) (list_all short g.1) here))), from_tags n m k.1 (second (is_short_tag short g) (list_all (is_short_tag short) m) h))
 
   some_items : {X : Type 0} (m : List X) → 1 ≤ length m → is_empty m ≡ false
   some_items [] h = absurd (omega arith)
@@ -183,13 +181,13 @@ module _ {E : Type 0} (Normal : E → Type 0) (o : Ops E) (short : E → Bool) (
       let most = k.0.0 in
       let body = to_body s.0 s.1 k.0.1 in
       let later = to_sizes m k.1 in
-      (((lt-ltb s.0 65 (omega arith), body.0), later.0), both_true (is_short_size short s) (list_all (is_short_size short) m) body.1 later.1)
+      (((lt-ltb s.0 65 (omega arith), body.0), later.0), and_from (is_short_size short s) (list_all (is_short_size short) m) body.1 later.1)
 
   from_sizes : (m : List (ℕ × Body E)) → NormalSizes Normal o m → IsTrue (list_all (is_short_size short) m) → Each (GoodSize o Good spelled element t) m
   from_sizes [] k h = tt
   from_sizes (s ∷ m) k h =
       let most = ltb-true s.0 65 k.0.0 in
-      ((omega arith, from_body s.0 s.1 k.0.1 (first_true (is_short_size short s) (list_all (is_short_size short) m) h)), from_sizes m k.1 (second_true (is_short_size short s) (list_all (is_short_size short) m) h))
+      ((omega arith, from_body s.0 s.1 k.0.1 (first (is_short_size short s) (list_all (is_short_size short) m) h)), from_sizes m k.1 (second (is_short_size short s) (list_all (is_short_size short) m) h))
 
   to_tuples : (u : Tuples E) → GoodTuples o Good spelled element t u → NormalTuples Normal o u × IsTrue (are_short_tuples short u)
   to_tuples (sizes m) k = let all = to_sizes m k.1.1 in let most = k.1.0 in ((k.0, lt-ltb (length m) 9 (omega arith), all.0), all.1)
@@ -205,12 +203,12 @@ module _ {E : Type 0} (Normal : E → Type 0) (o : Ops E) (short : E → Bool) (
   to_parts p k =
       let cell = to_cell p.cell k.0.1.1.0 in
       let tuples = to_tuples p.tuples k.0.1.1.1 in
-      ((k.0.1.0, cell.0, tuples.0), (some_mask o spelled p k.1, both_true (are_short p.plain.atoms && is_short_cell short p.cell) (are_short_tuples short p.tuples) (both_true (are_short p.plain.atoms) (is_short_cell short p.cell) k.0.0 cell.1) tuples.1))
+      ((k.0.1.0, cell.0, tuples.0), (some_mask o spelled p k.1, and_from (are_short p.plain.atoms && is_short_cell short p.cell) (are_short_tuples short p.tuples) (and_from (are_short p.plain.atoms) (is_short_cell short p.cell) k.0.0 cell.1) tuples.1))
 
   from_parts : (p : Parts E) → NormalParts Normal o p → parts_is_none o p ≡ false → IsTrue (are_short_parts short p) → GoodMasked o Good spelled element t p
   from_parts p k some h =
-      let lists = first_true (are_short p.plain.atoms && is_short_cell short p.cell) (are_short_tuples short p.tuples) h in
-      ((first_true (are_short p.plain.atoms) (is_short_cell short p.cell) lists, (k.0, (from_cell p.cell k.1 (second_true (are_short p.plain.atoms) (is_short_cell short p.cell) lists), from_tuples p.tuples k.2 (second_true (are_short p.plain.atoms && is_short_cell short p.cell) (are_short_tuples short p.tuples) h)))), mask_some o spelled p some)
+      let lists = first (are_short p.plain.atoms && is_short_cell short p.cell) (are_short_tuples short p.tuples) h in
+      ((first (are_short p.plain.atoms) (is_short_cell short p.cell) lists, (k.0, (from_cell p.cell k.1 (second (are_short p.plain.atoms) (is_short_cell short p.cell) lists), from_tuples p.tuples k.2 (second (are_short p.plain.atoms && is_short_cell short p.cell) (are_short_tuples short p.tuples) h)))), mask_some o spelled p some)
 
 -- ---- levels
 
@@ -259,7 +257,7 @@ module _ (d : ℕ) (t : Elements d) where
 
   next_complete : (p : TypeAt (suc d)) (rest : List ℕ) → GoodAt (suc d) p → element_at (suc d) (bytes_at (suc d) p ++ rest) ≡ Some (p, rest)
   unfolding behind_at
-  next_complete p rest k = elim (decided (is_any (suc d) p)) [
+  next_complete p rest k = elim (cases_Bool (is_any (suc d) p)) [
     | inl a ↦
         let is = any_is_all (suc d) p a in
         ap (λ x. element_at (suc d) (bytes_at (suc d) x ++ rest)) is ∙ ap (λ b. element_at (suc d) (b ++ rest)) (any_bytes (suc d)) ∙ ap (λ x. Some (x, rest)) (sym is)
@@ -274,7 +272,7 @@ module _ (d : ℕ) (t : Elements d) where
   next_sound [] p rest k e = never (p, rest) e
   next_sound (b ∷ bytes) p rest k e = elim (chosen (b == 1) (Some ((ops (suc d)).any, bytes)) (cond (b == 2) (masked_at (ops d) (element_at d) bytes >>= λ q. given (not (is_any (suc d) q.0)) q) None) (Some (p, rest)) e) [
     | inl h ↦
-        let f = same_found (ops (suc d)).any p bytes rest h.1 in
+        let f = some_pair_parts (ops (suc d)).any p bytes rest h.1 in
         subst (λ q. GoodAt (suc d) q × (b ∷ bytes ≡ bytes_at (suc d) q ++ rest)) f.0 (good_any (suc d), (λ i. eqb-true b 1 h.0 i ∷ f.1 i) ∙ ap (λ r. r ++ rest) (sym (any_bytes (suc d))))
     | inr h ↦
         let g = granted (b == 2) (masked_at (ops d) (element_at d) bytes >>= λ q. given (not (is_any (suc d) q.0)) q) (p, rest) h.1 in
@@ -310,7 +308,7 @@ none_short = refl
 above_zero : (b : ℕ) (rest : List ℕ) (p : TypeAt 4) (left : List ℕ) → behind_at 4 b rest ≡ Some (p, left) → (b == 0) ≡ false
 unfolding behind_at
 above_zero zero rest p left e = never (p, left) e
-above_zero (suc b) rest p left e = is_false (suc b == 0) (λ h. let z = eqb-true (suc b) 0 h in absurd (omega arith))
+above_zero (suc b) rest p left e = false_from_ne_true (suc b == 0) (λ h. let z = eqb-true (suc b) 0 h in absurd (omega arith))
 
 -- where there is a value, a type is read as an element is
 as_element : (bytes : List ℕ) (p : TypeAt 4) (rest : List ℕ) → element_at 4 bytes ≡ Some (p, rest) → type_at bytes ≡ Some (p, rest)
@@ -321,7 +319,7 @@ as_element (b ∷ bytes) p rest e = ap (λ c. cond c (Some ((ops 4).none, bytes)
 -- what is spelled is read
 pub type_complete : (t : TypeAt 4) (rest : List ℕ) → NormalAt 4 t → IsTrue (is_short_at 4 t) → type_at (bytes_at 4 t ++ rest) ≡ Some (t, rest)
 unfolding type_at
-type_complete t rest k h = elim (decided ((ops 4).is_none t)) [
+type_complete t rest k h = elim (cases_Bool ((ops 4).is_none t)) [
   | inl n ↦
       let is = none_is t n in
       ap (λ x. type_at (bytes_at 4 x ++ rest)) is ∙ ap (λ b. type_at (b ++ rest)) none_bytes ∙ ap (λ x. Some (x, rest)) (sym is)
@@ -334,7 +332,7 @@ unfolding type_at
 type_sound [] t rest k e = never (t, rest) e
 type_sound (b ∷ bytes) t rest k e = elim (chosen (b == 0) (Some ((ops 4).none, bytes)) (behind_at 4 b bytes) (Some (t, rest)) e) [
   | inl h ↦
-      let f = same_found (ops 4).none t bytes rest h.1 in
+      let f = some_pair_parts (ops 4).none t bytes rest h.1 in
       subst (λ x. NormalAt 4 x × (IsTrue (is_short_at 4 x) × (b ∷ bytes ≡ bytes_at 4 x ++ rest))) f.0 ((level_laws 4).lattice.none_normal, (none_short, (λ i. eqb-true b 0 h.0 i ∷ f.1 i) ∙ ap (λ r. r ++ rest) (sym none_bytes)))
   | inr h ↦ let s = (elements 4).sound (b ∷ bytes) t rest k h.1 in (s.0.0, (s.0.1.1, s.1))
 ]
@@ -343,7 +341,7 @@ type_sound (b ∷ bytes) t rest k e = elim (chosen (b == 0) (Some ((ops 4).none,
 pub bytes_once : (s t : Type4) (x y : List ℕ) → IsTrue (has_short_names s) → IsTrue (has_short_names t) → bytes_of s ++ x ≡ bytes_of t ++ y → (s ≡ t) × (x ≡ y)
 unfolding bytes_of has_short_names
 bytes_once s t x y h k e =
-    let f = same_found s.ty t.ty x y (sym (type_complete s.ty x s.normal h) ∙ ap type_at e ∙ type_complete t.ty y t.normal k) in
+    let f = some_pair_parts s.ty t.ty x y (sym (type_complete s.ty x s.normal h) ∙ ap type_at e ∙ type_complete t.ty y t.normal k) in
     (same_type s t f.0, f.1)
 
 -- ---- what is taken

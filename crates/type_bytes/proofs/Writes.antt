@@ -5,30 +5,31 @@ use borrow.Author.Tests.{ltb-true}
 use Rattle.std.specs.List.{flat_map, list_all}
 use Rattle.std.specs.Coded.{Coded-set, coded_bool}
 use Rattle.std.proofs.lemmas.List.{take_more, append-nil}
-use Rattle.type_sets.specs.Names as names
-use Rattle.type_sets.specs.Names.{Names}
-use Rattle.type_sets.specs.Numbers as numbers
-use Rattle.type_sets.specs.Numbers.{Numbers}
-use Rattle.type_sets.specs.declared.ends.Low.TheVariants as low
-use Rattle.type_sets.specs.declared.ends.High.TheVariants as high
-use Rattle.type_sets.specs.declared.bits.Bits.{Bits}
-use Rattle.type_sets.specs.declared.bits.Bits.TheVariants.{No, Whole, Any}
-use Rattle.type_sets.proofs.Truths.{first, second, is_false}
-use Rattle.type_model.specs.Shapes.{Functions, no_function, of_arity, all_functions, PlainParts, Cell, Tuples, sizes, all_tuples, Parts, TypeAt}
-use Rattle.type_model.specs.Operations.{ops, plain_all, is_no_bits, is_no_function}
-use Rattle.type_model.specs.Normal.{NormalTags, NormalAt}
-use Rattle.type_trees.specs.declared.node.Node.{Node}
-use Rattle.type_trees.specs.declared.node.Node.TheVariants as v
-use Rattle.type_trees.specs.declared.node.PartsOf.{PartsOf}
-use Rattle.type_trees.specs.declared.node.CellOf.{CellOf}
-use Rattle.type_trees.specs.declared.node.BodyOf.{BodyOf}
-use Rattle.type_trees.specs.declared.node.BodyOf.TheVariants.{Product, Tags}
-use Rattle.type_trees.specs.declared.node.SizeOf.{SizeOf}
-use Rattle.type_trees.specs.declared.node.TuplesOf.{TuplesOf}
-use Rattle.type_trees.specs.declared.node.TuplesOf.TheVariants.{Sizes}
-use Rattle.type_trees.specs.declared.node.TagOf.{TagOf}
-use Rattle.type_trees.specs.View.{view, row_view, tags_view, body_view, sizes_view, tuples_view, parts_view, cell_of, Fits, EachNode, EachTag, EachInBody, BodyFits, SizesFit, TuplesFit}
-use Rattle.type_trees.proofs.Views.{view_any, view_of, of_above, fits_of}
+use Rattle.std.proofs.lemmas.Bool.{false_from_ne_true}
+use Rattle.type_kinds.proofs.Truths.{first, second}
+use Rattle.type_kinds_sets.specs.Names as names
+use Rattle.type_kinds_sets.specs.Names.{Names}
+use Rattle.type_kinds_sets.specs.Numbers as numbers
+use Rattle.type_kinds_sets.specs.Numbers.{Numbers}
+use Rattle.type_kinds_sets.specs.declared.ends.Low.TheVariants as low
+use Rattle.type_kinds_sets.specs.declared.ends.High.TheVariants as high
+use Rattle.type_kinds_sets.specs.declared.bits.Bits.{Bits}
+use Rattle.type_kinds_sets.specs.declared.bits.Bits.TheVariants.{No, Whole, Any}
+use Rattle.type_lattice_model.specs.Shapes.{Functions, no_function, of_arity, all_functions, PlainParts, Cell, Tuples, sizes, all_tuples, Parts, TypeAt}
+use Rattle.type_lattice_model.specs.Operations.{ops, plain_all, is_no_bits, is_no_function}
+use Rattle.type_lattice_model.specs.Normal.{NormalTags, NormalAt}
+use Rattle.type_lattice_trees.specs.declared.node.Node.{Node}
+use Rattle.type_lattice_trees.specs.declared.node.Node.TheVariants as v
+use Rattle.type_lattice_trees.specs.declared.node.PartsOf.{PartsOf}
+use Rattle.type_lattice_trees.specs.declared.node.CellOf.{CellOf}
+use Rattle.type_lattice_trees.specs.declared.node.BodyOf.{BodyOf}
+use Rattle.type_lattice_trees.specs.declared.node.BodyOf.TheVariants.{Product, Tags}
+use Rattle.type_lattice_trees.specs.declared.node.SizeOf.{SizeOf}
+use Rattle.type_lattice_trees.specs.declared.node.TuplesOf.{TuplesOf}
+use Rattle.type_lattice_trees.specs.declared.node.TuplesOf.TheVariants.{Sizes}
+use Rattle.type_lattice_trees.specs.declared.node.TagOf.{TagOf}
+use Rattle.type_lattice_trees.specs.View.{view, row_view, tags_view, body_view, sizes_view, tuples_view, parts_view, cell_of, Fits, EachNode, EachTag, EachInBody, BodyFits, SizesFit, TuplesFit}
+use Rattle.type_lattice_trees.proofs.Views.{view_any, view_of, of_above, fits_of}
 use Rattle.type_bytes.specs.Spelling.{tag_bytes, body_bytes, size_bytes, atoms_part, ints_part, bits_part, functions_part, cell_part, tuples_part, parts_of, part_bytes, some_bytes, all_bytes, is_all_atoms, is_all_ints, is_all_bits, is_all_functions, is_all_plain, is_any_cell, is_every_tuple, is_any, bytes_at}
 use Rattle.type_bytes.specs.ShortNames.{is_short_tag, is_short_body, is_short_size, are_short_tuples, are_short_parts, is_short_at}
 
@@ -125,7 +126,7 @@ pub bytes_of_any : (t : Node) → t ≡ v.Any → (d : ℕ) → bytes_at d (view
 bytes_of_any t e d = ap (bytes_at d) (view_any t e d) ∙ any_bytes d
 
 not_all : (t : Node) (p : PartsOf Node) → t ≡ v.Of p → (d : ℕ) → Fits (suc d) t → is_any (suc d) (parts_view d p) ≡ false
-not_all t p e d h = is_false (is_any (suc d) (parts_view d p)) (λ k. (fits_of t p e d h).1 (any_is_all (suc d) (parts_view d p) k))
+not_all t p e d h = false_from_ne_true (is_any (suc d) (parts_view d p)) (λ k. (fits_of t p e d h).1 (any_is_all (suc d) (parts_view d p) k))
 
 bytes_of_parts : (t : Node) (p : PartsOf Node) → t ≡ v.Of p → (d : ℕ) → Fits (suc d) t → bytes_at (suc d) (view (suc d) t) ≡ cond ((ops (suc d)).is_none (view (suc d) t)) (0 ∷ []) (open_bytes d (parts_view d p))
 bytes_of_parts t p e d h =

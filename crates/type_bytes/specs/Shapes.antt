@@ -12,7 +12,7 @@ use Rattle.type_bytes.specs.ShortNames.{has_short_names}
 abbrev pub Nothing : List ℕ → Type 0
 Nothing bytes = bytes ≡ []
 
--- so many bytes, whatever they are
+-- n bytes, whatever they are
 abbrev pub Bytes : ℕ → List ℕ → Type 0
 Bytes n bytes = length bytes ≡ n
 
@@ -20,7 +20,7 @@ Bytes n bytes = length bytes ≡ n
 abbrev pub Both : (P Q : List ℕ → Type 0) → List ℕ → Type 0
 Both P Q bytes = (x : List ℕ) × ((y : List ℕ) × ((bytes ≡ x ++ y) × (P x × Q y)))
 
--- so many shapes of a kind
+-- n shapes of a kind
 abbrev pub Many : ℕ → (List ℕ → Type 0) → List ℕ → Type 0
 Many zero P bytes = Nothing bytes
 Many (suc n) P bytes = Both P (Many n P) bytes
@@ -30,7 +30,7 @@ abbrev pub Begins : (ℕ → List ℕ → Type 0) → List ℕ → Type 0
 Begins Q [] = ⊥
 Begins Q (b ∷ rest) = Q b rest
 
--- behind their number, from one to so many shapes of a kind
+-- behind their number n, from one to `most` shapes of a kind
 abbrev pub Counted : ℕ → (List ℕ → Type 0) → ℕ → List ℕ → Type 0
 Counted most P n bytes = (1 ≤ n) × ((n ≤ most) × Many n P bytes)
 
@@ -63,7 +63,7 @@ module _ (P : List ℕ → Type 0) where
   abbrev pub CellShape : List ℕ → Type 0
   CellShape bytes = Begins (λ b rest. (b ≤ 1) × P rest) bytes
 
-  -- a tag, with so many elements after it
+  -- a tag, with n elements after it
   abbrev pub TagShape : ℕ → List ℕ → Type 0
   TagShape n bytes = Both NameShape (Many n P) bytes
 
@@ -106,7 +106,7 @@ ElementShape d bytes = Begins (ElementBehind d) bytes
 unfoldable pub TypeShape : List ℕ → Type 0
 TypeShape bytes = Begins (λ b rest. ((b ≡ 0) × Nothing rest) ⊎ ElementBehind 4 b rest) bytes
 
--- the bytes are a proper front of a shape
+-- the bytes are a proper prefix of a shape
 abbrev pub IsShort : List ℕ → Type 0
 IsShort bytes = (more : List ℕ) × ((more ≡ [] → ⊥) × TypeShape (bytes ++ more))
 

@@ -1,9 +1,9 @@
 -- Which types can be written: the length of an atom is written in four bytes.
 use Rattle.std.specs.Prelude.{ℕ, zero, suc, ◌^◌, Bool, true, ◌&&◌, List, length, nat_lt, Option, Some, None}
 use Rattle.std.specs.List.{list_all}
-use Rattle.type_sets.specs.Names as names
-use Rattle.type_sets.specs.Names.{Name, Names}
-use Rattle.type_model.specs.Shapes.{Cell, Body, product, tags, Tuples, sizes, all_tuples, Parts, TypeAt}
+use Rattle.type_kinds_sets.specs.Names as names
+use Rattle.type_kinds_sets.specs.Names.{Name, Names}
+use Rattle.type_lattice_model.specs.Shapes.{Cell, Body, product, tags, Tuples, sizes, all_tuples, Parts, TypeAt}
 use Rattle.type_lattice.specs.Types.{Type4}
 
 -- whether an atom has fewer than 2^32 bytes

@@ -6,7 +6,7 @@ use type_kinds::Memory;
 /// Why no type is taken.
 #[derive(Clone, Copy, Debug, PartialEq, Eq)]
 pub enum BytesFault {
-    /// Number 16: the bytes are a proper front of a shape.
+    /// Number 16: the bytes are a proper prefix of a shape.
     Short,
     /// Number 17: the bytes begin with no type's spelling, and they aren't `Short`.
     NotCanonical,
@@ -25,7 +25,7 @@ impl From<Memory> for BytesFault {
 // Why bytes begin with no shape.
 #[derive(Clone, Copy, Debug, PartialEq, Eq)]
 pub enum ShapeFault {
-    // They are a proper front of one.
+    // They are a proper prefix of one.
     Short,
     // No shape begins with them.
     Broken,

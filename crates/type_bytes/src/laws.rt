@@ -5,8 +5,8 @@ ghost use Rattle.type_bytes.specs.ShortNames.{has_short_names};
 ghost use Rattle.type_bytes.specs.Shapes.{TypeShape, IsShort};
 ghost use Rattle.type_bytes.specs.Spelling.{bytes_of};
 
-/// Two types with the same bytes are one, and no type's bytes are a proper front of another's: what is
-/// put is taken, whatever follows. A type's bytes are a shape, and no shape is a proper front of another:
+/// Two types with the same bytes are one, and no type's bytes are a proper prefix of another's: what is
+/// put is taken, whatever follows. A type's bytes are a shape, and no shape is a proper prefix of another:
 /// bytes that begin with a type aren't short.
 pub fn bytes_laws()
     ensures once { (s t : Type4) (x y : List ℕ) → IsTrue (has_short_names s) → IsTrue (has_short_names t) → bytes_of s ++ x ≡ bytes_of t ++ y → (s ≡ t) × (x ≡ y) }

@@ -1,18 +1,18 @@
 // What bytes begin with that holds no types: numbers, atoms and sets. Each reader gives what it read and
 // what stands behind it, or `NotCanonical` where the bytes begin with no spelling of such a thing.
 ghost use Rattle.std.specs.Prelude.{◌≡◌, ◌≤◌};
-ghost use Rattle.type_sets.specs.Names as names;
-ghost use Rattle.type_sets.specs.Numbers as numbers;
-ghost use Rattle.type_sets.specs.declared.bits.Bits.TheVariants.{No};
-ghost use Rattle.type_model.specs.Shapes.{no_function};
-ghost use Rattle.type_trees.specs.Plains.{functions_of};
+ghost use Rattle.type_kinds_sets.specs.Names as names;
+ghost use Rattle.type_kinds_sets.specs.Numbers as numbers;
+ghost use Rattle.type_kinds_sets.specs.declared.bits.Bits.TheVariants.{No};
+ghost use Rattle.type_lattice_model.specs.Shapes.{no_function};
+ghost use Rattle.type_lattice_trees.specs.Plains.{functions_of};
 ghost use Rattle.type_bytes.specs.steps.Reading.{Reads, many, where_set, number_at, name_at, int_at, names_at, atoms_at, low_at, high_at, interval_at, numbers_at, ints_at, bits_at, functions_at};
 
 use crate::faults::BytesFault;
 use std::alloc::Global;
 use type_kinds::{Atom, List, Shared};
-use type_sets::{AtomSet, Bits, High, IntSet, Low};
-use type_trees::FunSet;
+use type_kinds_sets::{AtomSet, Bits, High, IntSet, Low};
+use type_lattice_trees::FunSet;
 
 // A number of four bytes.
 #[tactic(auto, unfolding(crate::specs::steps::Reading::number_at))]
@@ -62,7 +62,7 @@ pub fn read_atoms(alloc: Global, some: bool, bytes: &[u8]) -> Result<(AtomSet, &
     read_names(alloc, *first, rest)
 }
 
-// The set of so many atoms, which ascend.
+// The set of `count` atoms, which ascend.
 #[tactic(auto, unfolding(crate::specs::steps::Reading::names_at))]
 fn read_names(alloc: Global, count: u8, bytes: &[u8]) -> Result<(AtomSet, &[u8]), BytesFault>
     ensures { Reads (λ p. (p.0, p.1.now)) result (names_at count bytes.now) }
@@ -77,7 +77,7 @@ fn read_names(alloc: Global, count: u8, bytes: &[u8]) -> Result<(AtomSet, &[u8])
 
 fn discard_atoms(_atoms: List<Shared<Atom>>) {}
 
-// So many atoms.
+// `count` atoms.
 fn list_names(
     alloc: Global,
     count: u8,
@@ -155,7 +155,7 @@ fn read_high(number: u8) -> Result<High, BytesFault>
     }
 }
 
-// The set of so many integers, which ascend and are of magnitude below 2^127.
+// The set of `count` integers, which ascend and are of magnitude below 2^127.
 #[tactic(auto, unfolding(crate::specs::steps::Reading::numbers_at))]
 fn read_numbers(alloc: Global, count: u8, bytes: &[u8]) -> Result<(IntSet, &[u8]), BytesFault>
     ensures { Reads (λ p. (p.0, p.1.now)) result (numbers_at count bytes.now) }
@@ -167,7 +167,7 @@ fn read_numbers(alloc: Global, count: u8, bytes: &[u8]) -> Result<(IntSet, &[u8]
     Ok((IntSet::listed(ints.as_slice()), rest))
 }
 
-// So many integers.
+// `count` integers.
 fn list_numbers(alloc: Global, count: u8, bytes: &[u8]) -> Result<(List<i128>, &[u8]), BytesFault>
     ensures { Reads (λ p. (p.0, p.1.now)) result (many count int_at bytes.now) }
 {

@@ -1,13 +1,13 @@
 // The trees of the types that bytes begin with. Each reader gives what it read and what stands behind it,
 // or `NotCanonical` where the bytes begin with no spelling of such a thing.
 ghost use Rattle.std.specs.Prelude.{◌≡◌, ℕ, [], None, IfOk};
-ghost use Rattle.type_model.specs.Shapes.{sizes};
-ghost use Rattle.type_model.specs.Operations.{ops};
-ghost use Rattle.type_sets.specs.Names.{name_cmp};
+ghost use Rattle.type_lattice_model.specs.Shapes.{sizes};
+ghost use Rattle.type_lattice_model.specs.Operations.{ops};
+ghost use Rattle.type_kinds_sets.specs.Names.{name_cmp};
 ghost use Rattle.std.specs.Ordering.{nat_cmp};
-ghost use Rattle.type_model.specs.Tables.{is_table};
-ghost use Rattle.type_trees.specs.Plains.{flags_of};
-ghost use Rattle.type_trees.specs.View.{view, row_view, tags_view, body_view, sizes_view, tuples_view, cell_view, parts_view, Fits, EachNode, EachTag, EachInBody, EachSize, EachInTuples, EachInCell, EachInParts};
+ghost use Rattle.type_lattice_model.specs.Tables.{is_table};
+ghost use Rattle.type_lattice_trees.specs.Plains.{flags_of};
+ghost use Rattle.type_lattice_trees.specs.View.{view, row_view, tags_view, body_view, sizes_view, tuples_view, cell_view, parts_view, Fits, EachNode, EachTag, EachInBody, EachSize, EachInTuples, EachInCell, EachInParts};
 ghost use Rattle.type_bytes.specs.steps.Reading.{Reads, many, where_set, mask_flags, element_at, behind_at, masked_at, parts_at, cell_at, tuples_at, sizes_at, size_at, body_at, product_at, tags_at, tag_at, type_at};
 
 use crate::faults::BytesFault;
@@ -15,8 +15,8 @@ use crate::leaves::{read_atoms, read_bits, read_functions, read_ints, read_name}
 use crate::shapes::has;
 use std::alloc::Global;
 use type_kinds::{List, Shared};
-use type_sets::SharedList;
-use type_trees::{
+use type_kinds_sets::SharedList;
+use type_lattice_trees::{
     BodyOf, CellOf, FlagSet, Node, PartsOf, Plain, SizeOf, TagOf, TuplesOf, made, plain_alone,
     product_body,
 };
@@ -204,7 +204,7 @@ fn read_tuples(
     read_sizes(alloc, level, *first, rest)
 }
 
-// So many sizes, which ascend.
+// `count` sizes, which ascend.
 #[cycle(reading)]
 #[tactic(auto, unfolding(crate::specs::steps::Reading::sizes_at))]
 fn read_sizes(
@@ -226,7 +226,7 @@ fn read_sizes(
 
 fn discard_sizes(_sizes: List<SizeOf<Node>>) {}
 
-// So many sizes.
+// `count` sizes.
 #[cycle(reading)]
 fn list_sizes(
     alloc: Global,
@@ -276,7 +276,7 @@ fn read_size(alloc: Global, level: u32, bytes: &[u8]) -> Result<(SizeOf<Node>, &
     Ok((SizeOf { size: *size, body }, rest))
 }
 
-// A product of so many elements, or tags.
+// A product of `size` elements, or tags.
 #[cycle(reading)]
 #[tactic(auto, unfolding(crate::specs::steps::Reading::body_at))]
 fn read_body(
@@ -306,7 +306,7 @@ fn read_body(
     read_tags(alloc, level, size - 1, *first, rest)
 }
 
-// A product of so many elements, the first of which is no set of atoms that can be tags.
+// A product of `size` elements, the first of which is no set of atoms that can be tags.
 #[cycle(reading)]
 #[tactic(auto, unfolding(crate::specs::steps::Reading::product_at))]
 fn read_product(
@@ -331,7 +331,7 @@ fn read_product(
 
 fn discard_tags(_tags: SharedList<TagOf<Node>>) {}
 
-// So many tags, which ascend, each with so many elements behind it.
+// `count` tags, which ascend, each with `size` elements behind it.
 #[cycle(reading)]
 #[tactic(auto, unfolding(crate::specs::steps::Reading::tags_at))]
 fn read_tags(
@@ -354,7 +354,7 @@ fn read_tags(
 
 fn discard_list(_tags: List<TagOf<Node>>) {}
 
-// So many tags.
+// `count` tags.
 #[cycle(reading)]
 fn list_tags(
     alloc: Global,
@@ -388,7 +388,7 @@ fn tags_ascend(list: &[TagOf<Node>]) -> bool
     true
 }
 
-// A tag, with so many elements behind it.
+// A tag, with `size` elements behind it.
 #[cycle(reading)]
 #[tactic(auto, unfolding(crate::specs::steps::Reading::tag_at))]
 fn read_tag(
@@ -412,7 +412,7 @@ fn read_tag(
     ))
 }
 
-// So many elements.
+// `count` elements.
 #[cycle(reading)]
 fn read_row(
     alloc: Global,

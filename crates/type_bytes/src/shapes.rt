@@ -142,7 +142,7 @@ fn skip_size(level: u32, bytes: &[u8]) -> Result<&[u8], ShapeFault>
     skip_body(level, *size, body)
 }
 
-// A product of so many elements, or tags.
+// A product of `size` elements, or tags.
 #[cycle(shapes)]
 #[tactic(auto, unfolding(crate::specs::steps::Cuts::body_cut, crate::specs::steps::Cuts::tags_cut))]
 fn skip_body(level: u32, size: u8, bytes: &[u8]) -> Result<&[u8], ShapeFault>
@@ -160,7 +160,7 @@ fn skip_body(level: u32, size: u8, bytes: &[u8]) -> Result<&[u8], ShapeFault>
     skip_tags(level, size - 1, *first, rest)
 }
 
-// So many tags, each with so many elements behind it.
+// `count` tags, each with `size` elements behind it.
 #[cycle(shapes)]
 fn skip_tags(level: u32, size: u8, count: u8, bytes: &[u8]) -> Result<&[u8], ShapeFault>
     ensures { Cuts (λ rest. rest.now) result (many count (tag_cut (element_cut level) size) bytes.now) }
@@ -181,7 +181,7 @@ fn skip_tag(level: u32, size: u8, bytes: &[u8]) -> Result<&[u8], ShapeFault>
     skip_row(level, size, row)
 }
 
-// So many elements.
+// `count` elements.
 #[cycle(shapes)]
 fn skip_row(level: u32, count: u8, bytes: &[u8]) -> Result<&[u8], ShapeFault>
     ensures { Cuts (λ rest. rest.now) result (many count (element_cut level) bytes.now) }
@@ -302,7 +302,7 @@ fn skip_functions(some: bool, bytes: &[u8]) -> Result<&[u8], ShapeFault>
     skip(4, rest)
 }
 
-// So many bytes, whatever they are.
+// `count` bytes, whatever they are.
 #[tactic(auto, unfolding(crate::specs::steps::Cuts::skip))]
 fn skip(count: usize, bytes: &[u8]) -> Result<&[u8], ShapeFault>
     ensures { Cuts (λ rest. rest.now) result (skip_cut count bytes.now) }

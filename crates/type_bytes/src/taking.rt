@@ -11,7 +11,7 @@ use std::alloc::Global;
 use type_lattice::Ty;
 
 /// The type whose bytes stand at `from`, and the position after them. Bytes may follow. `Short` comes
-/// where the bytes from there on are a proper front of a shape of the layout, and `NotCanonical` where
+/// where the bytes from there on are a proper prefix of a shape of the layout, and `NotCanonical` where
 /// they begin with the spelling of no type and aren't `Short`. No length or count in the bytes takes
 /// memory for more than the bytes that are there.
 pub fn take(alloc: Global, bytes: &[u8], from: usize) -> Result<(Ty, usize), BytesFault>

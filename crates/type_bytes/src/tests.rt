@@ -2,8 +2,8 @@ use super::*;
 use std::alloc::Global;
 use std::test::Fail;
 use type_kinds::{Atom, Bytes, Memory};
+use type_kinds_sets::{AtomSet, High, IntSet, Low};
 use type_lattice::{Kind, Ty};
-use type_sets::{AtomSet, High, IntSet, Low};
 
 // 'ok' | 1
 const OK_OR_ONE: [u8; 27] = [
@@ -31,7 +31,7 @@ const EACH_PART: [u8; 77] = [
 ];
 
 // What `take` answers: 0 for a type that is put again as the same bytes, and else the number of the
-// fault, or 1 for other bytes and 2 for want of memory.
+// fault, or 1 for other bytes and 2 for out of memory.
 fn answer(alloc: Global, bytes: &[u8]) -> u8 {
     match take(alloc, bytes, 0) {
         Ok((t, _)) => {

@@ -1,15 +1,17 @@
 //! How types are written.
 ghost use Rattle.std.specs.Prelude.{◌≡◌, ◌++◌, ◌∷◌, ◌*◌, ◌≤◌, ℕ, cond, length, take, IsTrue, OnOk, OnErr};
 ghost use Rattle.std.specs.List.{flat_map, list_all};
-ghost use Rattle.type_trees.specs.Plains.{functions_of};
-ghost use Rattle.type_trees.specs.View.{view, row_view, tags_view, body_view, sizes_view, tuples_view, cell_view, parts_view, Fits, EachNode, EachTag, EachInCell, BodyFits, SizesFit, TuplesFit, PartsFit};
+ghost use Rattle.type_lattice_trees.specs.Plains.{functions_of};
+ghost use Rattle.type_lattice_trees.specs.View.{view, row_view, tags_view, body_view, sizes_view, tuples_view, cell_view, parts_view, Fits, EachNode, EachTag, EachInCell, BodyFits, SizesFit, TuplesFit, PartsFit};
 ghost use Rattle.type_bytes.specs.Spelling.{two_bytes, four_bytes, int_bytes, name_bytes, low_number as low_model, high_number as high_model, tag_bytes, body_bytes, size_bytes, atoms_part, ints_part, bits_part, functions_part, cell_part, tuples_part, parts_of, mask, part_bytes, some_bytes, all_bytes, bytes_at, bytes_of};
 ghost use Rattle.type_bytes.specs.ShortNames.{is_short, are_short, is_short_cell, is_short_tag, is_short_body, is_short_size, are_short_tuples, are_short_parts, is_short_at, has_short_names};
 
 use type_kinds::{Atom, Bytes, Memory, Shared};
+use type_kinds_sets::{AtomSet, Bits, High, IntSet, Low};
 use type_lattice::Ty;
-use type_sets::{AtomSet, Bits, High, IntSet, Low};
-use type_trees::{BodyOf, CellOf, FunSet, Node, PartsOf, Plain, SizeOf, TagOf, TuplesOf, is_none};
+use type_lattice_trees::{
+    BodyOf, CellOf, FunSet, Node, PartsOf, Plain, SizeOf, TagOf, TuplesOf, is_none,
+};
 
 /// Appends the bytes of the type, each atom of which has fewer than 2^32 bytes. A type has one
 /// spelling. If allocation fails `out` is as before.

@@ -1,6 +1,6 @@
 -- How often one can go down from a type, to a smaller one at each step.
 use Rattle.std.proofs.Common.{◌≡◌, ℕ, zero, suc, ◌≤◌, ◌<◌, sym, subst, arith}
-use Rattle.type_sets.specs.Heights as heights
+use Rattle.type_kinds_sets.specs.Heights as heights
 use Rattle.type_lattice.specs.Types.{Type4, Below, rank}
 use Rattle.type_lattice.specs.Chains.{Falls, IsHeight}
 use Rattle.type_lattice.proofs.TypeLaws.{laws}

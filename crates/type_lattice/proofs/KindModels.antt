@@ -1,10 +1,10 @@
 -- Which values the types of one kind of values have.
 use Rattle.std.proofs.Common.{◌≡◌, [], ℕ, ◌<◌, ◌^◌, None, arith}
 use Rattle.std.specs.Prelude.{◌↔◌}
-use Rattle.type_sets.specs.Names.{Names}
-use Rattle.type_sets.specs.Numbers.{Numbers}
-use Rattle.type_model.specs.Values.{Value}
-use Rattle.type_model.specs.Shapes.{sizes}
+use Rattle.type_kinds_sets.specs.Names.{Names}
+use Rattle.type_kinds_sets.specs.Numbers.{Numbers}
+use Rattle.type_lattice_model.specs.Values.{Value}
+use Rattle.type_lattice_model.specs.Shapes.{sizes}
 use Rattle.type_lattice.specs.declared.kinds.Kind.{Kind}
 use Rattle.type_lattice.specs.declared.kinds.Kind.TheVariants as kind
 use Rattle.type_lattice.specs.Types.{HasType, of_atoms, of_ints, every_tuple}

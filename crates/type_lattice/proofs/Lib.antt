@@ -5,3 +5,4 @@ mod MakerLaws
 mod MonotoneLaws
 mod TypeLaws
 mod TypeModels
+pub mod ListOrder

@@ -1,13 +1,9 @@
 -- Larger types hold what smaller ones do, so lists of them do.
-use Rattle.std.proofs.Common.{List, Bool, true, arith}
-use Rattle.type_model.specs.Values.{Values, no_value, and_value}
-use Rattle.type_model.specs.HasType.{HasAll}
-use Rattle.type_lattice.specs.Types.{Type4, HasType, HasTypes, Below, AreBelow, cons, elem}
+use Rattle.std.proofs.Common.{Bool, true, arith}
+use Rattle.type_lattice_model.specs.Values.{Values, no_value, and_value}
+use Rattle.type_lattice_model.specs.HasType.{HasAll}
+use Rattle.type_lattice.specs.Types.{Type4, HasType, Below, cons, elem}
 use Rattle.type_lattice.proofs.TypeLaws.{laws}
-
-pub types_more : (vs : Values) (ss ts : List Type4) → AreBelow ss ts → HasTypes vs ss → HasTypes vs ts
-types_more no_value ss ts f h = grind arith
-types_more (and_value v vs) ss ts f h = grind (arith, types_more vs)
 
 all_more : (s t : Type4) → Below s t → (vs : Values) → HasAll HasType vs s → HasAll HasType vs t
 all_more s t f no_value h = h

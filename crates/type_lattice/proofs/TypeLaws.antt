@@ -3,22 +3,22 @@ use Rattle.std.proofs.Common.{◌≡◌, ℕ, ◌-◌, ◌≤◌, ◌<◌, suc, 
 use Rattle.std.specs.Prelude.{◌↔◌, IsTrue}
 use Rattle.std.proofs.lemmas.Bool.{lt-ltb}
 use Rattle.std.proofs.lemmas.List.{length-map}
-use Rattle.type_sets.specs.Numbers as numbers
-use Rattle.type_sets.specs.Numbers.{Numbers}
-use Rattle.type_model.specs.Canonical.{IsCanonical}
-use Rattle.type_model.specs.Values.{Value, int, nil, Values, no_value, and_value, count, heads, end_of, cons as cons_value, tuple as tuple_value}
-use Rattle.type_model.specs.HasType.{HasAt, HasAll, HasEach}
-use Rattle.type_model.specs.Cut as levels
-use Rattle.type_model.specs.Parts.{value_at}
-use Rattle.type_model.proofs.LevelLaws.{level_laws}
-use Rattle.type_model.proofs.CutLaws.{cut_lowering, cut_exact}
-use Rattle.type_model.proofs.MadeLaws as made
-use Rattle.type_model.proofs.ProductLaws as products
-use Rattle.type_model.proofs.ListLaws as lists
-use Rattle.type_model.proofs.ElementLaws as elements
-use Rattle.type_model.proofs.MoreLaws as more
-use Rattle.type_model.proofs.RankLaws.{rank-lower}
-use Rattle.type_model.proofs.CanonicalLaws as canonical
+use Rattle.type_kinds_sets.specs.Numbers as numbers
+use Rattle.type_kinds_sets.specs.Numbers.{Numbers}
+use Rattle.type_lattice_model.specs.Canonical.{IsCanonical}
+use Rattle.type_lattice_model.specs.Values.{Value, int, nil, Values, no_value, and_value, count, heads, end_of, cons as cons_value, tuple as tuple_value}
+use Rattle.type_lattice_model.specs.HasType.{HasAt, HasAll, HasEach}
+use Rattle.type_lattice_model.specs.Cut as levels
+use Rattle.type_lattice_model.specs.Parts.{value_at}
+use Rattle.type_lattice_model.proofs.LevelLaws.{level_laws}
+use Rattle.type_lattice_model.proofs.CutLaws.{cut_lowering, cut_exact}
+use Rattle.type_lattice_model.proofs.MadeLaws as made
+use Rattle.type_lattice_model.proofs.ProductLaws as products
+use Rattle.type_lattice_model.proofs.ListLaws as lists
+use Rattle.type_lattice_model.proofs.ElementLaws as elements
+use Rattle.type_lattice_model.proofs.MoreLaws as more
+use Rattle.type_lattice_model.proofs.RankLaws.{rank-lower}
+use Rattle.type_lattice_model.proofs.CanonicalLaws as canonical
 use Rattle.type_lattice.specs.Types.{Type4, same_type, HasType, HasTypes, Below, IsOfLevel, none, any, is_none, meet, join, cut, tuple, cons, project, elem, tail, are_normal, rank}
 use Rattle.type_lattice.specs.Elements.{ints_of, elements_at}
 
@@ -41,7 +41,7 @@ pub record Laws : Type 0 where
   pub cut-above : (d : ℕ) (t : Type4) → Below t (cut d t)
   pub cut-least : (d : ℕ) → d ≤ 4 → (t u : Type4) → IsOfLevel d u → Below t u → Below (cut d t) u
   pub cut-more : (d : ℕ) (s t : Type4) → Below s t → Below (cut d s) (cut d t)
-  -- tuples, and what stands at a place of them
+  -- tuples, and what stands at a position of them
   pub tuple-has : (ts : List Type4) (vs : Values) → HasTypes vs ts → HasType (tuple_value vs) (tuple ts)
   pub tuple-least : (ts : List Type4) (u : Type4) → ((vs : Values) → HasTypes vs ts → HasType (tuple_value vs) u) → Below (tuple ts) u
   pub tuple-only : (ts : List Type4) (v : Value) → HasType v (tuple ts) → (vs : Values) × (v ≡ tuple_value vs)
@@ -60,7 +60,7 @@ pub record Laws : Type 0 where
   pub cons-parts : (t : Type4) (x y : Value) → HasType x (elem t) → HasType y (tail t) → HasType (cons_value x y) t
   pub elem-least : (t u : Type4) → ((x y : Value) → HasType (cons_value x y) t → HasType x u) → Below (elem t) u
   pub tail-least : (t u : Type4) → ((x y : Value) → HasType (cons_value x y) t → HasType y u) → Below (tail t) u
-  -- integers, and elements at some places
+  -- integers, and elements at some positions
   pub ints-of_type : (t : Type4) (n : ℤ) → HasType (int n) t ↔ IsTrue (numbers.has (ints_of t) n)
   pub elements-hold : (t : Type4) (s : Numbers) (vs : Values) (i : ℕ) (v : Value) → HasType (tuple_value vs) t → value_at vs i ≡ Some v → IsTrue (numbers.has s (pos (suc i))) → HasType v (elements_at t s)
   pub elements-least : (t : Type4) (s : Numbers) (p : ℕ) → IsTrue (numbers.has s (pos (suc p))) → (u : Type4) → ((vs : Values) (i : ℕ) (v : Value) → HasType (tuple_value vs) t → value_at vs i ≡ Some v → IsTrue (numbers.has s (pos (suc i))) → HasType v u) → Below (elements_at t s) u

@@ -1,22 +1,22 @@
 -- Trees of the code, and calls on types, against their model.
 use Rattle.std.proofs.Common.{◌≡◌, ℕ, ◌≤◌, Bool, true, false, List, [], ◌∷◌, ◌++◌, refl, arith}
 use Rattle.std.specs.Prelude.{◌⊎◌}
-use Rattle.type_model.specs.Shapes.{TypeAt}
-use Rattle.type_model.specs.Operations.{ops, parts_any}
-use Rattle.type_model.specs.Cut as levels
-use Rattle.type_model.specs.Elements.{with_elements}
-use Rattle.type_model.specs.Parts.{element_with}
-use Rattle.type_model.proofs.LevelLaws.{level_laws}
-use Rattle.type_model.proofs.MadeLaws.{cell_type, cons-made}
-use Rattle.type_trees.specs.declared.node.Node.{Node}
-use Rattle.type_trees.specs.declared.node.Node.TheVariants as v
-use Rattle.type_trees.specs.declared.node.PartsOf.{PartsOf}
-use Rattle.type_trees.specs.declared.node.SizeOf.{SizeOf}
-use Rattle.type_trees.specs.declared.node.TuplesOf.TheVariants.{Sizes}
-use Rattle.type_trees.specs.View.{view, parts_view, Fits, EachInCell, CellFits, SizesFit}
-use Rattle.type_trees.proofs.Views.{view_any, view_of, fits_of, fits_normal, normal_parts}
-use Rattle.type_trees.proofs.Inclusions.{sizes_fit}
-use Rattle.type_trees.proofs.Lifts.{lift}
+use Rattle.type_lattice_model.specs.Shapes.{TypeAt}
+use Rattle.type_lattice_model.specs.Operations.{ops, parts_any}
+use Rattle.type_lattice_model.specs.Cut as levels
+use Rattle.type_lattice_model.specs.Elements.{with_elements}
+use Rattle.type_lattice_model.specs.Parts.{element_with}
+use Rattle.type_lattice_model.proofs.LevelLaws.{level_laws}
+use Rattle.type_lattice_model.proofs.MadeLaws.{cell_type, cons-made}
+use Rattle.type_lattice_trees.specs.declared.node.Node.{Node}
+use Rattle.type_lattice_trees.specs.declared.node.Node.TheVariants as v
+use Rattle.type_lattice_trees.specs.declared.node.PartsOf.{PartsOf}
+use Rattle.type_lattice_trees.specs.declared.node.SizeOf.{SizeOf}
+use Rattle.type_lattice_trees.specs.declared.node.TuplesOf.TheVariants.{Sizes}
+use Rattle.type_lattice_trees.specs.View.{view, parts_view, Fits, EachInCell, CellFits, SizesFit}
+use Rattle.type_lattice_trees.proofs.Views.{view_any, view_of, fits_of, fits_normal, normal_parts}
+use Rattle.type_lattice_trees.proofs.Inclusions.{sizes_fit}
+use Rattle.type_lattice_trees.proofs.Lifts.{lift}
 use Rattle.type_lattice.specs.declared.kinds.Ends.{Ends}
 use Rattle.type_lattice.specs.declared.kinds.Ends.TheVariants.{Proper}
 use Rattle.type_lattice.specs.contracts.kinds.EndsPartialEq.TheImpl as ends

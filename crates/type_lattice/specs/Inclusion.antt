@@ -2,9 +2,10 @@
 use Rattle.std.specs.Prelude.{◌≡◌, ◌↔◌, Bool, true, false, ◌&&◌, ◌==◌, IsTrue, refl}
 use Rattle.std.proofs.Common.{sym, ap, subst, true≢false}
 use Rattle.std.specs.Cmp.{IsEquivalence, decided}
+use Rattle.std.proofs.lemmas.Bool.{and_from}
+use Rattle.type_kinds.proofs.Truths.{first, second}
 use borrow.Author.Tests.{eqb-true, eq-eqb}
 use base.Stored.{Gv, gnil, gnum, gcons}
-use Rattle.type_sets.proofs.Truths.{both, first, second}
 use Rattle.type_lattice.specs.Types.{Type4, meet, type_code}
 
 -- whether two codes are one
@@ -48,7 +49,7 @@ code_itself : (g : Gv) → is_same_code g g ≡ true
 unfolding is_same_code
 code_itself gnil = refl
 code_itself (gnum n) = eq-eqb n n refl
-code_itself (gcons a b) = both (is_same_code a a) (is_same_code b b) (code_itself a) (code_itself b)
+code_itself (gcons a b) = and_from (is_same_code a a) (is_same_code b b) (code_itself a) (code_itself b)
 
 -- two types are the same just where they are equal
 pub same-equal : (s t : Type4) → IsTrue (is_same s t) ↔ (s ≡ t)

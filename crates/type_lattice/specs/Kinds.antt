@@ -1,15 +1,15 @@
 -- Types of one kind of values, and which values these are.
 use Rattle.std.specs.Prelude.{◌≡◌, ℕ, ◌%◌, ◌^◌, Bool, true, false, cond, nat_lt, length, refl}
-use Rattle.type_sets.specs.Names as names
-use Rattle.type_sets.specs.Names.{Name, Names}
-use Rattle.type_sets.specs.Numbers as numbers
-use Rattle.type_sets.specs.Numbers.{Numbers}
-use Rattle.type_sets.specs.declared.bits.Bits.{Bits}
-use Rattle.type_sets.specs.declared.bits.Bits.TheVariants.{No, Whole, Any}
-use Rattle.type_model.specs.Values.{Value, int, atom, bits, float, pid, port, reference, nil, tuple, map, closure, external, foreign}
-use Rattle.type_model.specs.Shapes.{Flags, Functions, no_function, of_arity, all_functions, PlainParts}
-use Rattle.type_model.specs.Operations.{no_flags}
-use Rattle.type_model.specs.Normal.{NormalFunctions}
+use Rattle.type_kinds_sets.specs.Names as names
+use Rattle.type_kinds_sets.specs.Names.{Names}
+use Rattle.type_kinds_sets.specs.Numbers as numbers
+use Rattle.type_kinds_sets.specs.Numbers.{Numbers}
+use Rattle.type_kinds_sets.specs.declared.bits.Bits.{Bits}
+use Rattle.type_kinds_sets.specs.declared.bits.Bits.TheVariants.{No, Whole, Any}
+use Rattle.type_lattice_model.specs.Values.{Value, int, atom, bits, float, pid, port, reference, nil, tuple, map, closure, external, foreign}
+use Rattle.type_lattice_model.specs.Shapes.{Flags, Functions, no_function, of_arity, all_functions, PlainParts}
+use Rattle.type_lattice_model.specs.Operations.{no_flags}
+use Rattle.type_lattice_model.specs.Normal.{NormalFunctions}
 use Rattle.type_lattice.specs.declared.kinds.Kind.{Kind}
 use Rattle.type_lattice.specs.declared.kinds.Kind.TheVariants as kind
 use Rattle.type_lattice.specs.declared.kinds.Ends.{Ends}

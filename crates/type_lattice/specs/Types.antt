@@ -4,24 +4,24 @@ use Rattle.std.proofs.Common.{inl, inr}
 use Rattle.std.specs.Coded.{Coded, code_by, coded×, coded⊎, coded_ℕ, coded_bool, coded_list, coded_option}
 use base.Stored.{coded_via}
 use mathlib.Core.HLevel.{is_prop→PathP}
-use Rattle.type_sets.specs.Names as names
-use Rattle.type_sets.specs.Names.{Name, Names}
-use Rattle.type_sets.specs.Numbers as numbers
-use Rattle.type_sets.specs.Numbers.{Numbers}
-use Rattle.type_sets.specs.declared.bits.Bits.TheVariants.{No}
-use Rattle.type_model.specs.Values.{Value, Values}
-use Rattle.type_model.specs.Shapes.{no_function, PlainParts, Cell, Body, product, tags, Tuples, sizes, all_tuples, Parts, TypeAt}
-use Rattle.type_model.specs.HasType.{HasAt, HasEach}
-use Rattle.type_model.specs.Operations.{ops, no_flags, plain_none}
-use Rattle.type_model.specs.Normal.{NormalFunctions, NormalAt}
-use Rattle.type_model.specs.Cut as levels
-use Rattle.type_model.specs.Parts.{AreNormal, tuple_at, cons_at, project_at, elem_at, tail_at}
-use Rattle.type_model.specs.Ranks as ranks
-use Rattle.type_model.proofs.LevelLaws.{level_laws}
-use Rattle.type_model.proofs.CutLaws.{cut_lowering}
-use Rattle.type_model.proofs.MadeLaws.{tuple-normal, cons-normal, project-normal, elem-normal, tail-normal}
-use Rattle.type_model.proofs.NormalOnce.{normal_once}
-use Rattle.type_trees.specs.Plains.{plain_code}
+use Rattle.type_kinds_sets.specs.Names as names
+use Rattle.type_kinds_sets.specs.Names.{Name, Names}
+use Rattle.type_kinds_sets.specs.Numbers as numbers
+use Rattle.type_kinds_sets.specs.Numbers.{Numbers}
+use Rattle.type_kinds_sets.specs.declared.bits.Bits.TheVariants.{No}
+use Rattle.type_lattice_model.specs.Values.{Value, Values}
+use Rattle.type_lattice_model.specs.Shapes.{no_function, PlainParts, Cell, Body, product, tags, Tuples, sizes, all_tuples, Parts, TypeAt}
+use Rattle.type_lattice_model.specs.HasType.{HasAt, HasEach}
+use Rattle.type_lattice_model.specs.Operations.{ops, no_flags, plain_none}
+use Rattle.type_lattice_model.specs.Normal.{NormalFunctions, NormalAt}
+use Rattle.type_lattice_model.specs.Cut as levels
+use Rattle.type_lattice_model.specs.Parts.{AreNormal, tuple_at, cons_at, project_at, elem_at, tail_at}
+use Rattle.type_lattice_model.specs.Ranks as ranks
+use Rattle.type_lattice_model.proofs.LevelLaws.{level_laws}
+use Rattle.type_lattice_model.proofs.CutLaws.{cut_lowering}
+use Rattle.type_lattice_model.proofs.MadeLaws.{tuple-normal, cons-normal, project-normal, elem-normal, tail-normal}
+use Rattle.type_lattice_model.proofs.NormalOnce.{normal_once}
+use Rattle.type_lattice_trees.specs.Plains.{plain_code}
 
 -- a type of the analysis
 pub record Type4 : Type 0 where
@@ -39,7 +39,7 @@ HasType v t = HasAt 4 v t.ty
 abbrev pub Below : Type4 → Type4 → Type 0
 Below s t = (v : Value) → HasType v s → HasType v t
 
--- place by place, each value of the one type is one of the other
+-- position by position, each value of the one type is one of the other
 abbrev pub AreBelow : List Type4 → List Type4 → Type 0
 AreBelow [] [] = Unit {0}
 AreBelow [] (t ∷ ts) = ⊥

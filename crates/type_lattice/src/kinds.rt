@@ -1,10 +1,10 @@
 ghost use Rattle.std.specs.Prelude.{◌≡◌, ℕ, ◌^◌, ◌<◌};
-ghost use Rattle.type_model.specs.Normal.{NormalFunctions};
+ghost use Rattle.type_lattice_model.specs.Normal.{NormalFunctions};
 ghost use Rattle.type_lattice.specs.Kinds.{plain_of_kind};
 ghost use Rattle.type_lattice.specs.declared.kinds.Kind.TheVariants as variant;
 
-use type_sets::Bits;
-use type_trees::{FunSet, Plain};
+use type_kinds_sets::Bits;
+use type_lattice_trees::{FunSet, Plain};
 
 /// A kind of values, as a type.
 #[derive(Clone, Copy, Debug, PartialEq, Eq)]

@@ -1,13 +1,13 @@
 //! The laws of types, as functions that do nothing: who calls one has its clauses.
 ghost use Rattle.std.specs.Prelude.{◌≡◌, ◌<◌, ◌≤◌, ◌-◌, ◌^◌, ◌↔◌, ℕ, ℤ, pos, suc, Bool, true, false, List, Some, IsTrue, length, map};
-ghost use Rattle.type_sets.specs.Names.{Names};
-ghost use Rattle.type_sets.specs.Numbers as numbers;
-ghost use Rattle.type_sets.specs.Numbers.{Numbers};
-ghost use Rattle.type_model.specs.Canonical.{IsCanonical};
-ghost use Rattle.type_model.specs.HasType.{HasAll};
-ghost use Rattle.type_model.specs.Parts.{value_at};
-ghost use Rattle.type_model.specs.declared.limits.TheConstants.{MAX_ELEMENTS};
-ghost use Rattle.type_model.specs.Values.{Value, Values, and_value, count, heads, end_of, int, nil, cons as cons_value, tuple as tuple_value};
+ghost use Rattle.type_kinds_sets.specs.Names.{Names};
+ghost use Rattle.type_kinds_sets.specs.Numbers as numbers;
+ghost use Rattle.type_kinds_sets.specs.Numbers.{Numbers};
+ghost use Rattle.type_lattice_model.specs.Canonical.{IsCanonical};
+ghost use Rattle.type_lattice_model.specs.HasType.{HasAll};
+ghost use Rattle.type_lattice_model.specs.Parts.{value_at};
+ghost use Rattle.type_lattice_model.specs.declared.limits.TheConstants.{MAX_ELEMENTS};
+ghost use Rattle.type_lattice_model.specs.Values.{Value, Values, and_value, count, heads, end_of, int, nil, cons as cons_value, tuple as tuple_value};
 ghost use Rattle.type_lattice.specs.Chains.{Falls, IsHeight};
 ghost use Rattle.type_lattice.specs.Elements.{ints_of, elements_at};
 ghost use Rattle.type_lattice.specs.Inclusion.{is_same, leq};
@@ -115,8 +115,8 @@ pub fn project_laws()
     ensures least { (t : Type4) (n i : ℕ) → n ≤ MAX_ELEMENTS → 1 ≤ i → i ≤ n → (u : Type4) → ((vs : Values) (v : Value) → HasType (tuple_value vs) t → count vs ≡ n → value_at vs (i - 1) ≡ Some v → HasType v u) → Below (project t n i) u }
 {}
 
-/// The integers of a type are exactly those that it has. The type of the elements at some places has
-/// what stands there in tuples of any size; where there is a place in the set, it is the smallest that
+/// The integers of a type are exactly those that it has. The type of the elements at some positions has
+/// what stands there in tuples of any size; where there is a position in the set, it is the smallest that
 /// does. It rises with the type and with the set.
 pub fn element_laws()
     ensures ints { (t : Type4) (n : ℤ) → HasType (int n) t ↔ IsTrue (numbers.has (ints_of t) n) }

@@ -1,20 +1,20 @@
 //! What the calls on types are made of: products, lists, and what stands in them.
 ghost use Rattle.std.specs.Prelude.{◌≡◌, ◌<◌, ◌≤◌, ℕ, false, [], Some, None, IfOk, cond, map, length, slice_get};
-ghost use Rattle.type_sets.specs.Names as names;
-ghost use Rattle.type_sets.specs.Numbers as numbers;
-ghost use Rattle.type_sets.specs.declared.bits.Bits.TheVariants.{No};
-ghost use Rattle.type_model.specs.Operations.{ops, has_none, elements, plain_none, plain_all};
-ghost use Rattle.type_model.specs.Parts.{product_of, flags_of_nil, is_list as lists_alone, element_with as joined_element, tail_parts as after_head};
-ghost use Rattle.type_model.specs.Shapes.{sizes, all_tuples, no_function};
-ghost use Rattle.type_trees.specs.View.{view, Fits, body_view, cell_view, parts_view, tuples_view, BodyFits, CellFits, PartsFit, EachInTuples};
+ghost use Rattle.type_kinds_sets.specs.Names as names;
+ghost use Rattle.type_kinds_sets.specs.Numbers as numbers;
+ghost use Rattle.type_kinds_sets.specs.declared.bits.Bits.TheVariants.{No};
+ghost use Rattle.type_lattice_model.specs.Operations.{ops, has_none, elements, plain_none, plain_all};
+ghost use Rattle.type_lattice_model.specs.Parts.{product_of, flags_of_nil, is_list as lists_alone, element_with as joined_element, tail_parts as after_head};
+ghost use Rattle.type_lattice_model.specs.Shapes.{sizes, all_tuples, no_function};
+ghost use Rattle.type_lattice_trees.specs.View.{view, Fits, body_view, cell_view, parts_view, tuples_view, BodyFits, CellFits, PartsFit, EachInTuples};
 
 use crate::kinds::{Kind, plain_kind};
 use crate::types::Ty;
 use std::alloc::Global;
 use type_kinds::{List, Memory};
-use type_model::MAX_ELEMENTS;
-use type_sets::SharedList;
-use type_trees::{
+use type_kinds_sets::SharedList;
+use type_lattice_model::MAX_ELEMENTS;
+use type_lattice_trees::{
     BodyOf, CellOf, Node, PartsOf, Plain, TuplesOf, copy, discard, elements_of, join, product_body,
     tuples_of,
 };

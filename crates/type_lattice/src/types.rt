@@ -1,23 +1,23 @@
 ghost use Rattle.std.specs.Prelude.{◌≡◌, ◌↔◌, ◌≤◌, ◌-◌, [], Some, None, IsTrue, IfOk};
-ghost use Rattle.type_model.specs.Normal.{NormalAt, NormalFunctions};
-ghost use Rattle.type_model.specs.Parts.{value_at};
-ghost use Rattle.type_model.specs.Shapes.{sizes};
-ghost use Rattle.type_model.specs.Values.{Value, Values, count, tuple as tuple_value, cons as cons_value};
-ghost use Rattle.type_model.proofs.NormalOnce.{normal_once};
+ghost use Rattle.type_lattice_model.specs.Normal.{NormalAt, NormalFunctions};
+ghost use Rattle.type_lattice_model.specs.Parts.{value_at};
+ghost use Rattle.type_lattice_model.specs.Shapes.{sizes};
+ghost use Rattle.type_lattice_model.specs.Values.{Value, Values, count, tuple as tuple_value, cons as cons_value};
+ghost use Rattle.type_lattice_model.proofs.NormalOnce.{normal_once};
 ghost use Rattle.type_lattice.specs.declared.kinds.Ends.TheVariants.{Proper};
 ghost use Rattle.type_lattice.specs.Types.{Type4, HasType, HasTypes, Below, IsOfLevel, none, any, is_none, meet, join, cut, tuple, cons, project, elem, tail, of_atoms, of_ints, every_tuple};
 ghost use Rattle.type_lattice.specs.Inclusion.{leq};
 ghost use Rattle.type_lattice.specs.Kinds.{HasAtom, HasInt, IsKind, of_kind, asks_proper};
-ghost use Rattle.type_trees.specs.View.{view, Fits};
+ghost use Rattle.type_lattice_trees.specs.View.{view, Fits};
 
 use crate::kinds::{Ends, Kind, plain_kind};
 use crate::makers::{any_none, element, element_with, is_list, product, tail_parts};
 use std::alloc::Global;
 use std::marker::Model;
 use type_kinds::Memory;
-use type_model::MAX_ELEMENTS;
-use type_sets::{AtomSet, IntSet};
-use type_trees::{
+use type_kinds_sets::{AtomSet, IntSet};
+use type_lattice_model::MAX_ELEMENTS;
+use type_lattice_trees::{
     Node, Plain, TuplesOf, copy, cut, every_tuple, find_size, is_none, join, leq, lists_of, made,
     meet, plain_alone,
 };
@@ -37,7 +37,7 @@ struct Kept {
 
 impl Model for Ty {
     ghost use Rattle.type_lattice.specs.Types.{Type4, type_code};
-    ghost use Rattle.type_trees.specs.View.{view as type_of, Fits};
+    ghost use Rattle.type_lattice_trees.specs.View.{view as type_of, Fits};
 
     ghost Value = { Type4 };
 
@@ -58,7 +58,7 @@ impl Ty {
     }
 
     /// Every value. Takes no memory.
-    #[tactic(auto, using(type_trees::proofs::Views::any_fits))]
+    #[tactic(auto, using(type_lattice_trees::proofs::Views::any_fits))]
     pub fn any() -> Ty
         ensures value { result ≡ any }
         ensures every { (v : Value) → HasType v result }
@@ -187,13 +187,13 @@ impl Ty {
         Ok(Ty::of_node(cut(alloc, 4, level, &self.kept.node)?))
     }
 
-    /// The type of one element of the tuples of a size, at a place from 1 to the size: the join of
+    /// The type of one element of the tuples of a size, at a position from 1 to the size: the join of
     /// what stands there in the type's tuples of this size, any where the type has all tuples, or
     /// has tuples and the size is over `MAX_ELEMENTS`, and none where it has no such tuple.
-    pub fn project(&self, alloc: Global, size: u32, place: u32) -> Result<Ty, Memory>
-        requires { (1 ≤ place) × (place ≤ size) }
-        ensures value { IfOk result (λ t. t ≡ project self.now size place) }
-        ensures holds { IfOk result (λ t. (vs : Values) (v : Value) → HasType (tuple_value vs) self.now → count vs ≡ size → value_at vs (place - 1) ≡ Some v → HasType v t) }
+    pub fn project(&self, alloc: Global, size: u32, position: u32) -> Result<Ty, Memory>
+        requires { (1 ≤ position) × (position ≤ size) }
+        ensures value { IfOk result (λ t. t ≡ project self.now size position) }
+        ensures holds { IfOk result (λ t. (vs : Values) (v : Value) → HasType (tuple_value vs) self.now → count vs ≡ size → value_at vs (position - 1) ≡ Some v → HasType v t) }
     {
         let Node::Of(parts) = &self.kept.node else {
             return Ok(Ty::any());
@@ -209,7 +209,7 @@ impl Ty {
         }
         match find_size(sizes.as_slice(), size as u8) {
             None => Ok(Ty::none()),
-            Some(body) => Ok(Ty::of_node(element(alloc, 3, body, place as usize - 1)?)),
+            Some(body) => Ok(Ty::of_node(element(alloc, 3, body, position as usize - 1)?)),
         }
     }
 

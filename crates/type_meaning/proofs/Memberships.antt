@@ -2,29 +2,30 @@
 use Rattle.std.proofs.Common.{◌≡◌, ℕ, zero, suc, ◌-◌, ◌<◌, Bool, true, false, ◌==◌, not, List, [], ◌∷◌, length, Option, Some, None, ◌↔◌, IsTrue, refl, sym, ap, ap₂, ◌∙◌, subst, subst₂, true≢false, arith}
 use Rattle.std.specs.Prelude.{option_map}
 use Rattle.std.specs.Ordering.{nat_cmp}
+use Rattle.type_kinds.proofs.Truths.{refuted}
 use borrow.Author.Tests.{ltb-true, eqb-true, eq-eqb}
 use Rattle.type_kinds.specs.declared.atom.Atom.{Atom}
-use Rattle.type_sets.specs.Names.{name_cmp}
-use Rattle.type_model.specs.Values as m
-use Rattle.type_model.specs.Shapes.{PlainParts}
-use Rattle.type_model.specs.Tables.{find}
-use Rattle.type_model.specs.HasType.{HasAt, HasParts, HasCell, HasAll, HasEach, HasRow, HasTag, HasBody, HasTuple}
-use Rattle.type_model.specs.ValueShapes.{Shape, Leaf, leaf, shape, has_leaf, has-shape, HasShape}
-use Rattle.type_model.proofs.LevelLaws.{level_laws}
-use Rattle.type_model.proofs.TupleLaws.{small_at, some_at}
-use Rattle.type_trees.specs.declared.node.Node.{Node}
-use Rattle.type_trees.specs.declared.node.Node.TheVariants as n
-use Rattle.type_trees.specs.declared.node.PartsOf.{PartsOf}
-use Rattle.type_trees.specs.declared.node.CellOf.{CellOf}
-use Rattle.type_trees.specs.declared.node.TuplesOf.{TuplesOf}
-use Rattle.type_trees.specs.declared.node.TuplesOf.TheVariants as of_tuples
-use Rattle.type_trees.specs.declared.node.SizeOf.{SizeOf}
-use Rattle.type_trees.specs.declared.node.BodyOf.{BodyOf}
-use Rattle.type_trees.specs.declared.node.BodyOf.TheVariants as of_body
-use Rattle.type_trees.specs.declared.node.TagOf.{TagOf}
-use Rattle.type_trees.specs.View.{view, Fits, EachNode, EachInCell, EachTag, row_view, tags_view, body_view, sizes_view, tuples_view, cell_view, parts_view, BodyFits, TuplesFit, PartsFit}
-use Rattle.type_trees.proofs.Views.{view_any, view_of, of_above}
-use Rattle.type_trees.proofs.Inclusions.{refuted, after_fits, row_length}
+use Rattle.type_kinds_sets.specs.Names.{name_cmp}
+use Rattle.type_lattice_model.specs.Values as m
+use Rattle.type_lattice_model.specs.Shapes.{PlainParts}
+use Rattle.type_lattice_model.specs.Tables.{find}
+use Rattle.type_lattice_model.specs.HasType.{HasAt, HasParts, HasCell, HasAll, HasEach, HasRow, HasTag, HasBody, HasTuple}
+use Rattle.type_lattice_model.specs.ValueShapes.{Shape, Leaf, leaf, shape, has_leaf, has-shape, HasShape}
+use Rattle.type_lattice_model.proofs.LevelLaws.{level_laws}
+use Rattle.type_lattice_model.proofs.TupleLaws.{small_at, some_at}
+use Rattle.type_lattice_trees.specs.declared.node.Node.{Node}
+use Rattle.type_lattice_trees.specs.declared.node.Node.TheVariants as n
+use Rattle.type_lattice_trees.specs.declared.node.PartsOf.{PartsOf}
+use Rattle.type_lattice_trees.specs.declared.node.CellOf.{CellOf}
+use Rattle.type_lattice_trees.specs.declared.node.TuplesOf.{TuplesOf}
+use Rattle.type_lattice_trees.specs.declared.node.TuplesOf.TheVariants as of_tuples
+use Rattle.type_lattice_trees.specs.declared.node.SizeOf.{SizeOf}
+use Rattle.type_lattice_trees.specs.declared.node.BodyOf.{BodyOf}
+use Rattle.type_lattice_trees.specs.declared.node.BodyOf.TheVariants as of_body
+use Rattle.type_lattice_trees.specs.declared.node.TagOf.{TagOf}
+use Rattle.type_lattice_trees.specs.View.{view, Fits, EachNode, EachInCell, EachTag, row_view, tags_view, body_view, sizes_view, tuples_view, cell_view, parts_view, BodyFits, TuplesFit, PartsFit}
+use Rattle.type_lattice_trees.proofs.Views.{view_any, view_of, of_above}
+use Rattle.type_lattice_trees.proofs.Inclusions.{after_fits, row_length}
 use Rattle.type_meaning.specs.declared.value.Value.{Value}
 use Rattle.type_meaning.specs.declared.value.Value.TheVariants as v
 use Rattle.type_meaning.specs.Values.{value_of}
@@ -204,7 +205,7 @@ as_long d vs x xs a b ts us ns e s f k g each =
     let fit : BodyFits d (suc (length xs)) (of_body.Tags ts) = subst₂ (λ y z. BodyFits d (length y) z) f e k in
     sym (row_length d (length xs) ns (after_fits d (length xs) (of_body.Tags ts) a ns fit (g ∙ ap (λ y. find name_cmp (tags_view d y) a) s) each))
 
--- ---- elements in the types at their places
+-- ---- elements in the types at their positions
 
 abbrev pub EachIn : (d : ℕ) → List Value → List Node → Type 0
 EachIn d vs ns = HasEach (HasAt d) (all_values vs) (row_view d ns)

@@ -1,9 +1,9 @@
 -- What each variant of the code's values stands for, and which variant a value is.
 use Rattle.std.proofs.Common.{◌≡◌, ℕ, ℤ, List, map, refl, sym, ap, ◌∙◌}
 use Rattle.type_kinds.specs.declared.atom.Atom.{Atom}
-use Rattle.type_model.specs.Shapes.{floats, pids, ports, references, nils, maps}
-use Rattle.type_model.specs.Values as m
-use Rattle.type_model.specs.ValueShapes.{Leaf, an_int, an_atom, some_bits, of_flag, a_function, leaf, pair, row, shape, zeros, length-zeros}
+use Rattle.type_lattice_model.specs.Shapes.{floats, pids, ports, references, nils, maps}
+use Rattle.type_lattice_model.specs.Values as m
+use Rattle.type_lattice_model.specs.ValueShapes.{Leaf, an_int, an_atom, some_bits, of_flag, a_function, leaf, pair, row, shape, zeros, length-zeros}
 use Rattle.type_meaning.specs.declared.value.Value.{Value, out-Value, roll-Value, roll-out-Value}
 use Rattle.type_meaning.specs.declared.value.Value.TheVariants as v
 use Rattle.type_meaning.specs.declared.value.Value.TheOpen.{Value-F}

@@ -1,6 +1,6 @@
 -- A number for each value, which its parts have lower ones of, so that no descent goes on for ever.
 use Rattle.std.proofs.Common.{◌≡◌, ℕ, zero, suc, ◌+◌, ◌<◌, List, [], ◌∷◌, length, slice_index_or, sym, ap, ◌∙◌, subst, arith}
-use Rattle.type_model.specs.Values as m
+use Rattle.type_lattice_model.specs.Values as m
 use Rattle.type_meaning.specs.declared.value.Value.{Value}
 use Rattle.type_meaning.specs.declared.value.Value.TheVariants as v
 use Rattle.type_meaning.specs.Values.{value_of}

@@ -1,7 +1,7 @@
 -- The value that a value of the code stands for.
 use Rattle.std.specs.Prelude.{List, [], ◌∷◌}
-use Rattle.type_model.specs.Values as m
-use Rattle.type_model.specs.ValueShapes.{zeros}
+use Rattle.type_lattice_model.specs.Values as m
+use Rattle.type_lattice_model.specs.ValueShapes.{zeros}
 use Rattle.type_meaning.specs.declared.value.Value.{Value}
 use Rattle.type_meaning.specs.declared.value.Value.TheOpen.{Value-F}
 use Rattle.type_meaning.specs.declared.value.Value.TheFolds.{fold-Value}

@@ -1,16 +1,16 @@
 ghost use Rattle.std.specs.Prelude.{◌≡◌, ◌↔◌, true, Some, IsTrue, length, map};
-ghost use Rattle.type_model.specs.ValueShapes.{Leaf, has_leaf, shape, leaf};
-ghost use Rattle.type_model.specs.HasType.{HasAt, HasAll, HasEach, HasBody, HasTuple};
-ghost use Rattle.type_model.specs.Values as m;
+ghost use Rattle.type_lattice_model.specs.ValueShapes.{Leaf, has_leaf, shape, leaf};
+ghost use Rattle.type_lattice_model.specs.HasType.{HasAt, HasAll, HasEach, HasBody, HasTuple};
+ghost use Rattle.type_lattice_model.specs.Values as m;
 ghost use Rattle.type_lattice.specs.Types.{HasType};
-ghost use Rattle.type_trees.specs.View.{view, Fits, row_view, body_view, tuples_view, EachNode, BodyFits, TuplesFit};
+ghost use Rattle.type_lattice_trees.specs.View.{view, Fits, row_view, body_view, tuples_view, EachNode, BodyFits, TuplesFit};
 ghost use Rattle.type_meaning.specs.Values.{value_of, values};
 
 use crate::value::Value;
+use type_kinds_sets::Bits;
 use type_lattice::Ty;
-use type_model::MAX_ELEMENTS;
-use type_sets::Bits;
-use type_trees::{BodyOf, CellOf, FunSet, Node, Plain, TuplesOf, find_size, find_tag};
+use type_lattice_model::MAX_ELEMENTS;
+use type_lattice_trees::{BodyOf, CellOf, FunSet, Node, Plain, TuplesOf, find_size, find_tag};
 
 /// Whether the value is in the type. Takes no memory.
 pub fn value_in(v: &Value, t: &Ty) -> bool
@@ -93,7 +93,7 @@ fn body_in(level: u32, elements: &[Value], body: &BodyOf<Node>) -> bool
     }
 }
 
-// Whether each element is in the type at its place.
+// Whether each element is in the type at its position.
 #[cycle(membership)]
 fn each_in(level: u32, elements: &[Value], row: &[Node]) -> bool
     requires fits { EachNode (Fits level) row.now }

@@ -1,6 +1,6 @@
 use type_kinds::{Atom, Boxed, Bytes, List};
 
-/// A value, as tests write it. `Bits` has its length in bits and stands for so many zero bits, and
+/// A value, as tests write it. `Bits` has its length in bits and stands for that many zero bits, and
 /// `Function` its arity.
 #[derive(Drop)]
 pub enum Value {

@@ -10,10 +10,10 @@ use Rattle.std.specs.Cmp.Lexicographic.{same_text, other_text}
 use Rattle.std.proofs.lemmas.List.{take_at, drop_at, take-append-drop, append-nil}
 use Rattle.type_kinds.specs.Quoted.{escaped, all_escaped, quoted}
 use Rattle.type_kinds.specs.Digits.{is_digit}
-use Rattle.type_sets.specs.Numbers.{is_narrow}
+use Rattle.type_kinds_sets.specs.Numbers.{is_narrow}
 use Rattle.type_text.proofs.WordStarts.{list_cases, decimal-start}
-use Rattle.type_sets.specs.declared.ends.Low.{Low}
-use Rattle.type_sets.specs.declared.ends.High.{High}
+use Rattle.type_kinds_sets.specs.declared.ends.Low.{Low}
+use Rattle.type_kinds_sets.specs.declared.ends.High.{High}
 use Rattle.type_text.specs.Words.{WordStop}
 use Rattle.type_text.specs.Texts.{low_text, high_text}
 

@@ -2,18 +2,18 @@
 use Rattle.std.proofs.Common.{◌≡◌, ℕ, zero, suc, ◌-◌, Bool, true, cond, ◌&&◌, List, [], ◌∷◌, ◌++◌, map, codes, refl, sym, ap, ◌∙◌, true≢false, arith, append_assoc}
 use Rattle.std.specs.Coded.{Coded-set, coded_bool}
 use Rattle.type_kinds.specs.Quoted.{quoted}
-use Rattle.type_sets.specs.Names.{Name}
-use Rattle.type_sets.specs.Numbers as numbers
-use Rattle.type_sets.specs.Numbers.{Numbers}
-use Rattle.type_sets.specs.declared.ends.Low.TheVariants as low
-use Rattle.type_sets.specs.declared.ends.High.TheVariants as high
-use Rattle.type_model.specs.Shapes.{Body, Parts, TypeAt}
-use Rattle.type_model.specs.Operations.{Ops, parts_any, ops}
-use Rattle.type_trees.specs.declared.node.Node.{Node}
-use Rattle.type_trees.specs.declared.node.Node.TheVariants as v
-use Rattle.type_trees.specs.declared.node.PartsOf.{PartsOf}
-use Rattle.type_trees.specs.View.{view, parts_view, Fits, EachInParts}
-use Rattle.type_trees.proofs.Views.{view_of, of_above, fits_of, below_fits}
+use Rattle.type_kinds_sets.specs.Names.{Name}
+use Rattle.type_kinds_sets.specs.Numbers as numbers
+use Rattle.type_kinds_sets.specs.Numbers.{Numbers}
+use Rattle.type_kinds_sets.specs.declared.ends.Low.TheVariants as low
+use Rattle.type_kinds_sets.specs.declared.ends.High.TheVariants as high
+use Rattle.type_lattice_model.specs.Shapes.{Body, Parts, TypeAt}
+use Rattle.type_lattice_model.specs.Operations.{Ops, parts_any, ops}
+use Rattle.type_lattice_trees.specs.declared.node.Node.{Node}
+use Rattle.type_lattice_trees.specs.declared.node.Node.TheVariants as v
+use Rattle.type_lattice_trees.specs.declared.node.PartsOf.{PartsOf}
+use Rattle.type_lattice_trees.specs.View.{view, parts_view, Fits, EachInParts}
+use Rattle.type_lattice_trees.proofs.Views.{view_of, of_above, fits_of, below_fits}
 use Rattle.type_text.specs.Texts.{separated, tuple_word, tag_words, size_words, parts_words, is_all_ints, is_all_plain, is_any_cell, is_every_tuple, is_any, text_at}
 
 -- the elements of parts stand for types of the level below

@@ -8,32 +8,32 @@ use Rattle.std.specs.declared.cmp.Ordering.{Ordering}
 use Rattle.std.specs.Cmp.{IsTotalOrder, nat_cmp_total, int_cmp_total}
 use Rattle.std.specs.FinSet.{IsAntisymmetric, nat_cmp-IsAntisymmetric, int_cmp-IsAntisymmetric}
 use Rattle.type_kinds.specs.Quoted.{quoted}
-use Rattle.type_sets.specs.Ascending.{has_item}
-use Rattle.type_sets.specs.Names as names
-use Rattle.type_sets.specs.Names.{Name, Names, name_cmp}
-use Rattle.type_sets.specs.Numbers as numbers
-use Rattle.type_sets.specs.Numbers.{Numbers, is_narrow}
-use Rattle.type_sets.specs.declared.bits.Bits.{Bits}
-use Rattle.type_sets.specs.declared.bits.Bits.TheVariants.{No, Whole, Any}
-use Rattle.type_sets.proofs.Truths.{first, second}
+use Rattle.type_kinds_sets.specs.Ascending.{has_item}
+use Rattle.type_kinds_sets.specs.Names as names
+use Rattle.type_kinds_sets.specs.Names.{Name, Names, name_cmp}
+use Rattle.type_kinds_sets.specs.Numbers as numbers
+use Rattle.type_kinds_sets.specs.Numbers.{Numbers, is_narrow}
+use Rattle.type_kinds_sets.specs.declared.bits.Bits.{Bits}
+use Rattle.type_kinds_sets.specs.declared.bits.Bits.TheVariants.{No, Whole, Any}
 use Rattle.std.specs.List.{list_all}
-use Rattle.type_sets.proofs.AscendingLaws as ascending
-use Rattle.type_sets.proofs.NameLaws as name_laws
-use Rattle.type_sets.proofs.NumberLaws as number_laws
-use Rattle.type_model.specs.Values.{Value, Values}
-use Rattle.type_model.specs.Tables.{EachOf, is_table}
-use Rattle.type_model.specs.Shapes.{Flag, floats, pids, ports, references, nils, maps, Functions, no_function, of_arity, all_functions, PlainParts, Cell, Body, product, tags, Tuples, sizes, all_tuples, Parts, TypeAt}
-use Rattle.type_model.specs.HasType.{HasAt, HasEach, HasTag, HasBody, HasTuple}
-use Rattle.type_model.specs.Operations.{Ops, plain_none, of_plain, of_atoms, parts_is_none, ops, of_list, of_tuples}
-use Rattle.type_model.specs.Normal.{NormalFunctions, IsElement, AreElements, NormalCell, NormalRow, NormalRows, NormalBody, NormalSizes, NormalTuples, NormalParts, NormalAt}
-use Rattle.type_model.specs.Laws.{Laws}
-use Rattle.type_model.specs.ValueShapes.{Leaf, an_int, an_atom, of_flag, Shape, leaf, row, HasShape}
-use Rattle.type_model.proofs.LatticeLaws.{SomeOf, some_first, some_later, some_either, all-is}
-use Rattle.type_model.proofs.RowLaws.{count_each}
-use Rattle.type_model.proofs.BodyLaws.{tagged, body_of_in, body_of_out, body_of_normal, count_body}
-use Rattle.type_model.proofs.TableLaws as tables
-use Rattle.type_model.proofs.PartsLaws.{shape_lattice}
-use Rattle.type_model.proofs.LevelLaws.{level_laws}
+use Rattle.type_kinds.proofs.Truths.{first, second}
+use Rattle.type_kinds_sets.proofs.AscendingLaws as ascending
+use Rattle.type_kinds_sets.proofs.NameLaws as name_laws
+use Rattle.type_kinds_sets.proofs.NumberLaws as number_laws
+use Rattle.type_lattice_model.specs.Values.{Value, Values}
+use Rattle.type_lattice_model.specs.Tables.{EachOf, is_table}
+use Rattle.type_lattice_model.specs.Shapes.{Flag, floats, pids, ports, references, nils, maps, Functions, no_function, of_arity, all_functions, PlainParts, Cell, Body, product, tags, Tuples, sizes, all_tuples, Parts, TypeAt}
+use Rattle.type_lattice_model.specs.HasType.{HasAt, HasEach, HasTag, HasBody, HasTuple}
+use Rattle.type_lattice_model.specs.Operations.{Ops, plain_none, of_plain, of_atoms, parts_is_none, ops, of_list, of_tuples}
+use Rattle.type_lattice_model.specs.Normal.{NormalFunctions, IsElement, AreElements, NormalCell, NormalRow, NormalRows, NormalBody, NormalSizes, NormalTuples, NormalParts, NormalAt}
+use Rattle.type_lattice_model.specs.Laws.{Laws}
+use Rattle.type_lattice_model.specs.ValueShapes.{Leaf, an_int, an_atom, of_flag, Shape, leaf, row, HasShape}
+use Rattle.type_lattice_model.proofs.LatticeLaws.{SomeOf, some_first, some_later, some_either, all-is}
+use Rattle.type_lattice_model.proofs.RowLaws.{count_each}
+use Rattle.type_lattice_model.proofs.BodyLaws.{tagged, body_of_in, body_of_out, body_of_normal, count_body}
+use Rattle.type_lattice_model.proofs.TableLaws as tables
+use Rattle.type_lattice_model.proofs.PartsLaws.{shape_lattice}
+use Rattle.type_lattice_model.proofs.LevelLaws.{level_laws}
 use Rattle.type_text.specs.Texts.{separated, word_if, atom_words, range_word, int_words, bits_words, function_words, plain_words, cell_words, tuple_word, tag_words, body_words, size_words, tuples_words, parts_words, is_any, text_at}
 use Rattle.type_text.specs.WordTypes.{AreWords, Named, name_of, type_named, of_ints, of_bits, of_functions, of_cell, of_row, IsWordOf, named, one_atom, every_atom, one_int, ints_between, every_float, whole_bits, every_bits, every_pid, every_port, every_reference, every_map, every_function, one_arity, empty_list, proper_list, any_list, every_tuple, one_tuple, AreWordsOf, spelled, WordsOf}
 

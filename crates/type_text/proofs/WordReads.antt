@@ -4,15 +4,16 @@ use Rattle.std.proofs.Common.{◌≡◌, inl, inr, ℕ, zero, suc, Bool, true, f
 use Rattle.std.specs.Prelude.{codes}
 use Rattle.std.specs.Option.{IsSomeAnd}
 use Rattle.std.proofs.lemmas.List.{map-append}
-use Rattle.type_model.specs.Shapes.{TypeAt}
+use Rattle.std.proofs.lemmas.Bool.{cases_Bool}
+use Rattle.type_lattice_model.specs.Shapes.{TypeAt}
 use Rattle.type_kinds.specs.Quoted.{quoted}
-use Rattle.type_sets.specs.Names as names
-use Rattle.type_model.specs.Operations.{ops, of_atoms}
-use Rattle.type_model.specs.Normal.{IsElement, AreElements, NormalAt}
-use Rattle.type_trees.specs.declared.node.Node.{Node}
-use Rattle.type_trees.specs.declared.node.Node.TheVariants as v
-use Rattle.type_trees.specs.View.{view, row_view, Fits}
-use Rattle.type_trees.proofs.Views.{fits_normal, view_any, each_more}
+use Rattle.type_kinds_sets.specs.Names as names
+use Rattle.type_lattice_model.specs.Operations.{ops, of_atoms}
+use Rattle.type_lattice_model.specs.Normal.{IsElement, AreElements, NormalAt}
+use Rattle.type_lattice_trees.specs.declared.node.Node.{Node}
+use Rattle.type_lattice_trees.specs.declared.node.Node.TheVariants as v
+use Rattle.type_lattice_trees.specs.View.{view, row_view, Fits}
+use Rattle.type_lattice_trees.proofs.Views.{fits_normal, view_any, each_more}
 use Rattle.type_text.specs.Texts.{after, separated, is_any, text_at}
 use Rattle.type_text.specs.Words.{WordStop, TypeStop}
 use Rattle.type_text.specs.Starts.{begins_number, Lacks, NoTypeName}
@@ -20,8 +21,7 @@ use Rattle.type_text.specs.WordTypes.{IsWord, AreWords, spelled, joined_with, Wo
 use Rattle.type_text.proofs.WordStarts.{Unlike, unlike_word, number-start, some_start}
 use Rattle.type_text.proofs.WordLaws.{words_of}
 use Rattle.type_text.proofs.Prints.{any_is_all}
-use Rattle.type_sets.proofs.Truths.{decided}
-use Rattle.type_model.proofs.LevelLaws.{level_laws}
+use Rattle.type_lattice_model.proofs.LevelLaws.{level_laws}
 
 -- ---- how the text of a type begins
 
@@ -39,9 +39,9 @@ pub way : (d : ℕ) (t : TypeAt d) → NormalAt d t → Way (ops d).any (ops d).
 unfolding ops
 way zero true k = as_any refl refl
 way zero false k = as_none refl refl
-way (suc d) t k = elim (decided (is_any (suc d) t)) [
+way (suc d) t k = elim (cases_Bool (is_any (suc d) t)) [
   | inl a ↦ as_any (any_is_all (suc d) t a) (grind arith)
-  | inr a ↦ elim (decided ((ops (suc d)).is_none t)) [
+  | inr a ↦ elim (cases_Bool ((ops (suc d)).is_none t)) [
     | inl n ↦ as_none ((level_laws (suc d)).none-is_none t n) (grind arith)
     | inr n ↦ let s = words_of d t k a n in as_words a n (subst Unlike (sym s.written) (unlike_word s.word s.first s.is_word (after (codes " | ") (spelled s.later))))
   ]

@@ -8,18 +8,18 @@ use borrow.Author.Tests.{ltb-true}
 use Rattle.std.proofs.lemmas.Fmt.{decimal_is_IsNumeral_wide}
 use Rattle.std.proofs.lemmas.Str.Parse.{digit_from_value}
 use Rattle.type_kinds.specs.Quoted.{quoted}
-use Rattle.type_sets.specs.Names as names
-use Rattle.type_sets.specs.Names.{Name}
-use Rattle.type_sets.specs.Numbers as numbers
-use Rattle.type_sets.specs.Numbers.{is_narrow}
-use Rattle.type_sets.specs.Ends.{is_range}
-use Rattle.type_sets.specs.declared.ends.Low.{Low}
-use Rattle.type_sets.specs.declared.ends.Low.TheVariants.{Min}
-use Rattle.type_sets.specs.declared.ends.High.{High}
-use Rattle.type_sets.specs.declared.ends.High.TheVariants.{Max}
-use Rattle.type_model.specs.Shapes.{of_arity, Parts}
-use Rattle.type_model.specs.Operations.{Ops, of_atoms, of_list}
-use Rattle.type_model.specs.Normal.{IsElement, AreElements}
+use Rattle.type_kinds_sets.specs.Names as names
+use Rattle.type_kinds_sets.specs.Names.{Name}
+use Rattle.type_kinds_sets.specs.Numbers as numbers
+use Rattle.type_kinds_sets.specs.Numbers.{is_narrow}
+use Rattle.type_kinds_sets.specs.Ends.{is_range}
+use Rattle.type_kinds_sets.specs.declared.ends.Low.{Low}
+use Rattle.type_kinds_sets.specs.declared.ends.Low.TheVariants.{Min}
+use Rattle.type_kinds_sets.specs.declared.ends.High.{High}
+use Rattle.type_kinds_sets.specs.declared.ends.High.TheVariants.{Max}
+use Rattle.type_lattice_model.specs.Shapes.{of_arity, Parts}
+use Rattle.type_lattice_model.specs.Operations.{Ops, of_atoms, of_list}
+use Rattle.type_lattice_model.specs.Normal.{IsElement, AreElements}
 use Rattle.type_text.specs.Starts.{begins_number, Lacks, NoTypeName}
 use Rattle.type_text.specs.Texts.{separated, low_text, high_text}
 use Rattle.type_text.specs.WordTypes.{of_ints, of_functions, of_row, Named, name_of, type_named, IsWordOf, named, one_int, ints_between, one_arity}

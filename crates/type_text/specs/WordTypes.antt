@@ -2,20 +2,20 @@
 use Rattle.std.specs.Prelude.{◌≡◌, ℕ, suc, ◌+◌, ◌^◌, ℤ, true, false, nat_lt, List, [], ◌∷◌, ◌++◌, length, map, Option, codes}
 use Rattle.std.specs.Fmt.{decimal, signed_decimal}
 use Rattle.type_kinds.specs.Quoted.{quoted}
-use Rattle.type_sets.specs.Names as names
-use Rattle.type_sets.specs.Names.{Name}
-use Rattle.type_sets.specs.Numbers as numbers
-use Rattle.type_sets.specs.Numbers.{Numbers, is_narrow}
-use Rattle.type_sets.specs.Ends.{is_range}
-use Rattle.type_sets.specs.declared.ends.Low.{Low}
-use Rattle.type_sets.specs.declared.ends.High.{High}
-use Rattle.type_sets.specs.declared.bits.Bits.{Bits}
-use Rattle.type_sets.specs.declared.bits.Bits.TheVariants.{No, Whole, Any}
-use Rattle.type_model.specs.declared.limits.TheConstants.{MAX_ELEMENTS}
-use Rattle.type_model.specs.Shapes.{Flags, Functions, no_function, of_arity, all_functions, Cell, sizes, all_tuples, Parts, TypeAt}
-use Rattle.type_model.specs.Operations.{Ops, no_flags, plain_none, body_of, of_plain, of_atoms, of_list, of_tuples, ops}
-use Rattle.type_model.specs.Elements.{joined_all}
-use Rattle.type_model.specs.Normal.{IsElement, AreElements, NormalAt}
+use Rattle.type_kinds_sets.specs.Names as names
+use Rattle.type_kinds_sets.specs.Names.{Name}
+use Rattle.type_kinds_sets.specs.Numbers as numbers
+use Rattle.type_kinds_sets.specs.Numbers.{Numbers, is_narrow}
+use Rattle.type_kinds_sets.specs.Ends.{is_range}
+use Rattle.type_kinds_sets.specs.declared.ends.Low.{Low}
+use Rattle.type_kinds_sets.specs.declared.ends.High.{High}
+use Rattle.type_kinds_sets.specs.declared.bits.Bits.{Bits}
+use Rattle.type_kinds_sets.specs.declared.bits.Bits.TheVariants.{No, Whole, Any}
+use Rattle.type_lattice_model.specs.declared.limits.TheConstants.{MAX_ELEMENTS}
+use Rattle.type_lattice_model.specs.Shapes.{Flags, Functions, no_function, of_arity, all_functions, Cell, sizes, all_tuples, Parts, TypeAt}
+use Rattle.type_lattice_model.specs.Operations.{Ops, no_flags, plain_none, body_of, of_plain, of_atoms, of_list, of_tuples, ops}
+use Rattle.type_lattice_model.specs.Elements.{joined_all}
+use Rattle.type_lattice_model.specs.Normal.{IsElement, AreElements, NormalAt}
 use Rattle.type_text.specs.Texts.{after, range_word, tuple_word, text_at}
 
 -- ---- types of one part

@@ -4,13 +4,13 @@ ghost use Rattle.std.specs.Prelude.{◌≡◌, ℕ, ℤ, pos, neg_ℤ, ◌+◌, 
 ghost use Rattle.std.specs.Option.{IsSomeAnd};
 ghost use Rattle.std.specs.Fmt.{decimal, signed_decimal};
 ghost use Rattle.type_kinds.specs.Quoted.{quoted, escaped, needs_backslash};
-ghost use Rattle.type_sets.specs.Numbers.{is_narrow};
+ghost use Rattle.type_kinds_sets.specs.Numbers.{is_narrow};
 ghost use Rattle.type_text.specs.Texts.{low_text, high_text};
 ghost use Rattle.type_text.specs.Words.{WordStop};
 
 use std::alloc::Global;
 use type_kinds::{Atom, Bytes, Memory, digits_len, parse_decimal};
-use type_sets::{High, Low};
+use type_kinds_sets::{High, Low};
 
 /// What stands behind a word, where the text begins with it.
 #[tactic(auto, using(crate::proofs::LeafLaws::words_in_front))]

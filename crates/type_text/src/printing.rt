@@ -4,13 +4,13 @@ ghost use Rattle.std.specs.Fmt.{decimal, signed_decimal};
 ghost use Rattle.type_kinds.specs.Quoted.{quoted};
 ghost use Rattle.type_text.specs.Texts.{text_of, text_at, word_if, atom_words, low_text as low_model, high_text as high_model, range_word, int_words, bits_words, function_words, plain_words, cell_words, tuple_word, tag_words, body_words, size_words, tuples_words};
 ghost use Rattle.type_text.specs.Adds.{row_text, Adds};
-ghost use Rattle.type_trees.specs.Plains.{functions_of};
-ghost use Rattle.type_trees.specs.View.{view, Fits, row_view, tags_view, body_view, sizes_view, tuples_view, cell_view, EachNode, EachTag, EachInBody, EachSize, EachInTuples, EachInCell};
+ghost use Rattle.type_lattice_trees.specs.Plains.{functions_of};
+ghost use Rattle.type_lattice_trees.specs.View.{view, Fits, row_view, tags_view, body_view, sizes_view, tuples_view, cell_view, EachNode, EachTag, EachInBody, EachSize, EachInTuples, EachInCell};
 
 use type_kinds::{Atom, Bytes, Memory, Shared};
+use type_kinds_sets::{AtomSet, Bits, High, IntSet, Low};
 use type_lattice::Ty;
-use type_sets::{AtomSet, Bits, High, IntSet, Low};
-use type_trees::{BodyOf, CellOf, FunSet, Node, Plain, SizeOf, TagOf, TuplesOf, is_none};
+use type_lattice_trees::{BodyOf, CellOf, FunSet, Node, Plain, SizeOf, TagOf, TuplesOf, is_none};
 
 /// Appends the text of the type: `none()`, `any()`, or what its parts have with ` | ` between, part by
 /// part. A type has one text. If allocation fails `out` is as before.
@@ -25,7 +25,7 @@ pub fn print(t: &Ty, out: &mut Bytes) -> Result<(), Memory>
 }
 
 // Appends the text of the type that the tree stands for.
-#[tactic(auto, using(type_trees::proofs::Views::of_above, crate::proofs::Prints::each_below, type_trees::proofs::Views::view_any, crate::proofs::Prints::any_text, crate::proofs::Prints::text_of_none, std::proofs::lemmas::Result::on_ok_weaker))]
+#[tactic(auto, using(type_lattice_trees::proofs::Views::of_above, crate::proofs::Prints::each_below, type_lattice_trees::proofs::Views::view_any, crate::proofs::Prints::any_text, crate::proofs::Prints::text_of_none, std::proofs::lemmas::Result::on_ok_weaker))]
 #[cycle(print)]
 fn append_type(level: u32, t: &Node, out: &mut Bytes) -> Result<(), Memory>
     requires { Fits level t.now }

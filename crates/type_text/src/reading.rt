@@ -9,7 +9,7 @@ use crate::words::read_type;
 use std::alloc::Global;
 use type_kinds::{Bytes, Memory};
 use type_lattice::Ty;
-use type_trees::discard;
+use type_lattice_trees::discard;
 
 /// Why a text isn't read.
 #[derive(Clone, Copy, Debug, PartialEq, Eq)]

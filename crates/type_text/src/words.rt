@@ -2,32 +2,32 @@
 ghost use Rattle.std.specs.Prelude.{◌≡◌, ◌≤◌, ◌<◌, ◌^◌, ◌++◌, ◌∷◌, [], ℕ, ℤ, List, suc, true, false, length, map, codes, IsTrue, IfOk, IfSome, MatchOption};
 ghost use Rattle.std.specs.Fmt.{signed_decimal};
 ghost use Rattle.type_kinds.specs.Quoted.{quoted};
-ghost use Rattle.type_sets.specs.Names as names;
-ghost use Rattle.type_sets.specs.Numbers as numbers;
-ghost use Rattle.type_sets.specs.Numbers.{is_narrow};
-ghost use Rattle.type_model.specs.Shapes.{TypeAt, sizes, all_tuples};
-ghost use Rattle.type_model.specs.Operations.{ops, of_plain, of_atoms};
-ghost use Rattle.type_model.specs.Normal.{NormalAt, NormalFunctions, IsElement, AreElements};
-ghost use Rattle.type_trees.specs.Plains.{flags_of, functions_of};
-ghost use Rattle.type_trees.specs.View.{view, body_view, row_view, Fits, EachNode, BodyFits};
+ghost use Rattle.type_kinds_sets.specs.Names as names;
+ghost use Rattle.type_kinds_sets.specs.Numbers as numbers;
+ghost use Rattle.type_kinds_sets.specs.Numbers.{is_narrow};
+ghost use Rattle.type_lattice_model.specs.Shapes.{TypeAt, sizes, all_tuples};
+ghost use Rattle.type_lattice_model.specs.Operations.{ops, of_plain, of_atoms};
+ghost use Rattle.type_lattice_model.specs.Normal.{NormalAt, NormalFunctions, IsElement, AreElements};
+ghost use Rattle.type_lattice_trees.specs.Plains.{flags_of, functions_of};
+ghost use Rattle.type_lattice_trees.specs.View.{view, body_view, row_view, Fits, EachNode, BodyFits};
 ghost use Rattle.type_text.specs.Texts.{text_at, after, separated};
 ghost use Rattle.type_text.specs.Words.{TypeStop, WordStop};
 ghost use Rattle.type_text.specs.WordTypes.{IsWord, AreWords, spelled, joined_with, of_row, of_flags, of_bits, of_functions, of_ints};
-ghost use Rattle.type_model.specs.Operations.{of_tuples, of_list};
+ghost use Rattle.type_lattice_model.specs.Operations.{of_tuples, of_list};
 ghost use Rattle.type_text.specs.Starts.{begins_number, NoFlag, NoBits, NoFunction, NoInterval, NoTypeName};
 
 use crate::leaves::{after_word, read_arity, read_integer, read_quoted, read_range};
 use std::alloc::Global;
 use type_kinds::{List, Memory};
-use type_model::MAX_ELEMENTS;
-use type_sets::{AtomSet, Bits, High, IntSet, Low, SharedList};
-use type_trees::{
+use type_kinds_sets::{AtomSet, Bits, High, IntSet, Low, SharedList};
+use type_lattice_model::MAX_ELEMENTS;
+use type_lattice_trees::{
     FlagSet, FunSet, Node, Plain, discard, every_tuple, is_none, join, lists_of, plain_alone,
     product_body, tuples_of,
 };
 
 /// The type of a level, which has a value, that the text begins with, and what is left.
-#[tactic(auto, using(type_trees::proofs::Views::any_fits))]
+#[tactic(auto, using(type_lattice_trees::proofs::Views::any_fits))]
 #[cycle(words)]
 pub fn read_type<'a>(
     alloc: Global,
@@ -198,7 +198,7 @@ fn read_tuple<'a>(
 fn discard_row(_row: List<Node>) {}
 
 // The tuples of these element types.
-#[tactic(auto, using(type_trees::proofs::MadeTrees::row_body))]
+#[tactic(auto, using(type_lattice_trees::proofs::MadeTrees::row_body))]
 fn tuples_with(alloc: Global, level: u32, row: List<Node>) -> Result<Node, Memory>
     requires few { length row ≤ MAX_ELEMENTS }
     requires each { EachNode (Fits level) row }
@@ -212,7 +212,7 @@ fn tuples_with(alloc: Global, level: u32, row: List<Node>) -> Result<Node, Memor
 }
 
 // Element types up to the closing bracket, which is gone then too.
-#[tactic(auto, using(crate::proofs::WordReads::elements_more, type_trees::proofs::Views::each_more))]
+#[tactic(auto, using(crate::proofs::WordReads::elements_more, type_lattice_trees::proofs::Views::each_more))]
 #[cycle(words)]
 fn read_row<'a>(
     alloc: Global,

@@ -1,5 +1,5 @@
 -- What a stable sort by a key ensures of references, said of what they refer to.
-use Rattle.std.proofs.Common.{◌≡◌, ℕ, ◌+◌, ◌<◌, ◌≤◌, Bool, not, ◌&&◌, ◌||◌, nat_eq, nat_lt, cond, List, [], ◌∷◌, ◌++◌, take, suc, inl, inr, length, map, refl, sym, ap, ◌∙◌, subst, arith, slice_index_or, Bor}
+use Rattle.std.proofs.Common.{◌≡◌, ℕ, ◌+◌, ◌<◌, ◌≤◌, Bool, not, ◌&&◌, ◌||◌, nat_eq, nat_lt, List, [], ◌∷◌, ◌++◌, take, suc, inl, inr, length, map, refl, sym, ap, ◌∙◌, subst, arith, slice_index_or, Bor}
 use Rattle.std.specs.List.{filter}
 use Rattle.std.specs.List.Sorted.{IsPermutation, IsSortedBy, ties, IsStableBy}
 use Rattle.std.specs.Ordering.{is_lt, nat_cmp, ordering_then}
@@ -7,6 +7,7 @@ use Rattle.std.proofs.lemmas.List.{get_or-map, length-map, map-append, take_all}
 use Rattle.std.proofs.Math.Seq.{take-suc}
 use Rattle.std.proofs.lemmas.List.Sorted.{IsPermutation-map}
 use Rattle.std.proofs.lemmas.Bool.{cases_Bool}
+use Rattle.std.proofs.lemmas.List.Elements.{filter_agree}
 use Rattle.warn_list.specs.declared.finding.Finding.{Finding}
 use Rattle.warn_list.specs.Order.{AreInOrder, kind_number, stands_before}
 
@@ -17,10 +18,6 @@ behind z = record { ref_ptr = (0, 0); now = z }
 -- two numbers, by the first and then by the second
 pub lexicographic : (a b c d : ℕ) → is_lt (ordering_then (nat_cmp a c) (nat_cmp b d)) ≡ nat_lt a c || (nat_eq a c && nat_lt b d)
 lexicographic a b c d = grind arith
-
-filter_same : {X : Type 0} (p q : X → Bool) → ((x : X) → p x ≡ q x) → (xs : List X) → filter p xs ≡ filter q xs
-filter_same p q h [] = refl
-filter_same p q h (x ∷ xs) = ap (λ b. cond b (x ∷ filter p xs) (filter p xs)) (h x) ∙ ap (λ ys. cond (q x) (x ∷ ys) ys) (filter_same p q h xs)
 
 filter_image : {X Y : Type 0} (p : Y → Bool) (f : X → Y) (xs : List X) → filter p (map f xs) ≡ map f (filter (λ x. p (f x)) xs)
 filter_image p f [] = refl
@@ -44,7 +41,7 @@ module _ {X : Type 0} (lt : X → X → Bool) (key : Bor X → Bor X → Bool) (
 
   tied_now : (z : X) (fs : List (Bor X)) → filter (ties lt z) (map (λ f. f.now) fs) ≡ map (λ f. f.now) (filter (ties key (behind z)) fs)
   tied_now z fs = filter_image (ties lt z) (λ (f : Bor X). f.now) fs
-      ∙ ap (λ gs. map (λ (f : Bor X). f.now) gs) (filter_same (λ f. ties lt z f.now) (ties key (behind z)) (tied z) fs)
+      ∙ ap (λ gs. map (λ (f : Bor X). f.now) gs) (filter_agree (λ f. ties lt z f.now) (ties key (behind z)) (tied z) fs)
 
   pub stable_now : (fs gs : List (Bor X)) → IsStableBy key fs gs → IsStableBy lt (map (λ f. f.now) fs) (map (λ f. f.now) gs)
   stable_now fs gs h = λ z. tied_now z gs ∙ ap (λ hs. map (λ (f : Bor X). f.now) hs) (h (behind z)) ∙ sym (tied_now z fs)

@@ -8,7 +8,7 @@ use std::alloc::Global;
 use type_kinds::{Atom, Bytes, List, Memory};
 
 /// The lines of a module's findings, each ended by LF: by label, and at one label by kind. Two
-/// findings of one kind at one label stand as they were handed in. Fails only if allocation fails.
+/// findings of one kind at one label stand in the order passed. Fails only if allocation fails.
 pub fn lines(alloc: Global, home: &Atom, findings: &List<Finding>) -> Result<Bytes, Memory>
     ensures { IfOk result (λ bytes. AreLines home.now findings.now bytes) }
 {

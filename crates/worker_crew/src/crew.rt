@@ -62,7 +62,7 @@ impl<'a, W: Work, G: Gate> Crew<'a, W, G> {
     }
 }
 
-/// Solves the components of a board by so many workers, from 1 to 64. The caller is the worker with
+/// Solves the components of a board by `workers` workers, from 1 to 64. The caller is the worker with
 /// seat 0, and each other worker is a thread. Where a thread can't be started, the others do its
 /// work. Each solve stands between `enter` and `leave` of the gate.
 pub fn run_crew<R: Threads + Wait + Sync, W: Work + Sync, G: Gate + Sync>(

@@ -1,21 +1,21 @@
 -- What a fault says of one file.
 use Rattle.std.specs.Prelude.{◌≡◌, ℕ, List, length, Option}
-use Rattle.core_scope.specs.Checked.{tree_of}
 use Rattle.da_shelf.specs.Counts.{Rose}
 use Rattle.da_shelf.specs.Told.{Files, Holds, Lacks}
-use Rattle.analysis.specs.declared.reading.Source.{Source}
+use Rattle.table_keep.specs.declared.source.Source.{Source}
+use Rattle.table_keep.specs.Model.{source_so}
 use Rattle.analysis.specs.declared.reading.ReadFault.{ReadFault}
 use Rattle.analysis.specs.declared.reading.ReadFault.TheVariants.{Refused, Failed, Memory}
 use Rattle.analysis.specs.declared.refusals.SourceFault.{SourceFault}
 use Rattle.analysis.specs.Refusals.{missing}
-use Rattle.analysis.specs.Sources.{room, IsSource, IsAtFault}
+use Rattle.analysis.specs.Sources.{room, IsTextOf, IsAtFault}
 
 -- The file isn't held, or its bytes are the source of no module, by this fault.
 pub data OneRefused (told : Option Files) (file : List ℕ) (before : ℕ) (fault : SourceFault) : Type 0 where
   lacking : fault ≡ missing → Lacks told file → OneRefused told file before fault
   faulty : (bytes : List ℕ) → Holds told file bytes → IsAtFault (room before) bytes fault → OneRefused told file before fault
 
--- What a fault says of the file at this position, where so many bytes were read before.
+-- What a fault says of the file at this position, where `before` bytes were read before it.
 abbrev pub FailsOne : (told : Option Files) (file : List ℕ) (word before faults_before faults_now : ℕ) → ReadFault → Type 0
 FailsOne told file word before faults_before faults_now (Refused at fault) = (at ≡ word) × OneRefused told file before fault
 FailsOne told file word before faults_before faults_now (Failed at) = (at ≡ word) × Rose faults_before faults_now
@@ -27,9 +27,9 @@ FailsBytes bytes word before (Refused at fault) = (at ≡ word) × IsAtFault (ro
 FailsBytes bytes word before (Failed at) = ⊥
 FailsBytes bytes word before Memory = Unit {0}
 
--- The file is held, and its bytes are this source, where so many bytes were read before.
+-- The file is held, and its bytes are the text of this source, where `before` bytes were read before it.
 pub record IsReadAs (told : Option Files) (file : List ℕ) (before : ℕ) (source : Source) : Type 0 where
   pub bytes : List ℕ
   pub held_so : Holds told file bytes
-  pub is : IsSource (room before) bytes (tree_of source.checked)
+  pub is : IsTextOf (room before) bytes (source_so source)
   pub counted : source.length ≡ length bytes

@@ -7,7 +7,7 @@ use Rattle.core_ast.specs.declared.syntax.StepOf.{StepOf}
 use Rattle.core_ast.specs.declared.syntax.StepOf.TheVariants.{Let, Do}
 use Rattle.call_graph.specs.declared.table.FunctionTable.{FunctionTable}
 use Rattle.call_graph.specs.declared.table.Resolved.{Resolved}
-use Rattle.call_graph.specs.declared.table.Resolved.TheVariants.{BuiltIn, NotHandedIn, NotExported, Function}
+use Rattle.call_graph.specs.declared.table.Resolved.TheVariants.{BuiltIn, NotPassed, NotExported, Function}
 use Rattle.call_graph.specs.declared.walk.CallWalk.{CallWalk}
 use Rattle.call_graph.specs.Targets.{CallTarget, targets}
 use Rattle.call_graph.specs.Targets.CallTarget.{defined, inner, remote}
@@ -17,7 +17,7 @@ use Rattle.call_graph.specs.Tables.{own_number, resolved}
 
 abbrev pub reached_number : Resolved → List ℕ
 reached_number BuiltIn = []
-reached_number NotHandedIn = []
+reached_number NotPassed = []
 reached_number NotExported = []
 reached_number (Function j) = j ∷ []
 
@@ -38,7 +38,7 @@ callees table home (t ∷ ts) = callee table home t ++ callees table home ts
 -- A call that reaches this, if that is no function.
 abbrev pub unreached : Called → Resolved → List Called
 unreached c BuiltIn = []
-unreached c NotHandedIn = c ∷ []
+unreached c NotPassed = c ∷ []
 unreached c NotExported = c ∷ []
 unreached c (Function j) = []
 

@@ -23,7 +23,7 @@ Ranked ranks c = (r : ℕ) × (rank_of ranks c ≡ Some r)
 abbrev pub RankedBelow : List (Option ℕ) → ℕ → ℕ → Type 0
 RankedBelow ranks n c = (r : ℕ) × (rank_of ranks c ≡ Some r) × (r < n)
 
--- what the places past the end of a list of watchers count as
+-- what the positions past the end of a list of watchers count as
 abbrev pub nobody : Watcher
 nobody = record { component = 0; at = 0 }
 
@@ -36,7 +36,7 @@ abbrev pub PassedTo : List (List ℕ) → List (Option ℕ) → ℕ → ℕ → 
 PassedTo callees ranks component at =
     (component < length callees) × ((q : ℕ) → q < at → q < length (targets callees component) → Ranked ranks (slice_index (targets callees component) q))
 
--- The callee at a place is e.
+-- The callee at a position is e.
 abbrev pub WatchesAt : List (List ℕ) → ℕ → ℕ → ℕ → Type 0
 WatchesAt callees component at e = (at < length (targets callees component)) × (slice_index (targets callees component) at ≡ e)
 
@@ -78,7 +78,7 @@ TakenFrom callees s component =
     (ready : List ℕ) × Ordered callees s.ranks.items ready s.watchers s.again s.count × (ready ≡ component ∷ s.ready) × Ascending ready
     × (rank_of s.ranks.items component ≡ None)
 
--- Every component once, at the place of its first callee.
+-- Every component once, at the position of its first callee.
 abbrev pub FirstWatchers : List Watcher → ℕ → Type 0
 FirstWatchers ws count = (length ws ≡ count) × ((k : ℕ) → k < count → slice_index_or ws k nobody ≡ record { component = k; at = 0 })
 

@@ -21,16 +21,16 @@ fresh (Closed _) = 0
 abbrev pub Walk : List (List ℕ) → ℕ → ℕ → Type 0
 Walk graph f g = (f ≡ g) ⊎ Reaches graph f g
 
--- The place j is in the block of the place i, or in a later one.
+-- The position j is in the block of the position i, or in a later one.
 abbrev pub FromBlock : List Block → ℕ → ℕ → Type 0
 FromBlock blocks i j = All (λ b. b.first ≤ i → b.first ≤ j) blocks
 
--- g is closed, or open and not below the block of the place i.
+-- g is closed, or open and not below the block of the position i.
 abbrev pub Settled : List NodeState → List Block → ℕ → ℕ → Type 0
 Settled states blocks i g =
     ((c : ℕ) × (state_of states g ≡ Closed c)) ⊎ ((j : ℕ) × (state_of states g ≡ Open j) × FromBlock blocks i j)
 
--- g is pending, and not below the block of the place i.
+-- g is pending, and not below the block of the position i.
 abbrev pub Awaits : List ℕ → List Block → ℕ → ℕ → Type 0
 Awaits pending blocks i g =
     (k : ℕ) × (k < length pending) × (slice_index pending k ≡ g) × All (λ b. b.first ≤ i → b.below ≤ k) blocks
@@ -62,7 +62,7 @@ pub record Cut (blocks : List Block) (path pending : List ℕ) : Type 0 where
 pub record Sound (graph : List (List ℕ)) (states : List NodeState) (path pending : List ℕ) (blocks : List Block) (cursor count : ℕ) : Type 0 where
   pub sizes : length states ≡ length graph
   pub on_path : (p : ℕ) → p < length path → state_of states (slice_index path p) ≡ Open p
-  pub open_place : (f p : ℕ) → state_of states f ≡ Open p → (p < length path) × (slice_index path p ≡ f)
+  pub open_position : (f p : ℕ) → state_of states f ≡ Open p → (p < length path) × (slice_index path p ≡ f)
   pub closed_below : (f c : ℕ) → state_of states f ≡ Closed c → c < count
   pub closed_leads : (f g c : ℕ) → state_of states f ≡ Closed c → Leads graph f g → (d : ℕ) × (state_of states g ≡ Closed d) × (d ≤ c)
   pub closed_together : (f g c : ℕ) → state_of states f ≡ Closed c → state_of states g ≡ Closed c → Together graph f g
@@ -74,7 +74,7 @@ pub record Sound (graph : List (List ℕ)) (states : List NodeState) (path pendi
   pub passed : (f : ℕ) → f < cursor → state_of states f ≡ Unseen → ⊥
   pub fits : count + length blocks + sum_by fresh states ≤ length graph
 
--- The nodes between two places of the path are closed, with one number, and no other state changes.
+-- The nodes between two positions of the path are closed, with one number, and no other state changes.
 pub record Closes (states states' : List NodeState) (path : List ℕ) (first last number : ℕ) : Type 0 where
   pub same_length : length states' ≡ length states
   pub shut : (p : ℕ) → first ≤ p → p < last → state_of states' (slice_index path p) ≡ Closed number

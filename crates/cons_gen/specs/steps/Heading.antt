@@ -2,10 +2,10 @@
 use Rattle.std.specs.Prelude.{◌≡◌, ℕ, List, ◌++◌}
 use Rattle.type_kinds.specs.declared.atom.Atom.{Atom}
 use Rattle.core_ast.specs.Model as m
-use Rattle.cons_rows.specs.Passes.{Knowledge}
-use Rattle.cons_rows.specs.Patterns.{outer_bindings}
-use Rattle.cons_rows.specs.Walking.{rows_of, scope_of}
-use Rattle.cons_rows.specs.declared.generator.Generator.{Generator}
+use Rattle.cons_gen_rows.specs.Passes.{Knowledge}
+use Rattle.cons_gen_rows.specs.Patterns.{outer_bindings}
+use Rattle.cons_gen_rows.specs.Walking.{rows_of, scope_of}
+use Rattle.cons_gen_rows.specs.declared.generator.Generator.{Generator}
 use Rattle.cons_gen.specs.Made.{clause_slots, head_rows}
 
 -- where nothing was made before, there is the head of a clause with these patterns, at these slots, and this guard

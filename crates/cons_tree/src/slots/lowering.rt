@@ -1,13 +1,13 @@
 //! How one slot of the array is read, lowered, and put back.
-ghost use Rattle.std.specs.Prelude.{◌≡◌, [], ◌∷◌, ◌++◌, ◌≤◌, IfOk, length, drop, take, map};
-ghost use Rattle.type_lattice.specs.Types.{Below};
+ghost use Rattle.std.specs.Prelude.{◌≡◌, [], ◌∷◌, ◌++◌, ◌≤◌, IfOk, length, drop, take, map, not};
+ghost use Rattle.type_lattice.specs.Types.{Below, is_none};
 ghost use Rattle.cons_tree.specs.Environments.{type_at, with_type, lowered};
 ghost use Rattle.cons_tree.specs.Narrowing.{alike};
 ghost use Rattle.cons_tree.specs.Trails.{answer, laid, Trailed, Within};
 
 use crate::parts::Slot;
 use crate::signatures::discard;
-use crate::slots::{Former, Slots, discard_former, discard_trail};
+use crate::slots::{Slots, TrailEntry, discard_trail, discard_trail_entry};
 use std::alloc::Global;
 use type_kinds::{List, Memory};
 use type_lattice::{Ty, type_laws};
@@ -61,14 +61,21 @@ impl Slots {
         Ok(types)
     }
 
+    // Whether the slot has a value.
+    fn has_value(&self, slot: Slot) -> bool
+        ensures { result ≡ not (is_none (type_at self.now.types slot)) }
+    {
+        !self.at(slot).is_none()
+    }
+
     // Puts a smaller type into a slot, and says whether it has a value. The trail tells what was
-    // there, unless nothing changes. If allocation fails, the array is given up.
+    // there. If allocation fails, the array's contents are unspecified.
     fn put(&mut self, slot: Slot, ty: Ty) -> Result<bool, Memory>
-        requires { Below ty (type_at self.old.types slot) }
+        requires below { Below ty (type_at self.old.types slot) }
+        requires smaller { Below (type_at self.old.types slot) ty → ⊥ }
         ensures value { IfOk result (λ alive. with_type self.old.types slot ty ≡ answer alive self.new.types) }
         ensures trailed { IfOk result (λ _. Trailed self.old self.new) }
     {
-        type_laws();
         if ty.is_none() {
             discard(ty);
             return Ok(false);
@@ -77,31 +84,31 @@ impl Slots {
             discard(ty);
             return Ok(true);
         }
-        if self.at(slot).leq(&ty) {
-            discard(ty);
-            return Ok(true);
-        }
         let former = self.types.replace(slot as usize, ty);
-        match self.trail.push(Former { slot, ty: former }) {
+        match self.trail.push(TrailEntry { slot, ty: former }) {
             Ok(()) => Ok(true),
             Err((entry, Memory)) => {
-                discard_former(entry);
+                discard_trail_entry(entry);
                 Err(Memory)
             }
         }
     }
 
-    /// Narrows a slot to the meet of its type and another, and says whether it has a value. If
-    /// allocation fails, the array is given up.
+    /// Narrows a slot to the meet of its type and another, and says whether it has a value. Where the
+    /// slot is below the other type, this takes no memory. If allocation fails, the array's contents are unspecified.
     pub fn lower(&mut self, alloc: Global, slot: Slot, ty: &Ty) -> Result<bool, Memory>
         ensures value { IfOk result (λ alive. lowered self.old.types slot ty.now ≡ answer alive self.new.types) }
         ensures trailed { IfOk result (λ _. Trailed self.old self.new) }
     {
+        type_laws();
+        if self.at(slot).leq(ty) {
+            return Ok(self.has_value(slot));
+        }
         let met = self.at(slot).meet(alloc, ty)?;
         self.put(slot, met)
     }
 
-    /// The same with a type that is given up.
+    /// The same with a type that is then dropped.
     pub fn lower_to(&mut self, alloc: Global, slot: Slot, ty: Ty) -> Result<bool, Memory>
         ensures value { IfOk result (λ alive. lowered self.old.types slot ty ≡ answer alive self.new.types) }
         ensures trailed { IfOk result (λ _. Trailed self.old self.new) }
@@ -116,11 +123,15 @@ impl Slots {
         ensures value { IfOk result (λ alive. lowered self.old.types slot (type_at self.old.types other) ≡ answer alive self.new.types) }
         ensures trailed { IfOk result (λ _. Trailed self.old self.new) }
     {
+        type_laws();
+        if self.at(slot).leq(self.at(other)) {
+            return Ok(self.has_value(slot));
+        }
         let met = self.at(slot).meet(alloc, self.at(other))?;
         self.put(slot, met)
     }
 
-    /// Narrows two slots to the meet of both. If allocation fails, the array is given up.
+    /// Narrows two slots to the meet of both. If allocation fails, the array's contents are unspecified.
     pub fn lower_both(&mut self, alloc: Global, slot: Slot, other: Slot) -> Result<bool, Memory>
         ensures value { IfOk result (λ alive. alike slot other self.old.types ≡ answer alive self.new.types) }
         ensures trailed { IfOk result (λ _. Trailed self.old self.new) }
@@ -132,15 +143,15 @@ impl Slots {
         self.lower_by(alloc, other, slot)
     }
 
-    /// Puts back what the trail tells from a mark on, the newest first, and forgets it. Takes no
+    /// Puts back what the trail tells from a checkpoint on, the newest first, and forgets it. Takes no
     /// memory.
-    pub fn undo(&mut self, mark: usize)
-        requires mark { mark ≤ length self.old.trail }
-        requires within { Within (length self.old.types) (drop mark self.old.trail) }
-        ensures types { self.new.types ≡ laid (drop mark self.old.trail) self.old.types }
-        ensures trail { self.new.trail ≡ take mark self.old.trail }
+    pub fn undo(&mut self, checkpoint: usize)
+        requires checkpoint { checkpoint ≤ length self.old.trail }
+        requires within { Within (length self.old.types) (drop checkpoint self.old.trail) }
+        ensures types { self.new.types ≡ laid (drop checkpoint self.old.trail) self.old.types }
+        ensures trail { self.new.trail ≡ take checkpoint self.old.trail }
     {
-        while self.trail.len() > mark {
+        while self.trail.len() > checkpoint {
             if let Some(former) = self.trail.pop() {
                 discard(self.types.replace(former.slot as usize, former.ty));
             }

@@ -7,7 +7,7 @@ use super::{CalleeTable, Summaries};
 use crate::equality::same_callee;
 use core_ast::same_name;
 
-// Whether two tables have the same entry at a place, or neither has one there.
+// Whether two tables have the same entry at a position, or neither has one there.
 fn same_entry(a: &CalleeTable, b: &CalleeTable, at: usize) -> bool
     ensures { IsTrue result ↔ (slice_get (a.now).0 at ≡ slice_get (b.now).0 at) }
 {
@@ -31,7 +31,7 @@ fn same_table(a: &CalleeTable, b: &CalleeTable) -> bool
     same_callee(&a.rest, &b.rest)
 }
 
-// Whether two summaries have the table of the same module at a place, or neither has one there.
+// Whether two summaries have the table of the same module at a position, or neither has one there.
 fn same_home(a: &Summaries, b: &Summaries, at: usize) -> bool
     ensures { IsTrue result ↔ (slice_get a.now at ≡ slice_get b.now at) }
 {

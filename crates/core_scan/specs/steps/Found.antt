@@ -7,7 +7,7 @@ use Rattle.core_scan.specs.Bytes.{is_lower, is_blank, past}
 use Rattle.core_scan.specs.Lexed.{Passes}
 use Rattle.core_scan.specs.Spells.{Longest, IsToken, is_variable_start}
 
--- so many bytes from a place on have places whose numbers fit
+-- n bytes from a place on have places whose numbers fit
 abbrev pub HasRoom : Place → ℕ → Type 0
 HasRoom place n = (place.byte + n < 2 ^ 64) × (place.line + n < 2 ^ 32)
 

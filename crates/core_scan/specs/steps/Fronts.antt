@@ -12,7 +12,7 @@ use Rattle.core_scan.specs.Sorts.{code}
 
 -- ---- escapes
 
--- the escape of so many octal digits
+-- the escape of `len` octal digits
 abbrev pub octal_of : ℕ → List ℕ → Option Escaped
 octal_of len bytes = cond (nat_lt (number 8 (take len bytes)) 256) (Some (record { value = number 8 (take len bytes); len = len })) None
 

@@ -163,7 +163,7 @@ end
 'n':3: function 'h'/0 is never called
 ",
     ),
-    // a module of the name `erlang` is no matter
+    // a module with the name `erlang` doesn't matter
     (
         BOTH,
         "module 'm' ['f'/0] attributes []
@@ -271,7 +271,7 @@ fn calls_of_letrec_functions(rt: HostRuntime) -> Result<(), Fail> {
 }
 
 const NOT_REPORTED: &[(&str, &str)] = &[
-    // an argument gives no value
+    // an argument doesn't return
     (
         "module 'm' ['f'/0] attributes []
 'f'/0 = fun () ->
@@ -283,7 +283,7 @@ end
 'm':4: the call 'erlang':'+'/2 never returns
 ",
     ),
-    // what a `let` or a `do` begins with gives no value: nothing behind it is reached
+    // what a `let` or a `do` begins with doesn't return: nothing behind it is reached
     (
         "module 'm' ['f'/0,'g'/0] attributes []
 'f'/0 = fun () ->
@@ -310,7 +310,7 @@ end
         "'m':2: function 'f'/0 has no local return
 ",
     ),
-    // inside a guard, and in a fun in it; its clause can't match where it gives no value
+    // inside a guard, and in a fun in it; its clause can't match where it doesn't return
     (
         "module 'm' ['f'/1] attributes []
 'f'/1 = fun (X) ->
@@ -331,7 +331,7 @@ fn calls_that_are_not_reported(rt: HostRuntime) -> Result<(), Fail> {
 }
 
 const PARTS: &[(&str, &str)] = &[
-    // all parts are reached, also beside one that gives no value
+    // all parts are reached, also beside one that doesn't return
     (
         "module 'm' ['f'/0] attributes []
 'f'/0 = fun () -> {
@@ -344,7 +344,7 @@ end
 'm':4: the call 'erlang':'-'/2 never returns
 ",
     ),
-    // what nobody asks for gives no value only where all its clauses give none
+    // a `case` whose value isn't used doesn't return only where none of its clauses does
     (
         "module 'm' ['f'/1,'g'/1] attributes []
 'f'/1 = fun (X) ->

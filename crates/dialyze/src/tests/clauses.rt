@@ -54,7 +54,7 @@ end
         "'m':4: this clause can never match
 ",
     ),
-    // what is matched gives no value: the clauses aren't reached
+    // what is matched doesn't return: the clauses aren't reached
     (
         "module 'm' ['f'/0] attributes []
 'f'/0 = fun () ->

@@ -280,7 +280,7 @@ end
         "'m':5: the call 'erlang':'+'/2 never returns
 ",
     ),
-    // nothing is where the timeout gives no value
+    // nothing is where the timeout doesn't return
     (
         "module 'm' ['f'/0] attributes []
 'f'/0 = fun () ->

@@ -17,7 +17,7 @@ end
 'm':5: function 'i'/0 is never called
 ",
     ),
-    // an argument gives no value
+    // an argument doesn't return
     (
         "module 'm' ['f'/0] attributes []
 'f'/0 = fun () ->

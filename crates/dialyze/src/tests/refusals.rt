@@ -144,7 +144,7 @@ const FILES: &[(&[&str], Refusal, &str)] = &[
         "e.core: refused 14 DuplicateModule with e.core
 ",
     ),
-    // two modules of one name
+    // two modules with the same name
     (
         &["check", "e.core", "a.core", "b.core"],
         Refusal {

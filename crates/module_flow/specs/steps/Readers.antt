@@ -3,7 +3,7 @@ use Rattle.std.specs.Prelude.{◌≡◌, ℕ, List, [], Some, slice_get, slice_i
 use Rattle.std.specs.List.{Contains}
 use Rattle.module_flow.specs.declared.visits.Visit.{Visit}
 
--- table: of each label the places of the functions that read it
+-- table: of each label the positions of the functions that read it
 abbrev pub readers : (table : List (List ℕ)) → (label : ℕ) → List ℕ
 readers table l = slice_index_or table l []
 
@@ -11,7 +11,7 @@ readers table l = slice_index_or table l []
 abbrev pub KeepsReaders : (before after : List (List ℕ)) → Type 0
 KeepsReaders before after = (l q : ℕ) → Contains (readers before l) q → Contains (readers after l) q
 
--- the function at this place is noted for each of these labels
+-- the function at this position is noted for each of these labels
 abbrev pub IsReader : List (List ℕ) → List ℕ → ℕ → Type 0
 IsReader table ls q = (l : ℕ) → Contains ls l → Contains (readers table l) q
 

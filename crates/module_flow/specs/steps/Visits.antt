@@ -6,22 +6,22 @@ use Rattle.core_ast.specs.declared.syntax.Expr.{Expr}
 use Rattle.core_ast.specs.declared.syntax.FunDefOf.{FunDefOf}
 use Rattle.core_ast.specs.Tree.{all_defs}
 use Rattle.core_scope.specs.Functions.{functions_of_defs}
-use Rattle.flow_state.specs.declared.states.Gift.{Gift}
+use Rattle.module_flow_state.specs.declared.states.Contribution.{Contribution}
 use Rattle.module_flow.specs.declared.visits.Visit.{Visit}
-use Rattle.flow_walk.specs.Gifts.{gifts_of_functions}
-use Rattle.flow_calls.specs.NamedFunctions.{named_functions}
-use Rattle.flow_state.specs.Scopes.{outermost}
-use Rattle.flow_state.specs.World.{World}
-use Rattle.flow_state.specs.steps.Kept.{KeptIn}
-use Rattle.flow_state.specs.steps.Reading.{labels_given, labels_named}
-use Rattle.flow_state.specs.steps.Changes.{in_round}
+use Rattle.module_flow_walk.specs.Contributions.{contributions_of_functions}
+use Rattle.module_flow_calls.specs.NamedFunctions.{named_functions}
+use Rattle.module_flow_state.specs.Scopes.{outermost}
+use Rattle.module_flow_state.specs.World.{World}
+use Rattle.module_flow_state.specs.steps.Kept.{KeptIn}
+use Rattle.module_flow_state.specs.steps.Reading.{labels_given, labels_named}
+use Rattle.module_flow_state.specs.steps.Changes.{in_round}
 
 abbrev pub Definition : Type 0
 Definition = FunDefOf Expr
 
 -- what the walk of one function gives, and the labels of the functions with names in its text
-abbrev pub gifts_of_one : World → Definition → List Gift
-gifts_of_one W d = gifts_of_functions W outermost (all_defs (d ∷ []))
+abbrev pub contributions_of_one : World → Definition → List Contribution
+contributions_of_one W d = contributions_of_functions W outermost (all_defs (d ∷ []))
 
 abbrev pub labels_in_text : Definition → List ℕ
 labels_in_text d = labels_named (named_functions (functions_of_defs (all_defs (d ∷ []))))
@@ -36,23 +36,23 @@ first_visit d = record { own = labels_in_text d; given = [] }
 abbrev pub is_touched : (rounds : List ℕ) → (round : ℕ) → Visit → Bool
 is_touched rounds k v = list_any (in_round rounds k) v.own || list_any (in_round rounds k) v.given
 
--- Places in ascending order, with those of all functions of which something changed before the round.
-pub record AreCandidates (rounds : List ℕ) (k : ℕ) (visits : List Visit) (places : List ℕ) : Type 0 where
-  pub ascending : IsNonDecreasing places
-  pub all : (q : ℕ) (v : Visit) → slice_get visits q ≡ Some v → is_touched rounds k v ≡ true → Contains places q
+-- Positions in ascending order, with those of all functions of which something changed before the round.
+pub record AreCandidates (rounds : List ℕ) (k : ℕ) (visits : List Visit) (positions : List ℕ) : Type 0 where
+  pub ascending : IsNonDecreasing positions
+  pub all : (q : ℕ) (v : Visit) → slice_get visits q ≡ Some v → is_touched rounds k v ≡ true → Contains positions q
 
 -- ---- a round
 
 module _ (W : World) (rounds : List ℕ) (k : ℕ) where
   -- what is given by the functions that are walked again
-  abbrev pub gifts_again : List Definition → List Visit → List Gift
-  gifts_again [] vs = []
-  gifts_again (d ∷ ds) [] = []
-  gifts_again (d ∷ ds) (v ∷ vs) = cond (is_touched rounds k v) (gifts_of_one W d) [] ++ gifts_again ds vs
+  abbrev pub contributions_again : List Definition → List Visit → List Contribution
+  contributions_again [] vs = []
+  contributions_again (d ∷ ds) [] = []
+  contributions_again (d ∷ ds) (v ∷ vs) = cond (is_touched rounds k v) (contributions_of_one W d) [] ++ contributions_again ds vs
 
   -- what is known of each function then
   abbrev pub visit_again : Definition → Visit → Visit
-  visit_again d v = cond (is_touched rounds k v) (record { own = v.own; given = labels_given (gifts_of_one W d) }) v
+  visit_again d v = cond (is_touched rounds k v) (record { own = v.own; given = labels_given (contributions_of_one W d) }) v
 
   abbrev pub visits_again : List Definition → List Visit → List Visit
   visits_again [] vs = []
@@ -62,8 +62,8 @@ module _ (W : World) (rounds : List ℕ) (k : ℕ) where
   -- what is known of a function is so of this state, unless something of it changed
   pub record IsSettled (d : Definition) (v : Visit) : Type 0 where
     pub own : v.own ≡ labels_in_text d
-    pub given : is_touched rounds k v ≡ false → labels_given (gifts_of_one W d) ≡ v.given
-    pub kept : is_touched rounds k v ≡ false → KeptIn k W.state (gifts_of_one W d)
+    pub given : is_touched rounds k v ≡ false → labels_given (contributions_of_one W d) ≡ v.given
+    pub kept : is_touched rounds k v ≡ false → KeptIn k W.state (contributions_of_one W d)
 
   abbrev pub AreSettled : List Definition → List Visit → Type 0
   AreSettled [] [] = Unit {0}

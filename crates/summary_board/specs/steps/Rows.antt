@@ -3,7 +3,7 @@
 use Rattle.std.specs.Prelude.{◌≡◌, ◌↔◌, ℕ, ◌*◌, ◌/◌, ◌%◌, ◌^◌, ◌<◌, ◌≤◌, List, [], ◌∷◌, length, slice_index_or}
 use Rattle.std.specs.Int.{bit_at}
 
--- the word of a row at a place, and 0 past the end
+-- the word of a row at a position, and 0 past the end
 abbrev pub word_at : List ℕ → ℕ → ℕ
 word_at row w = slice_index_or row w 0
 

@@ -1,7 +1,7 @@
 -- What stands behind an entry's name, and what is wrong where an entry is to stand.
 use Rattle.std.specs.Prelude.{ℕ, Bool, ◌&&◌, nat_eq, List, ◌++◌, length}
 use Rattle.std.specs.List.{list_all}
-use Rattle.type_sets.specs.Names.{Name}
+use Rattle.type_kinds_sets.specs.Names.{Name}
 use Rattle.table_file.specs.declared.entries.Entry.{Entry}
 use Rattle.table_file.specs.declared.faults.TableFault.{TableFault}
 use Rattle.table_file.specs.declared.faults.TableFault.TheVariants as faults

@@ -21,7 +21,7 @@ pub record Once {X : Type 0} (test : X → Bool) (spelling : X → List ℕ) : T
   pub only : (x y : X) (a b : List ℕ) → IsTrue (test x) → IsTrue (test y) → spelling x ++ a ≡ spelling y ++ b
       → (x ≡ y) × (a ≡ b)
 
--- so many items were read, each passes the test, and the bytes are their spellings and a rest
+-- n items were read, each passes the test, and the bytes are their spellings and a rest
 pub record SoFar {X : Type 0} (test : X → Bool) (spelling : X → List ℕ) (bytes : List ℕ) (xs : List X)
     (rest : List ℕ) (n : ℕ) : Type 0 where
   pub count : length xs ≡ n

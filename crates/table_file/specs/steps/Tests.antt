@@ -1,4 +1,4 @@
--- What readers see to: so many arguments, and short atoms in types.
+-- What readers test: the number of arguments, and that the atoms in types are short.
 use Rattle.std.specs.Prelude.{ℕ, Bool, ◌&&◌, nat_eq, List, length}
 use Rattle.std.specs.List.{list_all}
 use Rattle.type_bytes.specs.ShortNames.{has_short_names}

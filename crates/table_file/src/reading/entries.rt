@@ -91,7 +91,7 @@ fn keeps_rules(name: &Atom, parts: &Parts) -> bool
     exports_rise(parts.exports.as_slice())
 }
 
-// Gives parts up.
+// Drops parts.
 fn discard(_parts: Parts) {}
 
 // The entry of this name and these parts, if they keep the rules.

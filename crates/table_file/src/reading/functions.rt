@@ -32,7 +32,7 @@ fn read_type(alloc: Global, bytes: &[u8]) -> Result<Option<(Ty, &[u8])>, Memory>
     }
 }
 
-// So many types, one behind the other.
+// `count` types, one behind the other.
 fn read_types(alloc: Global, count: u32, bytes: &[u8]) -> Result<Option<(List<Ty>, &[u8])>, Memory>
     ensures found { IfOk result (λ read. IfSome read (λ p. Found (are_types count) (flat_map bytes_of) bytes.now p.0 p.1.now)) }
     ensures none { IfOk result (λ read. IfNone read (NoneFirst (are_types count) (flat_map bytes_of) bytes.now)) }
@@ -83,10 +83,10 @@ fn every_none(types: &[Ty]) -> bool
     types.iter().all(|ty| ty.is_none())
 }
 
-// Gives types up.
+// Drops types.
 fn discard(_args: List<Ty>, _returned: Ty) {}
 
-// A signature of so many arguments.
+// A signature of `count` arguments.
 fn read_sig(alloc: Global, count: u32, bytes: &[u8]) -> Result<Option<(Sig, &[u8])>, Memory>
     ensures found { IfOk result (λ read. IfSome read (λ p. Found (is_sig count) sig_bytes bytes.now p.0 p.1.now)) }
     ensures none { IfOk result (λ read. IfNone read (NoneFirst (is_sig count) sig_bytes bytes.now)) }
@@ -109,7 +109,7 @@ fn read_sig(alloc: Global, count: u32, bytes: &[u8]) -> Result<Option<(Sig, &[u8
     Ok(Some((sig, rest)))
 }
 
-/// A summary of so many arguments.
+/// A summary of `count` arguments.
 pub fn read_summary(
     alloc: Global,
     count: u32,
@@ -128,7 +128,7 @@ pub fn read_summary(
     Ok(Some((Summary { strict, lenient }, rest)))
 }
 
-/// What stands of a used function of so many arguments.
+/// What stands of a used function of `count` arguments.
 pub fn read_callee(
     alloc: Global,
     count: u32,

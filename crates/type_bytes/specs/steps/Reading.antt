@@ -2,20 +2,20 @@
 use Rattle.std.specs.Prelude.{◌≡◌, ℕ, zero, suc, ◌+◌, ◌-◌, ◌*◌, ◌/◌, ◌%◌, ◌==◌, nat_lt, nat_le, ℤ, Bool, true, not, cond, List, [], ◌∷◌, length, take, drop, Option, Some, None, is_some, Result, Ok, Err}
 use Rattle.std.specs.Int.{w32, w128, from_be_bytes, cast_signed, bit_at}
 use Rattle.std.specs.Ordering.{nat_cmp}
-use Rattle.type_sets.specs.Names as names
-use Rattle.type_sets.specs.Names.{Name, Names, name_cmp}
-use Rattle.type_sets.specs.Numbers as numbers
-use Rattle.type_sets.specs.Numbers.{Numbers}
-use Rattle.type_sets.specs.Ends.{is_range}
-use Rattle.type_sets.specs.declared.ends.Low.{Low}
-use Rattle.type_sets.specs.declared.ends.Low.TheVariants as low
-use Rattle.type_sets.specs.declared.ends.High.{High}
-use Rattle.type_sets.specs.declared.ends.High.TheVariants as high
-use Rattle.type_sets.specs.declared.bits.Bits.{Bits}
-use Rattle.type_sets.specs.declared.bits.Bits.TheVariants.{No, Whole, Any}
-use Rattle.type_model.specs.Tables.{is_table}
-use Rattle.type_model.specs.Shapes.{Flags, Functions, no_function, of_arity, all_functions, Cell, Body, product, tags, Tuples, sizes, all_tuples, Parts, TypeAt}
-use Rattle.type_model.specs.Operations.{Ops, ops}
+use Rattle.type_kinds_sets.specs.Names as names
+use Rattle.type_kinds_sets.specs.Names.{Name, Names, name_cmp}
+use Rattle.type_kinds_sets.specs.Numbers as numbers
+use Rattle.type_kinds_sets.specs.Numbers.{Numbers}
+use Rattle.type_kinds_sets.specs.Ends.{is_range}
+use Rattle.type_kinds_sets.specs.declared.ends.Low.{Low}
+use Rattle.type_kinds_sets.specs.declared.ends.Low.TheVariants as low
+use Rattle.type_kinds_sets.specs.declared.ends.High.{High}
+use Rattle.type_kinds_sets.specs.declared.ends.High.TheVariants as high
+use Rattle.type_kinds_sets.specs.declared.bits.Bits.{Bits}
+use Rattle.type_kinds_sets.specs.declared.bits.Bits.TheVariants.{No, Whole, Any}
+use Rattle.type_lattice_model.specs.Tables.{is_table}
+use Rattle.type_lattice_model.specs.Shapes.{Flags, Functions, no_function, of_arity, all_functions, Cell, Body, product, tags, Tuples, sizes, all_tuples, Parts, TypeAt}
+use Rattle.type_lattice_model.specs.Operations.{Ops, ops}
 use Rattle.type_bytes.specs.declared.faults.BytesFault.{BytesFault}
 use Rattle.type_bytes.specs.declared.faults.BytesFault.TheVariants as faults
 use Rattle.type_bytes.specs.Spelling.{is_any}

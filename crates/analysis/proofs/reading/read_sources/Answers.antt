@@ -1,11 +1,12 @@
 use Rattle.std.proofs.Common.{ℕ, subst}
-use Rattle.analysis.specs.Reading.{AreRead, Fails, trees_of}
-use Rattle.analysis.proofs.Readings.{texts_from}
+use Rattle.analysis.proofs.FilesRead.{texts_from}
+use Rattle.table_keep.specs.Model.{sources_so}
+use Rattle.analysis.specs.Reading.{AreRead, Fails}
 use Rattle.analysis.proofs.reading.read_sources.Goals as goal
 
 pub returns-in-Ok-clause-sources : goal.returns-in-Ok-clause-sources
 returns-in-Ok-clause-sources g c =
-    subst (λ files. (x : ℕ) × AreRead (g.F.Shelf.held c.args.shelf.now) 0 files (trees_of c.read_all.new.sources) x)
+    subst (λ files. (x : ℕ) × AreRead (g.F.Shelf.held c.args.shelf.now) 0 files (sources_so c.read_all.new.sources) x)
     (texts_from c.args.words.now c.args.first) c.in-Ok.ensures.sources
 
 pub returns-in-Err-clause-fault : goal.returns-in-Err-clause-fault

@@ -1,9 +1,9 @@
 use Rattle.std.proofs.Common.{◌≡◌, ◌↔◌, ◌+◌, ◌++◌, Contains, length, drop, map, ap, ◌∙◌, subst, arith}
+use Rattle.std.proofs.lemmas.List.{drop_all}
 use Rattle.core_ast.specs.Tree.{all_defs, module_tree, tree}
 use Rattle.call_graph.specs.Targets.{targets}
 use Rattle.call_graph.specs.Calls.{functions_in, module_functions}
 use Rattle.call_graph.specs.steps.Walking.{callees, missed_in}
-use Rattle.call_graph.proofs.Built.{drop_past}
 use Rattle.call_graph.proofs.GraphRounds.{WithPairs, all_added, body_callees, body_missed, function_at, left_longer, module_round, next_function, none_left, one_more, both_ways}
 use Rattle.call_graph.proofs.pairs.add_module.Goals as goal
 
@@ -63,7 +63,7 @@ pub returns-clause-next : goal.returns-clause-next
 returns-clause-next c =
     let source = c.args.source.now in
     let none : length (functions_in source.name source.exports (all_defs (drop c.loop-def.def-index c.as_slice-defs.result.now))) ≡ 0 =
-    ap (λ ds. length (functions_in source.name source.exports (all_defs ds))) (drop_past c.as_slice-defs.result.now c.loop-def.def-index (let t = c.loop-def-test.false in omega arith)) in
+    ap (λ ds. length (functions_in source.name source.exports (all_defs ds))) (drop_all c.loop-def.def-index c.as_slice-defs.result.now (let t = c.loop-def-test.false in omega arith)) in
     let whole : length (functions_in source.name source.exports (all_defs c.as_slice-defs.result.now)) ≡ length (module_functions (module_tree source)) = ap (λ ds. length (functions_in source.name source.exports (all_defs ds))) c.as_slice-defs.ensures in
     let k = c.loop-def.invariant.caller in
     omega (arith, none, whole, k)
@@ -76,7 +76,7 @@ returns-clause-pairs c =
     let left = functions_in source.name source.exports (all_defs (drop c.loop-def.def-index defs)) in
     λ i j.
     both_ways
-    (none_left c.loop-def.calls.graph table c.loop-def.caller left i j (ap (λ ds. functions_in source.name source.exports (all_defs ds)) (drop_past defs c.loop-def.def-index (let t = c.loop-def-test.false in omega arith))))
+    (none_left c.loop-def.calls.graph table c.loop-def.caller left i j (ap (λ ds. functions_in source.name source.exports (all_defs ds)) (drop_all c.loop-def.def-index defs (let t = c.loop-def-test.false in omega arith))))
     (subst (λ ds. WithPairs c.loop-def.calls.graph table c.loop-def.caller left i j ↔ WithPairs c.args.calls.now.graph table c.args.first (functions_in source.name source.exports (all_defs ds)) i j) c.as_slice-defs.ensures (c.loop-def.invariant.pairs i j))
 
 pub returns-clause-outside : goal.returns-clause-outside
@@ -85,5 +85,5 @@ returns-clause-outside c =
     let table = c.args.walk.now.table in
     let defs = c.as_slice-defs.result.now in
     all_added (missed_in table) c.loop-def.calls.outside (c.args.calls.now.outside ++ map (missed_in table) (functions_in source.name source.exports (all_defs defs))) (functions_in source.name source.exports (all_defs (drop c.loop-def.def-index defs)))
-    (ap (λ ds. functions_in source.name source.exports (all_defs ds)) (drop_past defs c.loop-def.def-index (let t = c.loop-def-test.false in omega arith))) c.loop-def.invariant.outside
+    (ap (λ ds. functions_in source.name source.exports (all_defs ds)) (drop_all c.loop-def.def-index defs (let t = c.loop-def-test.false in omega arith))) c.loop-def.invariant.outside
     ∙ ap (λ ds. c.args.calls.now.outside ++ map (missed_in table) (functions_in source.name source.exports (all_defs ds))) c.as_slice-defs.ensures

@@ -1,4 +1,5 @@
 use Rattle.std.proofs.Common.{◌+◌, ◌++◌, drop, map, ap, sym, ◌∙◌, subst, arith}
+use Rattle.std.proofs.lemmas.List.{drop_all}
 use Rattle.core_ast.specs.Tree.{module_tree}
 use Rattle.core_scope.specs.Checked.{module_of}
 use Rattle.call_graph.specs.Calls.{functions_of, module_functions}
@@ -6,7 +7,6 @@ use Rattle.call_graph.specs.Outside.{outside_of}
 use Rattle.call_graph.specs.Tables.{IsTableOf}
 use Rattle.call_graph.proofs.CalledFunctions.{callees_within}
 use Rattle.call_graph.proofs.DistinctKeys.{modules}
-use Rattle.call_graph.proofs.Built.{drop_past}
 use Rattle.call_graph.proofs.GraphRounds.{pairs_begin, graph_round, next_module, left_split, graph_exit, some_more, all_added}
 use Rattle.call_graph.proofs.OutsideCalls.{missed_are_outside}
 use Rattle.call_graph.proofs.pairs.all_calls.Goals as goal
@@ -66,4 +66,4 @@ returns-clause-outside g c =
     let xs = modules g.S.AsChecked.stands_for c.args.mods.now in
     let left = drop c.loop-source.source-index c.args.mods.now in
     all_added (outside_of xs) c.loop-source.calls.outside (map (outside_of xs) (functions_of xs)) (functions_of (modules g.S.AsChecked.stands_for left))
-    (ap (λ l. functions_of (modules g.S.AsChecked.stands_for l)) (drop_past c.args.mods.now c.loop-source.source-index (let t = c.loop-source-test.false in omega arith))) c.loop-source.invariant.outside
+    (ap (λ l. functions_of (modules g.S.AsChecked.stands_for l)) (drop_all c.loop-source.source-index c.args.mods.now (let t = c.loop-source-test.false in omega arith))) c.loop-source.invariant.outside

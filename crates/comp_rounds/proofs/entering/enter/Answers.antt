@@ -1,7 +1,8 @@
 use Rattle.std.proofs.Common.{ap}
+use Rattle.type_kinds.proofs.Results.{on_both}
 use Rattle.cons_tree.specs.Callees.{found}
 use Rattle.comp_rounds.specs.Members.{function_of}
-use Rattle.comp_rounds.proofs.Naming.{callee_fits, set_function, on_both}
+use Rattle.comp_rounds.proofs.Naming.{callee_fits, set_function}
 use Rattle.comp_rounds.proofs.entering.enter.Goals as goal
 
 pub set-requires : goal.set-requires

@@ -3,7 +3,7 @@ use Rattle.std.proofs.lemmas.Result.{IfOk-weaker}
 use Rattle.core_ast.specs.Tree.{tree}
 use Rattle.cons_tree.specs.Constraints.{constraint}
 use Rattle.cons_tree.specs.Environments.{State, env_of}
-use Rattle.cons_rows.specs.Knowing.{knowledge}
+use Rattle.cons_gen_rows.specs.Knowing.{knowledge}
 use Rattle.cons_gen.specs.Made.{definition_constraint, definition_slots}
 use Rattle.comp_rounds.specs.Members.{function_of}
 use Rattle.comp_rounds.specs.Rounds.{inferred, signature_in}

@@ -1,5 +1,5 @@
 use Rattle.std.proofs.Common.{◌≡◌, map, take}
-use Rattle.cons_rows.specs.Knowing.{knowledge}
+use Rattle.cons_gen_rows.specs.Knowing.{knowledge}
 use Rattle.comp_rounds.specs.Members.{function_of}
 use Rattle.comp_rounds.specs.Rounds.{inferred}
 use Rattle.comp_rounds.proofs.rounds.infer_all.Given as goal

@@ -1,6 +1,6 @@
 use Rattle.std.proofs.Common.{◌≡◌, ◌+◌, ◌++◌, [], ◌∷◌, map, take, sym, ap, ◌∙◌}
 use Rattle.std.proofs.lemmas.List.{take_more, take_all, map-append}
-use Rattle.cons_rows.specs.Members as members
+use Rattle.cons_gen_rows.specs.Members as members
 use Rattle.comp_rounds.specs.Members.{function_of}
 use Rattle.comp_rounds.specs.Rounds.{is_member}
 use Rattle.comp_rounds.proofs.Naming.{member_more, same_members}

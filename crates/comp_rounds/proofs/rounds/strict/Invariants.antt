@@ -5,7 +5,7 @@ use Rattle.comp_rounds.specs.Members.{function_of}
 use Rattle.comp_rounds.specs.Rounds.{after_rounds, with_summaries}
 use Rattle.comp_rounds.proofs.rounds.strict.Given as goal
 
--- the signatures are those after so many rounds, and what is known differs from what was at the members alone
+-- the signatures are those after `round` rounds, and what is known differs from what was at the members alone
 abbrev pub invariant-loop-round : goal.invariant-loop-round
 invariant-loop-round l = record {
   rounds : l.signatures ≡ after_rounds (found l.fn.known) (map function_of l.members) l.round;

@@ -1,5 +1,5 @@
 use Rattle.components.specs.steps.Search.{Closes}
 use Rattle.components.proofs.search.shut.Given as goal
 
-abbrev pub invariant-loop-place : goal.invariant-loop-place
-invariant-loop-place l = Closes l.fn.states.items l.states.items l.path l.first l.place l.number
+abbrev pub invariant-loop-position : goal.invariant-loop-position
+invariant-loop-position l = Closes l.fn.states.items l.states.items l.path l.first l.position l.number

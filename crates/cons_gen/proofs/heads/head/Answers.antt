@@ -1,10 +1,10 @@
 use Rattle.std.proofs.Common.{◌≡◌, map, ap, ◌∙◌}
 use Rattle.core_ast.specs.Tree.{clause_parts}
 use Rattle.cons_tree.specs.Constraints.{constraint}
-use Rattle.cons_rows.specs.Knowing.{knowledge}
-use Rattle.cons_rows.specs.Scopes.{Scope}
-use Rattle.cons_rows.specs.Walking.{scope_of}
-use Rattle.cons_rows.specs.declared.passes.Pass.TheVariants.{Strict}
+use Rattle.cons_gen_rows.specs.Knowing.{knowledge}
+use Rattle.cons_gen_rows.specs.Scopes.{Scope}
+use Rattle.cons_gen_rows.specs.Walking.{scope_of}
+use Rattle.cons_gen_rows.specs.declared.passes.Pass.TheVariants.{Strict}
 use Rattle.cons_gen.proofs.MadeExits.{told_end, told_functions, told_rows, told_variables}
 use Rattle.cons_gen.proofs.heads.head.Goals as goal
 

@@ -1,7 +1,7 @@
 use Rattle.std.proofs.Common.{ap, ◌∙◌}
 use Rattle.core_ast.specs.Tree.{clause_parts}
-use Rattle.cons_rows.specs.Knowing.{knowledge}
-use Rattle.cons_rows.specs.declared.passes.Pass.TheVariants.{Strict}
+use Rattle.cons_gen_rows.specs.Knowing.{knowledge}
+use Rattle.cons_gen_rows.specs.declared.passes.Pass.TheVariants.{Strict}
 use Rattle.cons_gen.specs.Made.{clause_constraint, seen}
 use Rattle.cons_gen.proofs.MadeExits.{clause_end, clause_rows_are, clause_slot, clause_variables}
 use Rattle.cons_gen.proofs.making.clause.Goals as goal

@@ -1,6 +1,6 @@
 use Rattle.std.proofs.Common.{map, ap, ◌∙◌}
 use Rattle.cons_tree.specs.Constraints.{constraint}
-use Rattle.cons_rows.specs.Words.{together}
+use Rattle.cons_gen_rows.specs.Words.{together}
 use Rattle.cons_gen.proofs.making.finished.Goals as goal
 use Rattle.cons_tree.proofs.TreeLaws.{of_all}
 

@@ -1,6 +1,6 @@
 use Rattle.std.proofs.Common.{ap, ◌∙◌}
 use Rattle.core_ast.specs.Tree.{tree}
-use Rattle.cons_rows.specs.Knowing.{knowledge}
+use Rattle.cons_gen_rows.specs.Knowing.{knowledge}
 use Rattle.cons_gen.specs.Made.{definition_constraint}
 use Rattle.cons_gen.proofs.MadeExits.{definition_rows}
 use Rattle.cons_gen.proofs.making.generate.Goals as goal

@@ -15,6 +15,6 @@ returns-in-Ok-clause-trailed c =
     let xs = c.args.slots.now.types in
     let former = c.replace-former.result in
     let there = at_is xs c.args.slot former c.replace-former.ensures.before in
-    trailed_one c.args.slots.now _ c.args.slot c.args.ty former c.replace-former.ensures.after c.in-Ok.ensures.ok c.requires.place there
+    trailed_one c.args.slots.now _ c.args.slot c.args.ty former c.replace-former.ensures.after c.in-Ok.ensures.ok c.requires.position there
     (subst (Below c.args.ty) (sym there) c.requires.below)
     (λ h. absurd (true≢false (sym (c.leq.ensures.below.1 (subst (λ t. Below t c.args.ty) (there ∙ sym c.at.ensures) h)) ∙ c.if-leq.false)))

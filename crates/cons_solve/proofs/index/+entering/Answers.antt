@@ -1,10 +1,10 @@
 use Rattle.std.proofs.Common.{ℕ}
+use Rattle.std.proofs.lemmas.Result.{IfOk-weaker}
 use Rattle.cons_tree.specs.Constraints.{constraint, constraints}
 use Rattle.cons_tree.specs.Frames.{IsNone, slots_of}
 use Rattle.cons_solve.specs.Frames.{Free, FreeEach}
-use Rattle.cons_solve.specs.steps.Places.{Grown}
+use Rattle.cons_solve.specs.steps.Positions.{Grown}
 use Rattle.cons_solve.proofs.IndexLaws.{free_part, free_in_all, free_in_any, grown_as}
-use Rattle.cons_solve.proofs.TurnTrails.{if_ok}
 use Rattle.cons_solve.proofs.index.+entering.Goals as goal
 
 pub enter-returns-in-Part : goal.enter-returns-in-Part
@@ -13,7 +13,7 @@ enter-returns-in-Part t c =
     let Q : ℕ → Type 0 = λ s. Free s (constraint c.args.c.now) in
     let old = c.args.index.now.entries in
     let new = c.enter_part.new.index.entries in
-    if_ok c.enter_part.result (λ _. Grown P c.args.at old new) (λ _. Grown Q c.args.at old new) (λ _ g. grown_as P Q c.args.at old new (λ s h. free_part c.args.c.now c.in-Part.part s c.in-Part.is h) g) c.enter_part.ensures
+    IfOk-weaker c.enter_part.result (λ _. Grown P c.args.at old new) (λ _. Grown Q c.args.at old new) (λ _ g. grown_as P Q c.args.at old new (λ s h. free_part c.args.c.now c.in-Part.part s c.in-Part.is h) g) c.enter_part.ensures
 
 pub enter-returns-in-All : goal.enter-returns-in-All
 enter-returns-in-All t c =
@@ -22,7 +22,7 @@ enter-returns-in-All t c =
     let Q : ℕ → Type 0 = λ s. Free s (constraint c.args.c.now) in
     let old = c.args.index.now.entries in
     let new = c.enter_each.new.index.entries in
-    if_ok c.enter_each.result (λ _. Grown P c.args.at old new) (λ _. Grown Q c.args.at old new) (λ _ g. grown_as P Q c.args.at old new (λ s h. free_in_all c.args.c.now c.in-All.members ms s c.in-All.is c.as_slice.ensures h) g) c.enter_each.ensures
+    IfOk-weaker c.enter_each.result (λ _. Grown P c.args.at old new) (λ _. Grown Q c.args.at old new) (λ _ g. grown_as P Q c.args.at old new (λ s h. free_in_all c.args.c.now c.in-All.members ms s c.in-All.is c.as_slice.ensures h) g) c.enter_each.ensures
 
 pub enter-returns-in-Any : goal.enter-returns-in-Any
 enter-returns-in-Any t c =
@@ -31,4 +31,4 @@ enter-returns-in-Any t c =
     let Q : ℕ → Type 0 = λ s. Free s (constraint c.args.c.now) in
     let old = c.args.index.now.entries in
     let new = c.enter_each-in-Any.new.index.entries in
-    if_ok c.enter_each-in-Any.result (λ _. Grown P c.args.at old new) (λ _. Grown Q c.args.at old new) (λ _ g. grown_as P Q c.args.at old new (λ s h. free_in_any c.args.c.now c.in-Any.members ms s c.in-Any.is c.as_slice-in-Any.ensures h) g) c.enter_each-in-Any.ensures
+    IfOk-weaker c.enter_each-in-Any.result (λ _. Grown P c.args.at old new) (λ _. Grown Q c.args.at old new) (λ _ g. grown_as P Q c.args.at old new (λ s h. free_in_any c.args.c.now c.in-Any.members ms s c.in-Any.is c.as_slice-in-Any.ensures h) g) c.enter_each-in-Any.ensures

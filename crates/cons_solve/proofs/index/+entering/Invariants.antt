@@ -1,7 +1,7 @@
 use Rattle.std.proofs.Common.{drop}
 use Rattle.cons_tree.specs.Constraints.{constraints}
 use Rattle.cons_solve.specs.Frames.{FreeEach}
-use Rattle.cons_solve.specs.steps.Places.{Grown}
+use Rattle.cons_solve.specs.steps.Positions.{Grown}
 use Rattle.cons_solve.proofs.index.+entering.Given as goal
 
 abbrev pub invariant-enter_each-loop-member : goal.invariant-enter_each-loop-member

@@ -1,5 +1,5 @@
 use Rattle.std.proofs.Common.{cond, nat_eq, ap, ◌∙◌}
-use Rattle.cons_solve.specs.steps.Places.{here}
+use Rattle.cons_solve.specs.steps.Positions.{here}
 use Rattle.cons_solve.proofs.IndexLaws.{grown_one}
 use Rattle.cons_solve.proofs.index.enter_at.Goals as goal
 

@@ -1,6 +1,6 @@
 use Rattle.std.proofs.Common.{◌∷◌, drop}
 use Rattle.cons_tree.specs.Frames.{IsNone}
-use Rattle.cons_solve.specs.steps.Places.{Grown}
+use Rattle.cons_solve.specs.steps.Positions.{Grown}
 use Rattle.cons_solve.proofs.index.enter_slots.Given as goal
 
 abbrev pub invariant-loop-slot : goal.invariant-loop-slot

@@ -1,10 +1,11 @@
 use Rattle.std.proofs.Common.{arith, map}
+use Rattle.type_kinds.proofs.Truths.{refuted}
 use Rattle.core_ast.specs.Tree.{tree, pattern_tree, all_trees, all_patterns, all_clauses, all_pairs, all_pat_pairs, all_segments, all_pat_segments, all_steps, all_defs}
 use Rattle.core_ast.specs.Compared.{compared_variable, compared, compared_all, compared_pairs, compared_segments, compared_steps, compared_clauses, compared_defs, compared_pattern, compared_patterns, compared_pat_pairs, compared_pat_segments}
 use Rattle.core_ast.specs.declared.syntax.Expr.{Expr}
 use Rattle.core_ast.specs.declared.syntax.Form.TheShapes.{weighed-Form-Chain-0-at-5, weighed-Form-Letrec-0-at-6}
 use Rattle.core_ast.proofs.syntax.Expr.TheLaws.{the_size}
-use Rattle.core_ast.proofs.SameItems.{no_way, no_heavier, flags_differ, flags_same, through, begun, one_more, unlike, alike, other_length, all_same, pairs_same, segments_same, steps_same, clauses_same, defs_same, patterns_same, pat_pairs_same, pat_segments_same}
+use Rattle.core_ast.proofs.SameItems.{no_heavier, flags_differ, flags_same, through, begun, one_more, unlike, alike, other_length, all_same, pairs_same, segments_same, steps_same, clauses_same, defs_same, patterns_same, pat_pairs_same, pat_segments_same}
 use Rattle.core_ast.proofs.SameForms.{last, ends, stops, along, composed_left, control_left, none_left, other_mark, other_pattern_mark, variable_same, local_same, external_same, literal_same, fun_same, listed_same, tuple_same, binary_same, values_same, chain_same, case_same, letrec_same, apply_same, call_same, primop_same, receive_same, catch_same, try_same, binds_same, equals_same, list_of_same, tuple_of_same, map_of_same, binary_of_same, alias_same, map_same, clause_same, pair_same, segment_same, pat_pair_same, pat_segment_same, def_same, let_same, do_same, other_variable, other_local, other_external, other_literal, other_fun, other_listed, other_tuple, other_binary, other_values, other_chain, other_case, other_letrec, other_apply, other_call, other_primop, other_receive, other_catch, other_try, other_binds, other_equals, other_list_of, other_tuple_of, other_map_of, other_binary_of, other_alias, other_map, let_and_do, do_and_let, updated_some, updated_none, some_and_none, none_and_some}
 use Rattle.core_ast.proofs.comparing_trees.+same.Goals as goal
 
@@ -348,7 +349,7 @@ pub same_definition-returns-then-same_variables : goal.same_definition-returns-t
 same_definition-returns-then-same_variables t c = def_same c.args.places c.args.a.now c.args.b.now _ (last _ (along (λ e. compared c.args.places (tree e)) _ _ _ _ _ c.get.ensures c.get-then-same_variables.ensures c.same_expr.ensures) (λ q. (c.same_name.ensures.0 c.if-not-same_name.false, c.same_mark.ensures.0 c.if-not-same_mark.false, (along (map (compared_variable c.args.places)) _ _ _ _ _ c.as_slice.ensures c.as_slice-2.ensures c.same_variables.ensures).0 c.if-same_variables.true, q)) (λ w. w.3))
 
 pub same_pair-returns-then-a-b : goal.same_pair-returns-then-a-b
-same_pair-returns-then-a-b t c = pair_same c.args.places _ _ _ (no_way (λ w. flags_differ _ _ c.if-a-b.true w.0))
+same_pair-returns-then-a-b t c = pair_same c.args.places _ _ _ (refuted (λ w. flags_differ _ _ c.if-a-b.true w.0))
 
 pub same_pair-returns-else-same_expr : goal.same_pair-returns-else-same_expr
 same_pair-returns-else-same_expr t c = pair_same c.args.places _ _ _ (ends _ c.same_expr.ensures c.if-same_expr.false (λ w. w.1))

@@ -1,7 +1,7 @@
 use Rattle.std.proofs.Common.{arith}
-use Rattle.core_grammar.specs.Grammar.{constant}
-use Rattle.core_grammar.proofs.AnnotationExits.{goes_lighter}
-use Rattle.core_grammar.proofs.NotedExits.{noted_end, bare_bad, noted_bad, note_bad}
+use Rattle.core_parse_grammar.specs.Grammar.{constant}
+use Rattle.core_parse_grammar.proofs.AnnotationExits.{goes_lighter}
+use Rattle.core_parse_grammar.proofs.NotedExits.{noted_end, bare_bad, noted_bad, note_bad}
 use Rattle.core_parse.proofs.ModuleExits.{constant_encloses, bare_constant, noted_constant}
 use Rattle.core_parse.proofs.modules.annotated_constant.Goals as goal
 

@@ -1,5 +1,5 @@
 use Rattle.std.proofs.Common.{◌≤◌, length}
-use Rattle.core_grammar.specs.Weights.{weight}
+use Rattle.core_parse_grammar.specs.Weights.{weight}
 use Rattle.core_parse.proofs.ModuleExits.{AttributesBefore}
 use Rattle.core_parse.proofs.modules.attributes.Given as goal
 

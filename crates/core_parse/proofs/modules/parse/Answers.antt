@@ -1,4 +1,4 @@
-use Rattle.core_parse.proofs.Fronts.{read_whole, read_past, refusal}
+use Rattle.core_parse.proofs.Prefixes.{read_whole, read_past, refusal}
 use Rattle.core_parse.proofs.modules.parse.Goals as goal
 
 pub returns-in-Err-clause-err : goal.returns-in-Err-clause-err

@@ -2,12 +2,12 @@ use Rattle.std.proofs.Common.{◌≡◌, ◌+◌, ◌≤◌, length, map, sym, a
 use Rattle.core_ast.specs.Tree.{module_tree}
 use Rattle.cons_tree.specs.Callees.{found}
 use Rattle.module_flow.specs.Flow.{first_state, last_round, made_of}
-use Rattle.flow_state.specs.States.{next_state}
+use Rattle.module_flow_state.specs.States.{next_state}
 use Rattle.std.proofs.lemmas.List.{length-map}
 use Rattle.module_flow.specs.steps.Visits.{AreCandidates, first_visit}
-use Rattle.flow_state.proofs.Absorbing.{JoinFacts, join_facts}
+use Rattle.module_flow_state.proofs.Absorbing.{JoinFacts, join_facts}
 use Rattle.module_flow.proofs.Candidates.{candidates_first}
-use Rattle.flow_state.proofs.Latest.{none_at_first}
+use Rattle.module_flow_state.proofs.Latest.{none_at_first}
 use Rattle.module_flow.proofs.RoundsAgain.{is_made, settled_next}
 use Rattle.module_flow.proofs.Settling as settling
 use Rattle.module_flow.proofs.VisitRounds.{first_settled, settled_long}
@@ -22,7 +22,7 @@ loop-round-init c = record {
   candidates =
       let vs = c.in_ok-visits.visits in
       let many : length c.as_slice-defs.result.now ≡ length vs = sym (ap length c.in_ok-visits.ensures ∙ length-map c.as_slice-defs.result.now first_visit) in
-      candidates_first vs c.new-changes.result.rounds c.in_ok-places.places 0 (let e = c.in_ok-places.ensures.many in omega (arith, many, e)) (λ q h. c.in_ok-places.ensures.each q (omega (arith, many)));
+      candidates_first vs c.new-changes.result.rounds c.in_ok-positions.positions 0 (let e = c.in_ok-positions.ensures.many in omega (arith, many, e)) (λ q h. c.in_ok-positions.ensures.each q (omega (arith, many)));
   later = λ n h. none_at_first c.new-changes.result.rounds n c.new-changes.ensures.rounds h;
 }
 
@@ -33,9 +33,9 @@ walk_again-requires-clause-many c =
     c.loop-round.changes.rounds c.loop-round.round c.args.source.now.defs c.loop-round.visits c.loop-round.invariant.settled
     ∙ sym (ap length c.as_slice-defs.ensures)
 
-pub walk_again-requires-clause-places : goal.walk_again-requires-clause-places
-walk_again-requires-clause-places c =
-    subst (λ places. AreCandidates c.loop-round.changes.rounds c.loop-round.round c.loop-round.visits places) (sym c.as_slice.ensures) c.loop-round.invariant.candidates
+pub walk_again-requires-clause-positions : goal.walk_again-requires-clause-positions
+walk_again-requires-clause-positions c =
+    subst (λ positions. AreCandidates c.loop-round.changes.rounds c.loop-round.round c.loop-round.visits positions) (sym c.as_slice.ensures) c.loop-round.invariant.candidates
 
 pub loop-round-preserved : goal.loop-round-preserved
 loop-round-preserved c =
@@ -46,14 +46,14 @@ loop-round-preserved c =
     let state = c.loop-round.state in
     let next = c.take_round.new.self in
     let made : next ≡ next_state c.loop-round.round state (made_of callees (module_tree source) state) =
-    is_made F callees source c.args.tops.now.names c.args.tops.now.labels state next c.loop-round.changes.rounds c.take_round.new.changes.rounds c.loop-round.round c.as_slice-defs.result.now c.loop-round.visits c.walk_again.new.visits c.in_ok-gifts.gifts c.as_slice-in-loop-round.result.now c.in_ok-take_round.field-0
-    c.as_slice-defs.ensures c.loop-round.invariant.settled c.in_ok-gifts.ensures.gifts c.in_ok-gifts.ensures.visits c.as_slice-in-loop-round.ensures c.in_ok-take_round.ensures.after c.requires.names c.requires.labels
+    is_made F callees source c.args.tops.now.names c.args.tops.now.labels state next c.loop-round.changes.rounds c.take_round.new.changes.rounds c.loop-round.round c.as_slice-defs.result.now c.loop-round.visits c.walk_again.new.visits c.in_ok-contributions.contributions c.as_slice-in-loop-round.result.now c.in_ok-take_round.field-0
+    c.as_slice-defs.ensures c.loop-round.invariant.settled c.in_ok-contributions.ensures.contributions c.in_ok-contributions.ensures.visits c.as_slice-in-loop-round.ensures c.in_ok-take_round.ensures.after c.requires.names c.requires.labels
     in
     record {
       state = settling.next_round same callees (module_tree source) c.loop-round.round state next c.loop-round.invariant.state made;
-      settled = settled_next F callees source c.args.tops.now.names c.args.tops.now.labels state next c.loop-round.changes.rounds c.take_round.new.changes.rounds c.loop-round.round c.as_slice-defs.result.now c.loop-round.visits c.walk_again.new.visits c.in_ok-gifts.gifts c.as_slice-in-loop-round.result.now c.in_ok-take_round.field-0
-          c.as_slice-defs.ensures c.loop-round.invariant.settled c.in_ok-gifts.ensures.gifts c.in_ok-gifts.ensures.visits c.as_slice-in-loop-round.ensures c.in_ok-take_round.ensures.after c.in_ok-take_round.ensures.noted;
-      candidates = c.in_ok-places-2.ensures (c.loop-round.round + 1) (c.in_ok-take_round.ensures.anew.listed (c.loop-round.invariant.later (c.loop-round.round + 1) (omega arith)));
+      settled = settled_next F callees source c.args.tops.now.names c.args.tops.now.labels state next c.loop-round.changes.rounds c.take_round.new.changes.rounds c.loop-round.round c.as_slice-defs.result.now c.loop-round.visits c.walk_again.new.visits c.in_ok-contributions.contributions c.as_slice-in-loop-round.result.now c.in_ok-take_round.field-0
+          c.as_slice-defs.ensures c.loop-round.invariant.settled c.in_ok-contributions.ensures.contributions c.in_ok-contributions.ensures.visits c.as_slice-in-loop-round.ensures c.in_ok-take_round.ensures.after c.in_ok-take_round.ensures.noted;
+      candidates = c.in_ok-positions-2.ensures (c.loop-round.round + 1) (c.in_ok-take_round.ensures.anew.listed (c.loop-round.invariant.later (c.loop-round.round + 1) (omega arith)));
       later = λ n h. c.in_ok-take_round.ensures.anew.later n h (c.loop-round.invariant.later n (omega arith));
     }
 
@@ -70,7 +70,7 @@ returns-then-not-branch c =
     in
     let within : c.loop-round.round ≤ last_round callees (module_tree source) = omega arith in
     let made : next ≡ next_state c.loop-round.round state (made_of callees (module_tree source) state) =
-    is_made F callees source c.args.tops.now.names c.args.tops.now.labels state next c.loop-round.changes.rounds c.take_round.new.changes.rounds c.loop-round.round c.as_slice-defs.result.now c.loop-round.visits c.walk_again.new.visits c.in_ok-gifts.gifts c.as_slice-in-loop-round.result.now c.in_ok-take_round.field-0
-    c.as_slice-defs.ensures c.loop-round.invariant.settled c.in_ok-gifts.ensures.gifts c.in_ok-gifts.ensures.visits c.as_slice-in-loop-round.ensures c.in_ok-take_round.ensures.after c.requires.names c.requires.labels
+    is_made F callees source c.args.tops.now.names c.args.tops.now.labels state next c.loop-round.changes.rounds c.take_round.new.changes.rounds c.loop-round.round c.as_slice-defs.result.now c.loop-round.visits c.walk_again.new.visits c.in_ok-contributions.contributions c.as_slice-in-loop-round.result.now c.in_ok-take_round.field-0
+    c.as_slice-defs.ensures c.loop-round.invariant.settled c.in_ok-contributions.ensures.contributions c.in_ok-contributions.ensures.visits c.as_slice-in-loop-round.ensures c.in_ok-take_round.ensures.after c.requires.names c.requires.labels
     in
     settling.first_still same callees (module_tree source) c.loop-round.round state next within c.loop-round.invariant.state made (c.in_ok-take_round.ensures.noted.still c.if-not-branch.true)

@@ -1,9 +1,9 @@
 use Rattle.module_flow.specs.Flow.{last_round, last_state, world}
-use Rattle.flow_walk.specs.Gifts.{gifts_of_functions}
-use Rattle.flow_state.specs.Scopes.{outermost}
+use Rattle.module_flow_walk.specs.Contributions.{contributions_of_functions}
+use Rattle.module_flow_state.specs.Scopes.{outermost}
 use Rattle.module_flow.proofs.Counting as counting
 use Rattle.module_flow.proofs.Settling as settling
-use Rattle.flow_state.proofs.Taking.{settled_takes}
+use Rattle.module_flow_state.proofs.Taking.{settled_takes}
 use Rattle.module_flow.proofs.laws.last_state_laws.Goals as goal
 
 pub returns-clause-unchanged : goal.returns-clause-unchanged
@@ -20,13 +20,13 @@ returns-clause-labels c = λ callees x. settling.round_labels c.decision_laws.en
 
 pub returns-clause-taken : goal.returns-clause-taken
 returns-clause-taken c = λ callees x.
-    settled_takes c.decision_laws.ensures.same c.type_facts.ensures (last_state callees x) (gifts_of_functions (world callees x (last_state callees x)) outermost x.defs)
+    settled_takes c.decision_laws.ensures.same c.type_facts.ensures (last_state callees x) (contributions_of_functions (world callees x (last_state callees x)) outermost x.defs)
     (settling.last_still c.decision_laws.ensures.same callees x)
 
 pub returns-clause-wholly : goal.returns-clause-wholly
 returns-clause-wholly c = λ callees x counts first gives.
     counting.last_wholly counts c.decision_laws.ensures.same c.type_facts.ensures callees x first gives
-    (settled_takes c.decision_laws.ensures.same c.type_facts.ensures (last_state callees x) (gifts_of_functions (world callees x (last_state callees x)) outermost x.defs)
+    (settled_takes c.decision_laws.ensures.same c.type_facts.ensures (last_state callees x) (contributions_of_functions (world callees x (last_state callees x)) outermost x.defs)
     (settling.last_still c.decision_laws.ensures.same callees x))
 
 pub returns-clause-stays_open : goal.returns-clause-stays_open

@@ -1,5 +1,5 @@
 use Rattle.std.proofs.Common.{◌≡◌, ◌++◌, drop}
-use Rattle.flow_state.specs.steps.Reading.{labels_named}
+use Rattle.module_flow_state.specs.steps.Reading.{labels_named}
 use Rattle.module_flow.proofs.visits.labels_named.Given as goal
 
 abbrev pub invariant-loop-function : goal.invariant-loop-function

@@ -1,6 +1,6 @@
 use Rattle.std.proofs.Common.{◌<◌, ◌∷◌, ℕ, length, sym, ◌∙◌, subst, arith}
 use Rattle.summary_board.specs.steps.Rows.{IsUsed, AreTied}
-use Rattle.summary_board.proofs.RowLemmas.{first_used, least_of_rows, place_small, some_there}
+use Rattle.summary_board.proofs.RowLemmas.{first_used, least_of_rows, position_small, some_there}
 use Rattle.summary_board.proofs.rows.+least_in.Goals as goal
 use Rattle.summary_board.proofs.rows.+least_in.Goals.{then-is_empty, else-is_empty+in_ok-at}
 
@@ -8,7 +8,7 @@ pub overflow_add-result : goal.overflow_add-result
 overflow_add-result t c =
     let row = c.in_ok-row.row.now in
     let tied : AreTied (row ∷ c.in_ok-row.above.now) = subst AreTied c.in_ok-row.ensures.cases.0 c.requires in
-    omega (arith, place_small row c.if-is_empty.at c.word-word.result c.word-word.ensures c.if-word-eq0.false tied.0)
+    omega (arith, position_small row c.if-is_empty.at c.word-word.result c.word-word.ensures c.if-word-eq0.false tied.0)
 
 pub returns : goal.returns
 returns t c =

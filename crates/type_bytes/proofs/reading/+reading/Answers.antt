@@ -1,10 +1,10 @@
 use Rattle.std.proofs.Common.{inl, inr, refl, sym, ap, ◌∙◌, subst, rules}
 use Rattle.std.proofs.lemmas.Result.{err_from_is_err_and}
-use Rattle.type_model.specs.Operations.{ops}
-use Rattle.type_trees.specs.declared.node.Node.TheVariants as v
-use Rattle.type_trees.specs.View.{view, row_view, tags_view, body_view, sizes_view, Fits}
-use Rattle.type_trees.proofs.Views.{any_fits, each_more}
-use Rattle.type_trees.proofs.MeetViews.{each_tag_more, each_size_more}
+use Rattle.type_lattice_model.specs.Operations.{ops}
+use Rattle.type_lattice_trees.specs.declared.node.Node.TheVariants as v
+use Rattle.type_lattice_trees.specs.View.{view, row_view, tags_view, body_view, sizes_view, Fits}
+use Rattle.type_lattice_trees.proofs.Views.{any_fits, each_more}
+use Rattle.type_lattice_trees.proofs.MeetViews.{each_tag_more, each_size_more}
 use Rattle.type_bytes.specs.steps.Reading.{Reads, element_at, tag_at, size_at}
 use Rattle.type_bytes.proofs.FormatLaws.{are_bytes}
 use Rattle.type_bytes.proofs.Loops.{read_more}

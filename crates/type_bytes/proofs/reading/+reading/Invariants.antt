@@ -1,6 +1,6 @@
 use Rattle.std.proofs.Common.{◌≡◌, ◌+◌, ◌-◌, ◌*◌}
-use Rattle.type_model.specs.Operations.{ops}
-use Rattle.type_trees.specs.View.{row_view, tags_view, sizes_view, Fits, EachNode, EachTag, EachSize}
+use Rattle.type_lattice_model.specs.Operations.{ops}
+use Rattle.type_lattice_trees.specs.View.{row_view, tags_view, sizes_view, Fits, EachNode, EachTag, EachSize}
 use Rattle.type_bytes.specs.steps.Reading.{many, element_at, tag_at, size_at}
 use Rattle.type_bytes.proofs.Loops.{behind}
 use Rattle.type_bytes.proofs.reading.+reading.Given as goal

@@ -2,7 +2,7 @@ use Rattle.std.proofs.Common.{◌-◌, ◌+◌, sym, ap, ◌∙◌, arith}
 use Rattle.std.specs.Cmp.{nat_cmp_total}
 use Rattle.std.specs.FinMap.{nat_cmp-IsAntisymmetric}
 use Rattle.std.specs.Ordering.{nat_cmp}
-use Rattle.type_sets.specs.Ascending.{is_ascending}
+use Rattle.type_kinds_sets.specs.Ascending.{is_ascending}
 use Rattle.type_bytes.proofs.ReadTrees.{first_key, below, not_below, keys_more, keys_fall, all_keys, size_keys}
 use Rattle.type_bytes.proofs.reading.sizes_ascend.Goals as goal
 

@@ -1,6 +1,6 @@
 use Rattle.std.proofs.Common.{◌≡◌, true, map, take}
 use Rattle.std.specs.Ordering.{nat_cmp}
-use Rattle.type_sets.specs.Ascending.{is_ascending}
+use Rattle.type_kinds_sets.specs.Ascending.{is_ascending}
 use Rattle.type_bytes.proofs.reading.sizes_ascend.Given as goal
 
 -- the sizes so far ascend

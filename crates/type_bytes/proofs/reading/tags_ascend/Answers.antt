@@ -1,9 +1,10 @@
 use Rattle.std.proofs.Common.{◌-◌, ◌+◌, true, false, sym, ap, ◌∙◌, arith}
 use Rattle.std.specs.Ordering.{is_lt}
-use Rattle.type_sets.specs.Ascending.{is_ascending}
-use Rattle.type_sets.specs.Names.{name_cmp}
-use Rattle.type_sets.proofs.NameLaws.{name_total, name_same}
-use Rattle.type_bytes.proofs.ReadTrees.{first_key, not_under, keys_more, keys_fall, all_keys, tag_keys}
+use Rattle.type_kinds.proofs.Truths.{not_under}
+use Rattle.type_kinds_sets.specs.Ascending.{is_ascending}
+use Rattle.type_kinds_sets.specs.Names.{name_cmp}
+use Rattle.type_kinds_sets.proofs.NameLaws.{name_total, name_same}
+use Rattle.type_bytes.proofs.ReadTrees.{first_key, keys_more, keys_fall, all_keys, tag_keys}
 use Rattle.type_bytes.proofs.reading.tags_ascend.Goals as goal
 
 pub returns-then-ge : goal.returns-then-ge

@@ -1,6 +1,6 @@
 use Rattle.std.proofs.Common.{◌≡◌, true, map, take}
-use Rattle.type_sets.specs.Ascending.{is_ascending}
-use Rattle.type_sets.specs.Names.{name_cmp}
+use Rattle.type_kinds_sets.specs.Ascending.{is_ascending}
+use Rattle.type_kinds_sets.specs.Names.{name_cmp}
 use Rattle.type_bytes.proofs.reading.tags_ascend.Given as goal
 
 -- the atoms so far ascend

@@ -1,6 +1,6 @@
 use Rattle.std.proofs.Common.{refl, arith, subst, sym, ◌∙◌}
-use Rattle.type_trees.specs.View.{view, row_view, tags_view, sizes_view, Fits, EachNode, EachInBody}
-use Rattle.type_trees.proofs.Views.{of_above, below_fits, size_at, tag_at}
+use Rattle.type_lattice_trees.specs.View.{view, row_view, tags_view, sizes_view, Fits, EachNode, EachInBody}
+use Rattle.type_lattice_trees.proofs.Views.{of_above, below_fits, size_at, tag_at}
 use Rattle.type_bytes.specs.ShortNames.{is_short_tag, is_short_size, is_short_at}
 use Rattle.type_bytes.proofs.Shorts.{not_all, one_more, tag_view, same_tags, size_view, same_sizes, short_any, short_of}
 use Rattle.type_bytes.proofs.short_names.+short.Goals as goal

@@ -1,6 +1,6 @@
 use Rattle.std.proofs.Common.{◌≡◌, ◌+◌, ◌*◌, true, take}
 use Rattle.std.specs.List.{list_all}
-use Rattle.type_trees.specs.View.{row_view, tags_view, sizes_view}
+use Rattle.type_lattice_trees.specs.View.{row_view, tags_view, sizes_view}
 use Rattle.type_bytes.specs.ShortNames.{is_short_tag, is_short_size, is_short_at}
 use Rattle.type_bytes.proofs.short_names.+short.Given as goal
 

@@ -1,6 +1,6 @@
 use Rattle.type_bytes.proofs.FormatLaws.{are_bytes}
 use Rattle.type_bytes.proofs.TypeFormats.{taken, not_taken, left_shorter}
-use Rattle.type_trees.specs.View.{view}
+use Rattle.type_lattice_trees.specs.View.{view}
 use Rattle.type_bytes.proofs.taking.take_first.Goals as goal
 
 pub returns-in-Ok-clause-ok : goal.returns-in-Ok-clause-ok

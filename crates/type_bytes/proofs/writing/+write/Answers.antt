@@ -3,10 +3,10 @@ use Rattle.std.specs.Prelude.{IsTrue}
 use Rattle.std.specs.List.{list_all}
 use Rattle.std.proofs.lemmas.Result.{on_ok_weaker}
 use Rattle.std.proofs.lemmas.List.{append-nil}
-use Rattle.type_sets.proofs.Truths.{first, second}
-use Rattle.type_trees.specs.View.{view, Fits, EachNode, row_view, body_view, tuples_view, parts_view}
-use Rattle.type_trees.proofs.Views.{of_above, below_fits, each_at, tag_at}
-use Rattle.type_trees.proofs.Inclusions.{size_fits}
+use Rattle.type_kinds.proofs.Truths.{first, second}
+use Rattle.type_lattice_trees.specs.View.{view, Fits, EachNode, row_view, body_view, tuples_view, parts_view}
+use Rattle.type_lattice_trees.proofs.Views.{of_above, below_fits, each_at, tag_at}
+use Rattle.type_lattice_trees.proofs.Inclusions.{size_fits}
 use Rattle.type_bytes.specs.Spelling.{two_bytes, parts_of, all_bytes, tag_bytes, size_bytes, bytes_at}
 use Rattle.type_bytes.specs.ShortNames.{is_short, are_short, are_short_tuples, is_short_tag, is_short_body, is_short_at}
 use Rattle.type_bytes.proofs.Fronts.{still_front}

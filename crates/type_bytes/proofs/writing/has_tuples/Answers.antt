@@ -1,6 +1,6 @@
 use Rattle.std.proofs.Common.{not, sym, ap, ◌∙◌}
-use Rattle.type_trees.specs.View.{tuples_view}
-use Rattle.type_trees.proofs.Views.{no_sizes}
+use Rattle.type_lattice_trees.specs.View.{tuples_view}
+use Rattle.type_lattice_trees.proofs.Views.{no_sizes}
 use Rattle.type_bytes.specs.Spelling.{has_tuples, bytes_at}
 use Rattle.type_bytes.proofs.writing.has_tuples.Goals as goal
 

@@ -1,9 +1,9 @@
 use Rattle.std.proofs.Common.{◌≡◌, ℕ, ◌*◌, Bool, not, cond, is_some, sym, ap, ◌∙◌}
-use Rattle.type_sets.specs.Names as names
-use Rattle.type_sets.specs.Numbers as numbers
-use Rattle.type_model.specs.Operations.{is_no_bits, is_no_function}
-use Rattle.type_trees.specs.Plains.{flags_of, functions_of}
-use Rattle.type_trees.specs.View.{view, cell_view, tuples_view}
+use Rattle.type_kinds_sets.specs.Names as names
+use Rattle.type_kinds_sets.specs.Numbers as numbers
+use Rattle.type_lattice_model.specs.Operations.{is_no_bits, is_no_function}
+use Rattle.type_lattice_trees.specs.Plains.{flags_of, functions_of}
+use Rattle.type_lattice_trees.specs.View.{view, cell_view, tuples_view}
 use Rattle.type_bytes.specs.Spelling.{has_tuples, bytes_at}
 use Rattle.type_bytes.proofs.Writes.{mask_with, mask_sum, cell_some}
 use Rattle.type_bytes.proofs.writing.mask_of.Goals as goal

@@ -1,6 +1,6 @@
 use Rattle.std.proofs.Common.{◌≡◌, ◌++◌, Result, Ok, Err, true, sym, ap, ◌∙◌, subst}
 use Rattle.std.specs.Prelude.{OnOk}
-use Rattle.type_trees.specs.View.{view}
+use Rattle.type_lattice_trees.specs.View.{view}
 use Rattle.type_bytes.specs.Spelling.{bytes_of, bytes_at}
 use Rattle.type_bytes.specs.ShortNames.{is_short_at, has_short_names}
 use Rattle.type_bytes.proofs.writing.put.Goals as goal

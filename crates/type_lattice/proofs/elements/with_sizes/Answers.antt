@@ -1,7 +1,7 @@
 use Rattle.std.proofs.Common.{refl}
 use Rattle.std.proofs.lemmas.List.{drop_more, drop_all}
-use Rattle.type_model.specs.Operations.{ops}
-use Rattle.type_trees.proofs.Inclusions.{size_fits}
+use Rattle.type_lattice_model.specs.Operations.{ops}
+use Rattle.type_lattice_trees.proofs.Inclusions.{size_fits}
 use Rattle.type_lattice.proofs.TypeModels.{with-append}
 use Rattle.type_lattice.proofs.elements.with_sizes.Goals as goal
 

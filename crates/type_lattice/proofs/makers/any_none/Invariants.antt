@@ -1,5 +1,5 @@
 use Rattle.std.proofs.Common.{◌≡◌, map, drop}
-use Rattle.type_model.specs.Operations.{ops, has_none}
+use Rattle.type_lattice_model.specs.Operations.{ops, has_none}
 use Rattle.type_lattice.proofs.makers.any_none.Given as goal
 
 abbrev pub invariant-loop-t : goal.invariant-loop-t

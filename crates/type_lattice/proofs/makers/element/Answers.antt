@@ -1,8 +1,8 @@
 use Rattle.std.proofs.Common.{◌≡◌, ◌<◌, length, refl, arith}
 use Rattle.std.proofs.lemmas.Option.{slice_get-map, slice_get_read}
 use Rattle.std.proofs.lemmas.Result.{IfOk-weaker}
-use Rattle.type_trees.specs.View.{Fits}
-use Rattle.type_trees.proofs.Views.{each_at}
+use Rattle.type_lattice_trees.specs.View.{Fits}
+use Rattle.type_lattice_trees.proofs.Views.{each_at}
 use Rattle.type_lattice.proofs.MakerLaws.{row_length}
 use Rattle.type_lattice.proofs.makers.element.Goals as goal
 

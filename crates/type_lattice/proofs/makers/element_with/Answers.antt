@@ -1,6 +1,6 @@
 use Rattle.std.proofs.Common.{refl}
-use Rattle.type_trees.specs.declared.node.Node.TheVariants as v
-use Rattle.type_trees.proofs.Views.{view_any, any_fits}
+use Rattle.type_lattice_trees.specs.declared.node.Node.TheVariants as v
+use Rattle.type_lattice_trees.proofs.Views.{view_any, any_fits}
 use Rattle.type_lattice.proofs.TypeModels.{any_tree, parts_tree, join_any, cell_fits}
 use Rattle.type_lattice.proofs.makers.element_with.Goals as goal
 

@@ -1,5 +1,5 @@
 use Rattle.std.proofs.Common.{arith}
-use Rattle.type_trees.proofs.Views.{no_sizes}
+use Rattle.type_lattice_trees.proofs.Views.{no_sizes}
 use Rattle.type_lattice.proofs.TypeModels.{any_tree, parts_tree}
 use Rattle.type_lattice.proofs.makers.is_list.Goals as goal
 use Rattle.type_lattice.proofs.makers.is_list.Goals.{in-Some+else-not-cell, in_default-cell}

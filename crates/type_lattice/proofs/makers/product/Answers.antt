@@ -2,12 +2,12 @@ use Rattle.std.proofs.Common.{◌≡◌, ap, arith, map, length, refl, sym, ◌�
 use Rattle.std.proofs.lemmas.Bool.{lt-ltb}
 use Rattle.std.proofs.lemmas.List.{length-map, take_all, map_more, map-append}
 use Rattle.std.proofs.lemmas.Result.{IfOk-weaker}
-use Rattle.type_model.proofs.LevelLaws.{level_laws}
-use Rattle.type_model.proofs.MadeLaws.{are_elements}
+use Rattle.type_lattice_model.proofs.LevelLaws.{level_laws}
+use Rattle.type_lattice_model.proofs.MadeLaws.{are_elements}
 use Rattle.type_lattice.specs.Types.{are_normal}
-use Rattle.type_trees.specs.View.{Fits, view, row_view}
-use Rattle.type_trees.proofs.Views.{each_more}
-use Rattle.type_trees.proofs.MadeTrees.{row_body}
+use Rattle.type_lattice_trees.specs.View.{Fits, view, row_view}
+use Rattle.type_lattice_trees.proofs.Views.{each_more}
+use Rattle.type_lattice_trees.proofs.MadeTrees.{row_body}
 use Rattle.type_lattice.proofs.makers.product.Goals as goal
 
 pub loop-t-preserved : goal.loop-t-preserved

@@ -1,5 +1,5 @@
 use Rattle.std.proofs.Common.{◌≡◌, map, take}
-use Rattle.type_trees.specs.View.{Fits, row_view, EachNode}
+use Rattle.type_lattice_trees.specs.View.{Fits, row_view, EachNode}
 use Rattle.type_lattice.proofs.makers.product.Given as goal
 
 abbrev pub invariant-loop-t : goal.invariant-loop-t

@@ -1,7 +1,7 @@
 use Rattle.std.proofs.Common.{Some, refl}
-use Rattle.type_model.proofs.LevelLaws.{level_laws}
-use Rattle.type_model.proofs.MadeLaws.{tail_normal}
-use Rattle.type_trees.specs.View.{cell_view}
+use Rattle.type_lattice_model.proofs.LevelLaws.{level_laws}
+use Rattle.type_lattice_model.proofs.MadeLaws.{tail_normal}
+use Rattle.type_lattice_trees.specs.View.{cell_view}
 use Rattle.type_lattice.proofs.makers.tail_parts.Goals as goal
 
 pub returns-clause-fits : goal.returns-clause-fits

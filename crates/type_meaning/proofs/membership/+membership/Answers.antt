@@ -1,9 +1,10 @@
 use Rattle.std.proofs.Common.{◌-◌, ◌↔◌, IsTrue, false, Some, None, arith, sym, ap, ◌∙◌, subst, subst₂}
-use Rattle.type_model.specs.HasType.{HasAt}
-use Rattle.type_trees.specs.declared.node.TuplesOf.TheVariants as of_tuples
-use Rattle.type_trees.specs.View.{view, Fits}
-use Rattle.type_trees.proofs.Views.{of_above, below_fits, each_at}
-use Rattle.type_trees.proofs.Inclusions.{granted, refuted, found_fits, sizes_fit}
+use Rattle.type_kinds.proofs.Truths.{refuted, granted}
+use Rattle.type_lattice_model.specs.HasType.{HasAt}
+use Rattle.type_lattice_trees.specs.declared.node.TuplesOf.TheVariants as of_tuples
+use Rattle.type_lattice_trees.specs.View.{view, Fits}
+use Rattle.type_lattice_trees.proofs.Views.{of_above, below_fits, each_at}
+use Rattle.type_lattice_trees.proofs.Inclusions.{found_fits, sizes_fit}
 use Rattle.type_meaning.specs.Values.{value_of}
 use Rattle.type_meaning.proofs.Memberships.{any_has_it, cell_fits, tuples_fit, no_cell_tells, cell_tells, tuples_tell, plain_tells, head_tells, head_fails, Follows, cons_follows, nil_follows, end_follows, too_long, size_tells, tag_tells, not_tagged, each_tag_fits, as_long}
 use Rattle.type_meaning.proofs.Weights.{lighter_head, lighter_tail, lighter_elements, lighter_rest, lighter_item}
@@ -102,7 +103,7 @@ pub body_in-returns-in-Some-find_tag : goal.body_in-returns-in-Some-find_tag
 body_in-returns-in-Some-find_tag t c =
     tag_tells c.args.level c.args.elements.now c.in-Some.first.now c.in-Some.rest.now c.in-Atom.atom c.args.body.now c.in-Tags.tags c.as_slice-in-Tags.result.now (Some c.in-Some-find_tag.row.now) c.each_in-in-Some-find_tag.result c.in-Tags.is c.as_slice-in-Tags.ensures c.in-Some.ensures.cases.0 c.in-Atom.is (c.in-Some-find_tag.ensures.value c.args.level) c.each_in-in-Some-find_tag.ensures
 
--- ---- elements in the types at their places
+-- ---- elements in the types at their positions
 
 pub each_in-is_in-requires : goal.each_in-is_in-requires
 each_in-is_in-requires t c =

@@ -5,7 +5,7 @@ use Rattle.type_meaning.proofs.Memberships.{EachIn}
 use Rattle.type_meaning.proofs.Weights.{weight, weights}
 use Rattle.type_meaning.proofs.membership.+membership.Given as goal
 
--- each call has a lighter value, or one as heavy and a place before its caller in this order
+-- each call has a lighter value, or one as heavy and a position before its caller in this order
 abbrev pub decreases-follows : goal.decreases-follows
 decreases-follows l = weight (value_of l.v.now)
 

@@ -1,12 +1,12 @@
 use Rattle.std.proofs.Common.{rules, true, false, sym, ap, ◌∙◌, FitsSigned}
 use Rattle.std.proofs.lemmas.Int.{to_z-of_z}
 use mir.Syntax.{w128}
-use Rattle.type_sets.specs.Numbers as numbers
-use Rattle.type_sets.specs.BitLengths as bit_lengths
-use Rattle.type_model.specs.Shapes.{floats, pids, ports, references, nils, maps}
-use Rattle.type_model.specs.HasType.{has_arity}
-use Rattle.type_model.specs.ValueShapes.{has_leaf, an_int, an_atom, some_bits, of_flag, a_function}
-use Rattle.type_trees.specs.Plains.{functions_of}
+use Rattle.type_kinds_sets.specs.Numbers as numbers
+use Rattle.type_kinds_sets.specs.BitLengths as bit_lengths
+use Rattle.type_lattice_model.specs.Shapes.{floats, pids, ports, references, nils, maps}
+use Rattle.type_lattice_model.specs.HasType.{has_arity}
+use Rattle.type_lattice_model.specs.ValueShapes.{has_leaf, an_int, an_atom, some_bits, of_flag, a_function}
+use Rattle.type_lattice_trees.specs.Plains.{functions_of}
 use Rattle.type_meaning.proofs.Variants.{shape-Int, shape-Float, shape-Atom, shape-Bits, shape-Nil, shape-Cons, shape-Tuple, shape-Map, shape-Pid, shape-Port, shape-Reference, shape-Function}
 use Rattle.type_meaning.proofs.Memberships.{leaf_told, no_leaf_told, same_number}
 use Rattle.type_meaning.proofs.membership.plain_in.Goals as goal

@@ -1,6 +1,6 @@
 use Rattle.std.proofs.Common.{subst}
 use Rattle.std.specs.Prelude.{◌↔◌, IsTrue}
-use Rattle.type_model.specs.HasType.{HasAt}
+use Rattle.type_lattice_model.specs.HasType.{HasAt}
 use Rattle.type_lattice.specs.Types.{HasType}
 use Rattle.type_meaning.specs.Values.{value_of}
 use Rattle.type_meaning.proofs.membership.value_in.Goals as goal

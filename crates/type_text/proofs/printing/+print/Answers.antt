@@ -3,7 +3,7 @@ use Rattle.std.proofs.lemmas.Result.{on_ok_weaker}
 use Rattle.std.proofs.lemmas.List.{append-nil, map-append}
 use Rattle.type_text.specs.Texts.{text_at, tag_words, size_words}
 use Rattle.type_text.specs.Adds.{Adds}
-use Rattle.type_trees.specs.View.{view, row_view, tags_view, sizes_view}
+use Rattle.type_lattice_trees.specs.View.{view, row_view, tags_view, sizes_view}
 use Rattle.type_text.proofs.Adding.{both, one_word, one_more}
 use Rattle.type_text.proofs.Prints.{text_of_parts, tag_words-append, size_words-append}
 use Rattle.type_text.proofs.printing.+print.Goals as goal

@@ -1,7 +1,7 @@
 use Rattle.std.proofs.Common.{◌+◌, ◌*◌, codes, map, take}
 use Rattle.type_text.specs.Texts.{text_at, tag_words, size_words}
 use Rattle.type_text.specs.Adds.{Adds}
-use Rattle.type_trees.specs.View.{row_view, tags_view, sizes_view}
+use Rattle.type_lattice_trees.specs.View.{row_view, tags_view, sizes_view}
 use Rattle.type_text.proofs.printing.+print.Given as goal
 
 abbrev pub decreases-append_type : goal.decreases-append_type

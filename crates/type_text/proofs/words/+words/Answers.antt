@@ -2,9 +2,9 @@ use Rattle.std.proofs.Common.{arith, sym, ap, ◌∙◌, refl, subst, ◌≡◌,
 use Rattle.std.proofs.lemmas.List.{append-nil}
 use Rattle.std.proofs.lemmas.Option.{MatchOption-at_some, MatchOption-at_none}
 use Rattle.std.proofs.lemmas.Result.{IfOk-weaker}
-use Rattle.type_model.specs.Operations.{ops}
-use Rattle.type_trees.specs.View.{view, row_view, Fits}
-use Rattle.type_trees.proofs.Views.{one_more, each_more}
+use Rattle.type_lattice_model.specs.Operations.{ops}
+use Rattle.type_lattice_trees.specs.View.{view, row_view, Fits}
+use Rattle.type_lattice_trees.proofs.Views.{one_more, each_more}
 use Rattle.type_text.proofs.WordReads.{next_word, no_word, words_stop, word_further, next_element, no_element, row_stop, whole_row, no_row, element_further, elements_more, TypeRead, any_read, zero_read, no_word_read, words_read, Found, atom_found, name_found}
 use Rattle.type_text.proofs.WordStarts.{at_list, at_tuple}
 use borrow.Author.Tests.{ltb-true}

@@ -1,8 +1,8 @@
 use Rattle.std.proofs.Common.{◌≤◌, ◌+◌, ◌*◌, ℕ, List, Option, Bor, suc, length}
-use Rattle.type_model.specs.Operations.{ops}
-use Rattle.type_model.specs.Normal.{NormalAt, AreElements}
-use Rattle.type_trees.specs.declared.node.Node.{Node}
-use Rattle.type_trees.specs.View.{row_view, Fits, EachNode}
+use Rattle.type_lattice_model.specs.Operations.{ops}
+use Rattle.type_lattice_model.specs.Normal.{NormalAt, AreElements}
+use Rattle.type_lattice_trees.specs.declared.node.Node.{Node}
+use Rattle.type_lattice_trees.specs.View.{row_view, Fits, EachNode}
 use Rattle.type_text.proofs.WordReads.{MoreRead, RowRead}
 use Rattle.type_text.proofs.words.+words.Given as goal
 

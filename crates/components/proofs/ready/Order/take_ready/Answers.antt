@@ -1,7 +1,7 @@
 use Rattle.std.proofs.Common.{◌<◌, length, ◌∙◌, sym, subst, arith}
 use Rattle.components.specs.steps.Order.{Ordered}
 use Rattle.components.proofs.Orders.{rank_at, first_low}
-use Rattle.components.proofs.Placed.{skipped}
+use Rattle.components.proofs.Positioned.{skipped}
 use Rattle.components.proofs.ready.Order.take_ready.Goals as goal
 
 pub index-requires : goal.index-requires

@@ -28,14 +28,14 @@ returns-in-Closed c =
     let low : c.index-target.result.now < length c.args.self.now.states.items = target_low _ _ _ _ _ _ _ _ c.requires.graph c.requires.sound (omega arith) is in
     (omega arith, inl (c.in-Closed.field-0, state_at _ _ _ _ _ c.index.ensures low is c.in-Closed.is))
 
-pub returns-then-place-top : goal.returns-then-place-top
-returns-then-place-top c =
+pub returns-then-position-top : goal.returns-then-position-top
+returns-then-position-top c =
     let is : c.index-target.result.now ≡ last_pending c.args.self.now = at_last c.args.self.now.pending.items c.len-2.result _ c.index-target.ensures (omega arith) (omega arith) in
     let low : c.index-target.result.now < length c.args.self.now.states.items = target_low _ _ _ _ _ _ _ _ c.requires.graph c.requires.sound (omega arith) is in
-    (omega arith, (c.in-Open.place, state_at _ _ _ _ _ c.index.ensures low is c.in-Open.is, c.if-place-top.true))
+    (omega arith, (c.in-Open.position, state_at _ _ _ _ _ c.index.ensures low is c.in-Open.is, c.if-position-top.true))
 
-pub returns-else-place-top : goal.returns-else-place-top
-returns-else-place-top c =
+pub returns-else-position-top : goal.returns-else-position-top
+returns-else-position-top c =
     let is : c.index-target.result.now ≡ last_pending c.args.self.now = at_last c.args.self.now.pending.items c.len-2.result _ c.index-target.ensures (omega arith) (omega arith) in
     let low : c.index-target.result.now < length c.args.self.now.states.items = target_low _ _ _ _ _ _ _ _ c.requires.graph c.requires.sound (omega arith) is in
-    (omega arith, inr (c.in-Open.place, state_at _ _ _ _ _ c.index.ensures low is c.in-Open.is, c.if-place-top.false))
+    (omega arith, inr (c.in-Open.position, state_at _ _ _ _ _ c.index.ensures low is c.in-Open.is, c.if-position-top.false))

@@ -1,10 +1,24 @@
-use Rattle.std.proofs.Common.{ap, ◌∙◌}
-use Rattle.type_lattice.specs.Types.{meet}
+use Rattle.std.proofs.Common.{sym, ap, ◌∙◌, subst, true≢false}
+use Rattle.type_lattice.specs.Types.{Below, meet}
 use Rattle.cons_tree.specs.Environments.{type_at}
-use Rattle.cons_tree.proofs.TrailLaws.{lowered_is}
+use Rattle.cons_tree.proofs.TrailLaws.{lowered_is, stays, meet_smaller}
 use Rattle.cons_tree.proofs.slots.Slots.lower_by.Goals as goal
+
+pub returns-then-leq-clause-value : goal.returns-then-leq-clause-value
+returns-then-leq-clause-value c =
+    let laws = c.type_laws.ensures in
+    let xs = c.args.self.now.types in
+    let t = type_at xs c.args.other in
+    stays laws.same laws.both xs c.args.slot t c.has_value.result (subst (λ u. Below u t) c.at.ensures (subst (Below c.at.result.now) c.at-2.ensures (c.leq.ensures.below.0 c.if-leq.true))) c.has_value.ensures
+
+pub put-requires-clause-smaller : goal.put-requires-clause-smaller
+put-requires-clause-smaller c =
+    let laws = c.type_laws.ensures in
+    let xs = c.args.self.now.types in
+    let t = type_at xs c.args.other in
+    meet_smaller laws.same laws.both xs c.args.slot c.at-3.result.now t c.in_ok-met.met c.at-3.ensures (c.in_ok-met.ensures.value ∙ ap (meet c.at-3.result.now) c.at-4.ensures) (λ h. true≢false (sym (c.leq.ensures.below.1 (subst (Below c.at.result.now) (sym c.at-2.ensures) (subst (λ u. Below u t) (c.at-3.ensures ∙ sym c.at.ensures) h))) ∙ c.if-leq.false))
 
 pub returns-clause-value : goal.returns-clause-value
 returns-clause-value c =
-    lowered_is c.put.result c.args.self.now.types c.put.new.self.types c.args.slot (type_at c.args.self.now.types c.args.other) c.at.result.now c.in_ok-met.met c.at.ensures
-    (c.in_ok-met.ensures.value ∙ ap (meet c.at.result.now) c.at-2.ensures) c.put.ensures.value
+    let xs = c.args.self.now.types in
+    lowered_is c.put.result xs c.put.new.self.types c.args.slot (type_at xs c.args.other) c.at-3.result.now c.in_ok-met.met c.at-3.ensures (c.in_ok-met.ensures.value ∙ ap (meet c.at-3.result.now) c.at-4.ensures) c.put.ensures.value

@@ -4,10 +4,10 @@ use Rattle.cons_tree.proofs.slots.Slots.undo.Given as goal
 
 abbrev pub invariant-loop-self : goal.invariant-loop-self
 invariant-loop-self l = record {
-  low : l.mark ≤ length l.self.trail;
-  within : Within (length l.self.types) (drop l.mark l.self.trail);
-  back : laid (drop l.mark l.self.trail) l.self.types ≡ laid (drop l.mark l.initial.self.trail) l.initial.self.types;
-  front : take l.mark l.self.trail ≡ take l.mark l.initial.self.trail;
+  low : l.checkpoint ≤ length l.self.trail;
+  within : Within (length l.self.types) (drop l.checkpoint l.self.trail);
+  back : laid (drop l.checkpoint l.self.trail) l.self.types ≡ laid (drop l.checkpoint l.initial.self.trail) l.initial.self.types;
+  front : take l.checkpoint l.self.trail ≡ take l.checkpoint l.initial.self.trail;
 }
 
 abbrev pub decreases-loop-self : goal.decreases-loop-self

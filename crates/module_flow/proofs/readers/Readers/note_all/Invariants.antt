@@ -5,5 +5,5 @@ use Rattle.module_flow.proofs.readers.Readers.note_all.Given as goal
 abbrev pub invariant-loop-label : goal.invariant-loop-label
 invariant-loop-label l = record {
   kept : KeepsReaders l.fn.self.table l.self.table;
-  noted : IsReader l.self.table (take l.label-index l.labels) l.place;
+  noted : IsReader l.self.table (take l.label-index l.labels) l.position;
 }

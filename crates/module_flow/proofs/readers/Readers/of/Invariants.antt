@@ -5,4 +5,4 @@ use Rattle.module_flow.proofs.readers.Readers.of.Given as goal
 
 abbrev pub invariant-loop-label : goal.invariant-loop-label
 invariant-loop-label l =
-    (k q : ℕ) → Contains (take l.label-index l.labels) k → Contains (readers l.self.table k) q → Contains l.places q
+    (k q : ℕ) → Contains (take l.label-index l.labels) k → Contains (readers l.self.table k) q → Contains l.positions q

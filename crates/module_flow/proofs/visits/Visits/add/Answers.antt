@@ -23,6 +23,6 @@ invariant_of-self-2 c =
     let second = c.note_all.new.self.table in
     let third = c.note_all-2.new.self.table in
     noted_longer first third c.self.inside.all c.add.new.self c.args.visit (kept_through first second third c.note_all.ensures.kept c.note_all-2.ensures.kept)
-    (reader_still second third c.args.visit.own _ c.note_all-2.ensures.kept (reader_is second _ c.args.visit.own _ _ c.in_ok-note_all.ensures.noted c.as_slice.ensures c.len-place.ensures))
-    (reader_is third _ c.args.visit.given _ _ c.in_ok-note_all-2.ensures.noted c.as_slice-2.ensures c.len-place.ensures)
+    (reader_still second third c.args.visit.own _ c.note_all-2.ensures.kept (reader_is second _ c.args.visit.own _ _ c.in_ok-note_all.ensures.noted c.as_slice.ensures c.len-position.ensures))
+    (reader_is third _ c.args.visit.given _ _ c.in_ok-note_all-2.ensures.noted c.as_slice-2.ensures c.len-position.ensures)
     c.in_ok-add.ensures.ok c.self.invariant

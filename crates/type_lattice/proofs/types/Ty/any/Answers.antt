@@ -1,6 +1,6 @@
 use Rattle.std.proofs.Common.{refl, ◌∙◌}
-use Rattle.type_trees.specs.declared.node.Node.TheVariants as v
-use Rattle.type_trees.proofs.Views.{view_any}
+use Rattle.type_lattice_trees.specs.declared.node.Node.TheVariants as v
+use Rattle.type_lattice_trees.proofs.Views.{view_any}
 use Rattle.type_lattice.specs.Types.{same_type, any}
 use Rattle.type_lattice.proofs.TypeLaws.{laws}
 use Rattle.type_lattice.proofs.types.Ty.any.Goals as goal

@@ -1,7 +1,7 @@
 use Rattle.std.proofs.Common.{◌≡◌, ◌&&◌, inl, inr, refl, sym, ap, ◌∙◌}
-use Rattle.type_model.specs.Operations.{ops}
-use Rattle.type_model.specs.Parts.{is_list}
-use Rattle.type_trees.specs.View.{view}
+use Rattle.type_lattice_model.specs.Operations.{ops}
+use Rattle.type_lattice_model.specs.Parts.{is_list}
+use Rattle.type_lattice_trees.specs.View.{view}
 use Rattle.type_lattice.specs.Types.{same_type, cons}
 use Rattle.type_lattice.specs.Kinds.{asks_proper}
 use Rattle.type_lattice.proofs.TypeLaws.{laws}

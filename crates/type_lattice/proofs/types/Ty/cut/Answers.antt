@@ -1,5 +1,5 @@
 use Rattle.std.proofs.Common.{refl, sym, ap, ◌∙◌}
-use Rattle.type_trees.proofs.Lifts.{lift}
+use Rattle.type_lattice_trees.proofs.Lifts.{lift}
 use Rattle.type_lattice.specs.Types.{same_type, cut}
 use Rattle.type_lattice.proofs.TypeLaws.{laws}
 use Rattle.type_lattice.proofs.TypeModels.{cut_filled, cut_none}

@@ -1,8 +1,8 @@
 use Rattle.std.proofs.Common.{refl, ap, ◌∙◌}
-use Rattle.type_model.specs.Operations.{ops}
-use Rattle.type_model.specs.Cut as levels
-use Rattle.type_trees.specs.View.{view}
-use Rattle.type_trees.proofs.Views.{view_any}
+use Rattle.type_lattice_model.specs.Operations.{ops}
+use Rattle.type_lattice_model.specs.Cut as levels
+use Rattle.type_lattice_trees.specs.View.{view}
+use Rattle.type_lattice_trees.proofs.Views.{view_any}
 use Rattle.type_lattice.specs.Types.{same_type, any, none, elem}
 use Rattle.type_lattice.proofs.TypeLaws.{laws}
 use Rattle.type_lattice.proofs.TypeModels.{parts_tree, cell_fits, view_up}

@@ -1,5 +1,5 @@
 use Rattle.std.proofs.Common.{arith}
-use Rattle.type_sets.specs.Numbers as numbers
+use Rattle.type_kinds_sets.specs.Numbers as numbers
 use Rattle.type_lattice.specs.Types.{HasType}
 use Rattle.type_lattice.specs.Elements.{ints_of}
 use Rattle.type_lattice.proofs.TypeModels.{any_tree, parts_tree}

@@ -1,5 +1,5 @@
 use Rattle.std.proofs.Common.{refl}
-use Rattle.type_model.specs.Operations.{ops}
+use Rattle.type_lattice_model.specs.Operations.{ops}
 use Rattle.type_lattice.specs.Types.{same_type, none}
 use Rattle.type_lattice.proofs.TypeLaws.{laws}
 use Rattle.type_lattice.proofs.types.Ty.none.Goals as goal

@@ -1,4 +1,4 @@
-use Rattle.type_trees.proofs.Views.{fits_normal}
+use Rattle.type_lattice_trees.proofs.Views.{fits_normal}
 use Rattle.type_lattice.proofs.types.Ty.of_node.Goals as goal
 
 pub invariant_of-result : goal.invariant_of-result

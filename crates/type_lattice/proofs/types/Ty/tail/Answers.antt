@@ -1,6 +1,6 @@
 use Rattle.std.proofs.Common.{refl, ◌∙◌}
-use Rattle.type_model.specs.Operations.{ops}
-use Rattle.type_trees.proofs.Views.{view_any}
+use Rattle.type_lattice_model.specs.Operations.{ops}
+use Rattle.type_lattice_trees.proofs.Views.{view_any}
 use Rattle.type_lattice.specs.Types.{same_type, any, none, tail}
 use Rattle.type_lattice.proofs.TypeLaws.{laws}
 use Rattle.type_lattice.proofs.TypeModels.{parts_tree, cell_fits}

@@ -1,8 +1,8 @@
 use Rattle.std.proofs.Common.{refl, ap, ◌∙◌}
 use Rattle.std.proofs.lemmas.Bool.{le-ltb}
 use Rattle.std.proofs.lemmas.List.{length-map}
-use Rattle.type_model.specs.Operations.{ops}
-use Rattle.type_model.specs.Cut as levels
+use Rattle.type_lattice_model.specs.Operations.{ops}
+use Rattle.type_lattice_model.specs.Cut as levels
 use Rattle.type_lattice.specs.Types.{same_type, none, every_tuple, tuple}
 use Rattle.type_lattice.proofs.TypeLaws.{laws}
 use Rattle.type_lattice.proofs.types.Ty.tuple.Goals as goal

@@ -1,0 +1,128 @@
+//! The modules that a wave solves at once, and the reports on them.
+ghost use Rattle.std.specs.Prelude.{◌≡◌, ℕ, ◌<◌, ◌≤◌, [], ◌∷◌, ◌++◌, true, false, length, map, slice_get, IfOk, OnOk};
+ghost use Rattle.core_scope.specs.Checked.{module_of, tree_of};
+ghost use Rattle.core_scope.specs.Sets.{StandsEarlier};
+ghost use Rattle.cons_tree.specs.Callees.{found};
+ghost use Rattle.analysis_summaries.specs.Whole.{IsWholeOver};
+ghost use Rattle.table_keep.specs.Groups.{has};
+ghost use Rattle.table_keep.specs.Model.{picked, source_so, sources_so, trees};
+ghost use Rattle.analysis.specs.steps.Deciding.{AreReported, IsReported};
+
+use crate::reports::report_on;
+use analysis_crew::solve_modules_parallel;
+use cons_tree::Summaries;
+use core_scope::{AsChecked, Checked, Names};
+use da_shelf::Gate;
+use std::alloc::Global;
+use std::sync::Wait;
+use std::thread::Threads;
+use table_keep::Source;
+use type_kinds::{Atom, Bytes, List, Memory};
+
+/// One of the modules that are to be solved.
+#[derive(Clone, Copy)]
+pub struct Chosen<'a> {
+    pub source: &'a Source,
+}
+
+impl AsChecked for Chosen<'_> {
+    ghost stands_for = { λ chosen. chosen.source.now.checked };
+
+    fn checked(&self) -> &Checked {
+        &self.source.checked
+    }
+}
+
+// The modules of these names, in their order.
+fn all_chosen<'a>(
+    alloc: Global,
+    sources: &'a [Source],
+    todo: &Names<Atom>,
+) -> Result<List<Chosen<'a>>, Memory>
+    ensures { IfOk result (λ list. map (λ c. source_so c.source.now) list ≡ picked (has todo.now) (sources_so sources.now)) }
+{
+    let mut list = List::new(alloc);
+    for source in sources {
+        add_chosen(source, todo, &mut list)?;
+    }
+    Ok(list)
+}
+
+// Adds a module, if it has one of these names.
+fn add_chosen<'a>(
+    source: &'a Source,
+    todo: &Names<Atom>,
+    list: &mut List<Chosen<'a>>,
+) -> Result<(), Memory>
+    ensures { OnOk result (map (λ c. source_so c.source.now) list.new ≡ map (λ c. source_so c.source.now) list.old ++ picked (has todo.now) (source_so source.now ∷ [])) }
+{
+    if todo.has(&source.checked.module().name) {
+        list.add(Chosen { source })
+    } else {
+        Ok(())
+    }
+}
+
+/// Solves the modules of these names by the workers, over what is known of all others, and reports on each. `Memory` if
+/// allocation fails, or where they have 2^32 functions or more.
+pub fn solve_wave<R: Threads + Wait + Sync, G: Gate + Sync>(
+    rt: &R,
+    alloc: Global,
+    sources: &[Source],
+    todo: &Names<Atom>,
+    known: &mut Summaries,
+    lines: &mut List<Bytes>,
+    workers: u32,
+    gate: &G,
+) -> Result<(), Memory>
+    requires distinct { (j : ℕ) → j < length sources.now → StandsEarlier (map (λ s. (module_of s.checked).name) sources.now) j → ⊥ }
+    requires counted { length lines.old ≡ length sources.now }
+    requires least { 1 ≤ workers }
+    requires most { workers ≤ 64 }
+    ensures known { OnOk result (IsWholeOver (found known.old) (trees (picked (has todo.now) (sources_so sources.now))) (found known.new)) }
+    ensures lines { OnOk result (AreReported todo.now (sources_so sources.now) (found known.new) lines.old lines.new) }
+{
+    let list = all_chosen(alloc, sources, todo)?;
+    let workers = if list.is_empty() { 1 } else { workers };
+    solve_modules_parallel(rt, alloc, list.as_slice(), known, workers, gate)?;
+    report_on_all(alloc, sources, todo, known, lines)
+}
+
+// The report on each module of these names, at its position.
+fn report_on_all(
+    alloc: Global,
+    sources: &[Source],
+    todo: &Names<Atom>,
+    known: &Summaries,
+    lines: &mut List<Bytes>,
+) -> Result<(), Memory>
+    requires { length lines.old ≡ length sources.now }
+    ensures { OnOk result (AreReported todo.now (sources_so sources.now) (found known.now) lines.old lines.new) }
+{
+    for (at, source) in sources.iter().enumerate() {
+        report_at(alloc, source, at, todo, known, lines)?;
+    }
+    Ok(())
+}
+
+// The report on the module at this position, if it has one of these names.
+fn report_at(
+    alloc: Global,
+    source: &Source,
+    at: usize,
+    todo: &Names<Atom>,
+    known: &Summaries,
+    lines: &mut List<Bytes>,
+) -> Result<(), Memory>
+    requires { at < length lines.old }
+    ensures counted { OnOk result (length lines.new ≡ length lines.old) }
+    ensures reported { OnOk result (has todo.now (tree_of source.now.checked).name ≡ true → IsReported (found known.now) (tree_of source.now.checked) (slice_get lines.new at)) }
+    ensures stays { OnOk result (has todo.now (tree_of source.now.checked).name ≡ false → lines.new ≡ lines.old) }
+    ensures others { OnOk result ((i : ℕ) → (i ≡ at → ⊥) → slice_get lines.new i ≡ slice_get lines.old i) }
+{
+    if todo.has(&source.checked.module().name) {
+        let report = report_on(alloc, &source.checked, known)?;
+        lines.replace(at, report);
+    }
+    Ok(())
+}

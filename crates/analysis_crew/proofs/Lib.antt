@@ -1,0 +1,8 @@
+mod Fixing
+mod Crossing
+mod Laid
+mod Listed
+mod Loops
+mod Outputs
+mod Same
+mod Works

@@ -1,0 +1,5 @@
+mod Listing
+mod Members
+mod Closing
+mod OneKnown
+mod Examples

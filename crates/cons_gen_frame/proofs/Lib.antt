@@ -1,0 +1,4 @@
+pub mod Alike
+pub mod Choices
+pub mod Targets
+pub mod Frames

@@ -1,6 +1,0 @@
-use Rattle.std.proofs.Common.{◌≡◌, drop}
-use Rattle.core_grammar.specs.Build.{has_generated}
-use Rattle.core_grammar.proofs.notes.has_generated.Given as goal
-
-abbrev pub invariant-loop-constant : goal.invariant-loop-constant
-invariant-loop-constant l = has_generated l.constants ≡ has_generated (drop l.constant-index l.constants)

@@ -1,6 +1,0 @@
-use Rattle.std.proofs.Common.{◌≡◌, drop}
-use Rattle.flow_calls.specs.Calls.{fits}
-use Rattle.flow_calls.proofs.calls.fits.Given as goal
-
-abbrev pub invariant-loop-at : goal.invariant-loop-at
-invariant-loop-at l = fits (drop l.at l.types) (drop l.at l.others) ≡ fits l.types l.others

@@ -1,6 +1,0 @@
-use Rattle.std.proofs.Common.{◌≡◌, ◌++◌, drop}
-use Rattle.flow_calls.specs.TypeLists.{joins}
-use Rattle.flow_calls.proofs.types.joins.Given as goal
-
-abbrev pub invariant-loop-at : goal.invariant-loop-at
-invariant-loop-at l = l.list ++ joins (drop l.at l.left) (drop l.at l.right) ≡ joins l.left l.right

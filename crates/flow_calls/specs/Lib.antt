@@ -1,8 +1,0 @@
-pub mod Around
-pub mod Calls
-pub mod Escapes
-pub mod Functions
-pub mod NamedFunctions
-pub mod TypeLists
-pub mod Unknown
-pub mod steps

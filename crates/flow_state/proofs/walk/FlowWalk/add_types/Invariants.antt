@@ -1,6 +1,0 @@
-use Rattle.std.proofs.Common.{◌≡◌, ◌++◌}
-use Rattle.flow_state.specs.steps.Walking.{with_types}
-use Rattle.flow_state.proofs.walk.FlowWalk.add_types.Given as goal
-
-abbrev pub invariant-loop-ty : goal.invariant-loop-ty
-invariant-loop-ty l = l.self ≡ with_types l.fn.self (l.fn.self.types ++ l.yielded)

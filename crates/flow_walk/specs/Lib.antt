@@ -1,5 +1,0 @@
-pub mod Clauses
-pub mod Findings
-pub mod Gifts
-pub mod Walk
-pub mod steps

@@ -1,0 +1,10 @@
+mod Going
+mod Worlds
+mod Calls
+mod Walks
+mod Contributions
+mod Found
+mod Unknowns
+mod Modules
+mod Called
+mod Examples

@@ -1,0 +1,250 @@
+//! Clauses: the heads that may hold, and what stands behind them.
+ghost use Rattle.std.specs.Prelude.{◌≡◌, ◌++◌, ◌∷◌, [], cond, None, IfOk, IsTrue, OnOk};
+ghost use Rattle.core_ast.specs.Model as m;
+ghost use Rattle.core_ast.specs.declared.syntax.Literal.{Literal};
+ghost use Rattle.core_ast.specs.declared.syntax.Mark.{Mark};
+ghost use Rattle.core_ast.specs.Tree.{all_clauses, tree};
+ghost use Rattle.core_scope.specs.Asks.{one_value, width};
+ghost use Rattle.core_scope.specs.declared.ask.Ask.TheVariants.{Exactly};
+ghost use Rattle.cons_tree.specs.Constraints.{constraint};
+ghost use Rattle.cons_solve.specs.Environments.{solution};
+ghost use Rattle.warn_list.specs.declared.finding.FindingKind.TheVariants.{DeadClause};
+ghost use Rattle.module_flow_calls.specs.NodeContext.{at_node};
+ghost use Rattle.module_flow_walk.specs.Findings.{either_found, found, found_in_clauses};
+ghost use Rattle.module_flow_walk.specs.Contributions.{contributions, contributions_of_clauses, where_solved};
+ghost use Rattle.module_flow_calls.specs.TypeLists.{where_given};
+ghost use Rattle.module_flow_state.specs.Scopes.{matching};
+ghost use Rattle.module_flow_walk.specs.Walk.{passed, matched_slots, seen_by_clauses, then, then_inside, walk, walk_clauses};
+ghost use Rattle.module_flow_state.specs.steps.Walking.{noting, walk_scope_of, world_of};
+ghost use Rattle.module_flow_walk.specs.steps.Walked.{with_solved};
+
+use crate::control::walk_passed;
+use crate::expressions::walk_expression;
+use cons_gen::head;
+use cons_tree::{Constraint, Slot, type_facts};
+use core_ast::{Clause, Expr, Form, Mark};
+use core_scope::{Ask, width};
+use module_flow_calls::{Given, NodeContext, as_many, discard_given, either};
+use module_flow_state::{FlowWalk, WalkContext};
+use type_kinds::{List, Memory};
+use type_lattice::Ty;
+use warn_list::FindingKind;
+
+/// A `case`.
+#[cycle(flow)]
+pub fn walk_case(
+    walker: &mut FlowWalk,
+    context: &WalkContext,
+    around: NodeContext,
+    ask: Ask,
+    argument: &Expr,
+    clauses: &[Clause],
+) -> Result<Given, Memory>
+    ensures given { IfOk result (λ given. given ≡ then (walk (world_of context.now) (walk_scope_of walker.old) (Exactly (width (all_clauses clauses.now))) (tree argument.now)) (λ ts. walk_clauses (world_of context.now) (seen_by_clauses (walk_scope_of walker.old) (all_clauses clauses.now) ts) ask (matched_slots (walk_scope_of walker.old) (tree argument.now) (all_clauses clauses.now)) (all_clauses clauses.now))) }
+    ensures noted { OnOk result (walker.new ≡ noting walker.old (contributions (world_of context.now) (walk_scope_of walker.old) (Exactly (width (all_clauses clauses.now))) (tree argument.now) ++ where_given (walk (world_of context.now) (walk_scope_of walker.old) (Exactly (width (all_clauses clauses.now))) (tree argument.now)) (λ ts. contributions_of_clauses (world_of context.now) (seen_by_clauses (walk_scope_of walker.old) (all_clauses clauses.now) ts) ask (matched_slots (walk_scope_of walker.old) (tree argument.now) (all_clauses clauses.now)) (all_clauses clauses.now))) (found (world_of context.now) around (walk_scope_of walker.old) (Exactly (width (all_clauses clauses.now))) (tree argument.now) ++ where_given (walk (world_of context.now) (walk_scope_of walker.old) (Exactly (width (all_clauses clauses.now))) (tree argument.now)) (λ ts. found_in_clauses (world_of context.now) around (seen_by_clauses (walk_scope_of walker.old) (all_clauses clauses.now) ts) ask (matched_slots (walk_scope_of walker.old) (tree argument.now) (all_clauses clauses.now)) (all_clauses clauses.now)))) }
+{
+    let count = width(clauses);
+    let given = walk_expression(walker, context, around, Ask::Exactly(count), argument)?;
+    match given {
+        None => Ok(None),
+        Some(types) => {
+            let matched = walker.matched_slots(argument, count)?;
+            let types = as_many(types, count)?;
+            walk_matching(
+                walker,
+                context,
+                around,
+                ask,
+                types,
+                matched.as_slice(),
+                clauses,
+            )
+        }
+    }
+}
+
+/// Clauses that match values of these types, which stand at the next slots.
+#[cycle(flow)]
+pub fn walk_matching(
+    walker: &mut FlowWalk,
+    context: &WalkContext,
+    around: NodeContext,
+    ask: Ask,
+    types: List<Ty>,
+    matched: &[Slot],
+    clauses: &[Clause],
+) -> Result<Given, Memory>
+    ensures given { IfOk result (λ given. given ≡ walk_clauses (world_of context.now) (matching (walk_scope_of walker.old) types) ask matched.now (all_clauses clauses.now)) }
+    ensures noted { OnOk result (walker.new ≡ noting walker.old (contributions_of_clauses (world_of context.now) (matching (walk_scope_of walker.old) types) ask matched.now (all_clauses clauses.now)) (found_in_clauses (world_of context.now) around (matching (walk_scope_of walker.old) types) ask matched.now (all_clauses clauses.now))) }
+{
+    let position = walker.position();
+    walker.add_types(types)?;
+    let given = walk_clauses(walker, context, around, ask, matched, clauses)?;
+    walker.leave(position);
+    Ok(given)
+}
+
+// Clauses, for what is matched at these slots.
+#[cycle(flow)]
+fn walk_clauses(
+    walker: &mut FlowWalk,
+    context: &WalkContext,
+    around: NodeContext,
+    ask: Ask,
+    matched: &[Slot],
+    clauses: &[Clause],
+) -> Result<Given, Memory>
+    ensures given { IfOk result (λ given. given ≡ walk_clauses (world_of context.now) (walk_scope_of walker.old) ask matched.now (all_clauses clauses.now)) }
+    ensures noted { OnOk result (walker.new ≡ noting walker.old (contributions_of_clauses (world_of context.now) (walk_scope_of walker.old) ask matched.now (all_clauses clauses.now)) (found_in_clauses (world_of context.now) around (walk_scope_of walker.old) ask matched.now (all_clauses clauses.now))) }
+{
+    type_facts();
+    let mut given = None;
+    for clause in clauses {
+        let other = walk_clause(walker, context, around, ask, matched, clause)?;
+        given = either(walker.alloc, given, other)?;
+    }
+    Ok(given)
+}
+
+// One clause.
+#[cycle(flow)]
+fn walk_clause(
+    walker: &mut FlowWalk,
+    context: &WalkContext,
+    around: NodeContext,
+    ask: Ask,
+    matched: &[Slot],
+    clause: &Clause,
+) -> Result<Given, Memory>
+    ensures given { IfOk result (λ given. given ≡ walk_clauses (world_of context.now) (walk_scope_of walker.old) ask matched.now (all_clauses (clause.now ∷ []))) }
+    ensures noted { OnOk result (walker.new ≡ noting walker.old (contributions_of_clauses (world_of context.now) (walk_scope_of walker.old) ask matched.now (all_clauses (clause.now ∷ []))) (found_in_clauses (world_of context.now) around (walk_scope_of walker.old) ask matched.now (all_clauses (clause.now ∷ [])))) }
+{
+    let around = around.under(clause.mark.note);
+    let position = walker.position();
+    let first = walker.types.len() as u64;
+    let head = head(
+        walker.alloc,
+        clause,
+        &mut walker.scope,
+        matched,
+        first,
+        context.home,
+        context.known,
+    )?;
+    walker.add_slots(head.slots)?;
+    walk_guard(walker, context, around, head.rows.at(0), &clause.guard)?;
+    let whole = Constraint::All(head.rows);
+    let given = walk_body(
+        walker,
+        context,
+        around,
+        ask,
+        &clause.mark,
+        &whole,
+        &clause.body,
+    )?;
+    walker.leave(position);
+    Ok(given)
+}
+
+// A guard, where the patterns match. Nothing is reported inside it.
+#[cycle(flow)]
+fn walk_guard(
+    walker: &mut FlowWalk,
+    context: &WalkContext,
+    around: NodeContext,
+    patterns: &Constraint,
+    guard: &Expr,
+) -> Result<(), Memory>
+    ensures noted { OnOk result (walker.new ≡ noting walker.old (where_solved (solution (constraint patterns.now) walker.old.types) (λ solved. contributions (world_of context.now) (with_solved (walk_scope_of walker.old) solved) one_value (tree guard.now))) ([])) }
+{
+    if is_literal(guard) {
+        return Ok(());
+    }
+    let narrowed = walker.narrow(patterns)?;
+    walk_matched_guard(walker, context, around, narrowed.alive, guard)?;
+    walker.restore(narrowed.trail);
+    Ok(())
+}
+
+// A guard, where its patterns may match.
+#[cycle(flow)]
+fn walk_matched_guard(
+    walker: &mut FlowWalk,
+    context: &WalkContext,
+    around: NodeContext,
+    alive: bool,
+    guard: &Expr,
+) -> Result<(), Memory>
+    ensures noted { OnOk result (walker.new ≡ noting walker.old (cond alive (contributions (world_of context.now) (walk_scope_of walker.old) one_value (tree guard.now)) []) ([])) }
+{
+    if !alive {
+        return Ok(());
+    }
+    walk_quietly(walker, context, around, guard)
+}
+
+// An expression, in which nothing is reported.
+#[cycle(flow)]
+fn walk_quietly(
+    walker: &mut FlowWalk,
+    context: &WalkContext,
+    around: NodeContext,
+    expr: &Expr,
+) -> Result<(), Memory>
+    ensures noted { OnOk result (walker.new ≡ noting walker.old (contributions (world_of context.now) (walk_scope_of walker.old) one_value (tree expr.now)) ([])) }
+{
+    let reporting = walker.mute();
+    let given = walk_expression(walker, context, around, Ask::Exactly(1), expr)?;
+    discard_given(given);
+    walker.resume(reporting);
+    Ok(())
+}
+
+// Whether an expression is a literal.
+fn is_literal(expr: &Expr) -> bool
+    ensures { IsTrue result → (i : Mark) × ((x : Literal) × (tree expr.now ≡ m.literal i x)) }
+{
+    matches!(&expr.form, Form::Lit(_))
+}
+
+// The body of a clause, where its head may hold.
+#[cycle(flow)]
+fn walk_body(
+    walker: &mut FlowWalk,
+    context: &WalkContext,
+    around: NodeContext,
+    ask: Ask,
+    mark: &Mark,
+    head: &Constraint,
+    body: &Expr,
+) -> Result<Given, Memory>
+    ensures given { IfOk result (λ given. given ≡ then_inside (solution (constraint head.now) walker.old.types) (λ solved. passed ask (walk (world_of context.now) (with_solved (walk_scope_of walker.old) solved) ask (tree body.now)))) }
+    ensures noted { OnOk result (walker.new ≡ noting walker.old (where_solved (solution (constraint head.now) walker.old.types) (λ solved. contributions (world_of context.now) (with_solved (walk_scope_of walker.old) solved) ask (tree body.now))) (either_found (solution (constraint head.now) walker.old.types) (at_node around mark.now DeadClause) (λ solved. found (world_of context.now) around (with_solved (walk_scope_of walker.old) solved) ask (tree body.now)))) }
+{
+    let narrowed = walker.narrow(head)?;
+    let given = walk_matched_body(walker, context, around, ask, mark, narrowed.alive, body)?;
+    walker.restore(narrowed.trail);
+    Ok(given)
+}
+
+// The body of a clause where its head may hold, or else the report that it can't.
+#[cycle(flow)]
+fn walk_matched_body(
+    walker: &mut FlowWalk,
+    context: &WalkContext,
+    around: NodeContext,
+    ask: Ask,
+    mark: &Mark,
+    alive: bool,
+    body: &Expr,
+) -> Result<Given, Memory>
+    ensures given { IfOk result (λ given. given ≡ cond alive (passed ask (walk (world_of context.now) (walk_scope_of walker.old) ask (tree body.now))) None) }
+    ensures noted { OnOk result (walker.new ≡ noting walker.old (cond alive (contributions (world_of context.now) (walk_scope_of walker.old) ask (tree body.now)) []) (cond alive (found (world_of context.now) around (walk_scope_of walker.old) ask (tree body.now)) (at_node around mark.now DeadClause))) }
+{
+    if alive {
+        return walk_passed(walker, context, around, ask, body);
+    }
+    walker.report(around, mark, FindingKind::DeadClause)?;
+    Ok(None)
+}

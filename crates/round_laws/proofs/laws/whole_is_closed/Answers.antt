@@ -1,5 +1,0 @@
-use Rattle.round_laws.proofs.Closed.{are_closed}
-use Rattle.round_laws.proofs.laws.whole_is_closed.Goals as goal
-
-pub returns : goal.returns
-returns c = λ U K whole. are_closed c.type_facts.ensures c.solution_laws.ensures.alive c.rounds_laws.ensures.settles U K whole

@@ -1,0 +1,166 @@
+-- What is known of the modules of a program group by group, each over what stands of the others, is known over all that is known: so
+-- it is whole, and the results stand by it.
+use Rattle.std.proofs.Common.{◌≡◌, Bool, true, false, cond, List, [], Contains, ◌⊎◌, inl, inr, refl, sym, ap, ◌∙◌, subst, true≢false}
+use Rattle.type_kinds.specs.declared.atom.Atom.{Atom}
+use Rattle.core_ast.specs.declared.syntax.FunName.{FunName}
+use Rattle.core_ast.specs.Model as m
+use Rattle.core_scope.specs.Names.{has_function}
+use Rattle.call_graph.specs.Outside.{Called}
+use Rattle.cons_tree.specs.declared.parts.Callee.TheVariants.{Unknown}
+use Rattle.comp_rounds.specs.Rounds.{Callees}
+use Rattle.cons_gen_frame.specs.Agreement.{AreAlike}
+use Rattle.module_flow_frame.specs.Frame.{FindingsFrame}
+use Rattle.sound_laws_rounds.specs.Whole.{IsWhole}
+use Rattle.sound_laws_outside.specs.Over.{IsKnownOver}
+use Rattle.sound_laws_outside.specs.Laws.{CarriedLaw, OneLaw}
+use Rattle.table_keep.specs.Model.{Source, trees, source_of, is_there, is_in, picked}
+use Rattle.table_keep.specs.Calls.{called_functions}
+use Rattle.table_keep.specs.Groups.{Groups, IsGroups, has, group_of}
+use Rattle.table_keep.specs.Kept.{Standing, Results, is_candidate, calls_of, callee_among}
+use Rattle.table_keep.specs.Made.{exported, IsKnown}
+use Rattle.sound_laws_kept.specs.Solving.{IsResult, IsSolved, AreSources}
+use Rattle.sound_laws_kept.proofs.Names.{some_is, contained_in, picked_there, are_picked}
+use Rattle.sound_laws_kept.proofs.Graphs.{in_own_group, member_number}
+use Rattle.sound_laws_kept.proofs.Scratch.{IsSolution, node_of}
+use Rattle.sound_laws_kept.proofs.Calls.{exports_same}
+use Rattle.sound_laws_kept.proofs.Trees.{tree_stands, source_of_tree, own_source, under, picked_stands, home_of_sources}
+use Rattle.sound_laws_kept.proofs.Shown.{shown_alike, these_are_known}
+use Rattle.sound_laws_kept.proofs.Linking as linking
+use Rattle.sound_laws_kept.proofs.Wholes as wholes
+use Rattle.sound_laws_kept.proofs.Wholes.{IsPlaced, IsBeyond}
+
+module _ (carried : CarriedLaw) (one_known : OneLaw) (frame : FindingsFrame) (U : List Source) (are : AreSources U) (n : Groups)
+    (of_n : IsGroups (is_candidate [] U) (calls_of [] U) n) (N : Standing) (R : Results) (solution : IsSolution IsSolved U n N R) where
+  -- the sources of a name's group
+  abbrev sources : Atom → List Source
+  sources h = picked (has (group_of n h)) U
+
+  are_group : (h : Atom) → AreSources (sources h)
+  are_group h = are_picked (has (group_of n h)) U are
+
+  group_there : (h : Atom) (s : Source) → Contains (sources h) s → Contains U s
+  group_there h s has_s = (picked_stands (has (group_of n h)) U s has_s).1
+
+  group_here : (h : Atom) → is_in U h ≡ true → is_in (sources h) h ≡ true
+  group_here h e = ap is_there (picked_there (has (group_of n h)) U h (in_own_group (is_candidate [] U) (calls_of [] U) n of_n h (node_of U h e))) ∙ e
+
+  -- what is known where the group of a name is solved
+  known_by : (h : Atom) (b : Bool) → is_in U h ≡ b → Callees
+  known_by h true e = (solution.solved h e).known
+  known_by h false e = N
+
+  abbrev known_at : Atom → Callees
+  known_at h = known_by h (is_in U h) refl
+
+  known_so : (h : Atom) (b : Bool) (e : is_in U h ≡ b) → b ≡ true → IsKnownOver N (trees (sources h)) (known_by h b e)
+  unfolding known_by
+  known_so h true e is = (solution.solved h e).known_so
+  known_so h false e is = absurd (true≢false (sym is))
+
+  result_so : (h : Atom) (b : Bool) (e : is_in U h ≡ b) → b ≡ true → (s : Source) → Contains (sources h) s → IsResult (known_by h b e) s.tree (R s.tree.name)
+  unfolding known_by
+  result_so h true e is = (solution.solved h e).results
+  result_so h false e is = absurd (true≢false (sym is))
+
+  group_so : (h : Atom) → is_in U h ≡ true → IsKnownOver N (trees (sources h)) (known_at h)
+  group_so h e = known_so h (is_in U h) refl e
+
+  group_results : (h : Atom) → is_in U h ≡ true → (s : Source) → Contains (sources h) s → IsResult (known_at h) s.tree (R s.tree.name)
+  group_results h e = result_so h (is_in U h) refl e
+
+  -- of one group one thing is known
+  one_at : (h : Atom) → is_in U h ≡ true → (s : Source) → Contains (sources h) s → known_at s.tree.name ≡ known_at h
+  one_at h e s has_s =
+      let number = member_number (is_candidate [] U) (calls_of [] U) n of_n (n.number h) s.tree.name (picked_stands (has (group_of n h)) U s has_s).0 in
+      one_known (trees (sources h)) N (known_at s.tree.name) (known_at h)
+      (subst (λ k. IsKnownOver N (trees (picked (has (n.members k)) U)) (known_at s.tree.name)) number (group_so s.tree.name (contained_in U s (group_there h s has_s))))
+      (group_so h e)
+
+  -- what is known of all functions: of each module's what is known where its group is solved
+  pub all_known : Callees
+  all_known h f = cond (is_in U h) (known_at h h f) Unknown
+
+  all_there : (h : Atom) (f : FunName) → is_in U h ≡ true → all_known h f ≡ known_at h h f
+  unfolding all_known
+  all_there h f e = ap (λ b. cond b (known_at h h f) Unknown) e
+
+  all_beyond : (h : Atom) (f : FunName) → is_in U h ≡ false → all_known h f ≡ Unknown
+  unfolding all_known
+  all_beyond h f e = ap (λ b. cond b (known_at h h f) Unknown) e
+
+  -- it is, to a call, what stands
+  all_alike : (h : Atom) (f : FunName) → AreAlike (N h f) (all_known h f)
+  all_alike h f = by (is_in U h) refl
+    where
+      by : (b : Bool) → is_in U h ≡ b → AreAlike (N h f) (all_known h f)
+      by false e = inl (solution.outside h f e ∙ sym (all_beyond h f e))
+      by true e =
+          let xs = sources h in
+          let u = under xs h (group_here h e) in
+          let shown = shown_alike (trees xs) (are_group h).distinct N (known_at h) (group_so h e) u.source.tree (tree_stands xs u.source u.there) (R u.source.tree.name).exports (group_results h e u.source u.there).exports f in
+          subst (AreAlike (N h f)) (sym (all_there h f e))
+          (subst (λ z. AreAlike z (known_at h h f)) (sym (solution.inside h f e))
+          (subst (λ z. AreAlike (callee_among (R z).exports f) (known_at h z f)) u.name_is shown))
+
+  module _ (h : Atom) (e : is_in U h ≡ true) where
+    abbrev xs : List Source
+    xs = sources h
+
+    group_alike : (s : Source) (c : Called) → Contains xs s → Contains (called_functions s.tree) c → is_in xs c.0 ≡ false → AreAlike (N c.0 c.1) (all_known c.0 c.1)
+    group_alike s c has_s call out = all_alike c.0 c.1
+
+    abbrev moved : Callees
+    moved = linking.moved carried frame xs xs (are_group h) (are_group h) (λ k. refl) N all_known (known_at h) (group_so h e) group_alike
+
+    in_group : (k : Atom) (f : FunName) → is_in xs k ≡ true → known_at h k f ≡ all_known k f
+    in_group k f there =
+        let u = under xs k there in
+        let in_u = subst (λ z. is_in U z ≡ true) u.name_is (contained_in U u.source (group_there h u.source u.there)) in
+        let same : known_at k ≡ known_at h = ap known_at (sym u.name_is) ∙ one_at h e u.source u.there in
+        ap (λ c. c k f) (sym same) ∙ sym (all_there k f in_u)
+
+    moved_is : moved ≡ all_known
+    moved_is = λ i k f. by k f (is_in xs k) refl i
+      where
+        by : (k : Atom) (f : FunName) (b : Bool) → is_in xs k ≡ b → moved k f ≡ all_known k f
+        by k f true there = ap (λ b. cond b (known_at h k f) (all_known k f)) there ∙ in_group k f there
+        by k f false out = ap (λ b. cond b (known_at h k f) (all_known k f)) out
+
+    group_known : IsKnownOver all_known (trees xs) all_known
+    group_known =
+        subst (IsKnownOver all_known (trees xs)) moved_is
+        (linking.is_moved carried frame xs xs (are_group h) (are_group h) (λ k. refl) N all_known (known_at h) (group_so h e) group_alike)
+
+    group_result : (s : Source) → Contains xs s → IsResult all_known s.tree (R s.tree.name)
+    group_result s has_s =
+        subst (λ k. IsResult k s.tree (R s.tree.name)) moved_is
+        (linking.moved_result carried frame xs xs (are_group h) (are_group h) (λ k. refl) N all_known (known_at h) (group_so h e) group_alike s has_s (R s.tree.name) (group_results h e s has_s))
+
+    placed : IsPlaced (trees U) all_known h
+    placed = record {
+      part = trees xs;
+      there = λ x has_x. (let r = source_of_tree xs x has_x in subst (Contains (trees U)) r.is (tree_stands U r.source (group_there h r.source r.there)));
+      here = home_of_sources xs h ∙ group_here h e;
+      known_so = group_known;
+      open_known = λ x has_x f open_one. (let r = source_of_tree xs x has_x in
+          subst (λ (z : m.Module). has_function z.exports f ≡ true → IsKnown (all_known z.name f)) r.is
+          (λ o. these_are_known all_known r.source.tree.name (exported r.source.tree) (R r.source.tree.name).exports (group_result r.source r.there).exports f (exports_same r.source.tree f ∙ o)) open_one);
+    }
+
+  place_of : (h : Atom) → IsBeyond (trees U) all_known h ⊎ IsPlaced (trees U) all_known h
+  place_of h = by (is_in U h) refl
+    where
+      by : (b : Bool) → is_in U h ≡ b → IsBeyond (trees U) all_known h ⊎ IsPlaced (trees U) all_known h
+      by true e = inr (placed h e)
+      by false e = inl (home_of_sources U h ∙ e, λ f. all_beyond h f e)
+
+  pub all_whole : IsWhole (trees U) all_known
+  all_whole = wholes.is_whole (trees U) are.accepted are.distinct all_known place_of
+
+  pub all_results : (s : Source) → Contains U s → IsResult all_known s.tree (R s.tree.name)
+  all_results s has_s =
+      let e = contained_in U s has_s in
+      let u = under (sources s.tree.name) s.tree.name (group_here s.tree.name e) in
+      let in_u = group_there s.tree.name u.source u.there in
+      let same : u.source ≡ s = some_is (sym (own_source U are.distinct u.source in_u) ∙ ap (source_of U) u.name_is ∙ own_source U are.distinct s has_s) in
+      subst (λ (z : Source). IsResult all_known z.tree (R z.tree.name)) same (group_result s.tree.name e u.source u.there)

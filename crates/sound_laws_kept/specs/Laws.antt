@@ -1,0 +1,56 @@
+-- The laws of the kept table.
+use Rattle.std.specs.Prelude.{◌≡◌, ℕ, ◌<◌, true, Some, List, [], Contains, take, length, map, IsTrue}
+use Rattle.type_kinds.specs.declared.atom.Atom.{Atom}
+use Rattle.core_ast.specs.declared.syntax.FunName.{FunName}
+use Rattle.table_file.specs.Order.{rises, is_name_before}
+use Rattle.comp_rounds.specs.Rounds.{Callees}
+use Rattle.module_flow.specs.Flow.{findings}
+use Rattle.sound_laws_rounds.specs.Whole.{IsWhole}
+use Rattle.warn_list.specs.Lines.{AreLines}
+use Rattle.table_keep.specs.Model.{Source, Entry, trees, source_of, is_in, entry_of}
+use Rattle.table_keep.specs.Groups.{Groups, IsGroups}
+use Rattle.table_keep.specs.Kept.{Standing, Results, is_candidate, calls_of, stands, kept}
+use Rattle.sound_laws_kept.specs.Written.{with_kept}
+use Rattle.sound_laws_kept.specs.Solving.{IsSolved, IsWritten, AreSources}
+use Rattle.sound_laws_kept.specs.Waves.{wave_from, to_solve, IsWave}
+
+-- Two texts of one module have different digests: that SHA-256 tells apart the texts that are handed in and those of the table.
+abbrev pub DigestsTell : (Src M : List Source) → Type 0
+DigestsTell Src M = (h : Atom) (s t : Source) → source_of Src h ≡ Some s → source_of M h ≡ Some t → s.digest ≡ t.digest → s ≡ t
+
+-- The law of the kept table: where a table is that of some sources, the reports and the new table are those that an analysis from
+-- the empty table gives of what is handed in and of the kept sources.
+abbrev pub KeptLaw : Type 0
+KeptLaw = (Src M : List Source) (T new scratch : List Entry) (before reports all : List (List ℕ)) → AreSources Src → AreSources M → DigestsTell Src M → IsWritten [] Src before T
+    → (w : IsWritten T M reports new) → IsWritten [] (with_kept (kept w.known T M w.groups) M Src) all scratch
+    → (new ≡ scratch) × (reports ≡ take (length M) all)
+
+-- The new table is again the table of sources: of what is handed in and of the kept sources, wherever these have one.
+abbrev pub OneTableLaw : Type 0
+OneTableLaw = (A B : List Entry) → IsTrue (rises is_name_before (map (λ e. e.name) A)) → IsTrue (rises is_name_before (map (λ e. e.name) B)) → ((h : Atom) → entry_of A h ≡ entry_of B h) → A ≡ B
+
+-- A wave that begins with what stands when n groups are decided, and whose modules are solved at once over what stands then, decides
+-- groups as they are decided one after another.
+abbrev pub WaveLaw : Type 0
+WaveLaw = (R : Results) (T : List Entry) (M : List Source) (g : Groups) → AreSources M → IsGroups (is_candidate T M) (calls_of T M) g
+    → (n : ℕ) (K : Standing) → n < g.count → ((h : Atom) (f : FunName) → K h f ≡ stands R T M g n h f)
+    → IsSolved (to_solve T M g (wave_from T M g n K)) (wave_from T M g n K).known R
+    → IsWave R T M g IsSolved n (wave_from T M g n K)
+
+-- What stands when so many groups are decided rests on what is known of the modules of these groups alone: so one may go on to know more,
+-- and what stood stands.
+abbrev pub RestsLaw : Type 0
+RestsLaw = (R Q : Results) (T : List Entry) (M : List Source) (g : Groups) → IsGroups (is_candidate T M) (calls_of T M) g
+    → (n : ℕ) → ((h : Atom) → is_in M h ≡ true → g.number h < n → R h ≡ Q h)
+    → (h : Atom) (f : FunName) → stands R T M g n h f ≡ stands Q T M g n h f
+
+-- What is reported is found by what is known of the functions of a whole program: of what is handed in and of the kept sources, where the
+-- table is that of some sources. So nothing that is reported is false of a run of that program.
+pub record AreFound (U M : List Source) (lines : Atom → List ℕ) : Type 0 where
+  pub known : Callees
+  pub whole : IsWhole (trees U) known
+  pub found : (s : Source) → Contains M s → AreLines s.tree.name (findings known s.tree) (lines s.tree.name)
+
+abbrev pub FoundLaw : Type 0
+FoundLaw = (Src M : List Source) (T new : List Entry) (before reports : List (List ℕ)) → AreSources Src → AreSources M → DigestsTell Src M → IsWritten [] Src before T
+    → (w : IsWritten T M reports new) → AreFound (with_kept (kept w.known T M w.groups) M Src) M (λ h. (w.known h).lines)

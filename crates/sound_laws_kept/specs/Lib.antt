@@ -1,0 +1,4 @@
+pub mod Written
+pub mod Solving
+pub mod Waves
+pub mod Laws

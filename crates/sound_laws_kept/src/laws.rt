@@ -1,0 +1,51 @@
+//! The laws, as functions that do nothing: who calls one has its clauses.
+ghost use Rattle.sound_laws_kept.specs.Laws.{FoundLaw, KeptLaw, OneTableLaw, RestsLaw, WaveLaw};
+
+use module_flow_frame::findings_rest_on_calls;
+use sound_laws_outside::{known_is_carried, known_of_parts, one_is_known};
+use warn_list::one_text;
+
+/// With the table of some sources, the reports and the new table are those of an analysis from scratch of what is handed
+/// in and of the kept sources.
+pub fn kept_is_from_scratch()
+    ensures { KeptLaw }
+{
+    findings_rest_on_calls();
+    known_is_carried();
+    known_of_parts();
+    one_is_known();
+    one_text();
+    one_table();
+}
+
+/// What is reported with the table of some sources is found by what is known of the functions of a whole program: of
+/// what is handed in and of the kept sources.
+pub fn reports_are_found()
+    ensures { FoundLaw }
+{
+    findings_rest_on_calls();
+    known_is_carried();
+    known_of_parts();
+    one_is_known();
+    one_text();
+}
+
+/// A table whose entries rise by name is given by what it has under each name.
+pub fn one_table()
+    ensures { OneTableLaw }
+{}
+
+/// Groups that are decided in waves are decided as they are one after another, for every table. A wave stops before a
+/// group that may be kept and touches what is to be solved.
+pub fn waves_are_groups()
+    ensures { WaveLaw }
+{
+    findings_rest_on_calls();
+    known_is_carried();
+    known_of_parts();
+}
+
+/// What stands when so many groups are decided rests on what is known of the modules of these groups alone.
+pub fn stands_rests()
+    ensures { RestsLaw }
+{}

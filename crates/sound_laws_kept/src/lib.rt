@@ -1,0 +1,9 @@
+//! The law of the kept table: a run over a table that some sources gave writes what a run from scratch writes. And that
+//! groups of modules which are decided in waves are decided as they are one after another.
+#![tactic(auto)]
+
+mod laws;
+
+pub use laws::{
+    kept_is_from_scratch, one_table, reports_are_found, stands_rests, waves_are_groups,
+};

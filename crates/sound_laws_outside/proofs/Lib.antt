@@ -1,0 +1,7 @@
+mod Carrying
+mod Folding
+mod Following
+pub mod Members
+mod One
+pub mod Orderless
+mod Parts

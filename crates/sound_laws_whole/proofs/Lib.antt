@@ -1,0 +1,4 @@
+pub mod Components
+pub mod Named
+pub mod Tables
+pub mod Wholes

@@ -1,0 +1,9 @@
+pub mod Model
+pub mod Calls
+pub mod Groups
+pub mod Kept
+pub mod Made
+pub mod Orders
+pub mod Few
+pub mod Lists
+pub mod steps

@@ -1,0 +1,63 @@
+//! Narrowing of types by what is known of them, proved from what the calls on types and their laws
+//! promise.
+ghost use Rattle.std.specs.Prelude.{◌≡◌, true, Err, IfOk};
+ghost use Rattle.type_lattice_model.specs.Values.{Value, cons as cons_value};
+ghost use Rattle.type_lattice.specs.Types.{Type4, HasType, Below, meet, cons, elem, tail};
+ghost use Rattle.type_text.specs.declared.reading.TextFault.TheVariants.{NotAType};
+
+use std::alloc::Global;
+use type_kinds::{List, Memory};
+use type_lattice::{Ends, Ty, cons_laws, list_laws, monotone_laws};
+use type_text::{TextFault, print, read};
+
+/// A type narrowed by a meet: it is below the type, and keeps each value that is in both. `Memory`
+/// comes if allocation fails.
+pub fn narrowed(alloc: Global, t: &Ty, by: &Ty) -> Result<Ty, Memory>
+    ensures below { IfOk result (λ n. Below n t.now) }
+    ensures keeps { IfOk result (λ n. (v : Value) → HasType v t.now → HasType v by.now → HasType v n) }
+{
+    let met = t.meet(alloc, by)?;
+    Ok(met)
+}
+
+/// Narrowing by a meet is monotone: of a larger type, or by a larger one, it gives a larger type.
+pub fn narrowing_is_monotone()
+    ensures { (s t by with : Type4) → Below s t → Below by with → Below (meet s by) (meet t with) }
+{
+    monotone_laws();
+}
+
+/// A list narrowed by its head and its tail, and these by the list: where the three have values that
+/// are a cons, its head and its tail, they have them still. `Memory` comes if allocation fails.
+pub fn narrowed_list(alloc: Global, list: &Ty, head: &Ty, tail: &Ty) -> Result<(Ty, Ty, Ty), Memory>
+    ensures below { IfOk result (λ r. Below r.0 list.now × (Below r.1 head.now × Below r.2 tail.now)) }
+    ensures keeps { IfOk result (λ r. (x y : Value) → HasType (cons_value x y) list.now → HasType x head.now → HasType y tail.now → HasType (cons_value x y) r.0 × (HasType x r.1 × HasType y r.2)) }
+{
+    let made = Ty::cons(alloc, head, tail, Ends::Proper)?;
+    let lists = narrowed(alloc, list, &made)?;
+    let heads = lists.elem(alloc)?;
+    let tails = lists.tail(alloc)?;
+    let first = narrowed(alloc, head, &heads)?;
+    let rest = narrowed(alloc, tail, &tails)?;
+    Ok((lists, first, rest))
+}
+
+/// A type is above the lists of its heads and tails, so narrowing by these doesn't widen it.
+pub fn cons_of_its_parts()
+    ensures { (t : Type4) → Below (cons (elem t) (tail t) true) t }
+{
+    cons_laws();
+    list_laws();
+}
+
+/// What is read back of what was printed is the type. It never fails but where allocation does.
+pub fn read_back(alloc: Global, t: &Ty) -> Result<Ty, TextFault>
+    ensures same { IfOk result (λ u. u ≡ t.now) }
+    ensures memory { result ≡ Err NotAType → ⊥ }
+{
+    let mut text = List::new(alloc);
+    match print(t, &mut text) {
+        Ok(()) => read(alloc, text.as_slice()),
+        Err(Memory) => Err(TextFault::Memory),
+    }
+}

@@ -1,0 +1,10 @@
+mod CutTrees
+pub mod Inclusions
+mod JoinLaws
+pub mod Lifts
+pub mod MadeTrees
+pub mod MeetViews
+mod Nodes
+mod PositionLaws
+mod Plains
+pub mod Views

@@ -1,8 +1,0 @@
-use Rattle.std.proofs.Common.{◌≡◌, true, take}
-use Rattle.std.specs.Ordering.{int_cmp}
-use Rattle.type_sets.specs.Ascending.{is_ascending}
-use Rattle.type_sets.proofs.int_set.ascend.Given as goal
-
--- those so far ascend
-abbrev pub invariant-loop-at : goal.invariant-loop-at
-invariant-loop-at l = is_ascending int_cmp (take l.at l.numbers) ≡ true

@@ -1,6 +1,0 @@
-use Rattle.std.proofs.Common.{arith}
-use Rattle.type_sets.proofs.IntKinds.{steps}
-use Rattle.type_sets.proofs.int_set.kept.Goals as goal
-
-pub loop-n-preserved : goal.loop-n-preserved
-loop-n-preserved c = grind (arith, steps)

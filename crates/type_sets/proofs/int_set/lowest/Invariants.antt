@@ -1,7 +1,0 @@
-use Rattle.std.proofs.Common.{◌≡◌, take}
-use Rattle.type_sets.specs.Numbers.{lowest}
-use Rattle.type_sets.proofs.int_set.lowest.Given as goal
-
--- the end under the numbers so far
-abbrev pub invariant-loop-n : goal.invariant-loop-n
-invariant-loop-n l = l.low ≡ lowest (take l.n-index l.numbers)

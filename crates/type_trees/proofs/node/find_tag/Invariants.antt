@@ -1,8 +1,0 @@
-use Rattle.std.proofs.Common.{◌≡◌, ℕ, drop}
-use Rattle.type_sets.specs.Names.{name_cmp}
-use Rattle.type_model.specs.Tables.{find}
-use Rattle.type_trees.specs.View.{tags_view}
-use Rattle.type_trees.proofs.node.find_tag.Given as goal
-
-abbrev pub invariant-loop-tag : goal.invariant-loop-tag
-invariant-loop-tag l = (d : ℕ) → find name_cmp (tags_view d l.tags) l.atom ≡ find name_cmp (tags_view d (drop l.tag-index l.tags)) l.atom

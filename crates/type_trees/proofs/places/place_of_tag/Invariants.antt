@@ -1,7 +1,0 @@
-use Rattle.type_sets.specs.Names.{name_cmp}
-use Rattle.type_trees.proofs.PlaceLaws.{atom_of, Behind}
-use Rattle.type_trees.proofs.places.place_of_tag.Given as goal
-
--- the atom comes after those so far
-abbrev pub invariant-loop-at : goal.invariant-loop-at
-invariant-loop-at l = Behind name_cmp atom_of l.atom l.tags l.at

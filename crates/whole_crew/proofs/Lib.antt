@@ -1,8 +1,0 @@
-mod Closing
-mod Crossing
-mod Laid
-mod Listed
-mod Loops
-mod Outputs
-mod Same
-mod Works

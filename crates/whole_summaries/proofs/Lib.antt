@@ -1,4 +1,0 @@
-mod Listing
-mod Members
-mod Closing
-mod OneKnown
