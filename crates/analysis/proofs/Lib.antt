@@ -1,7 +1,3 @@
-mod SourceExits
-mod OneReading
-mod OneRead
-mod Readings
 mod Opened
 mod Told
 mod Handed
@@ -14,4 +10,3 @@ mod Reported
 mod Added
 mod Storing
 mod Counted
-pub mod FilesRead

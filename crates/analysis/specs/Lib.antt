@@ -1,6 +1,2 @@
-pub mod Words
-pub mod Refusals
-pub mod Sources
-pub mod Reading
 pub mod Reports
 pub mod steps

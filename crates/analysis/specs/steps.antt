@@ -1,5 +1,3 @@
-pub mod Refusing
-pub mod ReadingSteps
 pub mod Entering
 pub mod Deciding
 pub mod Making

@@ -6,12 +6,8 @@ mod arg_types;
 mod bif;
 mod finding;
 mod laws;
-#[cfg(test)]
-mod part_tests;
 mod parts;
 mod rows;
-#[cfg(test)]
-mod tests;
 
 pub use bif::{ArgKind, Bif, Rule};
 pub use finding::lookup;

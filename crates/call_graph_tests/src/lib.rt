@@ -1,5 +1,7 @@
-//! Tests of the call graph: modules whose pairs are worked out by hand.
+//! Tests of components and of the call graph: graphs, and modules whose pairs are worked out by hand.
 #![tactic(auto)]
 
+#[cfg(test)]
+mod graphs;
 #[cfg(test)]
 mod tests;

@@ -1,6 +1,6 @@
-ghost use Rattle.std.specs.Prelude.{◌≤◌, length, IfOk};
+ghost use Rattle.std.specs.Prelude.{◌<◌, ◌≤◌, length, IfOk};
 
-use call_graph::{all_calls, graph};
+use call_graph::{OutsideCall, all_calls, graph};
 use components::{Comps, components};
 use core_parse::{lexed_weight, parse};
 use core_scan::{end_place, scan};
@@ -44,31 +44,55 @@ fn modules_of(rt: &impl Abort, alloc: Global, texts: &[&[u8]]) -> Result<List<Ch
 fn components_of(rt: &impl Abort, alloc: Global, texts: &[&[u8]]) -> Result<Comps, Fail> {
     let mods = modules_of(rt, alloc, texts)?;
     let sources = mods.as_slice();
-    match check_set(sources) {
-        Ok(()) => {
-            let graph = graph(alloc, sources)?;
-            Ok(components(alloc, &graph)?)
-        }
-        Err(fault) => panic!(rt; "{fault:?} of {texts:?}"),
+    if let Err(fault) = check_set(sources) {
+        panic!(rt; "{fault:?} of {texts:?}");
     }
+    let graph = graph(alloc, sources);
+    drop(mods);
+    let graph = graph?;
+    let comps = components(alloc, &graph);
+    drop(graph);
+    Ok(comps?)
+}
+
+// Each pair of one of these functions and one of those.
+fn add_pairs(found: &mut List<(u32, u32)>, these: &[u32], those: &[u32]) -> Result<(), Memory> {
+    for from in these {
+        for to in those {
+            found.add((*from, *to))?;
+        }
+    }
+    Ok(())
+}
+
+// The pairs from a component to others.
+fn add_calls(found: &mut List<(u32, u32)>, comps: &Comps, component: u32) -> Result<(), Memory>
+    requires { component < comps.now.count }
+{
+    for callee in comps.callees(component).as_slice() {
+        if *callee < comps.count() {
+            let those = comps.members(*callee).as_slice();
+            add_pairs(found, comps.members(component).as_slice(), those)?;
+        }
+    }
+    Ok(())
 }
 
 // The pairs of functions of different components.
 fn pairs_of(alloc: Global, comps: &Comps) -> Result<List<(u32, u32)>, Memory> {
     let mut found = List::new(alloc);
     for component in 0..comps.count() {
-        for from in comps.members(component).as_slice() {
-            for callee in comps.callees(component).as_slice() {
-                if *callee >= comps.count() {
-                    continue;
-                }
-                for to in comps.members(*callee).as_slice() {
-                    found.add((*from, *to))?;
-                }
-            }
-        }
+        add_calls(&mut found, comps, component)?;
     }
     Ok(found)
+}
+
+// Expects exactly these pairs.
+fn expect_found(rt: &impl Abort, found: &[(u32, u32)], pairs: &[(u32, u32)]) {
+    assert_eq!(rt; found.len(), pairs.len());
+    for pair in pairs {
+        assert!(rt; found.contains(pair), "{pair:?}");
+    }
 }
 
 // Expects `count` components, one a function, and exactly these pairs of different functions.
@@ -81,11 +105,9 @@ fn expect_pairs(
 ) -> Result<(), Fail> {
     let comps = components_of(rt, alloc, texts)?;
     assert_eq!(rt; comps.count(), count);
-    let found = pairs_of(alloc, &comps)?;
-    assert_eq!(rt; found.len(), pairs.len());
-    for pair in pairs {
-        assert!(rt; found.as_slice().contains(pair), "{pair:?}");
-    }
+    let found = pairs_of(alloc, &comps);
+    drop(comps);
+    expect_found(rt, found?.as_slice(), pairs);
     Ok(())
 }
 
@@ -156,6 +178,31 @@ end",
     )
 }
 
+fn write_call(out: &mut Bytes, call: &OutsideCall) -> Result<(), Memory> {
+    let (home, name) = call;
+    home.text(out)?;
+    out.append(b":")?;
+    name.name.text(out)?;
+    out.append(b"/")?;
+    out.append_decimal(name.arity)?;
+    out.append(b" ")
+}
+
+fn write_calls(out: &mut Bytes, calls: &[OutsideCall]) -> Result<(), Memory> {
+    for call in calls {
+        write_call(out, call)?;
+    }
+    out.append(b"\n")
+}
+
+fn write_all(alloc: Global, outside: &[List<OutsideCall>]) -> Result<Bytes, Memory> {
+    let mut out = Bytes::new(alloc);
+    for calls in outside {
+        write_calls(&mut out, calls.as_slice())?;
+    }
+    Ok(out)
+}
+
 // The outside calls of the functions of modules: a line for each function.
 fn outside_text(rt: &impl Abort, alloc: Global, texts: &[&[u8]]) -> Result<Bytes, Fail> {
     let mods = modules_of(rt, alloc, texts)?;
@@ -163,20 +210,12 @@ fn outside_text(rt: &impl Abort, alloc: Global, texts: &[&[u8]]) -> Result<Bytes
     if let Err(fault) = check_set(sources) {
         panic!(rt; "{fault:?} of {texts:?}");
     }
-    let calls = all_calls(alloc, sources)?;
-    let mut out = Bytes::new(alloc);
-    for outside in calls.outside.as_slice() {
-        for (home, name) in outside.as_slice() {
-            home.text(&mut out)?;
-            out.append(b":")?;
-            name.name.text(&mut out)?;
-            out.append(b"/")?;
-            out.append_decimal(name.arity)?;
-            out.append(b" ")?;
-        }
-        out.append(b"\n")?;
-    }
-    Ok(out)
+    let calls = all_calls(alloc, sources);
+    drop(mods);
+    let calls = calls?;
+    let out = write_all(alloc, calls.outside.as_slice());
+    drop(calls);
+    Ok(out?)
 }
 
 #[test]

@@ -10,8 +10,6 @@ mod ordinals;
 mod ready;
 mod search;
 mod targets;
-#[cfg(test)]
-mod tests;
 
 pub use graph::Graph;
 pub use laws::one_numbering;

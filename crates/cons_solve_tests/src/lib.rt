@@ -6,6 +6,10 @@ mod facts;
 pub use facts::{narrowed_twice, some_head};
 
 #[cfg(test)]
+mod built_in_parts;
+#[cfg(test)]
+mod built_ins;
+#[cfg(test)]
 mod cases;
 #[cfg(test)]
 mod parts;

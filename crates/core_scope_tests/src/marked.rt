@@ -1,7 +1,7 @@
 // Texts with a mark at the place of their first break.
 use core_parse::{lexed_weight, parse};
 use core_scan::{end_place, scan};
-use core_scope::{Checked, ScopeFault, check};
+use core_scope::{Checked, ScopeFault, check, discard_checked};
 use std::alloc::Global;
 use std::process::Abort;
 use std::test::Fail;
@@ -58,6 +58,21 @@ pub fn checked(
     match parse(alloc, tokens.as_slice(), end_place(bytes)) {
         Ok(module) => Ok(check(alloc, module)),
         Err(fault) => panic!(rt; "{fault:?} in {bytes:?}"),
+    }
+}
+
+/// The first break of the module that a text spells, if it has one.
+pub fn first_break(
+    rt: &impl Abort,
+    alloc: Global,
+    bytes: &[u8],
+) -> Result<Option<ScopeFault>, Fail> {
+    match checked(rt, alloc, bytes)? {
+        Ok(accepted) => {
+            discard_checked(accepted);
+            Ok(None)
+        }
+        Err(fault) => Ok(Some(fault)),
     }
 }
 

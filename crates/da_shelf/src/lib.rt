@@ -12,8 +12,6 @@ mod second_file;
 mod shelf;
 mod sink;
 mod stdout_sink;
-#[cfg(test)]
-mod tests;
 
 pub use file_shelf::FileShelf;
 pub use gate::{Gate, OpenGate};

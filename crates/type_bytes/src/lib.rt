@@ -8,8 +8,6 @@ mod reading;
 mod shapes;
 mod short_names;
 mod taking;
-#[cfg(test)]
-mod tests;
 mod writing;
 
 pub use faults::BytesFault;

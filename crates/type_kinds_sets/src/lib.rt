@@ -10,8 +10,6 @@ mod int_set;
 mod laws;
 mod limits;
 mod shared_list;
-#[cfg(test)]
-mod tests;
 
 pub use atom_set::AtomSet;
 pub use bits::Bits;

@@ -12,6 +12,10 @@ pub use narrowing::{cons_of_its_parts, narrowed, narrowed_list, narrowing_is_mon
 #[cfg(test)]
 mod elements;
 #[cfg(test)]
+mod sets;
+#[cfg(test)]
+mod spelled;
+#[cfg(test)]
 mod table;
 #[cfg(test)]
 mod threads;

@@ -4,7 +4,9 @@
 mod chains;
 mod gates;
 #[cfg(test)]
+mod outside;
+#[cfg(test)]
 mod tests;
 
 pub use chains::Chains;
-pub use gates::{CountingGate, MeetingGate};
+pub use gates::{CountingGate, MeetingGate, WatchingGate};

@@ -1,5 +1,0 @@
-use Rattle.std.proofs.Common.{length}
-use Rattle.analysis.proofs.reading.discard_sources.Given as goal
-
-abbrev pub decreases-loop-source : goal.decreases-loop-source
-decreases-loop-source l = length l.sources

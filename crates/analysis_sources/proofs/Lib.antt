@@ -1,0 +1,5 @@
+mod SourceExits
+mod OneReading
+mod OneRead
+mod Readings
+pub mod FilesRead

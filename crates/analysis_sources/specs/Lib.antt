@@ -1,0 +1,5 @@
+pub mod Words
+pub mod Refusals
+pub mod Sources
+pub mod Reading
+pub mod steps

@@ -1,0 +1,36 @@
+//! What holds of the definitions of sources, for all bytes.
+ghost use Rattle.std.specs.Prelude.{◌≡◌, ℕ, List, Some};
+ghost use Rattle.da_shelf.specs.Told.{Files};
+ghost use Rattle.core_ast.specs.Model.{Module as ModuleTree};
+ghost use Rattle.table_keep.specs.Model.{Source};
+ghost use Rattle.analysis_sources.specs.declared.refusals.SourceFault.{SourceFault};
+ghost use Rattle.analysis_sources.specs.Reading.{AreRead, RefusedAt};
+ghost use Rattle.analysis_sources.specs.Sources.{IsSource, IsAtFault};
+
+use core_parse::{module_is_no_fault, refused_once};
+use core_scan::{first_fault_once, lexed_once, lexed_without_fault};
+use core_scope::first_break_once;
+
+/// Bytes are the source of at most one module, have at most one fault, and never both.
+pub fn one_reading()
+    ensures one_module { (most : ℕ) (bytes : List ℕ) (x y : ModuleTree) → IsSource most bytes x → IsSource most bytes y → x ≡ y }
+    ensures one_fault { (most : ℕ) (bytes : List ℕ) (f g : SourceFault) → IsAtFault most bytes f → IsAtFault most bytes g → f ≡ g }
+    ensures never_both { (most : ℕ) (bytes : List ℕ) (x : ModuleTree) (fault : SourceFault) → IsSource most bytes x → IsAtFault most bytes fault → ⊥ }
+{
+    lexed_once();
+    first_fault_once();
+    lexed_without_fault();
+    refused_once();
+    module_is_no_fault();
+    first_break_once();
+}
+
+/// What is held decides what files are read to: all of them are read, to one list of sources, or one of them is the
+/// first that is refused, by one fault.
+pub fn one_reading_of_files()
+    ensures one_list { (held : Files) (files : List (List ℕ)) (xs ys : List Source) (a b : ℕ) → AreRead (Some held) 0 files xs a → AreRead (Some held) 0 files ys b → xs ≡ ys }
+    ensures one_refusal { (held : Files) (files : List (List ℕ)) (i j : ℕ) (f g : SourceFault) → RefusedAt (Some held) files i f → RefusedAt (Some held) files j g → (i ≡ j) × (f ≡ g) }
+    ensures none_refused { (held : Files) (files : List (List ℕ)) (xs : List Source) (after i : ℕ) (f : SourceFault) → AreRead (Some held) 0 files xs after → RefusedAt (Some held) files i f → ⊥ }
+{
+    one_reading();
+}

@@ -1,0 +1,13 @@
+//! The sources of an analysis: files are read one after another, to the modules that they spell and the digests of their texts, or
+//! refused by the first fault of the first file that has one.
+#![tactic(auto)]
+
+mod laws;
+mod reading;
+mod refusals;
+mod source;
+
+pub use laws::{one_reading, one_reading_of_files};
+pub use reading::{ReadFault, discard_sources, read_sources};
+pub use refusals::{Device, MISSING, Refusal, RefusalName, SourceFault};
+pub use source::{LONGEST_SOURCE, MOST_BYTES, SourceError, accepted, room_after};

@@ -1,7 +1,0 @@
-pub mod Words
-pub mod Codes
-pub mod Lines
-pub mod Outcome
-pub mod Causes
-pub mod Laws
-pub mod steps

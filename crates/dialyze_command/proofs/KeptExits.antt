@@ -1,0 +1,170 @@
+-- What a check that passed wrote is what an analysis from scratch gives, and nothing of it is false.
+use Rattle.std.proofs.Common.{◌≡◌, ℕ, zero, suc, ◌<◌, List, [], ◌∷◌, ◌++◌, Contains, length, map, refl, sym, ◌∙◌, ap, subst, Option, Some, None, append-nil, arith}
+use Rattle.std.specs.Prelude.{IfSome, slice_index_or, Bool, true, false, not, ◌&&◌, if◌then◌else◌, cond}
+use Rattle.std.specs.Cmp.Lexicographic.{bytes_decides}
+use Rattle.std.proofs.lemmas.List.{length-map}
+use Rattle.type_kinds.specs.declared.atom.Atom.{Atom}
+use Rattle.core_ast.specs.Model as m
+use Rattle.core_scope.proofs.NameLaws.{none_earlier}
+use Rattle.core_scope.specs.Names.{Distinct, same_atom}
+use Rattle.comp_rounds.specs.Rounds.{Callees}
+use Rattle.core_meaning.specs.Programs.{Program, HasModule, module_named}
+use Rattle.da_shelf.specs.Told.{Files, appended}
+use Rattle.table_keep.specs.Model.{Source, Entry, trees, picked, is_in, entry_so, entries_so}
+use Rattle.table_keep.specs.Groups.{Groups, IsGroups}
+use Rattle.table_keep.specs.Kept.{Results, is_candidate, calls_of, is_new, kept}
+use Rattle.sound_laws.specs.Accepted.{AreAccepted}
+use Rattle.sound_laws_rounds.specs.Whole.{IsWhole}
+use Rattle.sound_laws_flow.specs.Claims.{NothingFalse}
+use Rattle.sound_laws_kept.specs.Laws.{KeptLaw, FoundLaw, DigestsTell}
+use Rattle.sound_laws_kept.specs.Solving.{AreSources, IsWritten}
+use Rattle.sound_laws_kept.specs.Written.{new_entry}
+use Rattle.dialyze_command.specs.declared.status.Status.{Status}
+use Rattle.dialyze_command.specs.Outcome.{HaveOwnNames, module_names, IsBegun, empty, named, Intended, IsPassed}
+use Rattle.dialyze_command.proofs.CheckExits.{passed_it}
+use Rattle.dialyze_command.specs.Laws.{Passed, NothingReportedFalse, WritesFromScratch, WritesNothingFalse, whole_of}
+
+-- the law of findings, as its crate states it
+abbrev pub WholeLaw : Type 0
+WholeLaw = (U : Program) (K : Callees) (x : m.Module) → AreAccepted U → IsWhole U K → HasModule U x → NothingFalse U K x
+
+are_sources : (M : List Source) → AreAccepted (trees M) → HaveOwnNames (trees M) → AreSources M
+are_sources M accepted own = record {
+  accepted = accepted;
+  distinct = none_earlier (module_names (trees M)) (λ j h e. own j (subst (λ n. j < n) (length-map (trees M) (λ (y : m.Module). y.name)) h) e);
+}
+
+-- ---- the program of what is handed in and of kept sources
+
+accepted_more : (M xs : List Source) → AreAccepted (trees M) → AreAccepted (trees xs) → AreAccepted (trees (M ++ xs))
+accepted_more [] xs h k = k
+accepted_more (s ∷ M) xs h k = (h.0, accepted_more M xs h.1 k)
+
+accepted_picked : (p : Atom → Bool) (xs : List Source) → AreAccepted (trees xs) → AreAccepted (trees (picked p xs))
+accepted_picked p [] h = tt
+accepted_picked p (s ∷ xs) h = by (p s.tree.name) (accepted_picked p xs h.1)
+  where
+    by : (b : Bool) → AreAccepted (trees (picked p xs)) → AreAccepted (trees (cond b (s ∷ picked p xs) (picked p xs)))
+    by true k = (h.0, k)
+    by false k = k
+
+name_among : (M : List Source) (s : Source) (k : ℕ) → k < length M → slice_index_or M k s ≡ s → Contains (module_names (trees M)) s.tree.name
+name_among [] s k h e = absurd (omega (arith, h))
+name_among (x ∷ M) s zero h e = (0, omega arith, ap (λ y. y.tree.name) e)
+name_among (x ∷ M) s (suc k) h e = let r = name_among M s k (omega (arith, h)) e in (suc r.0, omega (arith, r.1), r.2)
+
+not_same : (b : Bool) → (b ≡ true → ⊥) → b ≡ false
+not_same true h = absurd (h refl)
+not_same false h = refl
+
+-- a module that is handed in has its name in the program
+has_module : (M xs : List Source) (s : Source) → Distinct (module_names (trees M)) → (k : ℕ) → k < length M → slice_index_or M k s ≡ s → HasModule (trees (M ++ xs)) s.tree
+has_module [] xs s d k h e = absurd (omega (arith, h))
+has_module (x ∷ M) xs s d zero h e =
+    ap (λ b. if b then Some x.tree else module_named (trees (M ++ xs)) s.tree.name) ((bytes_decides x.tree.name s.tree.name).1 (ap (λ y. y.tree.name) e)) ∙ ap (λ y. Some y.tree) e
+has_module (x ∷ M) xs s d (suc k) h e =
+    ap (λ b. if b then Some x.tree else module_named (trees (M ++ xs)) s.tree.name)
+    (not_same (same_atom x.tree.name s.tree.name)
+    (λ f. d.0 (subst (Contains (module_names (trees M))) (sym ((bytes_decides x.tree.name s.tree.name).0 f)) (name_among M s k (omega (arith, h)) e))))
+    ∙ has_module M xs s d.1 k (omega (arith, h)) e
+
+-- ---- the empty table is that of no sources
+
+no_groups : Groups
+no_groups = record { number = λ h. 0; count = 0; members = λ n. [] }
+
+nothing_known : Results
+nothing_known h = record { exports = []; lines = [] }
+
+false_true : {X : Type 0} → false ≡ true → X
+false_true e = absurd cc
+
+no_group : (nodes : Atom → Bool) (out : Atom → List Atom) → ((h : Atom) → nodes h ≡ false) → IsGroups nodes out no_groups
+unfolding no_groups
+no_group nodes out none = record {
+  low = λ a h. false_true (sym (none a) ∙ h);
+  together = λ a b h k. false_true (sym (none a) ∙ h);
+  downward = λ a b h. omega arith;
+  members = λ n a. (λ e. false_true e, λ h. false_true (sym (none a) ∙ h.0));
+  sorted = λ n. refl;
+}
+
+empty_written : IsWritten [] [] [] []
+unfolding no_groups kept is_new new_entry
+empty_written = record {
+  groups = no_groups;
+  new_groups = no_groups;
+  known = nothing_known;
+  analysis = record {
+    candidates = no_group (is_candidate [] []) (calls_of [] []) (λ h. refl);
+    new = no_group (is_new nothing_known [] [] no_groups) (calls_of [] []) (λ h. refl);
+    results = record { of_entry = λ h e k f. false_true k; solved = λ n h. absurd (omega (arith, h)) };
+  };
+  reports_so = refl;
+  entries = λ h. refl;
+  rising = refl;
+}
+
+-- ---- the laws of a check that passed
+
+module _ (kept_law : KeptLaw) (found_law : FoundLaw) (whole_law : WholeLaw) where
+  found_so : (Src M : List Source) (T new : List Entry) (before reports : List (List ℕ)) → AreSources Src → AreSources M → DigestsTell Src M → IsWritten [] Src before T → (w : IsWritten T M reports new)
+      → NothingReportedFalse (whole_of w Src) M reports
+  found_so Src M T new before reports of_src of_m tell table w =
+      let is = found_law Src M T new before reports of_src of_m tell table w in
+      let p : Atom → Bool = λ h. not (is_in M h) && kept w.known T M w.groups h in
+      record {
+        lines = λ h. (w.known h).lines;
+        reports_so = w.reports_so;
+        found = is;
+        sound = λ s there.
+            whole_law (trees (M ++ picked p Src)) is.known s.tree (accepted_more M (picked p Src) of_m.accepted (accepted_picked p Src of_src.accepted)) is.whole
+            (has_module M (picked p Src) s of_m.distinct there.0 there.1 there.2);
+      }
+
+  module _ (words : List (List ℕ)) (held : Files) (after : Option Files) (before now : Option (List ℕ)) (passed : Passed words held after before now) where
+    of_m : AreSources passed.analyses.sources
+    of_m = are_sources passed.analyses.sources passed.analyses.accepted passed.analyses.names
+
+    pub from_scratch : WritesFromScratch words held after before now
+    from_scratch = record {
+      passed = passed;
+      kept_so = λ Src began all scratch w.
+          kept_law Src passed.analyses.sources (entries_so passed.analyses.begins.table) (entries_so passed.new) scratch began.reports passed.reports all began.sources of_m began.digests began.table passed.analyses.written w;
+    }
+
+    alone_so : passed.command.plt ≡ None → NothingReportedFalse passed.analyses.sources passed.analyses.sources passed.reports
+    alone_so none =
+        let M = passed.analyses.sources in
+        let T = entries_so passed.analyses.begins.table in
+        let is = found_so [] M T (entries_so passed.new) [] passed.reports (record { accepted = tt; distinct = tt }) of_m (λ h s t e f g. no_source e) (subst (IsWritten [] [] []) (sym (no_entries passed.analyses.begins.begun)) empty_written) passed.analyses.written in
+        subst (λ U. NothingReportedFalse U M passed.reports) (append-nil M) is
+      where
+        no_source : {s : Source} {X : Type 0} → None ≡ Some s → X
+        no_source e = absurd cc
+
+        no_entries : IsBegun words (Some held) passed.command.plt passed.analyses.begins.table → entries_so passed.analyses.begins.table ≡ []
+        no_entries (empty e f) = ap (map entry_so) f
+        no_entries (named word name bytes names holds spells) = let k = sym none ∙ names.given in absurd cc
+
+    pub nothing_false : WritesNothingFalse words held after before now
+    nothing_false = record {
+      passed = passed;
+      alone = alone_so;
+      together = λ Src began.
+          found_so Src passed.analyses.sources (entries_so passed.analyses.begins.table) (entries_so passed.new) began.reports passed.reports began.sources of_m began.digests began.table passed.analyses.written;
+    }
+
+  -- ---- as the clauses say it
+
+  pub kept_it : (words : List (List ℕ)) (told after : Option Files) (rb rn n k : ℕ) (status : Status) (output : List ℕ) (before now : Option (List ℕ)) → Intended words told rb rn n k status output after → now ≡ appended before output → IsPassed status
+      → IfSome told (λ held. WritesFromScratch words held after before now)
+  kept_it words None after rb rn n k status output before now h w is = tt
+  kept_it words (Some held) after rb rn n k status output before now h w is =
+      from_scratch words held after before now (passed_it words held after rb rn n k status output before now h w is)
+
+  pub sound_it : (words : List (List ℕ)) (told after : Option Files) (rb rn n k : ℕ) (status : Status) (output : List ℕ) (before now : Option (List ℕ)) → Intended words told rb rn n k status output after → now ≡ appended before output → IsPassed status
+      → IfSome told (λ held. WritesNothingFalse words held after before now)
+  sound_it words None after rb rn n k status output before now h w is = tt
+  sound_it words (Some held) after rb rn n k status output before now h w is =
+      nothing_false words held after before now (passed_it words held after rb rn n k status output before now h w is)

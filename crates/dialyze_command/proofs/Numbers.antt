@@ -1,0 +1,161 @@
+-- What a status tells.
+use Rattle.std.proofs.Common.{◌≡◌, ◌≢◌, ℕ, ◌<◌, ◌≤◌, refl, sym, ◌∙◌, ap, arith}
+use Rattle.std.specs.Prelude.{nat_eq, if◌then◌else◌}
+use Rattle.table_file.specs.declared.faults.TableFault.{TableFault as FaultOfTable}
+use Rattle.table_file.specs.declared.faults.TableFault.TheVariants as t
+use Rattle.analysis_sources.specs.declared.refusals.RefusalName.{RefusalName}
+use Rattle.analysis_sources.specs.declared.refusals.RefusalName.TheVariants as r
+use Rattle.analysis_sources.specs.declared.refusals.SourceFault.{SourceFault}
+use Rattle.analysis_sources.specs.Refusals.{refusal_number, missing}
+use Rattle.dialyze_command.specs.declared.status.Status.{Status}
+use Rattle.dialyze_command.specs.declared.status.Status.TheVariants.{Clean, Refused, Warnings, TableFault, DeviceFault, Memory, Usage}
+use Rattle.dialyze_command.specs.Lines.{refused, table_fault_number, faulty_table}
+
+-- ---- a refusal's status tells its name and its line
+
+abbrev pub name_of : ℕ → RefusalName
+name_of n =
+    if nat_eq n 1 then r.BadByte
+    else if nat_eq n 2 then r.OpenQuote
+    else if nat_eq n 3 then r.BadEscape
+    else if nat_eq n 4 then r.WideInteger
+    else if nat_eq n 5 then r.Syntax
+    else if nat_eq n 6 then r.TooDeep
+    else if nat_eq n 8 then r.Unbound
+    else if nat_eq n 9 then r.RepeatedVariable
+    else if nat_eq n 10 then r.UndefinedFunction
+    else if nat_eq n 11 then r.RepeatedFunction
+    else if nat_eq n 12 then r.BadExport
+    else if nat_eq n 13 then r.Degree
+    else if nat_eq n 25 then r.TooLong
+    else r.Missing
+
+pub named_by_number : (name : RefusalName) → name_of (refusal_number name) ≡ name
+named_by_number r.BadByte = refl
+named_by_number r.OpenQuote = refl
+named_by_number r.BadEscape = refl
+named_by_number r.WideInteger = refl
+named_by_number r.Syntax = refl
+named_by_number r.TooDeep = refl
+named_by_number r.Unbound = refl
+named_by_number r.RepeatedVariable = refl
+named_by_number r.UndefinedFunction = refl
+named_by_number r.RepeatedFunction = refl
+named_by_number r.BadExport = refl
+named_by_number r.Degree = refl
+named_by_number r.TooLong = refl
+named_by_number r.Missing = refl
+
+abbrev pub told_by : Status → SourceFault
+told_by (Refused refusal) = record { name = name_of refusal.number; line = refusal.line }
+told_by _ = missing
+
+abbrev pub number_by : Status → ℕ
+number_by (Refused refusal) = refusal.number
+number_by _ = 0
+
+abbrev pub word_by : Status → ℕ
+word_by (Refused refusal) = refusal.word
+word_by _ = 0
+
+abbrev pub other_by : Status → ℕ
+other_by (Refused refusal) = refusal.other
+other_by _ = 0
+
+pub told_by_refused : (w : ℕ) (f : SourceFault) → told_by (refused w f) ≡ f
+told_by_refused w f = λ i. record { name = named_by_number f.name i; line = f.line }
+
+pub one_fault_of : (v w : ℕ) (f g : SourceFault) → refused v f ≡ refused w g → f ≡ g
+one_fault_of v w f g e = sym (told_by_refused v f) ∙ ap told_by e ∙ told_by_refused w g
+
+pub one_word : (v w : ℕ) (f g : SourceFault) → refused v f ≡ refused w g → v ≡ w
+one_word v w f g e = ap word_by e
+
+-- a source is refused by none of the numbers of the other refusals
+abbrev pub IsOther : ℕ → Type 0
+IsOther n = (n ≢ 14) × (n ≢ 24)
+
+pub not_other : (name : RefusalName) → IsOther (refusal_number name)
+not_other r.BadByte = (λ e. absurd (omega (arith, e)), λ e. absurd (omega (arith, e)))
+not_other r.OpenQuote = (λ e. absurd (omega (arith, e)), λ e. absurd (omega (arith, e)))
+not_other r.BadEscape = (λ e. absurd (omega (arith, e)), λ e. absurd (omega (arith, e)))
+not_other r.WideInteger = (λ e. absurd (omega (arith, e)), λ e. absurd (omega (arith, e)))
+not_other r.Syntax = (λ e. absurd (omega (arith, e)), λ e. absurd (omega (arith, e)))
+not_other r.TooDeep = (λ e. absurd (omega (arith, e)), λ e. absurd (omega (arith, e)))
+not_other r.Unbound = (λ e. absurd (omega (arith, e)), λ e. absurd (omega (arith, e)))
+not_other r.RepeatedVariable = (λ e. absurd (omega (arith, e)), λ e. absurd (omega (arith, e)))
+not_other r.UndefinedFunction = (λ e. absurd (omega (arith, e)), λ e. absurd (omega (arith, e)))
+not_other r.RepeatedFunction = (λ e. absurd (omega (arith, e)), λ e. absurd (omega (arith, e)))
+not_other r.BadExport = (λ e. absurd (omega (arith, e)), λ e. absurd (omega (arith, e)))
+not_other r.Degree = (λ e. absurd (omega (arith, e)), λ e. absurd (omega (arith, e)))
+not_other r.TooLong = (λ e. absurd (omega (arith, e)), λ e. absurd (omega (arith, e)))
+not_other r.Missing = (λ e. absurd (omega (arith, e)), λ e. absurd (omega (arith, e)))
+
+-- ---- a table's fault is told by its number
+
+abbrev pub table_fault_by : ℕ → FaultOfTable
+table_fault_by n =
+    if nat_eq n 18 then t.NotATable
+    else if nat_eq n 19 then t.Version
+    else if nat_eq n 20 then t.Torn
+    else if nat_eq n 21 then t.Order
+    else if nat_eq n 22 then t.BadEntry
+    else if nat_eq n 23 then t.Rest
+    else t.Memory
+
+table_told : (fault : FaultOfTable) → table_fault_by (table_fault_number fault) ≡ fault
+table_told t.NotATable = refl
+table_told t.Version = refl
+table_told t.Torn = refl
+table_told t.Order = refl
+table_told t.BadEntry = refl
+table_told t.Rest = refl
+table_told t.Memory = refl
+
+abbrev pub table_number_by : Status → ℕ
+table_number_by (TableFault number) = number
+table_number_by _ = 0
+
+pub one_table_fault : (f g : FaultOfTable) → faulty_table f ≡ faulty_table g → f ≡ g
+one_table_fault f g e = sym (table_told f) ∙ ap (λ s. table_fault_by (table_number_by s)) e ∙ table_told g
+
+pub table_number : (fault : FaultOfTable) → (fault ≡ t.Memory → ⊥) → (18 ≤ table_fault_number fault) × (table_fault_number fault ≤ 23)
+table_number t.NotATable some = (omega arith, omega arith)
+table_number t.Version some = (omega arith, omega arith)
+table_number t.Torn some = (omega arith, omega arith)
+table_number t.Order some = (omega arith, omega arith)
+table_number t.BadEntry some = (omega arith, omega arith)
+table_number t.Rest some = (omega arith, omega arith)
+table_number t.Memory some = absurd (some refl)
+
+-- ---- statuses are told apart
+
+-- a number for each kind of status, and for a refusal its own
+abbrev pub mark : Status → ℕ
+mark Clean = 100
+mark (Refused refusal) = refusal.number
+mark Warnings = 101
+mark (TableFault number) = 102
+mark (DeviceFault device) = 103
+mark Memory = 104
+mark Usage = 105
+
+-- a source is refused by none of the numbers of the other refusals
+pub mark_of : (name : RefusalName) → (refusal_number name < 27) × (refusal_number name ≢ 14) × (refusal_number name ≢ 24)
+mark_of name = (below name, (not_other name).0, (not_other name).1)
+  where
+    below : (name : RefusalName) → refusal_number name < 27
+    below r.BadByte = omega arith
+    below r.OpenQuote = omega arith
+    below r.BadEscape = omega arith
+    below r.WideInteger = omega arith
+    below r.Syntax = omega arith
+    below r.TooDeep = omega arith
+    below r.Unbound = omega arith
+    below r.RepeatedVariable = omega arith
+    below r.UndefinedFunction = omega arith
+    below r.RepeatedFunction = omega arith
+    below r.BadExport = omega arith
+    below r.Degree = omega arith
+    below r.TooLong = omega arith
+    below r.Missing = omega arith
