@@ -19,7 +19,23 @@ fn main(rt: HostRuntime) -> ExitCode {
         Ok(words) => words,
         Err(status) => return ExitCode::from(status.code()),
     };
-    on_thread(&rt, rt.alloc(), &words)
+    let alloc = rt.alloc();
+    let host = &rt;
+    let asked = &words;
+    let code = thread::scope(thread::scope_env(), host, |scope| {
+        let started = Builder::new()
+            .stack_size(STACK_SIZE)
+            .spawn_scoped(scope, move || run(host, alloc, asked));
+        match started {
+            Ok(child) => Some(child.join(host)),
+            Err(_) => None,
+        }
+    });
+    // where no thread can be started, this one does the work
+    match code {
+        Some(code) => code,
+        None => run(host, alloc, asked),
+    }
 }
 
 // The words that follow the program's name, or the status to end with where the host doesn't give them as text.
@@ -38,27 +54,6 @@ fn words_of(rt: &HostRuntime) -> Result<Vec<String>, Status> {
     match args.collect(rt.alloc()) {
         Ok(words) => Ok(words),
         Err(_) => Err(Status::Memory),
-    }
-}
-
-// Carries the command out on a thread with room for the deepest text. Where none can be started, this thread does it.
-fn on_thread<R: Threads + Wait + Sync + Files + Print>(
-    rt: &R,
-    alloc: Global,
-    words: &Vec<String>,
-) -> ExitCode {
-    let code = thread::scope(thread::scope_env(), rt, |scope| {
-        let started = Builder::new()
-            .stack_size(STACK_SIZE)
-            .spawn_scoped(scope, move || run(rt, alloc, words));
-        match started {
-            Ok(child) => Some(child.join(rt)),
-            Err(_) => None,
-        }
-    });
-    match code {
-        Some(code) => code,
-        None => run(rt, alloc, words),
     }
 }
 
