@@ -10,3 +10,5 @@ mod Reported
 mod Added
 mod Storing
 mod Counted
+mod MadeReports
+mod SharedSources

@@ -4,3 +4,4 @@ pub mod Making
 pub mod Adding
 pub mod Members
 pub mod Keyed
+pub mod Reporting

@@ -5,6 +5,7 @@
 mod analysing;
 mod entering;
 mod new_table;
+mod reporting;
 mod reports;
 mod solving;
 mod stopping;

@@ -1,5 +1,5 @@
 //! The modules that a wave solves at once, and the reports on them.
-ghost use Rattle.std.specs.Prelude.{◌≡◌, ℕ, ◌<◌, ◌≤◌, [], ◌∷◌, ◌++◌, true, false, length, map, slice_get, IfOk, OnOk};
+ghost use Rattle.std.specs.Prelude.{◌≡◌, ℕ, ◌<◌, ◌≤◌, [], ◌∷◌, ◌++◌, true, false, length, map, slice_get, IfOk, IfSome, OnOk};
 ghost use Rattle.core_scope.specs.Checked.{module_of, tree_of};
 ghost use Rattle.core_scope.specs.Sets.{StandsEarlier};
 ghost use Rattle.cons_tree.specs.Callees.{found};
@@ -7,7 +7,9 @@ ghost use Rattle.analysis_summaries.specs.Whole.{IsWholeOver};
 ghost use Rattle.table_keep.specs.Groups.{has};
 ghost use Rattle.table_keep.specs.Model.{picked, source_so, sources_so, trees};
 ghost use Rattle.analysis.specs.steps.Deciding.{AreReported, IsReported};
+ghost use Rattle.analysis.specs.steps.Reporting.{AreKept, IsReportOn};
 
+use crate::reporting::made_by_workers;
 use crate::reports::report_on;
 use analysis_crew::solve_modules_parallel;
 use cons_tree::Summaries;
@@ -85,44 +87,79 @@ pub fn solve_wave<R: Threads + Wait + Sync, G: Gate + Sync>(
     let list = all_chosen(alloc, sources, todo)?;
     let workers = if list.is_empty() { 1 } else { workers };
     solve_modules_parallel(rt, alloc, list.as_slice(), known, workers, gate)?;
-    report_on_all(alloc, sources, todo, known, lines)
+    let wanted = positions(alloc, sources, todo)?;
+    let made = made_by_workers(rt, alloc, sources, known, wanted.as_slice(), workers)?;
+    report_on_all(alloc, sources, todo, known, made, lines)
 }
 
-// The report on each module of these names, at its position.
+// The positions of the modules of these names.
+fn positions(alloc: Global, sources: &[Source], todo: &Names<Atom>) -> Result<List<usize>, Memory> {
+    let mut wanted = List::new(alloc);
+    for (at, source) in sources.iter().enumerate() {
+        if todo.has(&source.checked.module().name) {
+            wanted.add(at)?;
+        }
+    }
+    Ok(wanted)
+}
+
+// The report on each module of these names, at its position: what a worker made, and where none did, what is made here.
 fn report_on_all(
     alloc: Global,
     sources: &[Source],
     todo: &Names<Atom>,
     known: &Summaries,
+    mut made: List<Option<Bytes>>,
     lines: &mut List<Bytes>,
 ) -> Result<(), Memory>
-    requires { length lines.old ≡ length sources.now }
+    requires counted { length lines.old ≡ length sources.now }
+    requires places { length made ≡ length sources.now }
+    requires made { AreKept (found known.now) (sources_so sources.now) made }
     ensures { OnOk result (AreReported todo.now (sources_so sources.now) (found known.now) lines.old lines.new) }
 {
     for (at, source) in sources.iter().enumerate() {
-        report_at(alloc, source, at, todo, known, lines)?;
+        let was = made.replace(at, None);
+        report_at(alloc, source, at, todo, known, was, lines)?;
     }
     Ok(())
 }
 
-// The report on the module at this position, if it has one of these names.
+// The report on the module at this position, if it has one of these names: what a worker made, or what is made here.
 fn report_at(
     alloc: Global,
     source: &Source,
     at: usize,
     todo: &Names<Atom>,
     known: &Summaries,
+    was: Option<Bytes>,
     lines: &mut List<Bytes>,
 ) -> Result<(), Memory>
-    requires { at < length lines.old }
+    requires within { at < length lines.old }
+    requires made { IfSome was (λ text. IsReportOn (found known.now) (source_so source.now) text) }
     ensures counted { OnOk result (length lines.new ≡ length lines.old) }
     ensures reported { OnOk result (has todo.now (tree_of source.now.checked).name ≡ true → IsReported (found known.now) (tree_of source.now.checked) (slice_get lines.new at)) }
     ensures stays { OnOk result (has todo.now (tree_of source.now.checked).name ≡ false → lines.new ≡ lines.old) }
     ensures others { OnOk result ((i : ℕ) → (i ≡ at → ⊥) → slice_get lines.new i ≡ slice_get lines.old i) }
 {
     if todo.has(&source.checked.module().name) {
-        let report = report_on(alloc, &source.checked, known)?;
+        let report = report_or(alloc, source, known, was)?;
         lines.replace(at, report);
     }
     Ok(())
+}
+
+// The report that a worker made, or else the one that is made here.
+fn report_or(
+    alloc: Global,
+    source: &Source,
+    known: &Summaries,
+    was: Option<Bytes>,
+) -> Result<Bytes, Memory>
+    requires { IfSome was (λ text. IsReportOn (found known.now) (source_so source.now) text) }
+    ensures { IfOk result (λ text. IsReportOn (found known.now) (source_so source.now) text) }
+{
+    match was {
+        Some(report) => Ok(report),
+        None => report_on(alloc, &source.checked, known),
+    }
 }

@@ -98,7 +98,7 @@ summaries_send = view_send Summaries.TheInside.the_row _ _ _ _ (declared_send Su
 pub summaries_sync : IsSync Summaries.the_row
 summaries_sync = view_sync Summaries.TheInside.the_row _ _ _ _ (declared_sync Summaries.TheInside.the_type (Global.the_sync, (atoms_sync CalleeTable.the_row table_sync, (callee_sync, tt))))
 
-def_send : IsSend (FunDefOf.the_row Expr.the_row)
+pub def_send : IsSend (FunDefOf.the_row Expr.the_row)
 def_send = search (
   Maybe.the_field_send,
   Maybe.the_send,
@@ -119,7 +119,7 @@ def_send = search (
   sendable,
 ) depth 60 fits 20000
 
-def_sync : IsSync (FunDefOf.the_row Expr.the_row)
+pub def_sync : IsSync (FunDefOf.the_row Expr.the_row)
 def_sync = search (
   Maybe.the_field_sync,
   Maybe.the_sync,

@@ -1,5 +1,5 @@
 mod Fixing
-mod Crossing
+pub mod Crossing
 mod Laid
 mod Listed
 mod Loops

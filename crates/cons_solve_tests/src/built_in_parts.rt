@@ -4,7 +4,6 @@ use bif_types::{ArgKind, Bif, Rule, lookup, part};
 use cons_tree::{Part, Transfer};
 use std::alloc::Global;
 use std::process::Abort;
-use std::test::Fail;
 use type_kinds::{Atom, Memory};
 use type_kinds_sets::{AtomSet, High, IntSet, Low};
 use type_lattice::{Ends, Kind, Ty};
@@ -19,8 +18,21 @@ fn integers(low: Low, high: High) -> Result<Ty, Memory> {
 }
 
 fn naturals(alloc: Global) -> Result<Ty, Memory> {
+    let positive = integers(Low::One, High::Max)?;
     let zero = Ty::ints(IntSet::one(0));
-    zero.join(alloc, &integers(Low::One, High::Max)?)
+    let both = zero.join(alloc, &positive);
+    drop(zero);
+    drop(positive);
+    both
+}
+
+fn numbers(alloc: Global) -> Result<Ty, Memory> {
+    let integers = integers(Low::Min, High::Max)?;
+    let floats = Ty::kind(Kind::Float);
+    let both = floats.join(alloc, &integers);
+    drop(floats);
+    drop(integers);
+    both
 }
 
 fn atom(alloc: Global, bytes: &[u8]) -> Result<Ty, Memory> {
@@ -28,22 +40,29 @@ fn atom(alloc: Global, bytes: &[u8]) -> Result<Ty, Memory> {
         return Err(Memory);
     }
     let atom = Atom::new(alloc, bytes)?;
-    Ok(Ty::atoms(AtomSet::one(alloc, &atom)?))
+    let set = AtomSet::one(alloc, &atom);
+    drop(atom);
+    Ok(Ty::atoms(set?))
 }
 
-fn or_nil(alloc: Global, lists: Ty) -> Result<Ty, Memory> {
-    lists.join(alloc, &Ty::kind(Kind::Nil))
+fn booleans(alloc: Global) -> Result<Ty, Memory> {
+    let yes = atom(alloc, b"true")?;
+    let no = atom(alloc, b"false")?;
+    let both = yes.join(alloc, &no);
+    drop(yes);
+    drop(no);
+    both
 }
 
 // A type that the table names.
 fn expected(alloc: Global, kind: ArgKind) -> Result<Ty, Memory> {
     match kind {
         ArgKind::Any => Ok(Ty::any()),
-        ArgKind::Number => Ty::kind(Kind::Float).join(alloc, &integers(Low::Min, High::Max)?),
+        ArgKind::Number => numbers(alloc),
         ArgKind::Integer => integers(Low::Min, High::Max),
         ArgKind::Natural => naturals(alloc),
         ArgKind::Positive => integers(Low::One, High::Max),
-        ArgKind::Boolean => atom(alloc, b"true")?.join(alloc, &atom(alloc, b"false")?),
+        ArgKind::Boolean => booleans(alloc),
         ArgKind::Float => Ok(Ty::kind(Kind::Float)),
         ArgKind::AnyAtom => Ok(Ty::atoms(AtomSet::all())),
         ArgKind::AnyTuple => Ok(Ty::kind(Kind::AnyTuple)),
@@ -58,26 +77,51 @@ fn expected(alloc: Global, kind: ArgKind) -> Result<Ty, Memory> {
     }
 }
 
+// The proper lists of these elements, but nil.
+fn proper(alloc: Global, element: Result<Ty, Memory>) -> Result<Ty, Memory> {
+    let element = element?;
+    let nil = Ty::kind(Kind::Nil);
+    let lists = Ty::cons(alloc, &element, &nil, Ends::Proper);
+    drop(element);
+    drop(nil);
+    lists
+}
+
+// The lists of any elements and any end, but nil.
+fn free(alloc: Global) -> Result<Ty, Memory> {
+    let any = Ty::any();
+    let lists = Ty::cons(alloc, &any, &any, Ends::Free);
+    drop(any);
+    lists
+}
+
+fn or_nil(alloc: Global, lists: Result<Ty, Memory>) -> Result<Ty, Memory> {
+    let lists = lists?;
+    let nil = Ty::kind(Kind::Nil);
+    let both = lists.join(alloc, &nil);
+    drop(lists);
+    drop(nil);
+    both
+}
+
 // A type of lists that the table names.
 fn expected_list(alloc: Global, kind: ArgKind) -> Result<Ty, Memory> {
-    let any = Ty::any();
-    let nil = Ty::kind(Kind::Nil);
-    let characters = integers(Low::Zero, High::Unicode)?;
-    let bytes = integers(Low::Zero, High::Byte)?;
     match kind {
-        ArgKind::ProperList => or_nil(alloc, Ty::cons(alloc, &any, &nil, Ends::Proper)?),
-        ArgKind::FreeList => or_nil(alloc, Ty::cons(alloc, &any, &any, Ends::Free)?),
-        ArgKind::CharList => or_nil(alloc, Ty::cons(alloc, &characters, &nil, Ends::Proper)?),
-        ArgKind::FreeCons => Ty::cons(alloc, &any, &any, Ends::Free),
-        ArgKind::CharCons => Ty::cons(alloc, &characters, &nil, Ends::Proper),
-        ArgKind::ByteCons => Ty::cons(alloc, &bytes, &nil, Ends::Proper),
+        ArgKind::ProperList => or_nil(alloc, proper(alloc, Ok(Ty::any()))),
+        ArgKind::FreeList => or_nil(alloc, free(alloc)),
+        ArgKind::CharList => { or_nil(alloc, proper(alloc, integers(Low::Zero, High::Unicode))) }
+        ArgKind::FreeCons => free(alloc),
+        ArgKind::CharCons => proper(alloc, integers(Low::Zero, High::Unicode)),
+        ArgKind::ByteCons => proper(alloc, integers(Low::Zero, High::Byte)),
         _ => Ok(Ty::none()),
     }
 }
 
 fn is_expected(alloc: Global, ty: &Ty, kind: ArgKind) -> Result<bool, Memory> {
     let wanted = expected(alloc, kind)?;
-    Ok(*ty == wanted)
+    let same = *ty == wanted;
+    drop(wanted);
+    Ok(same)
 }
 
 // Whether the transfer is that of the rule.
@@ -150,7 +194,21 @@ fn has_part(
 ) -> Result<bool, Memory> {
     let count = (bif.arity as usize).min(3);
     let made = part(alloc, bif, 7, &SLOTS[..count], quiet)?;
-    is_part(alloc, &made, args, bif.arity, rule)
+    let is = is_part(alloc, &made, args, bif.arity, rule);
+    drop(made);
+    is
+}
+
+// What the table has of a name, if the name is short enough.
+fn row_of(rt: &impl Abort, alloc: Global, name: &str, arity: u8) -> Result<Option<Bif>, Memory> {
+    if name.len() >= 4_294_967_296 {
+        return Ok(None);
+    }
+    let atom = Atom::new(alloc, name.as_bytes())?;
+    let bif = lookup(&atom, u32::from(arity));
+    drop(atom);
+    assert!(rt; bif.is_some(), "{name}");
+    Ok(bif)
 }
 
 // Each of these names has the part of its row, and quietly that of the quiet rule.
@@ -161,18 +219,13 @@ fn check_parts(
     args: [ArgKind; 3],
     arity: u8,
     rule: Rule,
-) -> Result<(), Fail> {
+) -> Result<(), Memory> {
     let quiet = match rule {
         Rule::Never => Rule::Plain(ArgKind::Any),
         other => other,
     };
     for name in names {
-        if name.len() >= 4_294_967_296 {
-            return Ok(());
-        }
-        let atom = Atom::new(alloc, name.as_bytes())?;
-        let Some(bif) = lookup(&atom, u32::from(arity)) else {
-            assert!(rt; false, "{name}");
+        let Some(bif) = row_of(rt, alloc, name, arity)? else {
             return Ok(());
         };
         assert!(rt; has_part(alloc, bif, false, args, rule)?, "{name}");
@@ -182,16 +235,16 @@ fn check_parts(
 }
 
 #[test]
-fn each_row_has_its_part(rt: HostRuntime) -> Result<(), Fail> {
-    for (names, args, arity, rule) in ROWS.iter() {
+fn each_row_has_its_part(rt: HostRuntime) -> Result<(), Memory> {
+    for (names, args, arity, rule) in ROWS {
         check_parts(&rt, rt.alloc(), names, *args, *arity, *rule)?;
     }
     Ok(())
 }
 
 #[test]
-fn the_other_rows_have_theirs(rt: HostRuntime) -> Result<(), Fail> {
-    for (names, args, arity, rule) in MORE_ROWS.iter() {
+fn the_other_rows_have_theirs(rt: HostRuntime) -> Result<(), Memory> {
+    for (names, args, arity, rule) in MORE_ROWS {
         check_parts(&rt, rt.alloc(), names, *args, *arity, *rule)?;
     }
     Ok(())
@@ -199,7 +252,7 @@ fn the_other_rows_have_theirs(rt: HostRuntime) -> Result<(), Fail> {
 
 // A row of any arity has a part: it has the types of the first arguments.
 #[test]
-fn a_part_has_the_types_of_the_row(rt: HostRuntime) -> Result<(), Fail> {
+fn a_part_has_the_types_of_the_row(rt: HostRuntime) -> Result<(), Memory> {
     let args = [ArgKind::Pid, ArgKind::Natural, ArgKind::Map];
     let bif = Bif {
         args,

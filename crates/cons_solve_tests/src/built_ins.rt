@@ -6,18 +6,20 @@ use bif_types::ArgKind::{
 use bif_types::{ArgKind, Bif, Rule, lookup};
 use std::alloc::Global;
 use std::process::Abort;
-use std::test::Fail;
-use type_kinds::Atom;
+use type_kinds::{Atom, Memory};
 
-fn found(alloc: Global, name: &str, arity: u32) -> Result<Option<Bif>, Fail> {
+fn found(alloc: Global, name: &str, arity: u32) -> Result<Option<Bif>, Memory> {
     if name.len() >= 4_294_967_296 {
         return Ok(None);
     }
-    Ok(lookup(&Atom::new(alloc, name.as_bytes())?, arity))
+    let atom = Atom::new(alloc, name.as_bytes())?;
+    let bif = lookup(&atom, arity);
+    drop(atom);
+    Ok(bif)
 }
 
 // Names with one row: their arguments, with `Any` behind the last, how many they are, and the rule.
-pub const ROWS: [(&[&str], [ArgKind; 3], u8, Rule); 40] = [
+pub const ROWS: &[(&[&str], [ArgKind; 3], u8, Rule)] = &[
     (&["+", "-", "*"], [Number, Number, Any], 2, Rule::Arith),
     (&["+", "-"], [Number, Any, Any], 1, Rule::Arith),
     (&["/"], [Number, Number, Any], 2, Rule::Plain(Float)),
@@ -130,7 +132,7 @@ pub const ROWS: [(&[&str], [ArgKind; 3], u8, Rule); 40] = [
     ),
 ];
 
-pub const MORE_ROWS: [(&[&str], [ArgKind; 3], u8, Rule); 9] = [
+pub const MORE_ROWS: &[(&[&str], [ArgKind; 3], u8, Rule)] = &[
     (&["map_size"], [Map, Any, Any], 1, Rule::Plain(Natural)),
     (&["self"], [Any, Any, Any], 0, Rule::Plain(Pid)),
     (&["make_ref"], [Any, Any, Any], 0, Rule::Plain(Reference)),
@@ -153,16 +155,16 @@ pub const MORE_ROWS: [(&[&str], [ArgKind; 3], u8, Rule); 9] = [
 ];
 
 #[test]
-fn finds_every_row(rt: HostRuntime) -> Result<(), Fail> {
-    for (names, args, arity, rule) in ROWS.iter() {
+fn finds_every_row(rt: HostRuntime) -> Result<(), Memory> {
+    for (names, args, arity, rule) in ROWS {
         check_row(&rt, &rt, names, *args, *arity, *rule)?;
     }
     Ok(())
 }
 
 #[test]
-fn finds_the_other_rows(rt: HostRuntime) -> Result<(), Fail> {
-    for (names, args, arity, rule) in MORE_ROWS.iter() {
+fn finds_the_other_rows(rt: HostRuntime) -> Result<(), Memory> {
+    for (names, args, arity, rule) in MORE_ROWS {
         check_row(&rt, &rt, names, *args, *arity, *rule)?;
     }
     Ok(())
@@ -176,7 +178,7 @@ fn check_row(
     args: [ArgKind; 3],
     arity: u8,
     rule: Rule,
-) -> Result<(), Fail> {
+) -> Result<(), Memory> {
     for name in names {
         let bif = found(host.alloc(), name, u32::from(arity))?;
         assert_eq!(rt; bif, Some(Bif { args, arity, rule }), "{name}");
@@ -184,26 +186,28 @@ fn check_row(
     Ok(())
 }
 
+// Names that the table doesn't have, with so many arguments.
+const OTHERS: &[(&str, u32)] = &[
+    ("send", 2),
+    ("self", 1),
+    ("hd", 2),
+    ("exit", 2),
+    ("throw", 2),
+    ("setelement", 2),
+    ("element", 3),
+    ("", 0),
+    ("+", 0),
+    ("+", 3),
+    ("is_", 1),
+    ("is_atomic", 1),
+    ("Abs", 1),
+    ("abs", 4_294_967_295),
+];
+
 #[test]
-fn finds_no_other_row(rt: HostRuntime) -> Result<(), Fail> {
-    let cases = [
-        ("send", 2),
-        ("self", 1),
-        ("hd", 2),
-        ("exit", 2),
-        ("throw", 2),
-        ("setelement", 2),
-        ("element", 3),
-        ("", 0),
-        ("+", 0),
-        ("+", 3),
-        ("is_", 1),
-        ("is_atomic", 1),
-        ("Abs", 1),
-        ("abs", 4_294_967_295),
-    ];
-    for (name, arity) in cases {
-        let bif = found(rt.alloc(), name, arity)?;
+fn finds_no_other_row(rt: HostRuntime) -> Result<(), Memory> {
+    for (name, arity) in OTHERS {
+        let bif = found(rt.alloc(), name, *arity)?;
         assert_eq!(rt; bif, None, "{name}/{arity}");
     }
     Ok(())

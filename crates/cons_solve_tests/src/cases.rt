@@ -15,21 +15,36 @@ pub fn types(alloc: Global, texts: &[&[u8]]) -> Result<List<Ty>, TextFault> {
     Ok(types)
 }
 
-/// An environment as text, its types with semicolons between.
-pub fn written(alloc: Global, env: &Env) -> Result<Bytes, Memory> {
-    let mut out = List::new(alloc);
-    match env {
-        Env::Bottom => out.append(b"bottom")?,
-        Env::Types(types) => {
-            for ty in types.as_slice() {
-                if !out.is_empty() {
-                    out.append(b"; ")?;
-                }
-                print(ty, &mut out)?;
-            }
+fn write_types(types: &[Ty], out: &mut Bytes) -> Result<(), Memory> {
+    for ty in types {
+        if !out.is_empty() {
+            out.append(b"; ")?;
         }
+        print(ty, out)?;
     }
-    Ok(out)
+    Ok(())
+}
+
+fn write(env: &Env, out: &mut Bytes) -> Result<(), Memory> {
+    match env {
+        Env::Bottom => out.append(b"bottom"),
+        Env::Types(types) => write_types(types.as_slice(), out),
+    }
+}
+
+// Whether this is the environment as text, its types with semicolons between.
+fn is(alloc: Global, env: &Env, text: &[u8]) -> Result<bool, Memory> {
+    let mut out = List::new(alloc);
+    write(env, &mut out)?;
+    Ok(out.as_slice() == text)
+}
+
+/// The same of an environment that was made.
+pub fn made_is(alloc: Global, made: Result<Env, Memory>, text: &[u8]) -> Result<bool, Memory> {
+    let env = made?;
+    let answer = is(alloc, &env, text);
+    drop(env);
+    answer
 }
 
 /// An environment as texts, and the text of what it is narrowed to.
@@ -62,9 +77,9 @@ fn narrows_one(
     after: &[u8],
 ) -> Result<bool, TextFault> {
     let env = Env::Types(types(alloc, before)?);
-    let narrowed = narrow(alloc, part, &env)?;
-    let text = written(alloc, &narrowed)?;
-    Ok(text.as_slice() == after)
+    let narrowed = narrow(alloc, part, &env);
+    drop(env);
+    Ok(made_is(alloc, narrowed, after)?)
 }
 
 /// These slots.

@@ -1,7 +1,7 @@
 //! Constraints solved by hand, each written as a table of steps.
 ghost use Rattle.std.specs.Prelude.{◌≡◌};
 
-use crate::cases::{slots, types, written};
+use crate::cases::{made_is, slots, types};
 use cons_solve::{Steps, solve, solve_counted, solve_noted};
 use cons_tree::{Constraint, Env, Part, Slot};
 use std::alloc::Global;
@@ -91,121 +91,126 @@ fn solves_one(
     after: &[u8],
 ) -> Result<bool, TextFault> {
     let env = Env::Types(types(alloc, before)?);
-    let solution = solve(alloc, c, env)?;
-    let text = written(alloc, &solution)?;
-    Ok(text.as_slice() == after)
+    let solution = solve(alloc, c, env);
+    Ok(made_is(alloc, solution, after)?)
 }
+
+// Steps, the types below which all that they make is solved, and the text of the greatest solution.
+type Solved<'a> = (&'a [Step<'a>], &'a [&'a [u8]], &'a [u8]);
+
+fn solves_all(alloc: Global, rows: &[Solved]) -> Result<bool, TextFault> {
+    for (steps, before, after) in rows {
+        if !solves(alloc, steps, before, after)? {
+            return Ok(false);
+        }
+    }
+    Ok(true)
+}
+
+const NOTHING_AND_NOBODY: &[Solved<'static>] = &[
+    (&[Step::All(0)], &[b"1 | 2", b"any()"], b"1 | 2; any()"),
+    (&[Step::All(0)], &[b"1 | 2", b"none()"], b"bottom"),
+    (&[Step::Any(0)], &[b"1 | 2", b"any()"], b"bottom"),
+];
 
 #[test]
 fn nothing_and_nobody(rt: HostRuntime) -> Result<(), TextFault> {
-    let alloc = rt.alloc();
-    let all: [Step; 1] = [Step::All(0)];
-    assert!(rt; solves(alloc, &all, &[b"1 | 2", b"any()"], b"1 | 2; any()")?);
-    assert!(rt; solves(alloc, &all, &[b"1 | 2", b"none()"], b"bottom")?);
-    let any: [Step; 1] = [Step::Any(0)];
-    assert!(rt; solves(alloc, &any, &[b"1 | 2", b"any()"], b"bottom")?);
+    assert!(rt; solves_all(rt.alloc(), NOTHING_AND_NOBODY)?);
     Ok(())
 }
+
+const WRONG_ORDER: &[Solved<'static>] = &[
+    (
+        &[Step::Equal(2, 1), Step::Equal(1, 0), Step::Bound(0, b"'a'")],
+        &[b"any()", b"atom()", b"any()"],
+        b"'a'; 'a'; 'a'",
+    ),
+    (
+        &[Step::Bound(0, b"'a'"), Step::Equal(1, 0), Step::Equal(2, 1)],
+        &[b"any()", b"atom()", b"any()"],
+        b"'a'; 'a'; 'a'",
+    ),
+];
 
 #[test]
 fn parts_in_the_wrong_order(rt: HostRuntime) -> Result<(), TextFault> {
-    let alloc = rt.alloc();
-    let steps: [Step; 3] = [Step::Equal(2, 1), Step::Equal(1, 0), Step::Bound(0, b"'a'")];
-    assert!(rt;
-        solves(
-            alloc,
-            &steps,
-            &[b"any()", b"atom()", b"any()"],
-            b"'a'; 'a'; 'a'"
-        )?
-    );
-    let steps: [Step; 3] = [Step::Bound(0, b"'a'"), Step::Equal(1, 0), Step::Equal(2, 1)];
-    assert!(rt;
-        solves(
-            alloc,
-            &steps,
-            &[b"any()", b"atom()", b"any()"],
-            b"'a'; 'a'; 'a'"
-        )?
-    );
+    assert!(rt; solves_all(rt.alloc(), WRONG_ORDER)?);
     Ok(())
 }
 
-#[test]
-fn a_tuple_of_its_elements(rt: HostRuntime) -> Result<(), TextFault> {
-    let alloc = rt.alloc();
-    let steps: [Step; 3] = [
+const TUPLE_OF_ITS_ELEMENTS: &[Solved<'static>] = &[(
+    &[
         Step::Tuple(0, &[1, 2]),
         Step::Bound(0, b"{1 | 2,atom()}"),
         Step::Bound(2, b"'a' | 3"),
-    ];
-    assert!(rt;
-        solves(
-            alloc,
-            &steps,
-            &[b"any()", b"integer()", b"any()"],
-            b"{1 | 2,'a'}; 1 | 2; 'a'"
-        )?
-    );
+    ],
+    &[b"any()", b"integer()", b"any()"],
+    b"{1 | 2,'a'}; 1 | 2; 'a'",
+)];
+
+#[test]
+fn a_tuple_of_its_elements(rt: HostRuntime) -> Result<(), TextFault> {
+    assert!(rt; solves_all(rt.alloc(), TUPLE_OF_ITS_ELEMENTS)?);
     Ok(())
 }
+
+const ALTERNATIVES: &[Solved<'static>] = &[
+    (
+        &[Step::Bound(0, b"1"), Step::Bound(0, b"2"), Step::Any(2)],
+        &[b"integer()"],
+        b"1 | 2",
+    ),
+    (
+        &[Step::Bound(0, b"1"), Step::Bound(1, b"'a'"), Step::Any(2)],
+        &[b"any()", b"'a' | 'b'"],
+        b"any(); 'a' | 'b'",
+    ),
+];
 
 #[test]
 fn alternatives_join(rt: HostRuntime) -> Result<(), TextFault> {
-    let alloc = rt.alloc();
-    let steps: [Step; 3] = [Step::Bound(0, b"1"), Step::Bound(0, b"2"), Step::Any(2)];
-    assert!(rt; solves(alloc, &steps, &[b"integer()"], b"1 | 2")?);
-    let apart: [Step; 3] = [Step::Bound(0, b"1"), Step::Bound(1, b"'a'"), Step::Any(2)];
-    assert!(rt;
-        solves(
-            alloc,
-            &apart,
-            &[b"any()", b"'a' | 'b'"],
-            b"any(); 'a' | 'b'"
-        )?
-    );
+    assert!(rt; solves_all(rt.alloc(), ALTERNATIVES)?);
     Ok(())
 }
 
-#[test]
-fn a_slot_of_one_alternative_alone(rt: HostRuntime) -> Result<(), TextFault> {
-    let alloc = rt.alloc();
-    let steps: [Step; 5] = [
+const ONE_ALTERNATIVE_ALONE: &[Solved<'static>] = &[(
+    &[
         Step::Bound(0, b"1"),
         Step::Bound(1, b"'a'"),
         Step::All(2),
         Step::Bound(0, b"2"),
         Step::Any(2),
-    ];
-    assert!(rt;
-        solves(
-            alloc,
-            &steps,
-            &[b"any()", b"'a' | 'b'"],
-            b"1 | 2; 'a' | 'b'"
-        )?
-    );
+    ],
+    &[b"any()", b"'a' | 'b'"],
+    b"1 | 2; 'a' | 'b'",
+)];
+
+#[test]
+fn a_slot_of_one_alternative_alone(rt: HostRuntime) -> Result<(), TextFault> {
+    assert!(rt; solves_all(rt.alloc(), ONE_ALTERNATIVE_ALONE)?);
     Ok(())
 }
+
+const THREE_ALTERNATIVES: &[Step<'static>] = &[
+    Step::Bound(0, b"'a'"),
+    Step::Bound(0, b"1"),
+    Step::Bound(0, b"'b'"),
+    Step::Any(3),
+];
+
+const BOTTOM_ALTERNATIVES: &[Solved<'static>] = &[
+    (THREE_ALTERNATIVES, &[b"integer()"], b"1"),
+    (THREE_ALTERNATIVES, &[b"float()"], b"bottom"),
+];
 
 #[test]
 fn bottom_alternatives_add_nothing(rt: HostRuntime) -> Result<(), TextFault> {
-    let alloc = rt.alloc();
-    let steps: [Step; 4] = [
-        Step::Bound(0, b"'a'"),
-        Step::Bound(0, b"1"),
-        Step::Bound(0, b"'b'"),
-        Step::Any(3),
-    ];
-    assert!(rt; solves(alloc, &steps, &[b"integer()"], b"1")?);
-    assert!(rt; solves(alloc, &steps, &[b"float()"], b"bottom")?);
+    assert!(rt; solves_all(rt.alloc(), BOTTOM_ALTERNATIVES)?);
     Ok(())
 }
 
-#[test]
-fn an_alternative_that_dies_late_is_put_back(rt: HostRuntime) -> Result<(), TextFault> {
-    let alloc = rt.alloc();
-    let steps: [Step; 7] = [
+const DIES_LATE: &[Solved<'static>] = &[(
+    &[
         Step::Bound(0, b"2"),
         Step::Bound(1, b"'a'"),
         Step::All(2),
@@ -213,69 +218,82 @@ fn an_alternative_that_dies_late_is_put_back(rt: HostRuntime) -> Result<(), Text
         Step::Bound(0, b"1"),
         Step::All(2),
         Step::Any(2),
-    ];
-    assert!(rt; solves(alloc, &steps, &[b"1 | 2", b"atom()"], b"2; 'a'")?);
+    ],
+    &[b"1 | 2", b"atom()"],
+    b"2; 'a'",
+)];
+
+#[test]
+fn an_alternative_that_dies_late_is_put_back(rt: HostRuntime) -> Result<(), TextFault> {
+    assert!(rt; solves_all(rt.alloc(), DIES_LATE)?);
     Ok(())
 }
+
+const NESTED: &[Solved<'static>] = &[
+    (
+        &[
+            Step::Bound(0, b"1"),
+            Step::Bound(0, b"2"),
+            Step::Any(2),
+            Step::Bound(0, b"3"),
+            Step::Any(2),
+        ],
+        &[b"integer()"],
+        b"1 | 2 | 3",
+    ),
+    (
+        &[
+            Step::Bound(0, b"1"),
+            Step::Bound(0, b"2"),
+            Step::Any(2),
+            Step::Bound(1, b"'a'"),
+            Step::All(2),
+            Step::Bound(0, b"3"),
+            Step::Bound(1, b"'b'"),
+            Step::All(2),
+            Step::Any(2),
+        ],
+        &[b"any()", b"atom()"],
+        b"1 | 2 | 3; 'a' | 'b'",
+    ),
+];
 
 #[test]
 fn alternatives_in_alternatives(rt: HostRuntime) -> Result<(), TextFault> {
-    let alloc = rt.alloc();
-    let nested: [Step; 5] = [
-        Step::Bound(0, b"1"),
-        Step::Bound(0, b"2"),
-        Step::Any(2),
-        Step::Bound(0, b"3"),
-        Step::Any(2),
-    ];
-    assert!(rt; solves(alloc, &nested, &[b"integer()"], b"1 | 2 | 3")?);
-    let within_all: [Step; 9] = [
-        Step::Bound(0, b"1"),
-        Step::Bound(0, b"2"),
-        Step::Any(2),
-        Step::Bound(1, b"'a'"),
-        Step::All(2),
-        Step::Bound(0, b"3"),
-        Step::Bound(1, b"'b'"),
-        Step::All(2),
-        Step::Any(2),
-    ];
-    assert!(rt;
-        solves(
-            alloc,
-            &within_all,
-            &[b"any()", b"atom()"],
-            b"1 | 2 | 3; 'a' | 'b'"
-        )?
-    );
+    assert!(rt; solves_all(rt.alloc(), NESTED)?);
     Ok(())
 }
+
+const CHOICE_AND_MEMBER: &[Step<'static>] = &[
+    Step::Bound(0, b"1"),
+    Step::Bound(1, b"'a'"),
+    Step::All(2),
+    Step::Bound(0, b"2"),
+    Step::Bound(1, b"'b'"),
+    Step::All(2),
+    Step::Any(2),
+    Step::Bound(1, b"'b' | 'c'"),
+];
+
+const LATER_MEMBER: &[Solved<'static>] = &[
+    (CHOICE_AND_MEMBER, &[b"any()", b"any()"], b"2; 'b'"),
+    (CHOICE_AND_MEMBER, &[b"1", b"any()"], b"bottom"),
+];
 
 #[test]
 fn a_later_member_decides_a_choice(rt: HostRuntime) -> Result<(), TextFault> {
-    let alloc = rt.alloc();
-    let steps: [Step; 8] = [
-        Step::Bound(0, b"1"),
-        Step::Bound(1, b"'a'"),
-        Step::All(2),
-        Step::Bound(0, b"2"),
-        Step::Bound(1, b"'b'"),
-        Step::All(2),
-        Step::Any(2),
-        Step::Bound(1, b"'b' | 'c'"),
-    ];
-    assert!(rt; solves(alloc, &steps, &[b"any()", b"any()"], b"2; 'b'")?);
-    assert!(rt; solves(alloc, &steps, &[b"1", b"any()"], b"bottom")?);
+    assert!(rt; solves_all(rt.alloc(), LATER_MEMBER)?);
     Ok(())
 }
 
+const PAST_THE_END: &[Solved<'static>] = &[
+    (&[Step::Bound(7, b"1")], &[b"any()"], b"any()"),
+    (&[Step::Bound(7, b"none()")], &[b"any()"], b"bottom"),
+];
+
 #[test]
 fn a_slot_past_the_end(rt: HostRuntime) -> Result<(), TextFault> {
-    let alloc = rt.alloc();
-    let steps: [Step; 1] = [Step::Bound(7, b"1")];
-    assert!(rt; solves(alloc, &steps, &[b"any()"], b"any()")?);
-    let none: [Step; 1] = [Step::Bound(7, b"none()")];
-    assert!(rt; solves(alloc, &none, &[b"any()"], b"bottom")?);
+    assert!(rt; solves_all(rt.alloc(), PAST_THE_END)?);
     Ok(())
 }
 
@@ -301,16 +319,16 @@ fn counts(
     after: &[u8],
 ) -> Result<bool, TextFault> {
     let begin = Env::Types(types(alloc, before)?);
-    let solution = counted::<Brand>(alloc, Blank::new(1), c, begin)?;
-    let text = written(alloc, &solution)?;
-    Ok(text.as_slice() == after)
+    let solution = counted::<Brand>(alloc, Blank::new(1), c, begin);
+    Ok(made_is(alloc, solution, after)?)
 }
+
+const COUNTED: &[Step<'static>] = &[Step::Equal(0, 1), Step::Bound(1, b"1 | 2")];
 
 #[test]
 fn counting_changes_nothing(rt: HostRuntime) -> Result<(), TextFault> {
     let alloc = rt.alloc();
-    let steps: [Step; 2] = [Step::Equal(0, 1), Step::Bound(1, b"1 | 2")];
-    let c = all(alloc, &steps)?;
+    let c = all(alloc, COUNTED)?;
     let answer = counts(alloc, &c, &[b"2 | 3", b"any()"], b"2; 2");
     discard(c);
     assert!(rt; answer?);
@@ -345,20 +363,34 @@ fn count_of(env: &Env, ty: &Ty) -> usize {
     }
 }
 
-// How many parts are narrowed in solving the chain, and how many slots are `'a'` then.
-fn chain_visits(alloc: Global, c: &Constraint) -> Result<(u64, usize), TextFault> {
-    let begin = Env::Types(free_slots(alloc, 1000)?);
+// How many of the types have this text.
+fn count_of_text(alloc: Global, env: &Env, text: &[u8]) -> Result<usize, TextFault> {
+    let ty = read(alloc, text)?;
+    let count = count_of(env, &ty);
+    drop(ty);
+    Ok(count)
+}
+
+// How many parts are narrowed in solving for so many slots, and how many slots have the text then.
+fn visits(
+    alloc: Global,
+    c: &Constraint,
+    slots: usize,
+    text: &[u8],
+) -> Result<(u64, usize), TextFault> {
+    let begin = Env::Types(free_slots(alloc, slots)?);
     let mut visits = 0;
     let solution = solve_noted(alloc, c, begin, &mut visits)?;
-    let wanted = read(alloc, b"'a'")?;
-    Ok((visits, count_of(&solution, &wanted)))
+    let count = count_of_text(alloc, &solution, text);
+    drop(solution);
+    Ok((visits, count?))
 }
 
 #[test]
 fn a_long_chain_takes_few_visits(rt: HostRuntime) -> Result<(), TextFault> {
     let alloc = rt.alloc();
     let c = chain(alloc)?;
-    let answer = chain_visits(alloc, &c);
+    let answer = visits(alloc, &c, 1000, b"'a'");
     discard(c);
     let (visits, settled) = answer?;
     assert!(rt; settled == 1000);
@@ -389,21 +421,14 @@ fn levels(alloc: Global) -> Result<List<Step<'static>>, Memory> {
     Ok(steps)
 }
 
-// How many parts are narrowed in solving the levels, and how many slots are `'p' | 'q'` then.
-fn level_visits(alloc: Global, c: &Constraint) -> Result<(u64, usize), TextFault> {
-    let begin = Env::Types(free_slots(alloc, 62)?);
-    let mut visits = 0;
-    let solution = solve_noted(alloc, c, begin, &mut visits)?;
-    let wanted = read(alloc, b"'p' | 'q'")?;
-    Ok((visits, count_of(&solution, &wanted)))
-}
-
 #[test]
 fn nested_alternatives_are_solved_on(rt: HostRuntime) -> Result<(), TextFault> {
     let alloc = rt.alloc();
     let steps = levels(alloc)?;
-    let c = all(alloc, steps.as_slice())?;
-    let answer = level_visits(alloc, &c);
+    let c = all(alloc, steps.as_slice());
+    drop(steps);
+    let c = c?;
+    let answer = visits(alloc, &c, 62, b"'p' | 'q'");
     discard(c);
     let (visits, settled) = answer?;
     assert!(rt; settled == 2);

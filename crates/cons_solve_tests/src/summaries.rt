@@ -86,45 +86,76 @@ fn is_closed(
     let closed = is_undefined(known, home, f) && is_undefined(known, home, g);
     known.set(home, g, Callee::Unknown)?;
     let copy = known.copy(alloc)?;
-    Ok(
-        closed
-            && is_undefined(&copy, home, f)
-            && is_unknown(&copy, home, g)
-            && is_unknown(&copy, other, f),
-    )
+    let copied = is_undefined(&copy, home, f)
+        && is_unknown(&copy, home, g)
+        && is_unknown(&copy, other, f);
+    drop(copy);
+    Ok(closed && copied)
+}
+
+// The three, each in new summaries.
+fn is_found_in_new(alloc: Global, f: &FunName, g: &FunName) -> Result<bool, Memory> {
+    let home = Atom::new(alloc, b"m")?;
+    let other = Atom::new(alloc, b"n")?;
+    let mut known = Summaries::new(alloc);
+    let found = is_found(&mut known, &home, &other, f, g);
+    drop(known);
+    drop(home);
+    drop(other);
+    found
+}
+
+fn is_replaced_in_new(alloc: Global, f: &FunName, g: &FunName) -> Result<bool, Memory>
+    requires { f.now.arity ≡ 0 }
+{
+    let home = Atom::new(alloc, b"m")?;
+    let mut known = Summaries::new(alloc);
+    let replaced = is_replaced(alloc, &mut known, &home, f, g);
+    drop(known);
+    drop(home);
+    replaced
+}
+
+fn is_closed_in_new(alloc: Global, f: &FunName, g: &FunName) -> Result<bool, Memory> {
+    let home = Atom::new(alloc, b"m")?;
+    let other = Atom::new(alloc, b"n")?;
+    let mut known = Summaries::new(alloc);
+    let closed = is_closed(alloc, &mut known, &home, &other, f, g);
+    drop(known);
+    drop(home);
+    drop(other);
+    closed
 }
 
 #[test]
 fn callees_are_found(rt: HostRuntime) -> Result<(), Memory> {
-    let alloc = rt.alloc();
-    let home = Atom::new(alloc, b"m")?;
-    let other = Atom::new(alloc, b"n")?;
-    let f = name(alloc, b'f')?;
-    let g = name(alloc, b'g')?;
-    let mut known = Summaries::new(alloc);
-    assert!(rt; is_found(&mut known, &home, &other, &f, &g)?);
+    let f = name(rt.alloc(), b'f')?;
+    let g = name(rt.alloc(), b'g')?;
+    let found = is_found_in_new(rt.alloc(), &f, &g);
+    drop(f);
+    drop(g);
+    assert!(rt; found?);
     Ok(())
 }
 
 #[test]
 fn a_summary_is_replaced(rt: HostRuntime) -> Result<(), Memory> {
-    let alloc = rt.alloc();
-    let home = Atom::new(alloc, b"m")?;
-    let f = name(alloc, b'f')?;
-    let g = name(alloc, b'g')?;
-    let mut known = Summaries::new(alloc);
-    assert!(rt; is_replaced(alloc, &mut known, &home, &f, &g)?);
+    let f = name(rt.alloc(), b'f')?;
+    let g = name(rt.alloc(), b'g')?;
+    let replaced = is_replaced_in_new(rt.alloc(), &f, &g);
+    drop(f);
+    drop(g);
+    assert!(rt; replaced?);
     Ok(())
 }
 
 #[test]
 fn a_module_is_closed(rt: HostRuntime) -> Result<(), Memory> {
-    let alloc = rt.alloc();
-    let home = Atom::new(alloc, b"m")?;
-    let other = Atom::new(alloc, b"n")?;
-    let f = name(alloc, b'f')?;
-    let g = name(alloc, b'g')?;
-    let mut known = Summaries::new(alloc);
-    assert!(rt; is_closed(alloc, &mut known, &home, &other, &f, &g)?);
+    let f = name(rt.alloc(), b'f')?;
+    let g = name(rt.alloc(), b'g')?;
+    let closed = is_closed_in_new(rt.alloc(), &f, &g);
+    drop(f);
+    drop(g);
+    assert!(rt; closed?);
     Ok(())
 }

@@ -27,18 +27,48 @@ pub fn narrowing_is_monotone()
     monotone_laws();
 }
 
+// What of a list may have this head and this tail.
+fn narrowed_by_parts(alloc: Global, list: &Ty, head: &Ty, tail: &Ty) -> Result<Ty, Memory>
+    ensures below { IfOk result (λ n. Below n list.now) }
+    ensures keeps { IfOk result (λ n. (x y : Value) → HasType (cons_value x y) list.now → HasType x head.now → HasType y tail.now → HasType (cons_value x y) n) }
+{
+    let made = Ty::cons(alloc, head, tail, Ends::Proper)?;
+    let lists = narrowed(alloc, list, &made);
+    drop(made);
+    lists
+}
+
+// What of a head may stand in a list.
+fn head_in(alloc: Global, list: &Ty, head: &Ty) -> Result<Ty, Memory>
+    ensures below { IfOk result (λ n. Below n head.now) }
+    ensures keeps { IfOk result (λ n. (x y : Value) → HasType (cons_value x y) list.now → HasType x head.now → HasType x n) }
+{
+    let heads = list.elem(alloc)?;
+    let first = narrowed(alloc, head, &heads);
+    drop(heads);
+    first
+}
+
+// What of a tail may stand in a list.
+fn tail_in(alloc: Global, list: &Ty, tail: &Ty) -> Result<Ty, Memory>
+    ensures below { IfOk result (λ n. Below n tail.now) }
+    ensures keeps { IfOk result (λ n. (x y : Value) → HasType (cons_value x y) list.now → HasType y tail.now → HasType y n) }
+{
+    let tails = list.tail(alloc)?;
+    let rest = narrowed(alloc, tail, &tails);
+    drop(tails);
+    rest
+}
+
 /// A list narrowed by its head and its tail, and these by the list: where the three have values that
 /// are a cons, its head and its tail, they have them still. `Memory` comes if allocation fails.
 pub fn narrowed_list(alloc: Global, list: &Ty, head: &Ty, tail: &Ty) -> Result<(Ty, Ty, Ty), Memory>
     ensures below { IfOk result (λ r. Below r.0 list.now × (Below r.1 head.now × Below r.2 tail.now)) }
     ensures keeps { IfOk result (λ r. (x y : Value) → HasType (cons_value x y) list.now → HasType x head.now → HasType y tail.now → HasType (cons_value x y) r.0 × (HasType x r.1 × HasType y r.2)) }
 {
-    let made = Ty::cons(alloc, head, tail, Ends::Proper)?;
-    let lists = narrowed(alloc, list, &made)?;
-    let heads = lists.elem(alloc)?;
-    let tails = lists.tail(alloc)?;
-    let first = narrowed(alloc, head, &heads)?;
-    let rest = narrowed(alloc, tail, &tails)?;
+    let lists = narrowed_by_parts(alloc, list, head, tail)?;
+    let first = head_in(alloc, &lists, head)?;
+    let rest = tail_in(alloc, &lists, tail)?;
     Ok((lists, first, rest))
 }
 

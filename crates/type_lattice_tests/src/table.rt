@@ -6,7 +6,7 @@ use type_lattice::Ty;
 use type_meaning::{Value, value_in};
 use type_text::{TextFault, read};
 
-const TYPES: [&[u8]; 44] = [
+const TYPES: &[&[u8]] = &[
     b"none()",
     b"any()",
     b"atom()",
@@ -53,26 +53,34 @@ const TYPES: [&[u8]; 44] = [
     b"{'n01'} | {'n02'} | {'n03'} | {'n04'} | {'n05'} | {'n06'} | {'n07'} | {'n08'} | {'n09'} | {'n10'} | {'n11'} | {'n12'} | {'n13'}",
 ];
 
+// Whether a value is in the meet and the join of two types as it is in the types.
+fn fits(v: &Value, types: (&Ty, &Ty), met: &Ty, joined: &Ty) -> bool {
+    let (s, t) = types;
+    let in_s = value_in(v, s);
+    let in_t = value_in(v, t);
+    value_in(v, met) == (in_s && in_t) && (!(in_s || in_t) || value_in(v, joined))
+}
+
+// The same of all values, and none is in the first type alone where the second includes it.
+fn all_fit(types: (&Ty, &Ty), met: &Ty, joined: &Ty, values: &[Value]) -> bool {
+    let (s, t) = types;
+    let below = s.leq(t);
+    for v in values {
+        if !fits(v, types, met, joined) || below && value_in(v, s) && !value_in(v, t) {
+            return false;
+        }
+    }
+    met.leq(s) && met.leq(t) && s.leq(joined) && t.leq(joined)
+}
+
 // What a pair of types answers agrees with which values they have.
 fn agree(alloc: Global, s: &Ty, t: &Ty, values: &[Value]) -> Result<bool, Memory> {
     let met = s.meet(alloc, t)?;
     let joined = s.join(alloc, t)?;
-    let below = s.leq(t);
-    let mut apart = false;
-    for v in values {
-        let in_s = value_in(v, s);
-        let in_t = value_in(v, t);
-        if value_in(v, &met) != (in_s && in_t) {
-            return Ok(false);
-        }
-        if (in_s || in_t) && !value_in(v, &joined) {
-            return Ok(false);
-        }
-        if in_s && !in_t {
-            apart = true;
-        }
-    }
-    Ok(!(below && apart) && met.leq(s) && met.leq(t) && s.leq(&joined) && t.leq(&joined))
+    let answer = all_fit((s, t), &met, &joined, values);
+    drop(met);
+    drop(joined);
+    Ok(answer)
 }
 
 // The types of the table.
@@ -95,15 +103,28 @@ fn agrees(alloc: Global, s: &Ty, types: &[Ty], values: &[Value]) -> Result<bool,
     Ok(true)
 }
 
+// Whether each type of the table agrees with each.
+fn all_agree(alloc: Global, types: &[Ty], values: &[Value]) -> Result<bool, Memory> {
+    for s in types {
+        if !agrees(alloc, s, types, values)? {
+            return Ok(false);
+        }
+    }
+    Ok(true)
+}
+
+fn types_agree(alloc: Global, values: &[Value]) -> Result<bool, TextFault> {
+    let types = types(alloc)?;
+    let answer = all_agree(alloc, types.as_slice(), values);
+    drop(types);
+    Ok(answer?)
+}
+
 #[test]
 fn calls_agree_with_membership(rt: HostRuntime) -> Result<(), TextFault> {
-    let alloc = rt.alloc();
-    let values = values(alloc)?;
+    let values = values(rt.alloc())?;
     assert_eq!(rt; values.len(), 64);
-    let types = types(alloc)?;
-    for s in types.as_slice() {
-        assert!(rt; agrees(alloc, s, types.as_slice(), values.as_slice())?);
-    }
+    assert!(rt; types_agree(rt.alloc(), values.as_slice())?);
     Ok(())
 }
 
@@ -111,17 +132,27 @@ fn calls_agree_with_membership(rt: HostRuntime) -> Result<(), TextFault> {
 fn meets_below_join(alloc: Global, s: &Ty, t: &Ty) -> Result<bool, Memory> {
     let met = s.meet(alloc, t)?;
     let joined = s.join(alloc, t)?;
-    Ok(met.leq(&joined))
+    let below = met.leq(&joined);
+    drop(met);
+    drop(joined);
+    Ok(below)
+}
+
+// The same of each pair of types.
+fn all_meets_below_joins(alloc: Global, types: &[Ty]) -> Result<bool, Memory> {
+    for s in types {
+        for t in types {
+            if !meets_below_join(alloc, s, t)? {
+                return Ok(false);
+            }
+        }
+    }
+    Ok(true)
 }
 
 #[test]
 fn meets_are_below_joins(rt: HostRuntime) -> Result<(), TextFault> {
-    let alloc = rt.alloc();
-    let types = types(alloc)?;
-    for s in types.as_slice() {
-        for t in types.as_slice() {
-            assert!(rt; meets_below_join(alloc, s, t)?);
-        }
-    }
+    let types = types(rt.alloc())?;
+    assert!(rt; all_meets_below_joins(rt.alloc(), types.as_slice())?);
     Ok(())
 }
