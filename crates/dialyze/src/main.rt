@@ -11,7 +11,7 @@ use std::sync::Wait;
 use std::thread::{Builder, Threads};
 use std::{env, thread};
 
-// The stack of the thread that carries the command out, in bytes: the deepest text takes 5 MiB.
+// The stack of the thread that carries the command out, in bytes: the deepest text takes up to 7 MiB.
 const STACK_SIZE: usize = 16 * 1024 * 1024;
 
 fn main(rt: HostRuntime) -> ExitCode {
