@@ -1,5 +1,5 @@
 -- What is known where entries are entered: exports, an entry, and the entries of a group.
-use Rattle.std.proofs.Common.{◌≡◌, ℕ, suc, ◌<◌, Bool, true, false, cond, ◌||◌, ◌&&◌, List, [], ◌∷◌, ◌⊎◌, length, get_or, drop, Option, Some, None, refl, sym, ap, ◌∙◌, subst, true≢false, drop-cons}
+use Rattle.std.proofs.Common.{◌≡◌, ℕ, suc, ◌<◌, Bool, true, false, cond, ◌||◌, ◌&&◌, List, [], ◌∷◌, length, get_or, drop, Option, Some, None, refl, sym, ap, ◌∙◌, true≢false, drop-cons}
 use Rattle.std.specs.List.{list_all}
 use Rattle.std.proofs.lemmas.Bool.{and_parts}
 use Rattle.std.proofs.lemmas.List.Folds.{list_all_at}
@@ -8,9 +8,8 @@ use Rattle.core_ast.specs.declared.syntax.FunName.{FunName}
 use Rattle.core_scope.specs.Names.{same_atom}
 use Rattle.cons_tree.specs.Callees.{same_home, same_name, as_called}
 use Rattle.cons_tree.specs.declared.parts.Summary.{Summary}
-use Rattle.cons_tree.specs.declared.parts.Callee.{Callee}
-use Rattle.cons_tree.specs.declared.parts.Callee.TheVariants.{Known, Local, Undefined, Unknown}
-use Rattle.cons_tree.proofs.NameLaws.{home_is, home_itself, name_is, name_itself}
+use Rattle.cons_tree.specs.declared.parts.Callee.TheVariants.{Known, Undefined}
+use Rattle.cons_tree.proofs.NameLaws.{home_is, home_itself}
 use Rattle.comp_rounds.specs.Rounds.{Callees, with_callee}
 use Rattle.comp_rounds.proofs.SameCallees.{pointwise}
 use Rattle.table_file.specs.Rules.{is_export}
@@ -21,15 +20,6 @@ use Rattle.analysis.specs.steps.Entering.{among_or, with_exports, with_entry, wi
 use Rattle.analysis.specs.steps.Deciding.{seen}
 
 -- ---- one export
-
-pub set_so : (old new : Callees) (home : Atom) (name : FunName) (callee : Callee) → new home name ≡ callee → ((h : Atom) (f : FunName) → ((h ≡ home) × (f ≡ name) → ⊥) → new h f ≡ old h f)
-    → new ≡ with_callee old home name callee
-set_so old new home name callee set others = pointwise new (with_callee old home name callee) (λ h f. by h f (same_home h home) refl (same_name f name) refl)
-  where
-    by : (h : Atom) (f : FunName) (a : Bool) → same_home h home ≡ a → (b : Bool) → same_name f name ≡ b → new h f ≡ cond (a && b) callee (old h f)
-    by h f true a true b = ap (λ k. new k f) (home_is h home a) ∙ ap (new home) (name_is f name b) ∙ set
-    by h f true a false b = others h f (λ e. true≢false (sym (ap (same_name f) (sym e.1) ∙ name_itself f) ∙ b))
-    by h f false a c b = others h f (λ e. true≢false (sym (ap (same_home h) (sym e.0) ∙ home_itself h) ∙ a))
 
 -- ---- exports, the last ones first
 

@@ -1,42 +1,25 @@
 -- Modules that are handed in, as sources: accepted, with distinct names, and each defines what it exports.
-use Rattle.std.proofs.Common.{◌≡◌, ℕ, zero, suc, ◌<◌, Bool, true, List, [], ◌∷◌, ◌⊎◌, inl, inr, map, length, slice_get, Option, Some, Contains, refl, sym, ap, ap₂, ◌∙◌, subst, arith}
+use Rattle.std.proofs.Common.{◌≡◌, ℕ, zero, suc, ◌<◌, true, List, [], ◌∷◌, inl, inr, map, length, slice_get, Some, Contains, refl, sym, ap, ◌∙◌, subst, arith}
 use Rattle.std.specs.Prelude.{option_map}
 use Rattle.std.proofs.lemmas.Bool.{cases_lt}
 use Rattle.std.proofs.lemmas.Option.{slice_get-map, slice_get_within}
-use Rattle.type_kinds.proofs.Lists.{contains_none, contains_first, contains_later, contains_cases, contains_at, item_at}
+use Rattle.type_kinds.proofs.Lists.{contains_none, contains_cases, contains_at}
 use Rattle.type_kinds.specs.declared.atom.Atom.{Atom}
-use Rattle.type_kinds.specs.declared.place.Place.{Place}
 use Rattle.core_ast.specs.declared.syntax.FunName.{FunName}
 use Rattle.core_ast.specs.Model as m
-use Rattle.core_scope.specs.Breaks.{unless, export_breaks, module_breaks, next_place, other_places, new_functions, def_breaks}
 use Rattle.core_scope.specs.Checked.{module_of, tree_of, is_accepted}
-use Rattle.core_scope.specs.Names.{Distinct, defined_names, has_function, module_scope}
+use Rattle.core_scope.specs.Names.{Distinct, defined_names, has_function}
 use Rattle.core_scope.specs.Sets.{StandsEarlier}
-use Rattle.core_scope.specs.declared.checked.Checked.{Checked}
-use Rattle.core_scope.specs.declared.fault.ScopeRule.TheVariants.{DefinedExports}
-use Rattle.core_scope.proofs.NameLaws.{contained_has, none_earlier}
-use Rattle.core_scope.proofs.Unbroken.{open_two, open_three, holds}
-use Rattle.sound_laws.specs.Accepted.{AreAccepted}
+use Rattle.core_scope.proofs.NameLaws.{none_earlier}
 use Rattle.analysis_summaries.specs.Known.{module_names}
 use Rattle.table_keep.specs.declared.source.Source.{Source as HandedIn}
 use Rattle.table_keep.specs.Model.{Source, source_so, sources_so, trees}
+use Rattle.sound_laws_whole.proofs.Wholes.{exports_defined}
 use Rattle.sound_laws_kept.specs.Solving.{AreSources}
+use Rattle.sound_laws_kept.proofs.Names.{accepted_sources}
 use Rattle.analysis.proofs.Opened.{DefinesExports}
 
 -- ---- each module defines what it exports
-
-export_defined : (functions exports : List FunName) (positions : List Place) → export_breaks functions exports positions ≡ [] → (f : FunName) → Contains exports f → Contains functions f
-export_defined functions [] positions e f has = absurd (contains_none f has)
-export_defined functions (g ∷ exports) positions e f has =
-    let parts = open_two (unless (has_function functions g) DefinedExports (next_place positions)) (export_breaks functions exports (other_places positions)) e in
-    elim (contains_cases g f exports has) [
-      | inl same ↦ subst (Contains functions) same (contained_has functions g (holds (has_function functions g) DefinedExports (next_place positions) parts.0))
-      | inr more ↦ export_defined functions exports (other_places positions) parts.1 f more
-    ]
-
-exports_defined : (p : m.Module) → module_breaks p ≡ [] → (f : FunName) → has_function p.exports f ≡ true → Contains (defined_names p.defs) f
-exports_defined p sound f e =
-    export_defined (defined_names p.defs) p.exports p.export_places (open_three (new_functions [] p.defs) (export_breaks (defined_names p.defs) p.exports p.export_places) (def_breaks (module_scope p) p.defs) sound).1 f (contained_has p.exports f e)
 
 pub all_define : (ss : List HandedIn) → DefinesExports (trees (sources_so ss))
 all_define [] x has = absurd (contains_none x has)
@@ -51,17 +34,13 @@ pub names_so : (ss : List HandedIn) → map (λ s. (module_of s.checked).name) s
 names_so [] = refl
 names_so (s ∷ ss) = ap (λ hs. (module_of s.checked).name ∷ hs) (names_so ss)
 
-accepted : (ss : List HandedIn) → AreAccepted (trees (sources_so ss))
-accepted [] = tt
-accepted (s ∷ ss) = ((s.checked, refl), accepted ss)
-
 counted : (ss : List HandedIn) → length ss ≡ length (map (λ s. (module_of s.checked).name) ss)
 counted [] = refl
 counted (s ∷ ss) = ap suc (counted ss)
 
 pub are_sources : (ss : List HandedIn) → ((j : ℕ) → j < length ss → StandsEarlier (map (λ s. (module_of s.checked).name) ss) j → ⊥) → AreSources (sources_so ss)
 are_sources ss once = record {
-  accepted = accepted ss;
+  accepted = accepted_sources ss;
   distinct = subst Distinct (names_so ss) (none_earlier (map (λ s. (module_of s.checked).name) ss) (λ j low. once j (subst (λ n. j < n) (sym (counted ss)) low)));
 }
 

@@ -1,5 +1,5 @@
 -- Entries by name: a map of them, the list that it gives, and those of a table that are kept.
-use Rattle.std.proofs.Common.{◌≡◌, ◌↔◌, ℕ, ◌<◌, ◌≤◌, arith, length, drop, append-nil, Bool, true, false, not, cond, ◌&&◌, List, [], ◌∷◌, ◌++◌, map, filter, Option, Some, None, Result, Ok, Err, OnOk, OnErr, Less, Equal, Greater, is_lt, is_eq, IsTrue, refl, sym, ap, ap₂, ◌∙◌, subst}
+use Rattle.std.proofs.Common.{◌≡◌, ◌↔◌, ℕ, ◌<◌, ◌≤◌, arith, length, drop, append-nil, Bool, true, false, not, cond, List, [], ◌∷◌, ◌++◌, map, Option, Some, None, Result, Ok, Err, OnOk, OnErr, Less, Equal, Greater, is_lt, is_eq, refl, sym, ap, ap₂, ◌∙◌, subst}
 use Rattle.std.specs.Prelude.{option_map, IsSome}
 use Rattle.std.specs.declared.cmp.Ordering.{Ordering}
 use Rattle.std.specs.Ordering.{match_ordering}
@@ -8,8 +8,8 @@ use Rattle.std.specs.Map.{lookup, keys_of, values_of}
 use Rattle.std.specs.List.Sorted.{IsStrictlySortedBy}
 use Rattle.std.specs.Cmp.Lexicographic.{texts_ties}
 use Rattle.std.proofs.lemmas.Bool.{and_from, and_parts}
+use Rattle.std.proofs.lemmas.Cmp.{nat_list_eq_equiv}
 use Rattle.std.proofs.lemmas.List.{drop_all}
-use Rattle.type_kinds.proofs.Truths.{same_tests}
 use Rattle.type_kinds.specs.declared.atom.Atom.{Atom}
 use Rattle.type_kinds_sets.specs.Ascending.{is_below_all}
 use Rattle.type_kinds_sets.specs.Names.{name_cmp}
@@ -17,7 +17,7 @@ use Rattle.type_kinds_sets.proofs.NameLaws.{name_same}
 use Rattle.core_scope.specs.Names.{same_atom}
 use Rattle.table_file.specs.Order.{rises, rises_from, is_name_before}
 use Rattle.table_file.specs.declared.entries.Entry.{Entry as StoredEntry}
-use Rattle.table_keep.specs.Model.{Entry, entry_so, entry_of}
+use Rattle.table_keep.specs.Model.{entry_so, entry_of}
 use Rattle.table_keep.specs.Groups.{has}
 use Rattle.sound_laws_kept.proofs.Graphs.{below_all, rises_behind}
 use Rattle.sound_laws_kept.proofs.Names.{itself, name_is}
@@ -44,9 +44,6 @@ keyed_more (e ∷ es) k v keyed own = by (name_cmp k e.0) refl (keyed_more es k 
     by Equal is rest = keyed_by e.0 v es (own ∙ name_same k e.0 is) (others_keyed e es keyed)
     by Greater is rest = and_from (same_atom e.1.name e.0) (are_keyed (insert_entry name_cmp es k v)) (and_parts (same_atom e.1.name e.0) (are_keyed es) keyed).0 rest
 
-turned : (a b : Atom) → same_atom a b ≡ same_atom b a
-turned a b = same_tests (same_atom a b) (same_atom b a) (λ e. ap (same_atom b) (name_is a b e) ∙ itself b) (λ e. ap (same_atom a) (name_is b a e) ∙ itself a)
-
 -- whatever comes of putting an entry under its name
 pub keyed_put : {A E : Type 0} (r : Result A E) (old new : List (Atom × StoredEntry)) (k : Atom) (v : StoredEntry) → OnOk r (new ≡ insert_entry name_cmp old k v) → OnErr r (new ≡ old)
     → are_keyed old ≡ true → v.name ≡ k → are_keyed new ≡ true
@@ -55,7 +52,7 @@ keyed_put (Err x) old new k v put stays keyed own = subst (λ es. are_keyed es �
 
 -- whether a name is the key
 pub key_test : (k h own : Atom) → k ≡ own → is_at (name_cmp k) h ≡ same_atom h own
-key_test k h own is = sym (texts_ties k h) ∙ turned k h ∙ ap (same_atom h) is
+key_test k h own is = sym (texts_ties k h) ∙ nat_list_eq_equiv.symm k h ∙ ap (same_atom h) is
 
 pub stored_more : (before after : Option StoredEntry) (k h : Atom) (e : StoredEntry) → k ≡ e.name → after ≡ cond (is_at (name_cmp k) h) (Some e) before
     → option_map entry_so after ≡ cond (same_atom h e.name) (Some (entry_so e)) (option_map entry_so before)

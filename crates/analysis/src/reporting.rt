@@ -15,18 +15,23 @@ use type_kinds::{Bytes, List, Memory};
 
 /// A report, with the position of its module.
 #[derive(Drop)]
-pub struct Made {
+pub struct ModuleReport {
     at: usize,
     lines: Bytes,
 }
 
 // Reports on the module at a position.
-fn made_at(alloc: Global, sources: &[Source], known: &Summaries, at: usize) -> Result<Made, Memory>
+fn made_at(
+    alloc: Global,
+    sources: &[Source],
+    known: &Summaries,
+    at: usize,
+) -> Result<ModuleReport, Memory>
     requires { at < length sources.now }
     ensures { IfOk result (λ made. IsMade (found known.now) (sources_so sources.now) made) }
 {
     let lines = report_on(alloc, &sources[at].checked, known)?;
-    Ok(Made { at, lines })
+    Ok(ModuleReport { at, lines })
 }
 
 // Adds the report on the module at a position, if there is one.
@@ -36,7 +41,7 @@ fn add_made(
     sources: &[Source],
     known: &Summaries,
     at: usize,
-    list: &mut List<Made>,
+    list: &mut List<ModuleReport>,
 ) -> Result<(), Memory>
     requires { All (IsMade (found known.now) (sources_so sources.now)) list.old }
     ensures { OnOk result (All (IsMade (found known.now) (sources_so sources.now)) list.new) }
@@ -55,7 +60,7 @@ fn work_off(
     known: &Summaries,
     wanted: &[usize],
     next: &AtomicU64,
-) -> Result<List<Made>, Memory>
+) -> Result<List<ModuleReport>, Memory>
     ensures { IfOk result (λ list. All (IsMade (found known.now) (sources_so sources.now)) list) }
 {
     let mut list = List::new(alloc);
@@ -88,7 +93,7 @@ fn keep_all(
     sources: &[Source],
     known: &Summaries,
     kept: &mut List<Option<Bytes>>,
-    mut list: List<Made>,
+    mut list: List<ModuleReport>,
 )
     requires counted { length kept.old ≡ length sources.now }
     requires before { AreKept (found known.now) (sources_so sources.now) kept.old }
@@ -97,7 +102,7 @@ fn keep_all(
     ensures kept { AreKept (found known.now) (sources_so sources.now) kept.new }
 {
     while let Some(made) = list.pop() {
-        let Made { at, lines } = made;
+        let ModuleReport { at, lines } = made;
         discard(kept.replace(at, Some(lines)));
     }
 }
@@ -120,7 +125,7 @@ pub fn made_by_workers<R: Threads + Sync>(
         rt,
         alloc,
         workers as usize,
-        &|_seat: usize| -> Result<List<Made>, Memory>
+        &|_seat: usize| -> Result<List<ModuleReport>, Memory>
             ensures { IfOk result (λ list. All (IsMade (found known.entry.now) (sources_so sources.entry.now)) list) }
         { work_off(alloc, sources, known, wanted, shared) },
     ) {

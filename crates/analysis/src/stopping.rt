@@ -1,19 +1,17 @@
 //! Before which groups a wave stops.
 ghost use Rattle.std.specs.Prelude.{◌≡◌, map, IfOk};
-ghost use Rattle.std.specs.Cmp.Lexicographic.{pointwise};
 ghost use Rattle.core_scope.specs.Checked.{tree_of};
-ghost use Rattle.core_scope.specs.Names.{same_atom};
 ghost use Rattle.table_keep.specs.Calls.{called_modules};
-ghost use Rattle.table_keep.specs.Kept.{calls_of, is_old};
-ghost use Rattle.table_keep.specs.Lists.{found_at, member_names, IsMemberOf, IsWithin};
-ghost use Rattle.table_keep.specs.Model.{entries_so, entry_of, entry_so, source_of, sources_so, used_so};
+ghost use Rattle.table_keep.specs.Kept.{calls_of};
+ghost use Rattle.table_keep.specs.Lists.{member_names, IsMemberOf};
+ghost use Rattle.table_keep.specs.Model.{entries_so, entry_of, source_of, sources_so, used_so};
 ghost use Rattle.sound_laws_kept.specs.Waves.{all_may_stand, any_in, entry_may_stand, stops, touches, used_homes, uses_any};
 ghost use Rattle.analysis.specs.steps.Members.{AreMembersOf, HasEntry};
 
 use core_scope::{Checked, Names};
 use std::alloc::Global;
-use table_file::{Entry, Table, Used};
-use table_keep::{GroupMember, Source, called_functions, called_modules};
+use table_file::{Table, Used};
+use table_keep::{GroupMember, Source, called_functions, called_modules, entry_may_stand};
 use type_kinds::{Atom, Memory};
 
 /// Whether a wave stops before this group: its entries may be kept, and it calls or uses a module that is to be solved, so
@@ -59,40 +57,10 @@ fn may_stand(sources: &[Source], table: &Table, group: &[GroupMember], member: &
     match member.entry {
         Some(at) => {
             let entry = table.entries.at(at as usize);
-            is_old(sources, member.source, entry) && has_group(entry, group)
+            entry_may_stand(sources, member.source, entry, group)
         }
         None => false,
     }
-}
-
-// Whether the text is the one of the entry, or isn't handed in.
-fn is_old(sources: &[Source], source: Option<u32>, entry: &Entry) -> bool
-    requires { IsWithin sources.now source }
-    ensures { result ≡ is_old (found_at (sources_so sources.now) source) (entry_so entry.now) }
-{
-    match source {
-        Some(at) => {
-            let source = &sources[at as usize];
-            source.digest == entry.digest
-        }
-        None => true,
-    }
-}
-
-// Whether an entry's group is this one.
-fn has_group(entry: &Entry, group: &[GroupMember]) -> bool
-    ensures { result ≡ pointwise same_atom entry.now.group (member_names group.now) }
-{
-    let names = entry.group.as_slice();
-    if names.len() != group.len() {
-        return false;
-    }
-    for (at, name) in names.iter().enumerate() {
-        if *name != group[at].name {
-            return false;
-        }
-    }
-    true
 }
 
 // Whether a member calls a module that is to be solved, or its entry uses one.

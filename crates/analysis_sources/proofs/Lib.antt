@@ -1,4 +1,5 @@
 mod SourceExits
+mod TextsRead
 mod OneReading
 mod OneRead
 mod Readings

@@ -21,7 +21,7 @@ rose_from : (a b n : ℕ) → a ≤ b → Rose b n → Rose a n
 rose_from a b n low (inl up) = inl (omega arith)
 rose_from a b n low (inr last) = inr last
 
-take_whole : (fs : List (List ℕ)) (i : ℕ) → length fs ≤ i → take i fs ≡ fs
+pub take_whole : (fs : List (List ℕ)) (i : ℕ) → length fs ≤ i → take i fs ≡ fs
 take_whole fs i h = take_all i fs h
 
 -- one more file is read

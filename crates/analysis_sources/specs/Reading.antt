@@ -53,3 +53,18 @@ Fails told files first faults_before faults_now (Refused word fault) =
 Fails told files first faults_before faults_now (Failed word) =
     (at : ℕ) × (word ≡ first + at) × ((file : List ℕ) × (before : ℕ) × IsReached told files at file before) × Rose faults_before faults_now
 Fails told files first faults_before faults_now Memory = Unit {0}
+
+-- ---- texts
+
+-- The files are held, and what they hold are these texts.
+abbrev pub AreHeld : (told : Option Files) → (files texts : List (List ℕ)) → Type 0
+AreHeld told [] [] = Unit {0}
+AreHeld told [] (t ∷ ts) = ⊥
+AreHeld told (f ∷ fs) [] = ⊥
+AreHeld told (f ∷ fs) (t ∷ ts) = Holds told f t × AreHeld told fs ts
+
+-- What a fault says of files that hold texts: that of the position it names can't be read. No shelf fails.
+abbrev pub TextFails : (told : Option Files) → (files : List (List ℕ)) → ReadFault → Type 0
+TextFails told files (Refused word fault) = RefusedAt told files word fault
+TextFails told files (Failed word) = ⊥
+TextFails told files Memory = Unit {0}

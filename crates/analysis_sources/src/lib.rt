@@ -8,6 +8,6 @@ mod refusals;
 mod source;
 
 pub use laws::{one_reading, one_reading_of_files};
-pub use reading::{ReadFault, discard_sources, read_sources};
+pub use reading::{ReadFault, discard_sources, read_sources, sources_of};
 pub use refusals::{Device, MISSING, Refusal, RefusalName, SourceFault};
 pub use source::{LONGEST_SOURCE, MOST_BYTES, SourceError, accepted, room_after};

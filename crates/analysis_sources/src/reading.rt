@@ -1,9 +1,9 @@
 //! Files are read one after another, each wholly before the next: its bytes, tokens, tree and scopes.
-ghost use Rattle.std.specs.Prelude.{◌≡◌, ℕ, ◌+◌, ◌-◌, ◌<◌, ◌≤◌, ◌^◌, List, ◌++◌, ◌∷◌, [], length, map, drop, slice_index_or, IfOk, IfErr, OnOk, OnErr};
+ghost use Rattle.std.specs.Prelude.{◌≡◌, ℕ, ◌+◌, ◌-◌, ◌<◌, ◌≤◌, ◌^◌, List, ◌++◌, ◌∷◌, [], length, map, drop, slice_index_or, Option, IfOk, IfErr, OnOk, OnErr};
 ghost use Rattle.da_shelf.specs.Counts.{Rose};
-ghost use Rattle.da_shelf.specs.Told.{Holds};
+ghost use Rattle.da_shelf.specs.Told.{Files, Holds};
 ghost use Rattle.table_keep.specs.Model.{source_so, sources_so};
-ghost use Rattle.analysis_sources.specs.Reading.{AreRead, Fails};
+ghost use Rattle.analysis_sources.specs.Reading.{AreHeld, AreRead, Fails, TextFails};
 ghost use Rattle.analysis_sources.specs.Sources.{room, IsTextOf};
 ghost use Rattle.analysis_sources.specs.Words.{texts};
 ghost use Rattle.analysis_sources.specs.steps.ReadingSteps.{FailsBytes, FailsOne, IsReadAs};
@@ -14,7 +14,7 @@ use da_shelf::{Shelf, ShelfFault};
 use std::alloc::Global;
 use table_file::digest_of;
 use table_keep::{Source, discard_source};
-use type_kinds::{List, Memory};
+use type_kinds::{Bytes, List, Memory};
 
 /// Why files aren't read to sources. The number is the position of the file among the words.
 #[derive(Clone, Copy, Debug, PartialEq, Eq)]
@@ -85,6 +85,41 @@ fn read_all<F: Shelf>(
     let mut before = 0;
     for (at, file) in files.iter().enumerate() {
         let source = read_source(alloc, file, first + at as u32, before, shelf)?;
+        before += source.length as usize;
+        add_source(sources, source)?;
+    }
+    Ok(())
+}
+
+/// The sources of texts, in their order: those of any files that hold them, read one after another. No shelf is asked.
+///
+/// `Refused`: the text of this number is the first that has too many bytes or is the source of no module. It never answers `Failed`.
+pub fn sources_of(alloc: Global, texts: &[Bytes]) -> Result<List<Source>, ReadFault>
+    requires few { length texts.now < 2 ^ 32 }
+    ensures sources { IfOk result (λ sources. (told : Option Files) (files : List (List ℕ)) → AreHeld told files texts.now → (after : ℕ) × AreRead told 0 files (sources_so sources) after) }
+    ensures fault { IfErr result (λ fault. (told : Option Files) (files : List (List ℕ)) → AreHeld told files texts.now → TextFails told files fault) }
+{
+    let mut sources = List::new(alloc);
+    match add_sources(alloc, texts, &mut sources) {
+        Ok(()) => Ok(sources),
+        Err(fault) => {
+            discard_sources(sources);
+            Err(fault)
+        }
+    }
+}
+
+// The same, where the sources go into a list that is empty.
+#[tactic(auto, using(crate::proofs::TextsRead::texts_read))]
+fn add_sources(alloc: Global, texts: &[Bytes], sources: &mut List<Source>) -> Result<(), ReadFault>
+    requires few { length texts.now < 2 ^ 32 }
+    requires empty { sources.old ≡ [] }
+    ensures sources { OnOk result ((told : Option Files) (files : List (List ℕ)) → AreHeld told files texts.now → (after : ℕ) × AreRead told 0 files (sources_so sources.new) after) }
+    ensures fault { IfErr result (λ fault. (told : Option Files) (files : List (List ℕ)) → AreHeld told files texts.now → TextFails told files fault) }
+{
+    let mut before = 0;
+    for (at, text) in texts.iter().enumerate() {
+        let source = source_of(alloc, text.as_slice(), at as u32, before)?;
         before += source.length as usize;
         add_source(sources, source)?;
     }

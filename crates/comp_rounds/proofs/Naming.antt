@@ -1,33 +1,18 @@
 -- Names of functions, and what a function with its summary is under them.
-use Rattle.std.proofs.Common.{◌≡◌, Bool, true, false, cond, ◌&&◌, ◌||◌, List, [], ◌∷◌, ◌++◌, refl, sym, ap, ap₂, ◌∙◌, subst, true≢false}
-use Rattle.std.proofs.lemmas.Bool.{and_from}
+use Rattle.std.proofs.Common.{◌≡◌, Bool, true, false, cond, ◌||◌, List, [], ◌∷◌, ◌++◌, refl, sym, ap, ap₂, ◌∙◌, subst}
 use Rattle.std.proofs.Math.Bool.{or-false}
-use Rattle.comp_rounds.proofs.SameCallees.{pointwise}
-use Rattle.type_kinds.proofs.Truths.{first, second}
+use Rattle.comp_rounds.proofs.SameCallees.{named_is, not_named, set_callee}
 use Rattle.type_kinds.specs.declared.atom.Atom.{Atom}
 use Rattle.core_ast.specs.declared.syntax.Expr.{Expr}
 use Rattle.core_ast.specs.declared.syntax.FunDefOf.{FunDefOf}
 use Rattle.core_ast.specs.declared.syntax.FunName.{FunName}
-use Rattle.cons_tree.specs.Callees.{same_home, same_name, Fits, Takes}
+use Rattle.cons_tree.specs.Callees.{Fits, Takes}
 use Rattle.cons_tree.specs.declared.parts.Callee.{Callee}
 use Rattle.cons_tree.specs.declared.parts.Callee.TheVariants.{Known, Local}
 use Rattle.cons_tree.specs.declared.parts.Summary.{Summary}
-use Rattle.cons_tree.proofs.NameLaws.{home_is, home_itself, name_is, name_itself}
 use Rattle.comp_rounds.specs.declared.members.Member.{Member}
 use Rattle.comp_rounds.specs.Members.{function_of}
 use Rattle.comp_rounds.specs.Rounds.{Function, Callees, arity, is_named, is_member, callee_of, with_callee, with_function}
-
-named_is : (home h : Atom) (name f : FunName) → (same_home h home && same_name f name) ≡ true → (h ≡ home) × (f ≡ name)
-named_is home h name f e =
-    (home_is h home (first (same_home h home) (same_name f name) e), name_is f name (second (same_home h home) (same_name f name) e))
-
-not_named : (home h : Atom) (name f : FunName) → (same_home h home && same_name f name) ≡ false → (h ≡ home) × (f ≡ name) → ⊥
-not_named home h name f e same =
-    true≢false
-    (sym (and_from (same_home home home) (same_name name name) (home_itself home) (name_itself name))
-    ∙ ap (λ k. same_home k home && same_name name name) (sym same.0)
-    ∙ ap (λ n. same_home h home && same_name n name) (sym same.1)
-    ∙ e)
 
 -- ---- what is set under a name
 
@@ -41,15 +26,6 @@ callee_fits x s c d is same takes =
     by : (b : Bool) → Fits (cond b (Known s) (Local s)) x.def.name.arity
     by true = fits
     by false = fits
-
--- one callee was set and all others are as before
-pub set_callee : (old new : Callees) (home : Atom) (name : FunName) (callee : Callee) → new home name ≡ callee → ((h : Atom) (f : FunName) → ((h ≡ home) × (f ≡ name) → ⊥) → new h f ≡ old h f) → new ≡ with_callee old home name callee
-set_callee old new home name callee set others =
-    pointwise new (with_callee old home name callee) (λ h f. by h f (same_home h home && same_name f name) refl)
-  where
-    by : (h : Atom) (f : FunName) (b : Bool) → (same_home h home && same_name f name) ≡ b → new h f ≡ cond b callee (old h f)
-    by h f true e = ap (λ k. new k f) (named_is home h name f e).0 ∙ ap (new home) (named_is home h name f e).1 ∙ set
-    by h f false e = others h f (not_named home h name f e)
 
 pub set_function : (old new : Callees) (g : Function) (s : Summary) (callee : Callee) (name : FunName) → callee ≡ callee_of g s → name ≡ g.name → new g.home name ≡ callee → ((h : Atom) (f : FunName) → ((h ≡ g.home) × (f ≡ name) → ⊥) → new h f ≡ old h f) → new ≡ with_function old g s
 set_function old new g s callee name is same set others =

@@ -1,5 +1,5 @@
 //! The signature of one function, by what a pass knows of those that it calls.
-ghost use Rattle.std.specs.Prelude.{◌≡◌, IfOk, replicate};
+ghost use Rattle.std.specs.Prelude.{◌≡◌, IfOk, IfSome, IsTrue, replicate};
 ghost use Rattle.type_lattice.specs.Types.{any};
 ghost use Rattle.cons_tree.specs.Constraints.{constraint};
 ghost use Rattle.cons_tree.specs.Environments.{State, env_of, type_at};
@@ -8,6 +8,7 @@ ghost use Rattle.cons_gen_rows.specs.Knowing.{knowledge};
 ghost use Rattle.comp_rounds.specs.Members.{function_of};
 ghost use Rattle.comp_rounds.specs.Rounds.{inferred, signature_in};
 
+use crate::constraints::same_constraint;
 use crate::members::Member;
 use crate::signatures::{anys, no_value, signature_of};
 use cons_gen::{Made, generate};
@@ -59,14 +60,109 @@ fn signature_of_solution(alloc: Global, solved: Env, count: usize) -> Result<Sig
     }
 }
 
+/// What was solved last: what was made of a function with so many parameters, and the signature in its greatest solution.
+#[derive(Drop)]
+pub struct Last {
+    made: Made,
+    count: usize,
+    sig: Sig,
+    ghost is: { sig ≡ signature_in count (solution (constraint made.constraint) (replicate made.slots any)) },
+}
+
+/// Drops what was solved.
+pub fn discard_last(_last: Option<Last>) {}
+
+// Whether this is what was solved.
+fn is_made(last: &Last, made: &Made, count: usize) -> bool
+    ensures { IsTrue result → (last.now.made.constraint ≡ made.now.constraint) × (last.now.made.slots ≡ made.now.slots) × (last.now.count ≡ count) }
+{
+    last.made.slots == made.slots
+        && last.count == count
+        && same_constraint(&last.made.constraint, &made.constraint)
+}
+
+// The signature that was found last, if this was solved then.
+fn last_signature(
+    alloc: Global,
+    last: &Option<Last>,
+    made: &Made,
+    count: usize,
+) -> Result<Option<Sig>, Memory>
+    ensures { IfOk result (λ found. IfSome found (λ sig. sig ≡ signature_in count (solution (constraint made.now.constraint) (replicate made.now.slots any)))) }
+{
+    let Some(last) = last else {
+        return Ok(None);
+    };
+    if !is_made(last, made, count) {
+        return Ok(None);
+    }
+    let sig = last.sig.copy(alloc)?;
+    Ok(Some(sig))
+}
+
+// The signature of `count` arguments in the greatest solution of what was made, twice.
+fn solved_signature(alloc: Global, made: &Made, count: usize) -> Result<(Sig, Sig), Memory>
+    ensures { let sig = signature_in count (solution (constraint made.now.constraint) (replicate made.now.slots any)) in IfOk result (λ both. (both.0 ≡ sig) × (both.1 ≡ sig)) }
+{
+    let solved = solve_made(alloc, made)?;
+    let sig = signature_of_solution(alloc, solved, count)?;
+    let copy = sig.copy(alloc)?;
+    Ok((sig, copy))
+}
+
+// This is what was solved last.
+fn keep(made: Made, count: usize, sig: Sig, last: &mut Option<Last>)
+    requires { sig ≡ signature_in count (solution (constraint made.constraint) (replicate made.slots any)) }
+{
+    let kept = Last { made, count, sig };
+    discard_last(std::mem::replace(last, Some(kept)));
+}
+
+// The signature in the greatest solution of what was made, which is what was solved last from now on.
+fn keep_signature(
+    alloc: Global,
+    made: Made,
+    count: usize,
+    last: &mut Option<Last>,
+) -> Result<Sig, Memory>
+    ensures { IfOk result (λ sig. sig ≡ signature_in count (solution (constraint made.constraint) (replicate made.slots any))) }
+{
+    match solved_signature(alloc, &made, count) {
+        Ok((sig, copy)) => {
+            keep(made, count, copy, last);
+            Ok(sig)
+        }
+        Err(Memory) => {
+            discard_made(made);
+            Err(Memory)
+        }
+    }
+}
+
 /// The signature of a member by a pass: its parameters and its result in the greatest solution of its constraint,
-/// where every slot may have any value at first. `Memory` if allocation fails.
-pub fn infer(alloc: Global, member: &Member, known: &Summaries, pass: &Pass) -> Result<Sig, Memory>
+/// where every slot may have any value at first. Where its constraint is the one that was solved last, the answer is that
+/// of then, and nothing is solved. `Memory` if allocation fails.
+pub fn infer(
+    alloc: Global,
+    member: &Member,
+    known: &Summaries,
+    pass: &Pass,
+    last: &mut Option<Last>,
+) -> Result<Sig, Memory>
     ensures { IfOk result (λ sig. sig ≡ inferred (knowledge pass.now known.now) (function_of member.now)) }
 {
     let def = member.def.get();
+    let count = def.fun.params.len();
     let made = generate(alloc, def, &member.home, known, pass)?;
-    let solved = solve_made(alloc, &made);
-    discard_made(made);
-    signature_of_solution(alloc, solved?, def.fun.params.len())
+    match last_signature(alloc, last, &made, count) {
+        Ok(None) => keep_signature(alloc, made, count, last),
+        Ok(Some(sig)) => {
+            discard_made(made);
+            Ok(sig)
+        }
+        Err(Memory) => {
+            discard_made(made);
+            Err(Memory)
+        }
+    }
 }

@@ -2,6 +2,7 @@
 #![tactic(auto)]
 
 mod components;
+mod constraints;
 mod entering;
 mod equality;
 mod inference;

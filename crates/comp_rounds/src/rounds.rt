@@ -9,7 +9,7 @@ ghost use Rattle.comp_rounds.specs.Signatures.{all_below, nothing};
 ghost use Rattle.comp_rounds.specs.Takes.{AllTake};
 
 use crate::entering::{enter_signatures, enter_summaries};
-use crate::inference::infer;
+use crate::inference::{Last, discard_last, infer};
 use crate::members::Member;
 use crate::signatures::{any_value, below, join, no_value, signatures_below};
 use cons_gen_rows::{Members, Pass};
@@ -39,12 +39,13 @@ fn infer_all(
     members: &[Member],
     known: &Summaries,
     pass: &Pass,
+    last: &mut Option<Last>,
 ) -> Result<List<Sig>, Memory>
     ensures { IfOk result (λ sigs. sigs ≡ map (inferred (knowledge pass.now known.now)) (map function_of members.now)) }
 {
     let mut signatures = List::new(alloc);
     for member in members {
-        let sig = infer(alloc, member, known, pass)?;
+        let sig = infer(alloc, member, known, pass, last)?;
         signatures.add(sig)?;
     }
     Ok(signatures)
@@ -84,13 +85,14 @@ fn one_round(
     known: &mut Summaries,
     round: usize,
     signatures: &[Sig],
+    last: &mut Option<Last>,
 ) -> Result<Option<List<Sig>>, Memory>
     requires { AllTake (map function_of members.now) (map of_one signatures.now) }
     ensures known { OnOk result (found known.new ≡ with_signatures (found known.old) (map function_of members.now) signatures.now) }
     ensures next { let gave = given (found known.old) (map function_of members.now) signatures.now in IfOk result (λ next. MatchOption next (IsTrue (all_below gave signatures.now)) (λ sigs. sigs ≡ all_next round signatures.now gave)) }
 {
     enter_signatures(alloc, known, members, signatures)?;
-    let gave = infer_all(alloc, members, known, &Pass::Strict)?;
+    let gave = infer_all(alloc, members, known, &Pass::Strict, last)?;
     if signatures_below(gave.as_slice(), signatures) {
         return Ok(None);
     }
@@ -99,7 +101,12 @@ fn one_round(
 }
 
 // The strict signatures of the members, with which they are known from now on.
-fn strict(alloc: Global, members: &[Member], known: &mut Summaries) -> Result<List<Sig>, Memory>
+fn strict(
+    alloc: Global,
+    members: &[Member],
+    known: &mut Summaries,
+    last: &mut Option<Last>,
+) -> Result<List<Sig>, Memory>
     ensures value { IfOk result (λ sigs. sigs ≡ strict_signatures (found known.old) (map function_of members.now)) }
     ensures known { IfOk result (λ sigs. found known.new ≡ with_signatures (found known.old) (map function_of members.now) sigs) }
 {
@@ -107,7 +114,7 @@ fn strict(alloc: Global, members: &[Member], known: &mut Summaries) -> Result<Li
     solution_laws();
     let mut signatures = first_signatures(alloc, members)?;
     for round in 0..JOINED_ROUNDS + members.len() {
-        match one_round(alloc, members, known, round, signatures.as_slice())? {
+        match one_round(alloc, members, known, round, signatures.as_slice(), last)? {
             Some(next) => signatures = next,
             None => return Ok(signatures),
         }
@@ -128,11 +135,16 @@ fn names(alloc: Global, members: &[Member]) -> Result<Members, Memory>
 }
 
 // The lenient signature of each member, by what is known with their strict ones.
-fn lenient(alloc: Global, members: &[Member], known: &Summaries) -> Result<List<Sig>, Memory>
+fn lenient(
+    alloc: Global,
+    members: &[Member],
+    known: &Summaries,
+    last: &mut Option<Last>,
+) -> Result<List<Sig>, Memory>
     ensures { let gs = map function_of members.now in IfOk result (λ sigs. sigs ≡ map (inferred (lenient_pass gs (found known.now))) gs) }
 {
     let own = Pass::Lenient(names(alloc, members)?);
-    let signatures = infer_all(alloc, members, known, &own)?;
+    let signatures = infer_all(alloc, members, known, &own, last)?;
     Ok(signatures)
 }
 
@@ -152,6 +164,22 @@ fn pair_up(alloc: Global, strict: &[Sig], lenient: &[Sig]) -> Result<List<Summar
     Ok(list)
 }
 
+// The summaries of the members, which are known by their strict signatures from now on.
+fn found_summaries(
+    alloc: Global,
+    members: &[Member],
+    known: &mut Summaries,
+    last: &mut Option<Last>,
+) -> Result<List<Summary>, Memory>
+    ensures value { IfOk result (λ list. list ≡ summaries (found known.old) (map function_of members.now)) }
+    ensures known { let gs = map function_of members.now in OnOk result (found known.new ≡ with_signatures (found known.old) gs (strict_signatures (found known.old) gs)) }
+{
+    let signatures = strict(alloc, members, known, last)?;
+    let lenient = lenient(alloc, members, known, last)?;
+    let list = pair_up(alloc, signatures.as_slice(), lenient.as_slice())?;
+    Ok(list)
+}
+
 /// The summaries of functions that call one another, in the order of the members, by what `known` has outside them
 /// under other names. Their strict signatures are found by rounds: from none upward, all at once, joined with what each
 /// round gives; from round 12 on a function that doesn't settle is widened to any arguments and any result. Their
@@ -167,9 +195,10 @@ pub fn component_summaries(
     ensures take { IfOk result (AllTake (map function_of members.now)) }
 {
     solution_laws();
-    let signatures = strict(alloc, members, known)?;
-    let lenient = lenient(alloc, members, known)?;
-    let list = pair_up(alloc, signatures.as_slice(), lenient.as_slice())?;
+    let mut last = None;
+    let found = found_summaries(alloc, members, known, &mut last);
+    discard_last(last);
+    let list = found?;
     enter_summaries(alloc, known, members, list.as_slice())?;
     Ok(list)
 }

@@ -8,7 +8,7 @@ use Rattle.std.proofs.lemmas.List.Folds.{Any-from_list_any}
 use Rattle.std.proofs.lemmas.Bool.{cases_eq, eqb-true}
 use Rattle.components.specs.Graph.{IsGraph, Leads, targets, with_target, with_pair}
 
-contains_it : (xs : List ℕ) (g : ℕ) → list_any (λ x. g == x) xs ≡ true → Contains xs g
+pub contains_it : (xs : List ℕ) (g : ℕ) → list_any (λ x. g == x) xs ≡ true → Contains xs g
 contains_it xs g e =
     let found = Any-from_list_any (λ x. g == x) xs e in
     let is : g ≡ found.1 = eqb-true g found.1 found.4 in

@@ -5,7 +5,7 @@ mod Merged
 mod Settled
 mod Shut
 mod Steps
-mod Graphs
+pub mod Graphs
 mod Sets
 mod Given
 mod Positioned

@@ -1,4 +1,5 @@
-ghost use Rattle.std.specs.Prelude.{◌≡◌, ℕ, ◌<◌, ◌↔◌, ◌⊎◌, [], length, replicate, IfOk, OnOk, OnErr};
+ghost use Rattle.std.specs.List.{list_any};
+ghost use Rattle.std.specs.Prelude.{◌≡◌, ◌==◌, ℕ, ◌<◌, ◌↔◌, ◌⊎◌, [], length, replicate, IfOk, OnOk, OnErr};
 ghost use Rattle.components.specs.Graph.{targets, Leads, IsGraph, with_pair};
 
 use crate::targets::Targets;
@@ -50,12 +51,21 @@ impl Graph {
     }
 
     /// The nodes that a node leads to.
-    pub(crate) fn targets(&self, node: u32) -> &[u32]
+    pub fn targets(&self, node: u32) -> &[u32]
         requires { node < length self.now }
         ensures { result.now ≡ targets self.now node }
     {
         let found = &self.leads[node as usize];
         found.as_slice()
+    }
+
+    /// Whether a node leads to another; it is found by its hash.
+    pub fn has(&self, from: u32, to: u32) -> bool
+        requires { from < length self.now }
+        ensures { result ≡ list_any (λ x. to == x) (targets self.now from) }
+    {
+        let found = &self.leads[from as usize];
+        found.has(to)
     }
 
     /// Adds a pair: the node `from` leads to the node `to`. A pair that is there already changes

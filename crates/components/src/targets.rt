@@ -1,4 +1,5 @@
-ghost use Rattle.std.specs.Prelude.{◌≡◌, [], OnOk, OnErr};
+ghost use Rattle.std.specs.List.{list_any};
+ghost use Rattle.std.specs.Prelude.{◌≡◌, ◌==◌, [], OnOk, OnErr};
 ghost use Rattle.components.specs.Graph.{with_target};
 
 use indexmap::IndexSet;
@@ -36,6 +37,13 @@ impl Targets {
         ensures { result.now ≡ self.now }
     {
         self.nodes.as_slice()
+    }
+
+    /// Whether a node is among them.
+    pub fn has(&self, node: u32) -> bool
+        ensures { result ≡ list_any (λ x. node == x) self.now }
+    {
+        self.nodes.contains(&node)
     }
 
     /// Adds a node last; one that is there already changes nothing. If allocation fails, the nodes

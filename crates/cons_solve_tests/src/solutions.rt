@@ -394,6 +394,8 @@ fn a_long_chain_takes_few_visits(rt: HostRuntime) -> Result<(), TextFault> {
     discard(c);
     let (visits, settled) = answer?;
     assert!(rt; settled == 1000);
+    // Each of the thousand parts is narrowed at least once.
+    assert!(rt; visits >= 1000);
     assert!(rt; visits < 10_000);
     Ok(())
 }
@@ -432,6 +434,8 @@ fn nested_alternatives_are_solved_on(rt: HostRuntime) -> Result<(), TextFault> {
     discard(c);
     let (visits, settled) = answer?;
     assert!(rt; settled == 2);
+    // At least one part on each level.
+    assert!(rt; visits >= 31);
     assert!(rt; visits < 10_000);
     Ok(())
 }

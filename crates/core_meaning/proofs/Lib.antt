@@ -1,5 +1,13 @@
 mod AtLabels
+mod Bound
 mod Examples
+mod Existing
 mod Fuel
+mod Matches
+mod Placed
+mod RunsExist
 mod Worked
+mod WorkedForms
+mod WorkedFunctions
+mod WorkedPatterns
 pub mod LabelLaws

@@ -1,6 +1,9 @@
+pub mod Entered
 pub mod Environments
+pub mod Forms
 pub mod Matching
 pub mod Meaning
+pub mod Patterns
 pub mod Programs
 pub mod Runs
 pub mod Worked

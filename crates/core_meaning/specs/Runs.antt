@@ -55,3 +55,13 @@ EnterAt U k n = Enter U (λ v. IsOutside U k v) (Eval U k n)
 -- a run of a stage
 abbrev pub Run : Program → ℕ → Trace → Type 0
 Run U k tr = RunWith U (λ c. WasMade U k c) tr
+
+-- an exported function has a run of the stage with these values and this fuel: it is defined, and entering it has an outcome and
+-- a trace
+pub record HasRun (U : Program) (stage fuel : ℕ) (home : Atom) (f : FunName) (vs : Values) : Type 0 where
+  pub start : Value
+  pub outcome : Outcome
+  pub trace : Trace
+  pub under : top_function U home f ≡ Some start
+  pub enters : EnterAt U stage fuel start vs outcome trace
+  pub runs : Run U stage trace

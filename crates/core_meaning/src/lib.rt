@@ -4,4 +4,4 @@
 
 mod laws;
 
-pub use laws::{fuel_laws, label_laws, worked_run};
+pub use laws::{fuel_laws, label_laws, runs_exist, worked_rows, worked_run};

@@ -28,16 +28,19 @@ use Rattle.analysis_sources.specs.declared.refusals.SourceFault.{SourceFault}
 use Rattle.analysis_sources.specs.Reading.{AreRead, IsMissingAt, HoldsAt, RefusedAt, not_held, at_fault}
 use Rattle.analysis_sources.specs.Refusals.{missing, refusal_number}
 use Rattle.analysis_sources.specs.Sources.{of_the_whole, scan_refusal, parse_refusal, rule_name, IsTooLong, IsNotScanned, IsNotParsed, IsNotAccepted, IsAtFault, too_long, not_scanned, not_parsed, not_accepted}
+use Rattle.sound_laws_kept.proofs.Names.{some_is}
 use Rattle.dialyze_command.specs.declared.status.Status.{Status}
 use Rattle.dialyze_command.specs.declared.words.Command.{Command}
 use Rattle.dialyze_command.specs.Lines.{refused, duplicate, faulty_table}
 use Rattle.dialyze_command.specs.Lines.{too_long as too_long_fault}
-use Rattle.dialyze_command.specs.Words.{IsNoCommand}
-use Rattle.dialyze_command.specs.Outcome.{Checks, ChecksTooMany, Names, NamesTable, Spells, IsBegun, empty, named, Begins, IsFaultOf, ReadsAll, HaveOwnNames, module_names, IsDuplicate, Analyses, SaysWhether, says_no, says_yes, Outcome, usage, many, no_table, bad_table, faulty, duplicate_module, long_table, passed, Intended, IsAnswer}
-use Rattle.dialyze_command.specs.Causes.{NamesMissing, as_table, as_file, NamesBadTable, NamesSource, NamesTwice, NamesModules, NamesLongTable, IsAnalysed, is_clean, is_warned, is_long, Step, holding, length, tokens, grammar, scopes, step_of}
-use Rattle.dialyze_command.proofs.CheckExits.{outcome_of}
+use Rattle.dialyze_command.specs.Making.{IsSummary, text_refused, names_one, counted, file_names, generated_files}
+use Rattle.dialyze_command.specs.Words.{IsMake, IsNoCommand}
+use Rattle.dialyze_command.specs.Outcome.{Checks, ChecksTooMany, Names, NamesTable, Spells, IsBegun, empty, named, Begins, IsFaultOf, ReadsAll, HaveOwnNames, module_names, IsDuplicate, Analyses, SaysWhether, says_no, says_yes, Outcome, usage, many, no_table, bad_table, faulty, duplicate_module, long_table, passed, made, Intended, IsAnswer}
+use Rattle.dialyze_command.specs.Causes.{Reads, by_check, by_make, NamesMissing, as_table, as_file, NamesBadTable, NamesSource, NamesTwice, NamesModules, NamesLongTable, IsAnalysed, is_clean, is_warned, is_long, Step, holding, length, tokens, grammar, scopes, step_of}
+use Rattle.dialyze_command.proofs.CheckExits.{outcome_of, summary_mark}
 use Rattle.dialyze_command.proofs.Numbers.{mark, mark_of, word_by, other_by, one_fault_of, one_word, one_table_fault}
-use Rattle.dialyze_command.proofs.WordExits.{one_check}
+use Rattle.dialyze_command.proofs.MakeFiles.{never_missing}
+use Rattle.dialyze_command.proofs.WordExits.{one_check, one_command, one_make}
 
 -- ---- the step that a refusal is of
 
@@ -108,15 +111,16 @@ not_many : {words files : List (List ℕ)} {command : Command} → Checks words 
 not_many h k = let few = h.few in let e = ap (λ fs. list_length fs) (one_check h.check k.check).1 in let long = k.many in absurd (omega arith)
 
 no_command_checks : {words files : List (List ℕ)} {command : Command} → Checks words command files → IsNoCommand words → ⊥
-no_command_checks {files = files} {command = command} h none = none (command, files, h.check)
+no_command_checks {files = files} {command = command} h none = none (inl (command, files, h.check))
 
-some_same : {A : Type 0} {x y : A} → Some x ≡ Some y → x ≡ y
-some_same e = cc
+-- words that ask for a check ask for no generated modules
+no_make : {words files : List (List ℕ)} {command : Command} {count : ℕ} → Checks words command files → IsMake words count → ⊥
+no_make h asks = one_command h.check asks
 
 one_word_there : (words : List (List ℕ)) (option : Option ℕ) (v w : ℕ) (m n : List ℕ) → Names words option v m → Names words option w n → (v ≡ w) × (m ≡ n)
 one_word_there words option v w m n h k =
-    let same : v ≡ w = some_same (sym h.given ∙ k.given) in
-    (same, some_same (sym h.there ∙ ap (slice_get words) same ∙ k.there))
+    let same : v ≡ w = some_is (sym h.given ∙ k.given) in
+    (same, some_is (sym h.there ∙ ap (slice_get words) same ∙ k.there))
 
 -- a table is named once
 one_name : {words : List (List ℕ)} {v w : ℕ} {m n : List ℕ} → NamesTable words v m → NamesTable words w n → (v ≡ w) × (m ≡ n)
@@ -124,7 +128,7 @@ one_name {words} {v} {w} {m} {n} h k =
     one_word_there words k.command.plt v w m n (subst (λ c. Names words c.plt v m) (one_check h.checks.check k.checks.check).0 h.plt) k.plt
 
 one_held : (held : Files) {m n : List ℕ} {a b : List ℕ} → m ≡ n → Holds (Some held) m a → Holds (Some held) n b → a ≡ b
-one_held held e h k = some_same (sym h ∙ ap (get held) e ∙ k)
+one_held held e h k = some_is (sym h ∙ ap (get held) e ∙ k)
 
 not_both_held : (held : Files) {m n : List ℕ} {a : List ℕ} → m ≡ n → Holds (Some held) m a → Lacks (Some held) n → ⊥
 not_both_held held e h k = let f = sym h ∙ ap (get held) e ∙ k in absurd cc
@@ -153,14 +157,15 @@ is_other word fault e =
     let k = ap mark e in
     (λ f. m.1 (sym k ∙ f), λ f. m.2 (sym k ∙ f), omega (arith, m.0, k))
 
--- the word at this position names a file that is refused by this fault
+-- a file that is read is refused by this fault
 record RefusedHere (words : List (List ℕ)) (held : Files) (word : ℕ) (fault : SourceFault) : Type 0 where
-  pub command : Command
+  pub from : Files
+  pub start : ℕ
   pub files : List (List ℕ)
-  pub begins : Begins words (Some held) command files
+  pub reads : Reads words held from start files
   pub at : ℕ
-  pub place : word ≡ command.start + at
-  pub refused_so : RefusedAt (Some held) files at fault
+  pub place : word ≡ start + at
+  pub refused_so : RefusedAt (Some from) files at fault
 
 -- what a refusal of a word is of: the table to begin with, a file, or the table to write
 data RefusedAs (words : List (List ℕ)) (held : Files) (word : ℕ) (fault : SourceFault) : Type 0 where
@@ -179,9 +184,10 @@ refused_of_outcome word fault (bad_table at name bytes other a b c names holds i
 refused_of_outcome {held = held} word fault (faulty command files at file other a b c d f g) e =
     let is = sym a ∙ e in
     file_refused (record {
-      command = command;
+      from = held;
+      start = command.start;
       files = files;
-      begins = d;
+      reads = by_check command refl refl d;
       at = at;
       place = sym (one_word (command.start + at) word other fault is);
       refused_so = subst (RefusedAt (Some held) files at) (one_fault_of (command.start + at) word other fault is) g;
@@ -193,6 +199,22 @@ refused_of_outcome {words} word fault (long_table command reports new at name a 
     (record { command = command; reports = reports; new = new; analyses = d; name = name; out = subst (λ w. Names words command.out w name) (one_word at word too_long_fault fault is) names; long = long })
 refused_of_outcome word fault (passed command reports new (says_no a b) c d f) e = let k = is_other word fault (sym a ∙ e) in absurd (omega (arith, k.2))
 refused_of_outcome word fault (passed command reports new (says_yes a b) c d f) e = let k = is_other word fault (sym a ∙ e) in absurd (omega (arith, k.2))
+refused_of_outcome {words} {held} {status} word fault (made count asks is c) e = by is
+  where
+    by : {output : List ℕ} → IsSummary count status output → RefusedAs words held word fault
+    by (text_refused at other a b h) =
+        let same = sym a ∙ e in
+        file_refused (record {
+          from = generated_files count;
+          start = 0;
+          files = file_names count;
+          reads = by_make count asks refl refl refl;
+          at = at;
+          place = omega (arith, one_word at word other fault same);
+          refused_so = subst (RefusedAt (Some (generated_files count)) (file_names count) at) (one_fault_of at word other fault same) h;
+        })
+    by (names_one first second a b h) = absurd ((is_other word fault (sym a ∙ e)).0 refl)
+    by (counted sources reports new a b d f g) = let k = is_other word fault (sym a ∙ e) in absurd (omega (arith, k.2))
 
 missing_not_faulty : {told : Option Files} {files : List (List ℕ)} {at : ℕ} → RefusedAt told files at missing → IsMissingAt told files at
 missing_not_faulty (not_held e h) = h
@@ -205,7 +227,14 @@ faulty_not_missing away (at_fault h) = h
 
 missing_named : {words : List (List ℕ)} {held : Files} {word : ℕ} → RefusedAs words held word missing → NamesMissing words held word
 missing_named (table_missing name e names lacks) = as_table name names lacks
-missing_named (file_refused h) = as_file h.command h.files h.at h.place h.begins (missing_not_faulty h.refused_so)
+missing_named {words} {held} {word} (file_refused h) = by h.reads
+  where
+    by : Reads words held h.from h.start h.files → NamesMissing words held word
+    by (by_check command same start begins) =
+        as_file command h.files h.at (h.place ∙ ap (λ n. n + h.at) start) begins (subst (λ f. IsMissingAt (Some f) h.files h.at) same (missing_not_faulty h.refused_so))
+    by (by_make count asks same start files) =
+        absurd (never_missing count h.at (omega (arith, asks.most))
+        (subst (λ fs. IsMissingAt (Some (generated_files count)) fs h.at) files (subst (λ f. IsMissingAt (Some f) h.files h.at) same (missing_not_faulty h.refused_so))))
 missing_named (table_long e h) = let k : 26 ≡ 25 = ap (λ f. refusal_number f.name) e in absurd (omega (arith, k))
 
 -- of a file, where this isn't a missing one, nor a table's
@@ -219,7 +248,7 @@ long_named : {words : List (List ℕ)} {held : Files} {word : ℕ} → RefusedAs
 long_named (table_missing name e names lacks) = let k : 25 ≡ 26 = ap (λ f. refusal_number f.name) e in absurd (omega (arith, k))
 long_named (file_refused h) =
     let i = faulty_not_missing (λ k. cc) h.refused_so in
-    inl (record { command = h.command; files = h.files; begins = h.begins; at = h.at; place = h.place; source = record { file = i.file; bytes = i.bytes; before = i.before; reached = i.reached; held_so = i.held_so; is = by_length refl i.is } })
+    inl (record { from = h.from; start = h.start; files = h.files; reads = h.reads; at = h.at; place = h.place; source = record { file = i.file; bytes = i.bytes; before = i.before; reached = i.reached; held_so = i.held_so; is = by_length refl i.is } })
 long_named (table_long e h) = inr h
 
 bad_table_of_outcome : {words : List (List ℕ)} {held : Files} {status : Status} {output : List ℕ} {after : Option Files} (fault : FaultOfTable) → Outcome words (Some held) status output after
@@ -234,6 +263,7 @@ bad_table_of_outcome fault (duplicate_module command files first second file oth
 bad_table_of_outcome fault (long_table command reports new at name a b c d names long) e = let k : 25 ≡ 102 = ap mark (sym a ∙ e) in absurd (omega (arith, k))
 bad_table_of_outcome fault (passed command reports new (says_no a b) c d f) e = let k : 100 ≡ 102 = ap mark (sym a ∙ e) in absurd (omega (arith, k))
 bad_table_of_outcome fault (passed command reports new (says_yes a b) c d f) e = let k : 101 ≡ 102 = ap mark (sym a ∙ e) in absurd (omega (arith, k))
+bad_table_of_outcome fault (made count asks is c) e = absurd (summary_mark is (inr (omega (arith, ap mark e))))
 
 duplicate_of_outcome : {words : List (List ℕ)} {held : Files} {status : Status} {output : List ℕ} {after : Option Files} (word other : ℕ) → Outcome words (Some held) status output after
     → status ≡ duplicate word other → NamesTwice words held word other
@@ -242,15 +272,34 @@ duplicate_of_outcome word other (many a b c d) e = let k : 24 ≡ 14 = ap mark (
 duplicate_of_outcome word other (no_table at name a b c names lacks) e = let k : 26 ≡ 14 = ap mark (sym a ∙ e) in absurd (omega (arith, k))
 duplicate_of_outcome word other (bad_table at name bytes fault a b c names holds is) e = let k : 102 ≡ 14 = ap mark (sym a ∙ e) in absurd (omega (arith, k))
 duplicate_of_outcome word other (faulty command files at file fault a b c d f g) e = absurd ((mark_of fault.name).1 (ap mark (sym a ∙ e)))
-duplicate_of_outcome word other (duplicate_module command files first second file that a b c d f g h) e =
+duplicate_of_outcome {held = held} word other (duplicate_module command files first second file that a b c d f g h) e =
     let is = sym a ∙ e in
-    record { command = command; files = files; begins = d; first = first; second = second; place = sym (ap word_by is); other_place = sym (ap other_by is); duplicate_module = h }
+    record { from = held; start = command.start; files = files; reads = by_check command refl refl d; first = first; second = second; place = sym (ap word_by is); other_place = sym (ap other_by is); duplicate_module = h }
 duplicate_of_outcome word other (long_table command reports new at name a b c d names long) e = let k : 25 ≡ 14 = ap mark (sym a ∙ e) in absurd (omega (arith, k))
 duplicate_of_outcome word other (passed command reports new (says_no a b) c d f) e = let k : 100 ≡ 14 = ap mark (sym a ∙ e) in absurd (omega (arith, k))
 duplicate_of_outcome word other (passed command reports new (says_yes a b) c d f) e = let k : 101 ≡ 14 = ap mark (sym a ∙ e) in absurd (omega (arith, k))
+duplicate_of_outcome {words} {held} {status} word other (made count asks is c) e = by is
+  where
+    by : {output : List ℕ} → IsSummary count status output → NamesTwice words held word other
+    by (text_refused at fault a b h) = absurd ((mark_of fault.name).1 (ap mark (sym a ∙ e)))
+    by (names_one first second a b h) =
+        let same = sym a ∙ e in
+        record {
+          from = generated_files count;
+          start = 0;
+          files = file_names count;
+          reads = by_make count asks refl refl refl;
+          first = first;
+          second = second;
+          place = let k : second ≡ word = ap word_by same in omega (arith, k);
+          other_place = let k : first ≡ other = ap other_by same in omega (arith, k);
+          duplicate_module = h;
+        }
+    by (counted sources reports new a b d f g) = let k : 101 ≡ 14 = ap mark (sym a ∙ e) in absurd (omega (arith, k))
 
 modules_of : {words : List (List ℕ)} {held : Files} {command : Command} {reports : List (List ℕ)} {new : Table} → Analyses words (Some held) command reports new → NamesModules words held
-modules_of {command = command} h = record { command = command; files = h.files; begins = h.begins; sources = h.sources; read = h.read; names = h.names }
+modules_of {held = held} {command = command} h =
+    record { from = held; start = command.start; files = h.files; reads = by_check command refl refl h.begins; sources = h.sources; read = h.read; names = h.names }
 
 modules_of_outcome : {words : List (List ℕ)} {held : Files} {status : Status} {output : List ℕ} {after : Option Files} → Outcome words (Some held) status output after
     → 100 ≤ mark status → mark status ≤ 101 → NamesModules words held
@@ -262,6 +311,13 @@ modules_of_outcome (faulty command files at file fault a b c d f g) h k = absurd
 modules_of_outcome (duplicate_module command files first second file other a b c d f g i) h k = absurd (omega (arith, h, ap mark a))
 modules_of_outcome (long_table command reports new at name a b c d names long) h k = absurd (omega (arith, h, ap mark a))
 modules_of_outcome (passed command reports new says c d f) h k = modules_of d
+modules_of_outcome {words} {held} {status} (made count asks is c) h k = by is
+  where
+    by : {output : List ℕ} → IsSummary count status output → NamesModules words held
+    by (text_refused at fault a b g) = absurd (omega (arith, h, ap mark a, (mark_of fault.name).0))
+    by (names_one first second a b g) = absurd (omega (arith, h, ap mark a))
+    by (counted sources reports new a b d f g) =
+        record { from = generated_files count; start = 0; files = file_names count; reads = by_make count asks refl refl refl; sources = sources; read = d; names = f }
 
 analysed_modules : {words : List (List ℕ)} {held : Files} {status : Status} {output : List ℕ} {after : Option Files} → Outcome words (Some held) status output after → IsAnalysed words held status → NamesModules words held
 analysed_modules o (is_clean e) = modules_of_outcome o (omega (arith, ap mark e)) (omega (arith, ap mark e))
@@ -302,11 +358,14 @@ own_or_duplicate : (xs : List m.Module) (i j : ℕ) → HaveOwnNames xs → Firs
 own_or_duplicate xs i j own h =
     own j (subst (λ n. j < n) (length-map xs (λ (x : m.Module). x.name)) h.within) (earlier h)
 
--- what an outcome says of the files of a check that begins
-data Level (words : List (List ℕ)) (held : Files) (command : Command) (files : List (List ℕ)) (status : Status) : Type 0 where
-  refused_level : (at : ℕ) (fault : SourceFault) → status ≡ refused (command.start + at) fault → RefusedAt (Some held) files at fault → Level words held command files status
-  twice_level : (first second : ℕ) → status ≡ duplicate (command.start + second) (command.start + first) → IsDuplicate (Some held) files first second → Level words held command files status
-  read_level : (M : List Source) → ReadsAll (Some held) files M → HaveOwnNames (trees M) → IsAnalysed words held status → Level words held command files status
+from_zero : (n : ℕ) → n ≡ 0 + n
+from_zero n = omega arith
+
+-- what an outcome says of the files that are read
+data Level (words : List (List ℕ)) (held from : Files) (start : ℕ) (files : List (List ℕ)) (status : Status) : Type 0 where
+  refused_level : (at : ℕ) (fault : SourceFault) → status ≡ refused (start + at) fault → RefusedAt (Some from) files at fault → Level words held from start files status
+  twice_level : (first second : ℕ) → status ≡ duplicate (start + second) (start + first) → IsDuplicate (Some from) files first second → Level words held from start files status
+  read_level : (M : List Source) → ReadsAll (Some from) files M → HaveOwnNames (trees M) → IsAnalysed words held status → Level words held from start files status
 
 says_analysed : {words : List (List ℕ)} {held : Files} {status : Status} {output : List ℕ} → SaysWhether status output → IsAnalysed words held status
 says_analysed (says_no a b) = is_clean a
@@ -322,62 +381,87 @@ module _ (one_list : (held : Files) (files : List (List ℕ)) (xs ys : List Sour
       let b = named_bytes begins h in
       is.some (no_fault fault b.1 b.3.short (subst (IsFirst fault) (one_held held refl holds b.2 ∙ b.3.bytes_so) is.first))
 
-  level : {words files : List (List ℕ)} {held : Files} {command : Command} {status : Status} {output : List ℕ} {after : Option Files} → Outcome words (Some held) status output after
-      → Begins words (Some held) command files → Level words held command files status
-  level (usage a b c d) h = absurd (no_command_checks h.checks d)
-  level (many a b c d) h = absurd (not_many h.checks d)
-  level (no_table at name a b c names lacks) h = absurd (lacking_begins names lacks h)
-  level (bad_table at name bytes fault a b c names holds is) h = absurd (faulty_begins names holds is h)
-  level {held = held} (faulty other those at file fault a b c d f g) h =
+  check_level : {words files : List (List ℕ)} {held : Files} {command : Command} {status : Status} {output : List ℕ} {after : Option Files} → Outcome words (Some held) status output after
+      → Begins words (Some held) command files → Level words held held command.start files status
+  check_level (usage a b c d) h = absurd (no_command_checks h.checks d)
+  check_level (many a b c d) h = absurd (not_many h.checks d)
+  check_level (no_table at name a b c names lacks) h = absurd (lacking_begins names lacks h)
+  check_level (bad_table at name bytes fault a b c names holds is) h = absurd (faulty_begins names holds is h)
+  check_level {held = held} (faulty other those at file fault a b c d f g) h =
       let one = one_check d.checks.check h.checks.check in
       refused_level at fault (a ∙ ap (λ c. refused (c.start + at) fault) one.0) (subst (λ fs. RefusedAt (Some held) fs at fault) one.1 g)
-  level {held = held} (duplicate_module other those first second file that a b c d f g i) h =
+  check_level {held = held} (duplicate_module other those first second file that a b c d f g i) h =
       let one = one_check d.checks.check h.checks.check in
       twice_level first second (a ∙ ap (λ c. duplicate (c.start + second) (c.start + first)) one.0) (subst (λ fs. IsDuplicate (Some held) fs first second) one.1 i)
-  level {words} {held = held} (long_table other reports new at name a b c d names long) h =
+  check_level {words} {held = held} (long_table other reports new at name a b c d names long) h =
       let one = one_check d.begins.checks.check h.checks.check in
       read_level d.sources (subst (λ fs. ReadsAll (Some held) fs d.sources) one.1 d.read) d.names
       (is_long at a (record { command = other; reports = reports; new = new; analyses = d; name = name; out = names; long = long }))
-  level {held = held} (passed other reports new says c d f) h =
+  check_level {held = held} (passed other reports new says c d f) h =
       let one = one_check d.begins.checks.check h.checks.check in
       read_level d.sources (subst (λ fs. ReadsAll (Some held) fs d.sources) one.1 d.read) d.names (says_analysed says)
+  check_level (made count asks is c) h = absurd (no_make h.checks asks)
 
-  refused_answered : {words files : List (List ℕ)} {held : Files} {command : Command} {status : Status} (at word : ℕ) (fault : SourceFault) → Level words held command files status
-      → word ≡ command.start + at → RefusedAt (Some held) files at fault → status ≡ refused word fault
-  refused_answered {files = files} {held = held} {command = command} at word fault (refused_level place other e g) is h =
-      let one = one_refusal held files place at other fault g h in
-      e ∙ ap (λ n. refused (command.start + n) other) one.0 ∙ ap (refused (command.start + at)) one.1 ∙ ap (λ w. refused w fault) (sym is)
-  refused_answered {files = files} {held = held} at word fault (twice_level first second e i) is h = absurd (none_refused held files i.sources i.read.after at fault i.read.read h)
-  refused_answered {files = files} {held = held} at word fault (read_level M read names status_so) is h = absurd (none_refused held files M read.after at fault read.read h)
+  -- the same of a make, whose number is one
+  make_level : {words : List (List ℕ)} {held : Files} {count : ℕ} {status : Status} {output : List ℕ} → IsSummary count status output → Level words held (generated_files count) 0 (file_names count) status
+  make_level (text_refused at fault a b h) = refused_level at fault (a ∙ ap (λ n. refused n fault) (from_zero at)) h
+  make_level (names_one first second a b h) = twice_level first second (a ∙ ap (λ n. duplicate n first) (from_zero second) ∙ ap (duplicate (0 + second)) (from_zero first)) h
+  make_level (counted sources reports new a b d f g) = read_level sources d f (is_warned a)
 
-  same_sources : {held : Files} {files : List (List ℕ)} {xs ys : List Source} → ReadsAll (Some held) files xs → ReadsAll (Some held) files ys → xs ≡ ys
-  same_sources {held} {files} {xs} {ys} h k = one_list held files xs ys h.after k.after h.read k.read
-
-  twice_answered : {words files : List (List ℕ)} {held : Files} {command : Command} {status : Status} (word other : ℕ) → Level words held command files status
-      → (h : NamesTwice words held word other) → h.files ≡ files → h.command ≡ command → status ≡ duplicate word other
-  twice_answered {words} {files} {held} {command} word other level h same also = by level
+  level : {words files : List (List ℕ)} {held from : Files} {start : ℕ} {status : Status} {output : List ℕ} {after : Option Files} → Outcome words (Some held) status output after
+      → Reads words held from start files → Level words held from start files status
+  level {words} {files} {held} {from} {start} {status} o (by_check command same is begins) =
+      subst (λ f. Level words held f start files status) (sym same) (subst (λ n. Level words held held n files status) (sym is) (check_level o begins))
+  level {words} {files} {held} {from} {start} {status} {output} o (by_make count asks same is names) =
+      subst (λ f. Level words held f start files status) (sym same)
+      (subst (λ n. Level words held (generated_files count) n files status) (sym is)
+      (subst (λ fs. Level words held (generated_files count) 0 fs status) (sym names) (of_make o)))
     where
-      i : IsDuplicate (Some held) files h.first h.second
-      i = subst (λ fs. IsDuplicate (Some held) fs h.first h.second) same h.duplicate_module
+      of_make : {after : Option Files} → Outcome words (Some held) status output after → Level words held (generated_files count) 0 (file_names count) status
+      of_make (usage a b c d) = absurd (d (inr (count, asks)))
+      of_make (many a b c d) = absurd (one_command d.check asks)
+      of_make (no_table at name a b c names lacks) = absurd (no_make names.checks asks)
+      of_make (bad_table at name bytes fault a b c names holds is) = absurd (no_make names.checks asks)
+      of_make (faulty command files at file fault a b c d f g) = absurd (no_make d.checks asks)
+      of_make (duplicate_module command files first second file other a b c d f g h) = absurd (no_make d.checks asks)
+      of_make (long_table command reports new at name a b c d names long) = absurd (no_make d.begins.checks asks)
+      of_make (passed command reports new says c d f) = absurd (no_make d.begins.checks asks)
+      of_make (made other also is c) = make_level (subst (λ n. IsSummary n status output) (one_make also asks) is)
 
-      by : {status : Status} → Level words held command files status → status ≡ duplicate word other
-      by (refused_level at fault e g) = absurd (none_refused held files i.sources i.read.after at fault i.read.read g)
+  refused_answered : {words files : List (List ℕ)} {held from : Files} {start : ℕ} {status : Status} (at word : ℕ) (fault : SourceFault) → Level words held from start files status
+      → word ≡ start + at → RefusedAt (Some from) files at fault → status ≡ refused word fault
+  refused_answered {files = files} {from = from} {start = start} at word fault (refused_level place other e g) is h =
+      let one = one_refusal from files place at other fault g h in
+      e ∙ ap (λ n. refused (start + n) other) one.0 ∙ ap (refused (start + at)) one.1 ∙ ap (λ w. refused w fault) (sym is)
+  refused_answered {files = files} {from = from} at word fault (twice_level first second e i) is h = absurd (none_refused from files i.sources i.read.after at fault i.read.read h)
+  refused_answered {files = files} {from = from} at word fault (read_level M read names status_so) is h = absurd (none_refused from files M read.after at fault read.read h)
+
+  same_sources : {from : Files} {files : List (List ℕ)} {xs ys : List Source} → ReadsAll (Some from) files xs → ReadsAll (Some from) files ys → xs ≡ ys
+  same_sources {from} {files} {xs} {ys} h k = one_list from files xs ys h.after k.after h.read k.read
+
+  twice_answered : {words : List (List ℕ)} {held : Files} {status : Status} (word other : ℕ) → (h : NamesTwice words held word other) → Level words held h.from h.start h.files status
+      → status ≡ duplicate word other
+  twice_answered {words} {held} word other h level = by level
+    where
+      by : {status : Status} → Level words held h.from h.start h.files status → status ≡ duplicate word other
+      by (refused_level at fault e g) = absurd (none_refused h.from h.files h.duplicate_module.sources h.duplicate_module.read.after at fault h.duplicate_module.read.read g)
       by (twice_level first second e k) =
+          let i = h.duplicate_module in
           let names = module_names (trees i.sources) in
           let is : FirstDuplicate names first second = subst (λ M. FirstDuplicate (module_names (trees M)) first second) (same_sources k.read i.read) k.is in
           let two = one_second names first second h.first h.second is i.is in
           let one = one_first names first h.second h.first (subst (FirstDuplicate names first) two is) i.is in
-          e ∙ ap (λ n. duplicate (command.start + n) (command.start + first)) two ∙ ap (λ n. duplicate (command.start + h.second) (command.start + n)) one
-          ∙ ap (λ c. duplicate (c.start + h.second) (c.start + h.first)) (sym also) ∙ ap (λ w. duplicate w (h.command.start + h.first)) (sym h.place) ∙ ap (duplicate word) (sym h.other_place)
+          e ∙ ap (λ n. duplicate (h.start + n) (h.start + first)) two ∙ ap (λ n. duplicate (h.start + h.second) (h.start + n)) one
+          ∙ ap (λ w. duplicate w (h.start + h.first)) (sym h.place) ∙ ap (duplicate word) (sym h.other_place)
       by (read_level M read names status_so) =
+          let i = h.duplicate_module in
           absurd (own_or_duplicate (trees i.sources) h.first h.second (subst (λ M. HaveOwnNames (trees M)) (same_sources read i.read) names) i.is)
 
-  modules_answered : {words files : List (List ℕ)} {held : Files} {command : Command} {status : Status} (M : List Source) → Level words held command files status
-      → ReadsAll (Some held) files M → HaveOwnNames (trees M) → IsAnalysed words held status
-  modules_answered {files = files} {held = held} M (refused_level at fault e g) read names = absurd (none_refused held files M read.after at fault read.read g)
-  modules_answered M (twice_level first second e k) read names =
-      absurd (own_or_duplicate (trees k.sources) first second (subst (λ N. HaveOwnNames (trees N)) (same_sources read k.read) names) k.is)
-  modules_answered M (read_level N also own status_so) read names = status_so
+  modules_answered : {words : List (List ℕ)} {held : Files} {status : Status} → (h : NamesModules words held) → Level words held h.from h.start h.files status → IsAnalysed words held status
+  modules_answered h (refused_level at fault e g) = absurd (none_refused h.from h.files h.sources h.read.after at fault h.read.read g)
+  modules_answered h (twice_level first second e k) =
+      absurd (own_or_duplicate (trees k.sources) first second (subst (λ N. HaveOwnNames (trees N)) (same_sources h.read k.read) h.names) k.is)
+  modules_answered h (read_level N also own status_so) = status_so
 
   missing_table_answered : {words : List (List ℕ)} {held : Files} {status : Status} {output : List ℕ} {after : Option Files} (word : ℕ) (name : List ℕ) → Outcome words (Some held) status output after
       → NamesTable words word name → Lacks (Some held) name → status ≡ refused word missing
@@ -389,6 +473,7 @@ module _ (one_list : (held : Files) (files : List (List ℕ)) (xs ys : List Sour
   missing_table_answered word name (duplicate_module command files first second file other a b c d f g i) h lacks = absurd (lacking_begins h lacks d)
   missing_table_answered word name (long_table command reports new at other a b c d names long) h lacks = absurd (lacking_begins h lacks d.begins)
   missing_table_answered word name (passed command reports new says c d f) h lacks = absurd (lacking_begins h lacks d.begins)
+  missing_table_answered word name (made count asks is c) h lacks = absurd (no_make h.checks asks)
 
   bad_table_answered : {words : List (List ℕ)} {held : Files} {status : Status} {output : List ℕ} {after : Option Files} (fault : FaultOfTable) → Outcome words (Some held) status output after
       → NamesBadTable words held fault → status ≡ faulty_table fault
@@ -402,6 +487,7 @@ module _ (one_list : (held : Files) (files : List (List ℕ)) (xs ys : List Sour
   bad_table_answered fault (duplicate_module command files first second file other a b c d f g i) h = absurd (faulty_begins h.names h.held_so h.is d)
   bad_table_answered fault (long_table command reports new at other a b c d names long) h = absurd (faulty_begins h.names h.held_so h.is d.begins)
   bad_table_answered fault (passed command reports new says c d f) h = absurd (faulty_begins h.names h.held_so h.is d.begins)
+  bad_table_answered fault (made count asks is c) h = absurd (no_make h.names.checks asks)
 
   -- ---- each answer, both ways
 
@@ -415,7 +501,7 @@ module _ (one_list : (held : Files) (files : List (List ℕ)) (xs ys : List Sour
 
     missing_answered : {held : Files} {word : ℕ} → Outcome words (Some held) status output after → NamesMissing words held word → status ≡ refused word missing
     missing_answered {word = word} o (as_table name names lacks) = missing_table_answered word name o names lacks
-    missing_answered {word = word} o (as_file command files at place begins is) = refused_answered at word missing (level o begins) place (not_held refl is)
+    missing_answered {word = word} o (as_file command files at place begins is) = refused_answered at word missing (check_level o begins) place (not_held refl is)
 
     pub missing_it : IfSome told (λ held. (word : ℕ) → (status ≡ refused word missing) ↔ NamesMissing words held word)
     missing_it =
@@ -431,7 +517,7 @@ module _ (one_list : (held : Files) (files : List (List ℕ)) (xs ys : List Sour
         → Outcome words (Some held) status output after → NamesSource words held word (λ most bytes. Is most bytes fault) → status ≡ refused word fault
     source_answered word fault Is from o h =
         let i = h.source in
-        refused_answered h.at word fault (level o h.begins) h.place (at_fault (record { file = i.file; bytes = i.bytes; before = i.before; reached = i.reached; held_so = i.held_so; is = from _ i.bytes i.is }))
+        refused_answered h.at word fault (level o h.reads) h.place (at_fault (record { file = i.file; bytes = i.bytes; before = i.before; reached = i.reached; held_so = i.held_so; is = from _ i.bytes i.is }))
 
     -- a fault of a step whose faults are those of a relation
     at_step : (Is : ℕ → List ℕ → SourceFault → Type 0) (step : Step) (fault : SourceFault) → (step ≡ holding → ⊥) → (step ≡ length → ⊥)
@@ -442,7 +528,7 @@ module _ (one_list : (held : Files) (files : List (List ℕ)) (xs ys : List Sour
       λ e.
           let h = source_named (λ k. away (sym of ∙ k)) (λ k. short (sym of ∙ ap (λ f. step_of f.name) k)) (refused_of_outcome word fault o e) in
           let i = faulty_not_missing (λ k. away (sym of ∙ k)) h.refused_so in
-          record { command = h.command; files = h.files; begins = h.begins; at = h.at; place = h.place; source = record { file = i.file; bytes = i.bytes; before = i.before; reached = i.reached; held_so = i.held_so; is = to _ i.bytes of i.is } },
+          record { from = h.from; start = h.start; files = h.files; reads = h.reads; at = h.at; place = h.place; source = record { file = i.file; bytes = i.bytes; before = i.before; reached = i.reached; held_so = i.held_so; is = to _ i.bytes of i.is } },
       source_answered word fault Is from o,
     )
 
@@ -474,9 +560,9 @@ module _ (one_list : (held : Files) (files : List (List ℕ)) (xs ys : List Sour
     pub duplicate_it : IfSome told (λ held. (word other : ℕ) → (status ≡ duplicate word other) ↔ NamesTwice words held word other)
     duplicate_it =
         told_cases (λ held. (word other : ℕ) → (status ≡ duplicate word other) ↔ NamesTwice words held word other)
-        (λ held o word other. (λ e. duplicate_of_outcome word other o e, λ h. twice_answered word other (level o h.begins) h refl refl))
+        (λ held o word other. (λ e. duplicate_of_outcome word other o e, λ h. twice_answered word other h (level o h.reads)))
 
     pub checked_it : IfSome told (λ held. IsAnalysed words held status ↔ NamesModules words held)
     checked_it =
         told_cases (λ held. IsAnalysed words held status ↔ NamesModules words held)
-        (λ held o. (λ e. analysed_modules o e, λ h. modules_answered h.sources (level o h.begins) h.read h.names))
+        (λ held o. (λ e. analysed_modules o e, λ h. modules_answered h (level o h.reads)))

@@ -1,5 +1,5 @@
 -- From what a run means to answer to what it answers, once all is written.
-use Rattle.std.proofs.Common.{◌≡◌, ◌↔◌, ◌≤◌, ℕ, ◌+◌, List, length, refl, sym, ◌∙◌, ap, subst, Option, Some, None, arith}
+use Rattle.std.proofs.Common.{◌≡◌, ◌↔◌, ◌⊎◌, inl, inr, ◌≤◌, ◌<◌, ℕ, ◌+◌, List, length, refl, sym, ◌∙◌, ap, subst, Option, Some, None, arith}
 use Rattle.std.specs.Prelude.{IfSome}
 use Rattle.da_shelf.specs.Counts.{Rose}
 use Rattle.da_shelf.specs.Told.{Files, appended, IsPrefixAppended}
@@ -9,16 +9,23 @@ use Rattle.dialyze_command.specs.declared.status.Status.TheVariants.{Clean, Devi
 use Rattle.dialyze_command.specs.declared.words.Command.{Command}
 use Rattle.dialyze_command.specs.Lines.{too_long, too_many}
 use Rattle.analysis_sources.specs.Refusals.{missing}
-use Rattle.dialyze_command.specs.Words.{IsNoCommand}
+use Rattle.dialyze_command.specs.Making.{IsSummary, text_refused, names_one, counted, PutsFirst}
+use Rattle.dialyze_command.specs.Words.{AsksForCheck, IsMake, IsNoCommand, IsNoMake}
+use Rattle.dialyze_command.proofs.MakeFiles.{refused_number, duplicate_number}
 use Rattle.dialyze_command.proofs.Numbers.{mark, mark_of, not_other, table_number}
 use Rattle.dialyze_command.proofs.Places.{start_late, plt_before, out_before}
-use Rattle.dialyze_command.proofs.WordExits.{one_check}
-use Rattle.dialyze_command.specs.Outcome.{Checks, ChecksTooMany, NamesTable, SaysWhether, says_no, says_yes, Outcome, usage, many, no_table, bad_table, faulty, duplicate_module, long_table, passed, IsUnread, of_table, of_file, IsUnreplaced, Intended, answered, unread, unreplaced, Answers, FailsToRead, FailsToReplace, FailsToWrite, IsAnswer, IsPassed, IsPossible, StoresNothing, of_word, of_many, of_two}
+use Rattle.dialyze_command.proofs.WordExits.{one_check, one_command}
+use Rattle.dialyze_command.specs.Outcome.{Checks, ChecksTooMany, NamesTable, SaysWhether, says_no, says_yes, Outcome, usage, many, no_table, bad_table, faulty, duplicate_module, long_table, passed, made, IsUnread, of_table, of_file, IsUnreplaced, of_new_table, of_generated, Intended, answered, unread, unreplaced, Answers, FailsToRead, FailsToReplace, FailsToWrite, IsAnswer, IsPassed, IsPossible, StoresNothing, of_word, of_many, of_two, of_number, of_numbers}
 use Rattle.dialyze_command.specs.Laws.{Passed}
 
 says_answer : {status : Status} {output : List ℕ} → SaysWhether status output → IsAnswer status
 says_answer (says_no a b) = subst IsAnswer (sym a) tt
 says_answer (says_yes a b) = subst IsAnswer (sym a) tt
+
+summary_answer : {n : ℕ} {status : Status} {output : List ℕ} → IsSummary n status output → IsAnswer status
+summary_answer (text_refused at fault a b c) = subst IsAnswer (sym a) tt
+summary_answer (names_one first second a b c) = subst IsAnswer (sym a) tt
+summary_answer (counted sources reports new a b c d f) = subst IsAnswer (sym a) tt
 
 -- every outcome is an answer
 answers : {words : List (List ℕ)} {told after : Option Files} {status : Status} {output : List ℕ} → Outcome words told status output after → IsAnswer status
@@ -30,6 +37,7 @@ answers (faulty command files at file fault a b c d f g) = subst IsAnswer (sym a
 answers (duplicate_module command files first second file other a b c d f g h) = subst IsAnswer (sym a) tt
 answers (long_table command reports new at name a b c d names long) = subst IsAnswer (sym a) tt
 answers (passed command reports new says c d f) = says_answer says
+answers (made count asks is c) = summary_answer is
 
 pub outcome_of : {words : List (List ℕ)} {told after : Option Files} {rb rn n k : ℕ} {status : Status} {output : List ℕ} → IsAnswer status → Intended words told rb rn n k status output after → Outcome words told status output after
 outcome_of h (answered o) = o
@@ -61,30 +69,40 @@ passed_answer (DeviceFault device) h = absurd h
 passed_answer Memory h = absurd h
 passed_answer Usage h = absurd h
 
-pub passed_so : {words : List (List ℕ)} {held : Files} {after : Option Files} {status : Status} {output : List ℕ} {before now : Option (List ℕ)} → 100 ≤ mark status → mark status ≤ 101 → Outcome words (Some held) status output after
+pub passed_so : {words : List (List ℕ)} {held : Files} {after : Option Files} {status : Status} {output : List ℕ} {before now : Option (List ℕ)} → AsksForCheck words → 100 ≤ mark status → mark status ≤ 101 → Outcome words (Some held) status output after
     → now ≡ appended before output → Passed words held after before now
-passed_so h k (usage a b c d) w = absurd (omega (arith, k, ap mark a))
-passed_so h k (many a b c d) w = absurd (omega (arith, h, ap mark a))
-passed_so h k (no_table at name a b c names lacks) w = absurd (omega (arith, h, ap mark a))
-passed_so h k (bad_table at name bytes fault a b c names holds is) w = absurd (omega (arith, k, ap mark a))
-passed_so h k (faulty command files at file fault a b c d f g) w = absurd (omega (arith, h, ap mark a, (mark_of fault.name).0))
-passed_so h k (duplicate_module command files first second file other a b c d f g i) w = absurd (omega (arith, h, ap mark a))
-passed_so h k (long_table command reports new at name a b c d names long) w = absurd (omega (arith, h, ap mark a))
-passed_so {before = before} h k (passed command reports new says c d f) w =
+passed_so asks h k (usage a b c d) w = absurd (omega (arith, k, ap mark a))
+passed_so asks h k (many a b c d) w = absurd (omega (arith, h, ap mark a))
+passed_so asks h k (no_table at name a b c names lacks) w = absurd (omega (arith, h, ap mark a))
+passed_so asks h k (bad_table at name bytes fault a b c names holds is) w = absurd (omega (arith, k, ap mark a))
+passed_so asks h k (faulty command files at file fault a b c d f g) w = absurd (omega (arith, h, ap mark a, (mark_of fault.name).0))
+passed_so asks h k (duplicate_module command files first second file other a b c d f g i) w = absurd (omega (arith, h, ap mark a))
+passed_so asks h k (long_table command reports new at name a b c d names long) w = absurd (omega (arith, h, ap mark a))
+passed_so {before = before} asks h k (passed command reports new says c d f) w =
     record { command = command; reports = reports; new = new; analyses = d; written = w ∙ ap (appended before) c; stored = f }
+passed_so asks h k (made count make is c) w = absurd (one_command asks.2 make)
 
-pub passed_it : (words : List (List ℕ)) (held : Files) (after : Option Files) (rb rn n k : ℕ) (status : Status) (output : List ℕ) (before now : Option (List ℕ)) → Intended words (Some held) rb rn n k status output after → now ≡ appended before output → IsPassed status → Passed words held after before now
-passed_it words held after rb rn n k status output before now h w is =
+pub passed_it : (words : List (List ℕ)) (held : Files) (after : Option Files) (rb rn n k : ℕ) (status : Status) (output : List ℕ) (before now : Option (List ℕ)) → Intended words (Some held) rb rn n k status output after → now ≡ appended before output → AsksForCheck words → IsPassed status → Passed words held after before now
+passed_it words held after rb rn n k status output before now h w asks is =
     let m = passed_mark status is in
-    passed_so m.0 m.1 (outcome_of (passed_answer status is) h) w
+    passed_so asks m.0 m.1 (outcome_of (passed_answer status is) h) w
 
 -- ---- by the words alone, also where the shelf doesn't tell what it holds
 
 no_command : {words files : List (List ℕ)} {command : Command} → IsNoCommand words → Checks words command files → ⊥
-no_command {files = files} {command = command} none h = none (command, files, h.check)
+no_command {files = files} {command = command} none h = none (inl (command, files, h.check))
 
 few_files : {words files : List (List ℕ)} {command : Command} → ChecksTooMany words → Checks words command files → ⊥
 few_files h k = let few = k.few in let e = ap length (one_check h.check k.check).1 in let long = h.many in absurd (omega arith)
+
+-- a make is answered by no status of a table, of too many files or of no command
+pub summary_mark : {n : ℕ} {status : Status} {output : List ℕ} → IsSummary n status output → (mark status ≡ 24) ⊎ (102 ≤ mark status) → ⊥
+summary_mark (text_refused at fault a b c) (inl e) = (mark_of fault.name).2 (sym (ap mark a) ∙ e)
+summary_mark (text_refused at fault a b c) (inr e) = absurd (omega (arith, e, ap mark a, (mark_of fault.name).0))
+summary_mark (names_one first second a b c) (inl e) = absurd (omega (arith, e, ap mark a))
+summary_mark (names_one first second a b c) (inr e) = absurd (omega (arith, e, ap mark a))
+summary_mark (counted sources reports new a b c d f) (inl e) = absurd (omega (arith, e, ap mark a))
+summary_mark (counted sources reports new a b c d f) (inr e) = absurd (omega (arith, e, ap mark a))
 
 usage_to : {words : List (List ℕ)} {told after : Option Files} {status : Status} {output : List ℕ} → Outcome words told status output after → status ≡ Usage → IsNoCommand words
 usage_to (usage a b c d) e = d
@@ -96,16 +114,18 @@ usage_to (duplicate_module command files first second file other a b c d f g h) 
 usage_to (long_table command reports new at name a b c d names long) e = absurd (omega (arith, ap mark (sym a ∙ e)))
 usage_to (passed command reports new (says_no a b) c d f) e = absurd (omega (arith, ap mark (sym a ∙ e)))
 usage_to (passed command reports new (says_yes a b) c d f) e = absurd (omega (arith, ap mark (sym a ∙ e)))
+usage_to (made count asks is c) e = absurd (summary_mark is (inr (omega (arith, ap mark e))))
 
 usage_from : {words : List (List ℕ)} {told after : Option Files} {status : Status} {output : List ℕ} → Outcome words told status output after → IsNoCommand words → status ≡ Usage
 usage_from (usage a b c d) none = a
-usage_from (many a b c d) none = absurd (none (d.command, d.files, d.check))
+usage_from (many a b c d) none = absurd (none (inl (d.command, d.files, d.check)))
 usage_from (no_table at name a b c names lacks) none = absurd (no_command none names.checks)
 usage_from (bad_table at name bytes fault a b c names holds is) none = absurd (no_command none names.checks)
 usage_from (faulty command files at file fault a b c d f g) none = absurd (no_command none d.checks)
 usage_from (duplicate_module command files first second file other a b c d f g h) none = absurd (no_command none d.checks)
 usage_from (long_table command reports new at name a b c d names long) none = absurd (no_command none d.begins.checks)
 usage_from (passed command reports new says c d f) none = absurd (no_command none d.begins.checks)
+usage_from (made count asks is c) none = absurd (none (inr (count, asks)))
 
 pub usage_it : (words : List (List ℕ)) (told after : Option Files) (rb rn n k : ℕ) (status : Status) (output : List ℕ) → Intended words told rb rn n k status output after → IsAnswer status → (status ≡ Usage) ↔ IsNoCommand words
 usage_it words told after rb rn n k status output h answer = (usage_to (outcome_of answer h), usage_from (outcome_of answer h))
@@ -120,9 +140,10 @@ many_to (duplicate_module command files first second file other a b c d f g h) e
 many_to (long_table command reports new at name a b c d names long) e = absurd (omega (arith, ap mark (sym a ∙ e)))
 many_to (passed command reports new (says_no a b) c d f) e = absurd (omega (arith, ap mark (sym a ∙ e)))
 many_to (passed command reports new (says_yes a b) c d f) e = absurd (omega (arith, ap mark (sym a ∙ e)))
+many_to (made count asks is c) e = absurd (summary_mark is (inl (ap mark e)))
 
 many_from : {words : List (List ℕ)} {told after : Option Files} {status : Status} {output : List ℕ} → Outcome words told status output after → ChecksTooMany words → status ≡ too_many
-many_from (usage a b c d) h = absurd (d (h.command, h.files, h.check))
+many_from (usage a b c d) h = absurd (d (inl (h.command, h.files, h.check)))
 many_from (many a b c d) h = a
 many_from (no_table at name a b c names lacks) h = absurd (few_files h names.checks)
 many_from (bad_table at name bytes fault a b c names holds is) h = absurd (few_files h names.checks)
@@ -130,6 +151,7 @@ many_from (faulty command files at file fault a b c d f g) h = absurd (few_files
 many_from (duplicate_module command files first second file other a b c d f g i) h = absurd (few_files h d.checks)
 many_from (long_table command reports new at name a b c d names long) h = absurd (few_files h d.begins.checks)
 many_from (passed command reports new says c d f) h = absurd (few_files h d.begins.checks)
+many_from (made count asks is c) h = absurd (one_command h.check asks)
 
 pub too_many_it : (words : List (List ℕ)) (told after : Option Files) (rb rn n k : ℕ) (status : Status) (output : List ℕ) → Intended words told rb rn n k status output after → IsAnswer status → (status ≡ too_many) ↔ ChecksTooMany words
 too_many_it words told after rb rn n k status output h answer = (many_to (outcome_of answer h), many_from (outcome_of answer h))
@@ -177,34 +199,45 @@ memory_it words told after rb rn n k status output before now h e = absurd (no_m
 
 -- ---- no other status
 
-says_possible : {status : Status} {output : List ℕ} → SaysWhether status output → IsPossible status
-says_possible (says_no a b) = subst IsPossible (sym a) tt
-says_possible (says_yes a b) = subst IsPossible (sym a) tt
+says_possible : (words : List (List ℕ)) {status : Status} {output : List ℕ} → SaysWhether status output → IsPossible words status
+says_possible words (says_no a b) = subst (IsPossible words) (sym a) tt
+says_possible words (says_yes a b) = subst (IsPossible words) (sym a) tt
 
 table_late : {words : List (List ℕ)} {word : ℕ} {name : List ℕ} → NamesTable words word name → 1 ≤ word
 table_late {word = word} h = (plt_before h.checks.check word h.plt.given).0
 
-possible_outcome : {words : List (List ℕ)} {told after : Option Files} {status : Status} {output : List ℕ} → Outcome words told status output after → IsPossible status
-possible_outcome (usage a b c d) = subst IsPossible (sym a) tt
-possible_outcome (many a b c d) = subst IsPossible (sym a) (of_many refl)
-possible_outcome (no_table at name a b c names lacks) = subst IsPossible (sym a) (of_word at missing (table_late names) refl)
-possible_outcome (bad_table at name bytes fault a b c names holds is) = subst IsPossible (sym a) (table_number fault is.some)
-possible_outcome (faulty command files at file fault a b c d f g) = subst IsPossible (sym a) (of_word (command.start + at) fault (omega (arith, start_late d.checks.check)) refl)
-possible_outcome (duplicate_module command files first second file other a b c d f g h) =
-    subst IsPossible (sym a) (of_two (command.start + second) (command.start + first) (omega (arith, start_late d.checks.check)) (omega (arith, h.is.before)) refl)
-possible_outcome (long_table command reports new at name a b c d names long) = subst IsPossible (sym a) (of_word at too_long (out_before d.begins.checks.check at names.given).0 refl)
-possible_outcome (passed command reports new says c d f) = says_possible says
+-- a generated file that is refused is one of those
+summary_possible : {words : List (List ℕ)} {count : ℕ} {status : Status} {output : List ℕ} → IsMake words count → IsSummary count status output → IsPossible words status
+summary_possible {words} {count} asks (text_refused at fault a b c) = subst (IsPossible words) (sym a) (of_number count at fault asks (refused_number count at fault c) refl)
+summary_possible {words} {count} asks (names_one first second a b c) = subst (IsPossible words) (sym a) (of_numbers count second first asks c.is.before (duplicate_number count first second c) refl)
+summary_possible {words} asks (counted sources reports new a b c d f) = subst (IsPossible words) (sym a) tt
+
+possible_outcome : {words : List (List ℕ)} {told after : Option Files} {status : Status} {output : List ℕ} → Outcome words told status output after → IsPossible words status
+possible_outcome {words} (usage a b c d) = subst (IsPossible words) (sym a) tt
+possible_outcome {words} (many a b c d) = subst (IsPossible words) (sym a) (of_many refl)
+possible_outcome {words} (no_table at name a b c names lacks) = subst (IsPossible words) (sym a) (of_word at missing (table_late names) refl)
+possible_outcome {words} (bad_table at name bytes fault a b c names holds is) = subst (IsPossible words) (sym a) (table_number fault is.some)
+possible_outcome {words} (faulty command files at file fault a b c d f g) = subst (IsPossible words) (sym a) (of_word (command.start + at) fault (omega (arith, start_late d.checks.check)) refl)
+possible_outcome {words} (duplicate_module command files first second file other a b c d f g h) =
+    subst (IsPossible words) (sym a) (of_two (command.start + second) (command.start + first) (omega (arith, start_late d.checks.check)) (omega (arith, h.is.before)) refl)
+possible_outcome {words} (long_table command reports new at name a b c d names long) = subst (IsPossible words) (sym a) (of_word at too_long (out_before d.begins.checks.check at names.given).0 refl)
+possible_outcome {words} (passed command reports new says c d f) = says_possible words says
+possible_outcome {words} (made count asks is c) = summary_possible asks is
 
 unread_late : {words : List (List ℕ)} {told : Option Files} {word : ℕ} {name : List ℕ} → IsUnread words told word name → 1 ≤ word
 unread_late (of_table h) = table_late h
 unread_late (of_file command files at before e begins reached) = omega (arith, e, start_late begins.checks.check)
 
-possible : {words : List (List ℕ)} {told after : Option Files} {rb rn n k : ℕ} {status : Status} {output : List ℕ} → Intended words told rb rn n k status output after → IsPossible status
-possible (answered o) = possible_outcome o
-possible (unread word name a b c d rose) = subst IsPossible (sym a) (unread_late d)
-possible (unreplaced word name a b d rose) = subst IsPossible (sym a) (out_before d.analyses.begins.checks.check word d.out.given).0
+unreplaced_late : {words : List (List ℕ)} {told after : Option Files} {word : ℕ} {name : List ℕ} → IsUnreplaced words told word name after → (1 ≤ word) ⊎ ((count : ℕ) × IsMake words count × (word < count))
+unreplaced_late {word = word} (of_new_table h) = inl (out_before h.analyses.begins.checks.check word h.out.given).0
+unreplaced_late (of_generated h) = inr (h.count, h.make, h.within)
 
-pub possible_it : (words : List (List ℕ)) (told after : Option Files) (rb rn n k : ℕ) (status : Status) (output : List ℕ) → Intended words told rb rn n k status output after → IsPossible status
+possible : {words : List (List ℕ)} {told after : Option Files} {rb rn n k : ℕ} {status : Status} {output : List ℕ} → Intended words told rb rn n k status output after → IsPossible words status
+possible (answered o) = possible_outcome o
+possible {words} (unread word name a b c d rose) = subst (IsPossible words) (sym a) (unread_late d)
+possible {words} (unreplaced word name a b d rose) = subst (IsPossible words) (sym a) (unreplaced_late d)
+
+pub possible_it : (words : List (List ℕ)) (told after : Option Files) (rb rn n k : ℕ) (status : Status) (output : List ℕ) → Intended words told rb rn n k status output after → IsPossible words status
 possible_it words told after rb rn n k status output h = possible h
 
 -- ---- what stays
@@ -213,22 +246,28 @@ says_stores : {status : Status} {output : List ℕ} → SaysWhether status outpu
 says_stores (says_no a b) h = subst StoresNothing a h
 says_stores (says_yes a b) h = subst StoresNothing a h
 
-stays_outcome : {words : List (List ℕ)} {told after : Option Files} {status : Status} {output : List ℕ} → Outcome words told status output after → StoresNothing status → after ≡ told
-stays_outcome (usage a b c d) h = c
-stays_outcome (many a b c d) h = c
-stays_outcome (no_table at name a b c names lacks) h = c
-stays_outcome (bad_table at name bytes fault a b c names holds is) h = c
-stays_outcome (faulty command files at file fault a b c d f g) h = c
-stays_outcome (duplicate_module command files first second file other a b c d f g i) h = c
-stays_outcome (long_table command reports new at name a b c d names long) h = c
-stays_outcome (passed command reports new says c d f) h = absurd (says_stores says h)
+stays_outcome : {words : List (List ℕ)} {told after : Option Files} {status : Status} {output : List ℕ} → Outcome words told status output after → IsNoMake words → StoresNothing status → after ≡ told
+stays_outcome (usage a b c d) none h = c
+stays_outcome (many a b c d) none h = c
+stays_outcome (no_table at name a b c names lacks) none h = c
+stays_outcome (bad_table at name bytes fault a b c names holds is) none h = c
+stays_outcome (faulty command files at file fault a b c d f g) none h = c
+stays_outcome (duplicate_module command files first second file other a b c d f g i) none h = c
+stays_outcome (long_table command reports new at name a b c d names long) none h = c
+stays_outcome (passed command reports new says c d f) none h = absurd (says_stores says h)
+stays_outcome (made count asks is c) none h = absurd (none count asks)
 
-stays : {words : List (List ℕ)} {told after : Option Files} {rb rn n k : ℕ} {status : Status} {output : List ℕ} → Intended words told rb rn n k status output after → StoresNothing status → after ≡ told
-stays (answered o) h = stays_outcome o h
-stays (unread word name a b c d rose) h = c
-stays (unreplaced word name a b d rose) h = absurd (subst StoresNothing a h)
+stays : {words : List (List ℕ)} {told after : Option Files} {rb rn n k : ℕ} {status : Status} {output : List ℕ} → Intended words told rb rn n k status output after → IsNoMake words → StoresNothing status → after ≡ told
+stays (answered o) none h = stays_outcome o none h
+stays (unread word name a b c d rose) none h = c
+stays (unreplaced word name a b d rose) none h = absurd (subst StoresNothing a h)
 
-pub stays_it : (words : List (List ℕ)) (told after : Option Files) (rb rn n k : ℕ) (status : Status) (output : List ℕ) → Intended words told rb rn n k status output after → StoresNothing status → after ≡ told
-stays_it words told after rb rn n k status output h is = stays h is
+pub stays_it : (words : List (List ℕ)) (told after : Option Files) (rb rn n k : ℕ) (status : Status) (output : List ℕ) → Intended words told rb rn n k status output after → IsNoMake words → StoresNothing status → after ≡ told
+stays_it words told after rb rn n k status output h none is = stays h none is
 
-pub ruleset check_exits = (answers_it, usage_it, too_many_it, read_it, replace_it, unwritten_it, write_it, memory_it, possible_it, stays_it)
+-- ---- a make without memory left
+
+pub unfinished_it : (words : List (List ℕ)) (told after : Option Files) (rb rn n k : ℕ) (status : Status) (output : List ℕ) → Intended words told rb rn n k status output after → (count : ℕ) → IsMake words count → status ≡ Memory → PutsFirst count told after
+unfinished_it words told after rb rn n k status output h count asks e = absurd (no_memory h e)
+
+pub ruleset check_exits = (answers_it, usage_it, too_many_it, read_it, replace_it, unwritten_it, write_it, memory_it, possible_it, stays_it, unfinished_it)

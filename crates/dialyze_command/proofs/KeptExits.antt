@@ -1,7 +1,8 @@
 -- What a check that passed wrote is what an analysis from scratch gives, and nothing of it is false.
 use Rattle.std.proofs.Common.{◌≡◌, ℕ, zero, suc, ◌<◌, List, [], ◌∷◌, ◌++◌, Contains, length, map, refl, sym, ◌∙◌, ap, subst, Option, Some, None, append-nil, arith}
-use Rattle.std.specs.Prelude.{IfSome, slice_index_or, Bool, true, false, not, ◌&&◌, if◌then◌else◌, cond}
+use Rattle.std.specs.Prelude.{IfSome, slice_index_or, Bool, true, false, not, ◌&&◌, if◌then◌else◌}
 use Rattle.std.specs.Cmp.Lexicographic.{bytes_decides}
+use Rattle.std.proofs.lemmas.Bool.{false_from_ne_true}
 use Rattle.std.proofs.lemmas.List.{length-map}
 use Rattle.type_kinds.specs.declared.atom.Atom.{Atom}
 use Rattle.core_ast.specs.Model as m
@@ -16,11 +17,14 @@ use Rattle.table_keep.specs.Kept.{Results, is_candidate, calls_of, is_new, kept}
 use Rattle.sound_laws.specs.Accepted.{AreAccepted}
 use Rattle.sound_laws_rounds.specs.Whole.{IsWhole}
 use Rattle.sound_laws_flow.specs.Claims.{NothingFalse}
+use Rattle.module_flow_frame.specs.Sites.{TiedLines}
 use Rattle.sound_laws_kept.specs.Laws.{KeptLaw, FoundLaw, DigestsTell}
 use Rattle.sound_laws_kept.specs.Solving.{AreSources, IsWritten}
 use Rattle.sound_laws_kept.specs.Written.{new_entry}
+use Rattle.sound_laws_kept.proofs.Names.{accepted_append, accepted_picked}
 use Rattle.dialyze_command.specs.declared.status.Status.{Status}
 use Rattle.dialyze_command.specs.Outcome.{HaveOwnNames, module_names, IsBegun, empty, named, Intended, IsPassed}
+use Rattle.dialyze_command.specs.Words.{AsksForCheck}
 use Rattle.dialyze_command.proofs.CheckExits.{passed_it}
 use Rattle.dialyze_command.specs.Laws.{Passed, NothingReportedFalse, WritesFromScratch, WritesNothingFalse, whole_of}
 
@@ -36,26 +40,10 @@ are_sources M accepted own = record {
 
 -- ---- the program of what is handed in and of kept sources
 
-accepted_more : (M xs : List Source) → AreAccepted (trees M) → AreAccepted (trees xs) → AreAccepted (trees (M ++ xs))
-accepted_more [] xs h k = k
-accepted_more (s ∷ M) xs h k = (h.0, accepted_more M xs h.1 k)
-
-accepted_picked : (p : Atom → Bool) (xs : List Source) → AreAccepted (trees xs) → AreAccepted (trees (picked p xs))
-accepted_picked p [] h = tt
-accepted_picked p (s ∷ xs) h = by (p s.tree.name) (accepted_picked p xs h.1)
-  where
-    by : (b : Bool) → AreAccepted (trees (picked p xs)) → AreAccepted (trees (cond b (s ∷ picked p xs) (picked p xs)))
-    by true k = (h.0, k)
-    by false k = k
-
 name_among : (M : List Source) (s : Source) (k : ℕ) → k < length M → slice_index_or M k s ≡ s → Contains (module_names (trees M)) s.tree.name
 name_among [] s k h e = absurd (omega (arith, h))
 name_among (x ∷ M) s zero h e = (0, omega arith, ap (λ y. y.tree.name) e)
 name_among (x ∷ M) s (suc k) h e = let r = name_among M s k (omega (arith, h)) e in (suc r.0, omega (arith, r.1), r.2)
-
-not_same : (b : Bool) → (b ≡ true → ⊥) → b ≡ false
-not_same true h = absurd (h refl)
-not_same false h = refl
 
 -- a module that is handed in has its name in the program
 has_module : (M xs : List Source) (s : Source) → Distinct (module_names (trees M)) → (k : ℕ) → k < length M → slice_index_or M k s ≡ s → HasModule (trees (M ++ xs)) s.tree
@@ -64,7 +52,7 @@ has_module (x ∷ M) xs s d zero h e =
     ap (λ b. if b then Some x.tree else module_named (trees (M ++ xs)) s.tree.name) ((bytes_decides x.tree.name s.tree.name).1 (ap (λ y. y.tree.name) e)) ∙ ap (λ y. Some y.tree) e
 has_module (x ∷ M) xs s d (suc k) h e =
     ap (λ b. if b then Some x.tree else module_named (trees (M ++ xs)) s.tree.name)
-    (not_same (same_atom x.tree.name s.tree.name)
+    (false_from_ne_true (same_atom x.tree.name s.tree.name)
     (λ f. d.0 (subst (Contains (module_names (trees M))) (sym ((bytes_decides x.tree.name s.tree.name).0 f)) (name_among M s k (omega (arith, h)) e))))
     ∙ has_module M xs s d.1 k (omega (arith, h)) e
 
@@ -107,7 +95,7 @@ empty_written = record {
 
 -- ---- the laws of a check that passed
 
-module _ (kept_law : KeptLaw) (found_law : FoundLaw) (whole_law : WholeLaw) where
+module _ (kept_law : KeptLaw) (found_law : FoundLaw) (whole_law : WholeLaw) (tied_law : TiedLines) where
   found_so : (Src M : List Source) (T new : List Entry) (before reports : List (List ℕ)) → AreSources Src → AreSources M → DigestsTell Src M → IsWritten [] Src before T → (w : IsWritten T M reports new)
       → NothingReportedFalse (whole_of w Src) M reports
   found_so Src M T new before reports of_src of_m tell table w =
@@ -118,8 +106,9 @@ module _ (kept_law : KeptLaw) (found_law : FoundLaw) (whole_law : WholeLaw) wher
         reports_so = w.reports_so;
         found = is;
         sound = λ s there.
-            whole_law (trees (M ++ picked p Src)) is.known s.tree (accepted_more M (picked p Src) of_m.accepted (accepted_picked p Src of_src.accepted)) is.whole
+            whole_law (trees (M ++ picked p Src)) is.known s.tree (accepted_append M (picked p Src) of_m.accepted (accepted_picked p Src of_src.accepted)) is.whole
             (has_module M (picked p Src) s of_m.distinct there.0 there.1 there.2);
+        tied = λ s there. tied_law is.known s.tree (w.known s.tree.name).lines (is.found s there);
       }
 
   module _ (words : List (List ℕ)) (held : Files) (after : Option Files) (before now : Option (List ℕ)) (passed : Passed words held after before now) where
@@ -157,14 +146,14 @@ module _ (kept_law : KeptLaw) (found_law : FoundLaw) (whole_law : WholeLaw) wher
 
   -- ---- as the clauses say it
 
-  pub kept_it : (words : List (List ℕ)) (told after : Option Files) (rb rn n k : ℕ) (status : Status) (output : List ℕ) (before now : Option (List ℕ)) → Intended words told rb rn n k status output after → now ≡ appended before output → IsPassed status
+  pub kept_it : (words : List (List ℕ)) (told after : Option Files) (rb rn n k : ℕ) (status : Status) (output : List ℕ) (before now : Option (List ℕ)) → Intended words told rb rn n k status output after → now ≡ appended before output → AsksForCheck words → IsPassed status
       → IfSome told (λ held. WritesFromScratch words held after before now)
-  kept_it words None after rb rn n k status output before now h w is = tt
-  kept_it words (Some held) after rb rn n k status output before now h w is =
-      from_scratch words held after before now (passed_it words held after rb rn n k status output before now h w is)
+  kept_it words None after rb rn n k status output before now h w asks is = tt
+  kept_it words (Some held) after rb rn n k status output before now h w asks is =
+      from_scratch words held after before now (passed_it words held after rb rn n k status output before now h w asks is)
 
-  pub sound_it : (words : List (List ℕ)) (told after : Option Files) (rb rn n k : ℕ) (status : Status) (output : List ℕ) (before now : Option (List ℕ)) → Intended words told rb rn n k status output after → now ≡ appended before output → IsPassed status
+  pub sound_it : (words : List (List ℕ)) (told after : Option Files) (rb rn n k : ℕ) (status : Status) (output : List ℕ) (before now : Option (List ℕ)) → Intended words told rb rn n k status output after → now ≡ appended before output → AsksForCheck words → IsPassed status
       → IfSome told (λ held. WritesNothingFalse words held after before now)
-  sound_it words None after rb rn n k status output before now h w is = tt
-  sound_it words (Some held) after rb rn n k status output before now h w is =
-      nothing_false words held after before now (passed_it words held after rb rn n k status output before now h w is)
+  sound_it words None after rb rn n k status output before now h w asks is = tt
+  sound_it words (Some held) after rb rn n k status output before now h w asks is =
+      nothing_false words held after before now (passed_it words held after rb rn n k status output before now h w asks is)

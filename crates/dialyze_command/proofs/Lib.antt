@@ -5,8 +5,10 @@ mod Joined
 mod KeptExits
 mod Numbers
 mod Places
+mod MakeExits
+mod MakeFiles
 mod PlanExits
+mod PrintedNumbers
 mod StoreExits
 mod Texts
 mod WordExits
-mod WorkerNumbers

@@ -26,6 +26,7 @@ use Rattle.analysis_sources.specs.declared.reading.ReadFault.TheVariants as read
 use Rattle.analysis_sources.specs.Reading.{AreRead, IsReached, RefusedAt, not_held, at_fault, Fails}
 use Rattle.analysis_sources.specs.Words.{texts}
 use Rattle.analysis_sources.specs.Refusals.{refusal_line}
+use Rattle.sound_laws_kept.proofs.Names.{some_is, accepted_sources}
 use Rattle.dialyze_command.specs.declared.answer.Answer.{Answer}
 use Rattle.dialyze_command.specs.declared.begin.Begun.{Begun}
 use Rattle.dialyze_command.specs.declared.begin.Begun.TheVariants.{Reads, Says}
@@ -36,15 +37,19 @@ use Rattle.dialyze_command.specs.declared.status.Status.TheVariants.{Usage, Devi
 use Rattle.dialyze_command.specs.declared.words.Command.{Command}
 use Rattle.dialyze_command.specs.Lines.{usage_line, refused, too_many, too_many_line, duplicate, duplicate_line, read_fault_line}
 use Rattle.dialyze_command.specs.Outcome.{Checks, Names, NamesTable, IsBegun, Begins, nowhere, HaveOwnNames, module_names, SaysWhether, Analyses, usage, many, no_table, bad_table, faulty, duplicate_module, long_table, passed, Intended, answered, unread, unreplaced, of_table, of_file}
-use Rattle.dialyze_command.specs.Words.{IsCheck, IsNoCommand, most_files}
+use Rattle.dialyze_command.specs.Words.{IsCheck, IsNoCheck, IsNoCommand, IsNoMake, most_files}
 use Rattle.dialyze_command.specs.steps.Plans as p
 use Rattle.dialyze_command.proofs.Places.{start_small, files_there, plt_within, out_within, plt_small, out_small}
 use Rattle.dialyze_command.proofs.Texts.{texts_long, texts_at, word_of, within_words}
 
 -- ---- words that are no check of files
 
-pub usage_plan : (ws : List (List ℕ)) (told : Option Files) (rb rn : ℕ) (status : Status) (output : List ℕ) → IsNoCommand ws → status ≡ Usage → output ≡ usage_line → p.IsPlan ws told rb rn status output None
-usage_plan ws told rb rn status output none s o = p.answers refl (λ n k. answered (usage s o refl none))
+no_command : (ws : List (List ℕ)) → IsNoCheck ws → IsNoMake ws → IsNoCommand ws
+no_command ws none also (inl h) = none h
+no_command ws none also (inr h) = also h.0 h.1
+
+pub usage_plan : (ws : List (List ℕ)) (told : Option Files) (rb rn : ℕ) (status : Status) (output : List ℕ) → IsNoCheck ws → IsNoMake ws → status ≡ Usage → output ≡ usage_line → p.IsPlan ws told rb rn status output None
+usage_plan ws told rb rn status output none also s o = p.answers refl (λ n k. answered (usage s o refl (no_command ws none also)))
 
 pub many_plan : (ws : List (List ℕ)) (told : Option Files) (rb rn : ℕ) (command : Command) (files : List (List ℕ)) (status : Status) (output : List ℕ) → IsCheck ws command files → most_files < length files
     → status ≡ too_many → output ≡ too_many_line → p.IsPlan ws told rb rn status output None
@@ -105,18 +110,11 @@ plan_since {ws} {told} {early} {rb} {rn} {status} {output} h (p.answers none mea
     since n k (unreplaced word name s o is rose) = unreplaced word name s o is rose
 
 -- modules that the code hands in are accepted
-pub are_accepted : (sources : List HandedIn) → AreAccepted (trees (sources_so sources))
-are_accepted [] = tt
-are_accepted (s ∷ ss) = ((s.checked, refl), are_accepted ss)
-
 -- ---- files that aren't read
 
 reached_file : {told : Option Files} {fs : List (List ℕ)} {at : ℕ} {fault : SourceFault} → RefusedAt told fs at fault → (file : List ℕ) × (slice_get fs at ≡ Some file)
 reached_file (not_held e h) = (h.file, h.reached.there)
 reached_file (at_fault h) = (h.file, h.reached.there)
-
-some_same : {A : Type 0} {x y : A} → Some x ≡ Some y → x ≡ y
-some_same e = cc
 
 -- the words of a check, as the code has them
 module _ (words : List (Bor (List ℕ))) (command : Command) (checks : Checks (texts words) command (drop command.start (texts words))) where
@@ -168,7 +166,7 @@ module _ (words : List (Bor (List ℕ))) (command : Command) (checks : Checks (t
       refused_words word fault v f d status output fails is same s o =
           let file = reached_file fails.2 in
           let there = texts_at words word d (refused_within word fault fails) in
-          let called : (get_or words word d).now ≡ file.0 = some_same (sym there ∙ ap (slice_get (texts words)) fails.1 ∙ word_of (texts words) command.start fails.0 ∙ file.1) in
+          let called : (get_or words word d).now ≡ file.0 = some_is (sym there ∙ ap (slice_get (texts words)) fails.1 ∙ word_of (texts words) command.start fails.0 ∙ file.1) in
           refused_plan (texts words) told rb rn command files checks table begun fails.0 file.0 fault status output fails.2 file.1
           (s ∙ ap (λ w. refused w f) (is ∙ fails.1) ∙ ap (refused (command.start + fails.0)) same)
           (o ∙ ap (λ w. refusal_line (get_or words w d).now f) is ∙ ap (λ n. refusal_line n f) called ∙ ap (refusal_line file.0) same)
@@ -177,7 +175,7 @@ module _ (words : List (Bor (List ℕ))) (command : Command) (checks : Checks (t
           → status ≡ DeviceFault (Read v) → output ≡ read_fault_line (get_or words v d).now → p.IsPlan (texts words) told rb rn status output None
       unread_words word v d status output fails is s o =
           let there = texts_at words word d (failed_within word fails) in
-          let called : (get_or words word d).now ≡ fails.2.0 = some_same (sym there ∙ ap (slice_get (texts words)) fails.1 ∙ word_of (texts words) command.start fails.0 ∙ fails.2.2.there) in
+          let called : (get_or words word d).now ≡ fails.2.0 = some_is (sym there ∙ ap (slice_get (texts words)) fails.1 ∙ word_of (texts words) command.start fails.0 ∙ fails.2.2.there) in
           unread_plan (texts words) told rb rn command files checks table begun fails.0 fails.2.1 fails.2.0 status output fails.2.2 fails.3
           (s ∙ ap (λ w. DeviceFault (Read w)) (is ∙ fails.1))
           (o ∙ ap (λ w. read_fault_line (get_or words w d).now) is ∙ ap read_fault_line called)
@@ -186,7 +184,7 @@ module _ (words : List (Bor (List ℕ))) (command : Command) (checks : Checks (t
           → IfOk r (λ q. p.IsJudged (texts words) command (entries_so table) (sources_so sources) q.answer.status q.answer.output q.table)
           → IfOk r (λ q. p.IsPlan (texts words) told rb rn q.answer.status q.answer.output q.table)
       judged_words sources (Ok q) h judged =
-          judged_plan (texts words) told rb rn command files checks table begun (sources_so sources) q.answer.status q.answer.output q.table h.0 h.1 (are_accepted sources) refl judged
+          judged_plan (texts words) told rb rn command files checks table begun (sources_so sources) q.answer.status q.answer.output q.table h.0 h.1 (accepted_sources sources) refl judged
       judged_words sources (Err e) h judged = tt
 
 -- ---- what the analysis says of the modules of sources
@@ -195,7 +193,7 @@ names_same : (sources : List HandedIn) → map (λ (s : HandedIn). (module_of s.
 names_same [] = refl
 names_same (s ∷ ss) = ap (λ ns. (module_of s.checked).name ∷ ns) (names_same ss)
 
-own_names : (sources : List HandedIn) → ((j : ℕ) → j < length sources → StandsEarlier (map (λ (s : HandedIn). (module_of s.checked).name) sources) j → ⊥) → HaveOwnNames (trees (sources_so sources))
+pub own_names : (sources : List HandedIn) → ((j : ℕ) → j < length sources → StandsEarlier (map (λ (s : HandedIn). (module_of s.checked).name) sources) j → ⊥) → HaveOwnNames (trees (sources_so sources))
 own_names sources own j h e =
     own j (subst (λ n. j < n) (length-map (sources_so sources) (λ (s : Source). s.tree) ∙ length-map sources source_so) h)
     (subst (λ ns. StandsEarlier ns j) (sym (names_same sources)) e)
@@ -207,7 +205,7 @@ pub analysed_it : (ws : List (List ℕ)) (command : Command) (table new : Table)
 analysed_it ws command table new sources reports (Ok q) own written made = p.analysed reports new (own_names sources own) written made
 analysed_it ws command table new sources reports (Err e) own written made = tt
 
-set_told : (sources : List HandedIn) (fault : SetFault) (first second : ℕ) → IsSetFault (map (λ (s : HandedIn). (module_of s.checked).name) sources) (Set fault)
+pub set_told : (sources : List HandedIn) (fault : SetFault) (first second : ℕ) → IsSetFault (map (λ (s : HandedIn). (module_of s.checked).name) sources) (Set fault)
     → first ≡ p.first_of fault → second ≡ p.second_of fault → FirstDuplicate (module_names (trees (sources_so sources))) first second
 set_told sources fault first second h e g =
     subst (λ ns. FirstDuplicate ns first second) (names_same sources)
@@ -241,8 +239,8 @@ pub twins_output : (words : List (Bor (List ℕ))) (start first second : ℕ) (d
     → output ≡ duplicate_line (get_or words (start + second) d).now (get_or words (start + first) e).now → (file other : List ℕ)
     → slice_get (drop start (texts words)) second ≡ Some file → slice_get (drop start (texts words)) first ≡ Some other → output ≡ duplicate_line file other
 twins_output words start first second d e output h k o file other x y =
-    let f : (get_or words (start + second) d).now ≡ file = some_same (sym (texts_at words (start + second) d k) ∙ word_of (texts words) start second ∙ x) in
-    let g : (get_or words (start + first) e).now ≡ other = some_same (sym (texts_at words (start + first) e h) ∙ word_of (texts words) start first ∙ y) in
+    let f : (get_or words (start + second) d).now ≡ file = some_is (sym (texts_at words (start + second) d k) ∙ word_of (texts words) start second ∙ x) in
+    let g : (get_or words (start + first) e).now ≡ other = some_is (sym (texts_at words (start + first) e h) ∙ word_of (texts words) start first ∙ y) in
     o ∙ ap (λ w. duplicate_line w (get_or words (start + first) e).now) f ∙ ap (duplicate_line file) g
 
 -- ---- the table that is to be written

@@ -11,7 +11,7 @@ use Rattle.dialyze_command.specs.declared.answer.Answer.{Answer}
 use Rattle.dialyze_command.specs.declared.plan.NewTable.{NewTable}
 use Rattle.dialyze_command.specs.declared.plan.Plan.{Plan}
 use Rattle.dialyze_command.specs.declared.status.Status.TheVariants.{DeviceFault}
-use Rattle.dialyze_command.specs.Outcome.{Intended, answered, unreplaced, passed, under}
+use Rattle.dialyze_command.specs.Outcome.{Intended, answered, unreplaced, passed, under, of_new_table}
 use Rattle.dialyze_command.specs.steps.Plans as p
 use Rattle.dialyze_command.proofs.Texts.{texts_at}
 
@@ -48,7 +48,7 @@ carried words told after rb rn n k plan made a (p.stores command reports new tab
     let one = one_table made other table also some in
     let called = one_name words table.word is.name name is.names.there (subst (λ t. slice_get words t.word ≡ Some name) one there) in
     unreplaced table.word is.name (s ∙ ap (λ t. DeviceFault (Replace t.word)) one) (f ∙ ap (λ t. t.line) one ∙ is.line_so)
-    (record {
+    (of_new_table (record {
       command = command;
       reports = reports;
       new = new;
@@ -56,7 +56,7 @@ carried words told after rb rn n k plan made a (p.stores command reports new tab
       out = is.names;
       short = is.short;
       whole = subst (λ m. IsOldOrNew told after m (table_bytes new)) (sym called) (subst (IsOldOrNew told after name) (ap (λ t. t.bytes) one ∙ is.bytes_so) whole);
-    })
+    }))
     rose
 
 pub answered_so : (words : List (List ℕ)) (told mid after : Option Files) (rb rm rn n m k : ℕ) (plan : Plan) (r : Result Answer Memory) → p.IsPlan words told rb rm plan.answer.status plan.answer.output plan.table → mid ≡ told → m ≡ n → rn ≡ rm

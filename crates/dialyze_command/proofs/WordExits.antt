@@ -1,6 +1,7 @@
 -- Which words are a command.
-use Rattle.std.proofs.Common.{◌≡◌, ◌≢◌, ◌↔◌, ℕ, nat_eq, zero, suc, ◌+◌, ◌-◌, ◌<◌, ◌≤◌, Bool, false, true, List, [], ◌∷◌, ◌++◌, length, drop, take, get_or, refl, sym, ap, ap₂, ◌∙◌, subst, add-one, drop-cons, drop_of_length-le, arith, true≢false}
+use Rattle.std.proofs.Common.{◌≡◌, ◌≢◌, ◌↔◌, ℕ, nat_eq, zero, suc, ◌+◌, ◌-◌, ◌<◌, ◌≤◌, Bool, false, true, List, [], ◌∷◌, ◌++◌, length, drop, take, get_or, refl, sym, ap, ap₂, ◌∙◌, subst, arith, true≢false}
 use Rattle.std.specs.Prelude.{IsTrue, codes, not, Option, Some, None, MatchOption}
+use Rattle.std.specs.Fmt.{decimal}
 use Rattle.std.proofs.lemmas.Bool.{not-false}
 use Rattle.std.specs.Cmp.Lexicographic.{pointwise, bytes_decides}
 use Rattle.std.specs.Borrow.{Bor}
@@ -9,19 +10,9 @@ use Rattle.analysis_sources.specs.Words.{texts}
 use Rattle.dialyze_command.specs.declared.words.Command.{Command}
 use Rattle.dialyze_command.specs.declared.words.OptionName.{OptionName}
 use Rattle.dialyze_command.specs.declared.words.OptionName.TheVariants.{Plt, Out, Workers}
-use Rattle.dialyze_command.proofs.WorkerNumbers.{decimal_once}
-use Rattle.dialyze_command.specs.Words.{AreFiles, AreOptions, no_more, one_more, Adds, IsFile, option_word, plain, IsCheck, IsNoCommand}
+use Rattle.dialyze_command.proofs.PrintedNumbers.{decimal_once}
+use Rattle.dialyze_command.specs.Words.{AreFiles, AreOptions, no_more, one_more, Adds, IsFile, option_word, plain, IsCheck, IsMake, IsNoCheck, IsNoMake, most_modules}
 use Rattle.dialyze_command.specs.steps.Options.{Splits, HasNoOptions, EndsOptions, IsNoOption, AddsNothing}
-
--- ---- files
-
--- the next word, and the words behind it
-front : (words : List (Bor (List ℕ))) (i : ℕ) (w : Bor (List ℕ)) → i < length words → w ≡ get_or words i w → drop i words ≡ w ∷ drop (i + 1) words
-front words i w h e =
-    drop-cons words i w h ∙ ap₂ (λ y ys. y ∷ ys) (sym e) (ap (λ n. drop n words) (sym (add-one i)))
-
-pub words_named : (words : List (Bor (List ℕ))) (i : ℕ) → length words ≤ i → (AreFiles (texts (drop i words)) ↔ AreFiles (texts words)) → AreFiles (texts words)
-words_named words i h before = before.0 (subst (λ ws. AreFiles (texts ws)) (sym (drop_of_length-le words h)) tt)
 
 -- ---- options
 
@@ -178,7 +169,7 @@ take_drop zero xs = refl
 take_drop (suc n) [] = refl
 take_drop (suc n) (x ∷ xs) = ap (λ ys. x ∷ ys) (take_drop n xs)
 
-pub not_split : (asked : List (List ℕ)) → HasNoOptions asked plain → IsNoCommand (codes "check" ∷ asked)
+pub not_split : (asked : List (List ℕ)) → HasNoOptions asked plain → IsNoCheck (codes "check" ∷ asked)
 not_split asked none h =
     none h.2.options h.1 h.0 (record { whole = ap rest_words h.2.spelled; asked = h.2.asked; some = h.2.some; named = h.2.named })
 
@@ -197,7 +188,7 @@ a_check asked now ends some named =
 
 -- files are the words behind the only options that there may be
 pub no_files : (asked : List (List ℕ)) (now : Command) → EndsOptions asked plain now → (drop now.start (codes "check" ∷ asked) ≢ [] → AreFiles (drop now.start (codes "check" ∷ asked)) → ⊥)
-    → IsNoCommand (codes "check" ∷ asked)
+    → IsNoCheck (codes "check" ∷ asked)
 no_files asked now ends none h =
     let split : Splits asked h.2.options h.1 plain h.0 = record { whole = ap rest_words h.2.spelled; asked = h.2.asked; some = h.2.some; named = h.2.named } in
     let only = ends.only h.2.options h.1 h.0 split in
@@ -237,12 +228,12 @@ check_told ws asked w differs now fs empty named parts is same ends none some fi
 
 pub no_check : (ws asked : List (Bor (List ℕ))) (w : Bor (List ℕ)) (differs : Bool) (now : Command) (fs : List (Bor (List ℕ))) (named : Bool) → ws ≡ w ∷ asked
     → differs ≡ not (pointwise nat_eq w.now (codes "check")) → differs ≡ false → EndsOptions (texts asked) plain now → (IsTrue named ↔ AreFiles (texts fs)) → named ≡ false
-    → fs ≡ take (length ws - now.start) (drop now.start ws) → IsNoCommand (texts ws)
+    → fs ≡ take (length ws - now.start) (drop now.start ws) → IsNoCheck (texts ws)
 no_check ws asked w differs now fs named parts is same ends files no_so behind =
     let whole = ap texts behind ∙ texts_from ws now.start in
     let front = said ws asked w differs parts is same in
     let all = whole ∙ ap (drop now.start) front in
-    subst IsNoCommand (sym front)
+    subst IsNoCheck (sym front)
     (no_files (texts asked) now ends (λ some are. true≢false (sym (files.1 (subst AreFiles (sym all) are)) ∙ no_so)))
 
 -- ---- words are one command
@@ -267,3 +258,30 @@ one_split os ps fs gs before now then (one_more xs b n option value more next e 
 pub one_check : {words files those : List (List ℕ)} {command other : Command} → IsCheck words command files → IsCheck words other those → (command ≡ other) × (files ≡ those)
 one_check {files = files} {those = those} {command = command} {other = other} h k =
     one_split h.options k.options files those plain command other h.asked k.asked (ap rest_words (sym h.spelled ∙ k.spelled)) h.named k.named
+
+-- no words ask for a check and for generated modules
+pub one_command : {words files : List (List ℕ)} {command : Command} {count : ℕ} → IsCheck words command files → IsMake words count → ⊥
+one_command h k = let e : 99 ≡ 109 = ap (λ ws. get_or (first_word ws) 0 0) (sym h.spelled ∙ k.spelled) in absurd (omega (arith, e))
+
+-- words ask for one number of generated modules
+pub one_make : {words : List (List ℕ)} {count other : ℕ} → IsMake words count → IsMake words other → count ≡ other
+one_make {count = count} {other = other} h k =
+    decimal_once count other (omega (arith, h.most)) (omega (arith, k.most)) (ap (λ ws. first_word (rest_words ws)) (sym h.spelled ∙ k.spelled))
+
+-- the words `make` and a number
+pub make_told : (ws : List (Bor (List ℕ))) (d e : Bor (List ℕ)) (differs : Bool) (r : Option ℕ) → 2 ≤ length ws → length ws < 3
+    → differs ≡ not (pointwise nat_eq (get_or ws 0 d).now (codes "make")) → differs ≡ false
+    → MatchOption r ((n : ℕ) → 1 ≤ n → n ≤ most_modules → (get_or ws 1 e).now ≡ decimal n → ⊥) (λ n. ((get_or ws 1 e).now ≡ decimal n) × (1 ≤ n) × (n ≤ most_modules))
+    → MatchOption r (IsNoMake (texts ws)) (λ n. IsMake (texts ws) n)
+make_told [] d e differs r least below is same h = absurd (omega (arith, least))
+make_told (w ∷ []) d e differs r least below is same h = absurd (omega (arith, least))
+make_told (w ∷ v ∷ u ∷ ws) d e differs r least below is same h = absurd (omega (arith, below))
+make_told (w ∷ v ∷ []) d e differs r least below is same h = by r h
+  where
+    command : w.now ≡ codes "make"
+    command = (bytes_decides w.now (codes "make")).0 (not-false (pointwise nat_eq w.now (codes "make")) (sym is ∙ same))
+
+    by : (o : Option ℕ) → MatchOption o ((n : ℕ) → 1 ≤ n → n ≤ most_modules → v.now ≡ decimal n → ⊥) (λ n. (v.now ≡ decimal n) × (1 ≤ n) × (n ≤ most_modules))
+        → MatchOption o (IsNoMake (texts (w ∷ v ∷ []))) (λ n. IsMake (texts (w ∷ v ∷ [])) n)
+    by None k = λ n asks. k n asks.least asks.most (ap (λ ts. first_word (rest_words ts)) asks.spelled)
+    by (Some n) k = record { spelled = ap₂ (λ x y. x ∷ y ∷ []) command k.0; least = k.1; most = k.2 }

@@ -12,7 +12,15 @@ use Rattle.dialyze_command.specs.declared.status.Status.{Status}
 use Rattle.dialyze_command.specs.declared.status.Status.TheVariants.{Clean, Warnings}
 use Rattle.dialyze_command.specs.declared.words.Command.{Command}
 use Rattle.dialyze_command.specs.Lines.{refused, too_long}
+use Rattle.dialyze_command.specs.Making.{file_names, generated_files}
 use Rattle.dialyze_command.specs.Outcome.{Names, NamesTable, Begins, IsFaultOf, ReadsAll, HaveOwnNames, IsDuplicate, Analyses}
+use Rattle.dialyze_command.specs.Words.{IsMake}
+
+-- What a run reads: a check the files that it names, of what is held, once the table is read, and the first of them is the word at the
+-- position `start`; a make its generated files, of which each stands for its number.
+pub data Reads (words : List (List ℕ)) (held from : Files) (start : ℕ) (files : List (List ℕ)) : Type 0 where
+  by_check : (command : Command) → from ≡ held → start ≡ command.start → Begins words (Some held) command files → Reads words held from start files
+  by_make : (count : ℕ) → IsMake words count → from ≡ generated_files count → start ≡ 0 → files ≡ file_names count → Reads words held from start files
 
 -- The word at this position names the table to begin with, or a file, what stands before it is read, and it isn't held.
 pub data NamesMissing (words : List (List ℕ)) (held : Files) (word : ℕ) : Type 0 where
@@ -29,36 +37,38 @@ pub record NamesBadTable (words : List (List ℕ)) (held : Files) (fault : Fault
   pub held_so : Holds (Some held) name bytes
   pub is : IsFaultOf bytes fault
 
--- The word at this position names a file, what stands before it is read, it is held, and of its bytes, with the number that it may
--- have, this holds.
+-- The word at this position names a file, or a generated file has this number, what stands before it is read, it is held, and of its
+-- bytes, with the number that it may have, this holds.
 pub record NamesSource (words : List (List ℕ)) (held : Files) (word : ℕ) (Is : (most : ℕ) → List ℕ → Type 0) : Type 0 where
-  pub command : Command
+  pub from : Files
+  pub start : ℕ
   pub files : List (List ℕ)
-  pub begins : Begins words (Some held) command files
+  pub reads : Reads words held from start files
   pub at : ℕ
-  pub place : word ≡ command.start + at
-  pub source : HoldsAt (Some held) files at Is
+  pub place : word ≡ start + at
+  pub source : HoldsAt (Some from) files at Is
 
--- The words name files that are all read, and the module of that at the position `word` is the first that has the name of one
--- before it, of which that at the position `other` is the earliest.
+-- All files are read, and the module of that at the position `word` is the first that has the name of one before it, of which that
+-- at the position `other` is the earliest.
 pub record NamesTwice (words : List (List ℕ)) (held : Files) (word other : ℕ) : Type 0 where
-  pub command : Command
+  pub from : Files
+  pub start : ℕ
   pub files : List (List ℕ)
-  pub begins : Begins words (Some held) command files
+  pub reads : Reads words held from start files
   pub first : ℕ
   pub second : ℕ
-  pub place : word ≡ command.start + second
-  pub other_place : other ≡ command.start + first
-  pub duplicate_module : IsDuplicate (Some held) files first second
+  pub place : word ≡ start + second
+  pub other_place : other ≡ start + first
+  pub duplicate_module : IsDuplicate (Some from) files first second
 
--- The words name files that are all read, as these sources, whose modules have names of their own, and the table to begin with is read,
--- if one is named.
+-- All files are read, as these sources, whose modules have names of their own.
 pub record NamesModules (words : List (List ℕ)) (held : Files) : Type 0 where
-  pub command : Command
+  pub from : Files
+  pub start : ℕ
   pub files : List (List ℕ)
-  pub begins : Begins words (Some held) command files
+  pub reads : Reads words held from start files
   pub sources : List Source
-  pub read : ReadsAll (Some held) files sources
+  pub read : ReadsAll (Some from) files sources
   pub names : HaveOwnNames (trees sources)
 
 -- The word at this position names the table to write, all steps before are passed, and of the new table a count or a length doesn't

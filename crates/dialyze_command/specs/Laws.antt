@@ -7,6 +7,7 @@ use Rattle.table_file.specs.declared.tables.Table.{Table}
 use Rattle.table_keep.specs.Model.{Source, Entry, trees, entries_so}
 use Rattle.table_keep.specs.Kept.{kept}
 use Rattle.sound_laws_flow.specs.Claims.{NothingFalse}
+use Rattle.module_flow_frame.specs.Sites.{AreTiedLines}
 use Rattle.sound_laws_kept.specs.Laws.{DigestsTell, AreFound}
 use Rattle.sound_laws_kept.specs.Solving.{AreSources, IsWritten}
 use Rattle.sound_laws_kept.specs.Written.{with_kept}
@@ -40,13 +41,15 @@ abbrev pub IsFromScratch : (program M : List Source) → (reports : List (List �
 IsFromScratch program M reports new =
     (all : List (List ℕ)) (scratch : List Entry) → IsWritten [] program all scratch → (new ≡ scratch) × (reports ≡ take (length M) all)
 
--- The reports are the lines of what is found in each module by what is known of the functions of the whole program, and nothing that is
--- found is false of a run of it, but for unknown functions, which say nothing of runs.
+-- The reports are the lines of what is found in each module by what is known of the functions of the whole program; nothing that is
+-- found is false of a run of it, but for unknown functions, which say nothing of runs; and each line is tied to a place of the module's
+-- text, with its number, its kind and its names.
 pub record NothingReportedFalse (program M : List Source) (reports : List (List ℕ)) : Type 0 where
   pub lines : Atom → List ℕ
   pub reports_so : reports ≡ map (λ s. lines s.tree.name) M
   pub found : AreFound program M lines
   pub sound : (s : Source) → Contains M s → NothingFalse (trees program) found.known s.tree
+  pub tied : (s : Source) → Contains M s → AreTiedLines s.tree (lines s.tree.name)
 
 -- The check wrote what an analysis from scratch gives, of what is handed in and of the kept sources: where its table was that of some
 -- sources, for these.

@@ -1,6 +1,8 @@
 pub mod Words
 pub mod Codes
 pub mod Lines
+pub mod ReadFiles
+pub mod Making
 pub mod Outcome
 pub mod Causes
 pub mod Laws

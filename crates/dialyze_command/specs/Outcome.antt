@@ -1,8 +1,7 @@
 -- What a run answers: its status, its output, and what is held after it, by the words and by what is held before.
-use Rattle.std.specs.Prelude.{◌≡◌, ◌≢◌, ℕ, ◌+◌, ◌<◌, ◌≤◌, List, [], length, slice_get, Option, Some, None, false, true, IsTrue}
+use Rattle.std.specs.Prelude.{◌≡◌, ◌≢◌, ◌⊎◌, ℕ, ◌+◌, ◌<◌, ◌≤◌, List, [], length, slice_get, Option, Some, None, false, true, IsTrue}
 use Rattle.std.specs.List.{concat, list_all}
-use Rattle.core_ast.specs.Model as m
-use Rattle.core_scope.specs.Sets.{StandsEarlier, FirstDuplicate}
+use Rattle.core_make.specs.Modules.{module_text}
 use Rattle.da_shelf.specs.Counts.{Rose}
 use Rattle.da_shelf.specs.Told.{Files, Holds, Lacks, replaced, IsOldOrNew, appended, IsPrefixAppended}
 use Rattle.table_file.specs.declared.tables.Table.{Table}
@@ -16,14 +15,15 @@ use Rattle.sound_laws.specs.Accepted.{AreAccepted}
 use Rattle.sound_laws_kept.specs.Solving.{IsWritten}
 use Rattle.analysis_sources.specs.declared.refusals.SourceFault.{SourceFault}
 use Rattle.analysis_sources.specs.declared.refusals.Device.TheVariants.{Read, Replace, Write}
-pub use Rattle.analysis_summaries.specs.Known.{module_names}
-use Rattle.analysis_sources.specs.Reading.{AreRead, IsReached, RefusedAt}
+use Rattle.analysis_sources.specs.Reading.{IsReached, RefusedAt}
 use Rattle.analysis_sources.specs.Refusals.{refusal_line, missing}
 use Rattle.dialyze_command.specs.declared.status.Status.{Status}
 use Rattle.dialyze_command.specs.declared.status.Status.TheVariants.{Clean, Refused, Warnings, TableFault, DeviceFault, Memory, Usage}
 use Rattle.dialyze_command.specs.declared.words.Command.{Command}
 use Rattle.dialyze_command.specs.Lines.{usage_line, refused, too_long, too_many, too_many_line, duplicate, duplicate_line, read_fault_line, replace_fault_line, faulty_table, table_fault_line}
-use Rattle.dialyze_command.specs.Words.{IsCheck, IsNoCommand, most_files}
+use Rattle.dialyze_command.specs.Making.{file_name, with_first, IsSummary}
+pub use Rattle.dialyze_command.specs.ReadFiles.{ReadsAll, HaveOwnNames, IsDuplicate, module_names}
+use Rattle.dialyze_command.specs.Words.{IsCheck, IsMake, IsNoCommand, most_files}
 
 -- ---- the words
 
@@ -74,23 +74,6 @@ pub record IsFaultOf (bytes : List ℕ) (fault : FaultOfTable) : Type 0 where
   pub first : IsFirst fault bytes
   pub some : fault ≢ t.Memory
 
--- ---- the files
-
--- All files are read, as these sources.
-pub record ReadsAll (told : Option Files) (files : List (List ℕ)) (sources : List Source) : Type 0 where
-  pub after : ℕ
-  pub read : AreRead told 0 files sources after
-
--- No module has the name of one before it.
-abbrev pub HaveOwnNames : List m.Module → Type 0
-HaveOwnNames xs = (j : ℕ) → j < length xs → StandsEarlier (module_names xs) j → ⊥
-
--- All files are read, and the module of the second of two is the first that has the name of one before it.
-pub record IsDuplicate (told : Option Files) (files : List (List ℕ)) (first second : ℕ) : Type 0 where
-  pub sources : List Source
-  pub read : ReadsAll told files sources
-  pub is : FirstDuplicate (module_names (trees sources)) first second
-
 -- ---- the analysis
 
 -- The table and all files are read, the modules are accepted and have names of their own, and this is their written analysis with the
@@ -118,9 +101,9 @@ pub data SaysWhether (status : Status) (output : List ℕ) : Type 0 where
 
 -- ---- the run
 
--- The status and the output of a run, and what is held after it, by the words and by what is held, where contracts see it. The file
--- of number i is the word of number start + i. The first step that answers does: the words, the table to begin with, the files one after
--- another, their modules' names, and the new table.
+-- The status and the output of a run, and what is held after it, by the words and by what is held, where contracts see it. Of a check
+-- the file of number i is the word of number start + i, and the first step that answers does: the words, the table to begin with, the
+-- files one after another, their modules' names, and the new table. A make puts its files, and then answers.
 pub data Outcome (words : List (List ℕ)) (told : Option Files) (status : Status) (output : List ℕ) (after : Option Files) : Type 0 where
   usage : status ≡ Usage → output ≡ usage_line → after ≡ told → IsNoCommand words → Outcome words told status output after
   many : status ≡ too_many → output ≡ too_many_line → after ≡ told → ChecksTooMany words → Outcome words told status output after
@@ -140,6 +123,7 @@ pub data Outcome (words : List (List ℕ)) (told : Option Files) (status : Statu
       → is_short_table new ≡ false → Outcome words told status output after
   passed : (command : Command) (reports : List (List ℕ)) (new : Table) → SaysWhether status output → output ≡ concat reports
       → Analyses words told command reports new → Stores words command new told after → Outcome words told status output after
+  made : (count : ℕ) → IsMake words count → IsSummary count status output → after ≡ with_first count count told → Outcome words told status output after
 
 -- An answer of the analysis: not a failed allocation, and not the fault of a device.
 abbrev pub IsAnswer : Status → Type 0
@@ -147,13 +131,13 @@ IsAnswer (DeviceFault device) = ⊥
 IsAnswer Memory = ⊥
 IsAnswer status = Unit {0}
 
--- The check passed.
+-- The command passed.
 abbrev pub IsPassed : Status → Type 0
 IsPassed Clean = Unit {0}
 IsPassed Warnings = Unit {0}
 IsPassed status = ⊥
 
--- Nothing was put onto the shelf.
+-- A check put nothing onto the shelf.
 abbrev pub StoresNothing : Status → Type 0
 StoresNothing Clean = ⊥
 StoresNothing Warnings = ⊥
@@ -169,9 +153,9 @@ pub data IsUnread (words : List (List ℕ)) (told : Option Files) (word : ℕ) (
   of_file : (command : Command) (files : List (List ℕ)) (at before : ℕ) → word ≡ command.start + at → Begins words told command files
       → IsReached told files at name before → IsUnread words told word name
 
--- All steps passed but the last, and the table of this name, the word at this position, was to be put onto the shelf: it holds
--- what it held under the name, or the new table's bytes, whole, and nothing else has changed.
-pub record IsUnreplaced (words : List (List ℕ)) (told : Option Files) (word : ℕ) (name : List ℕ) (after : Option Files) : Type 0 where
+-- All steps of a check passed but the last, and the table of this name, the word at this position, was to be put onto the shelf: it
+-- holds what it held under the name, or the new table's bytes, whole, and nothing else has changed.
+pub record IsTableUnreplaced (words : List (List ℕ)) (told : Option Files) (word : ℕ) (name : List ℕ) (after : Option Files) : Type 0 where
   pub command : Command
   pub reports : List (List ℕ)
   pub new : Table
@@ -179,6 +163,20 @@ pub record IsUnreplaced (words : List (List ℕ)) (told : Option Files) (word : 
   pub out : Names words command.out word name
   pub short : is_short_table new ≡ true
   pub whole : IsOldOrNew told after name (table_bytes new)
+
+-- The generated file of this number and name was to be put onto the shelf, and those of lower numbers were: it holds what it held under
+-- the name, or the module's text, whole, and nothing else has changed.
+pub record IsFileUnreplaced (words : List (List ℕ)) (told : Option Files) (number : ℕ) (name : List ℕ) (after : Option Files) : Type 0 where
+  pub count : ℕ
+  pub make : IsMake words count
+  pub within : number < count
+  pub called : name ≡ file_name number
+  pub whole : IsOldOrNew (with_first count number told) after name (module_text count number)
+
+-- What the shelf didn't take: the table of a check, or a generated file, which stands for its number.
+pub data IsUnreplaced (words : List (List ℕ)) (told : Option Files) (word : ℕ) (name : List ℕ) (after : Option Files) : Type 0 where
+  of_new_table : IsTableUnreplaced words told word name after → IsUnreplaced words told word name after
+  of_generated : IsFileUnreplaced words told word name after → IsUnreplaced words told word name after
 
 -- The status and the output that a run means to give, before it writes, and what is held then: as above, or the fault of the shelf,
 -- which has counted it.
@@ -198,8 +196,8 @@ pub record FailsToRead (words : List (List ℕ)) (told : Option Files) (word : �
   pub rose : Rose reads reads_now
   pub written : written_now ≡ appended written_before (read_fault_line name)
 
--- The shelf failed to put the new table under the name at this position among the words, and counted it, and the line that says so was
--- written.
+-- The shelf failed to put the new table under the name at this position among the words, or the generated file of this number, and
+-- counted it, and the line that says so was written.
 pub record FailsToReplace (words : List (List ℕ)) (told after : Option Files) (word : ℕ) (replaces replaces_now : ℕ) (written_before written_now : Option (List ℕ)) : Type 0 where
   pub name : List ℕ
   pub unreplaced_so : IsUnreplaced words told word name after
@@ -223,16 +221,18 @@ pub record Answers (words : List (List ℕ)) (held : Files) (after : Option File
   pub outcome : Outcome words (Some held) status output after
   pub written : written_now ≡ appended written_before output
 
--- The status of a refusal.
-pub data IsRefusal (status : Status) : Type 0 where
-  of_word : (word : ℕ) (fault : SourceFault) → 1 ≤ word → status ≡ refused word fault → IsRefusal status
-  of_many : status ≡ too_many → IsRefusal status
-  of_two : (word other : ℕ) → 1 ≤ other → other < word → status ≡ duplicate word other → IsRefusal status
+-- The status of a refusal: of a check by positions among the words, and of a make by numbers of generated files.
+pub data IsRefusal (words : List (List ℕ)) (status : Status) : Type 0 where
+  of_word : (word : ℕ) (fault : SourceFault) → 1 ≤ word → status ≡ refused word fault → IsRefusal words status
+  of_many : status ≡ too_many → IsRefusal words status
+  of_two : (word other : ℕ) → 1 ≤ other → other < word → status ≡ duplicate word other → IsRefusal words status
+  of_number : (count number : ℕ) (fault : SourceFault) → IsMake words count → number < count → status ≡ refused number fault → IsRefusal words status
+  of_numbers : (count number other : ℕ) → IsMake words count → other < number → number < count → status ≡ duplicate number other → IsRefusal words status
 
--- The statuses that a run may have.
-abbrev pub IsPossible : Status → Type 0
-IsPossible (Refused refusal) = IsRefusal (Refused refusal)
-IsPossible (TableFault number) = (18 ≤ number) × (number ≤ 23)
-IsPossible (DeviceFault (Read position)) = 1 ≤ position
-IsPossible (DeviceFault (Replace position)) = 1 ≤ position
-IsPossible status = Unit {0}
+-- The statuses that a run on these words may have.
+abbrev pub IsPossible : (words : List (List ℕ)) → Status → Type 0
+IsPossible words (Refused refusal) = IsRefusal words (Refused refusal)
+IsPossible words (TableFault number) = (18 ≤ number) × (number ≤ 23)
+IsPossible words (DeviceFault (Read position)) = 1 ≤ position
+IsPossible words (DeviceFault (Replace position)) = (1 ≤ position) ⊎ ((count : ℕ) × IsMake words count × (position < count))
+IsPossible words status = Unit {0}

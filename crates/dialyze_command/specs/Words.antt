@@ -1,26 +1,18 @@
 -- Which words are a command, and what it asks for.
-use Rattle.std.specs.Prelude.{◌≡◌, ◌≢◌, ℕ, ◌+◌, ◌≤◌, List, [], ◌∷◌, ◌++◌, codes, Option, Some, None}
+use Rattle.std.specs.Prelude.{◌≡◌, ◌≢◌, ◌⊎◌, ℕ, ◌+◌, ◌≤◌, List, [], ◌∷◌, ◌++◌, codes, Option, Some, None}
 use Rattle.std.specs.Fmt.{decimal}
+pub use Rattle.analysis_answers.specs.Words.{most_files, IsFile, AreFiles}
 use Rattle.dialyze_command.specs.declared.words.Command.{Command}
 use Rattle.dialyze_command.specs.declared.words.OptionName.{OptionName}
 use Rattle.dialyze_command.specs.declared.words.OptionName.TheVariants.{Plt, Out, Workers}
-
--- how many files a check may name
-abbrev pub most_files : ℕ
-most_files = 1024
 
 -- how many workers a check may have
 abbrev pub most_workers : ℕ
 most_workers = 64
 
--- A file's name isn't empty and doesn't begin with `-`.
-abbrev pub IsFile : List ℕ → Type 0
-IsFile [] = ⊥
-IsFile (b ∷ bs) = b ≢ 45
-
-abbrev pub AreFiles : List (List ℕ) → Type 0
-AreFiles [] = Unit {0}
-AreFiles (w ∷ ws) = IsFile w × AreFiles ws
+-- how many generated modules may be asked for
+abbrev pub most_modules : ℕ
+most_modules = 1000
 
 -- ---- options
 
@@ -60,9 +52,26 @@ pub record IsCheck (words : List (List ℕ)) (command : Command) (files : List (
   pub some : files ≢ []
   pub named : AreFiles files
 
--- The words are a command.
+abbrev pub AsksForCheck : List (List ℕ) → Type 0
+AsksForCheck words = (command : Command) × (files : List (List ℕ)) × IsCheck words command files
+
+-- The words ask for no check.
+abbrev pub IsNoCheck : List (List ℕ) → Type 0
+IsNoCheck words = AsksForCheck words → ⊥
+
+-- The words ask for so many generated modules, by a number from 1 to 1,000 as it is printed.
+pub record IsMake (words : List (List ℕ)) (count : ℕ) : Type 0 where
+  pub spelled : words ≡ codes "make" ∷ decimal count ∷ []
+  pub least : 1 ≤ count
+  pub most : count ≤ most_modules
+
+-- The words ask for no generated modules.
+abbrev pub IsNoMake : List (List ℕ) → Type 0
+IsNoMake words = (count : ℕ) → IsMake words count → ⊥
+
+-- The words are a command: they ask for a check, or for generated modules.
 abbrev pub IsCommand : List (List ℕ) → Type 0
-IsCommand words = (command : Command) × (files : List (List ℕ)) × IsCheck words command files
+IsCommand words = AsksForCheck words ⊎ ((count : ℕ) × IsMake words count)
 
 -- The words are no command.
 abbrev pub IsNoCommand : List (List ℕ) → Type 0

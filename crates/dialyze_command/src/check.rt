@@ -6,18 +6,22 @@ ghost use Rattle.analysis_sources.specs.declared.refusals.SourceFault.{SourceFau
 ghost use Rattle.analysis_sources.specs.Refusals.{missing};
 ghost use Rattle.analysis_sources.specs.Sources.{IsTooLong, IsNotScanned, IsNotParsed, IsNotAccepted};
 ghost use Rattle.analysis_sources.specs.Words.{texts};
-ghost use Rattle.dialyze_command.specs.Words.{IsNoCommand};
+ghost use Rattle.dialyze_command.specs.Making.{PutsFirst};
+ghost use Rattle.dialyze_command.specs.Words.{AsksForCheck, IsMake, IsNoCommand, IsNoMake};
 ghost use Rattle.dialyze_command.specs.Lines.{refused, too_long, too_many, duplicate, faulty_table};
 ghost use Rattle.dialyze_command.specs.Outcome.{Answers, ChecksTooMany, FailsToRead, FailsToReplace, FailsToWrite, Intended, IsAnswer, IsPassed, IsPossible, StoresNothing};
 ghost use Rattle.dialyze_command.specs.Causes.{NamesMissing, NamesBadTable, NamesSource, NamesLongTable, NamesTwice, NamesModules, IsAnalysed, tokens, grammar, scopes, step_of};
 ghost use Rattle.dialyze_command.specs.Laws.{WritesFromScratch, WritesNothingFalse};
 
 use crate::answer::Answer;
+use crate::making::made;
 use crate::plan::intended;
 use crate::status::Status;
 use crate::store::stored;
+use crate::words::modules_of;
 use analysis_sources::{Device, one_reading_of_files};
 use da_shelf::{Gate, Shelf, Sink, SinkFault, give};
+use module_flow_frame::findings_are_tied;
 use sound_laws_flow::nothing_is_false;
 use sound_laws_kept::{kept_is_from_scratch, reports_are_found};
 use std::alloc::Global;
@@ -49,6 +53,16 @@ use type_kinds::Memory;
 ///
 /// Nothing that the shelf holds changes, but for the new table under T2, which is put there whole, before the report is written,
 /// and only where every other step passed.
+///
+/// `make N` puts N generated modules, from 1 to 1,000, onto the shelf, one after another, as `g0.core`, `g1.core` and so on,
+/// analyses them together by one worker and without a table, and writes a line that says how many modules, functions and lines of
+/// reports there are. What is analysed are the texts that were put; they aren't read back.
+///
+/// - `Warnings`: the line was written.
+/// - `Refused`: a generated text is refused by one of the rules above; `word` and `other` are numbers of generated files. There is no
+///   proof that each generated text is an accepted module, and tests show none that isn't.
+/// - `DeviceFault`: where the shelf didn't take the file of number p, those of lower numbers are held.
+/// - `Memory`: the first of the files may be held.
 #[tactic(auto, using(crate::proofs::CheckExits::check_exits))]
 pub fn dialyze<R: Threads + Wait + Sync, F: Shelf, K: Sink, G: Gate + Sync>(
     rt: &R,
@@ -62,10 +76,10 @@ pub fn dialyze<R: Threads + Wait + Sync, F: Shelf, K: Sink, G: Gate + Sync>(
     ensures outcome { IsAnswer result → IfSome (F.held shelf.old) (λ held. Answers (texts words.now) held (F.held shelf.new) result (K.written out.old) (K.written out.new)) }
 
     // With the table of some sources, they are those of an analysis from scratch, of what is handed in and of the kept sources.
-    ensures kept { IsPassed result → IfSome (F.held shelf.old) (λ held. WritesFromScratch (texts words.now) held (F.held shelf.new) (K.written out.old) (K.written out.new)) }
+    ensures kept { AsksForCheck (texts words.now) → IsPassed result → IfSome (F.held shelf.old) (λ held. WritesFromScratch (texts words.now) held (F.held shelf.new) (K.written out.old) (K.written out.new)) }
 
     // Nothing that is reported is false of a run.
-    ensures sound { IsPassed result → IfSome (F.held shelf.old) (λ held. WritesNothingFalse (texts words.now) held (F.held shelf.new) (K.written out.old) (K.written out.new)) }
+    ensures sound { AsksForCheck (texts words.now) → IsPassed result → IfSome (F.held shelf.old) (λ held. WritesNothingFalse (texts words.now) held (F.held shelf.new) (K.written out.old) (K.written out.new)) }
 
     // When each answer comes.
     ensures usage { IsAnswer result → (result ≡ Status.Usage) ↔ IsNoCommand (texts words.now) }
@@ -83,16 +97,20 @@ pub fn dialyze<R: Threads + Wait + Sync, F: Shelf, K: Sink, G: Gate + Sync>(
     ensures replace { (word : ℕ) → result ≡ Status.DeviceFault (Device.Replace word) → FailsToReplace (texts words.now) (F.held shelf.old) (F.held shelf.new) word (F.replace_faults shelf.old) (F.replace_faults shelf.new) (K.written out.old) (K.written out.new) }
     ensures write { result ≡ Status.DeviceFault Device.Write → FailsToWrite (texts words.now) (F.held shelf.old) (F.held shelf.new) (F.read_faults shelf.old) (F.read_faults shelf.new) (F.replace_faults shelf.old) (F.replace_faults shelf.new) (K.faults out.old) (K.faults out.new) (K.written out.old) (K.written out.new) }
     ensures memory { result ≡ Status.Memory → K.written out.new ≡ K.written out.old }
-    ensures possible { IsPossible result }
+    ensures possible { IsPossible (texts words.now) result }
 
-    // What stays, unless the new table was put onto the shelf.
-    ensures held { StoresNothing result → F.held shelf.new ≡ F.held shelf.old }
+    // What stays of a check, unless the new table was put onto the shelf.
+    ensures held { IsNoMake (texts words.now) → StoresNothing result → F.held shelf.new ≡ F.held shelf.old }
+
+    // What stands of a make that had no memory left: the first of its files.
+    ensures unfinished { (count : ℕ) → IsMake (texts words.now) count → result ≡ Status.Memory → PutsFirst count (F.held shelf.old) (F.held shelf.new) }
 {
     one_reading_of_files();
     table_laws();
     kept_is_from_scratch();
     reports_are_found();
     nothing_is_false();
+    findings_are_tied();
     let Answer { status, output } = match answered(rt, alloc, words, shelf, gate) {
         Ok(answer) => answer,
         Err(Memory) => return Status::Memory,
@@ -103,7 +121,7 @@ pub fn dialyze<R: Threads + Wait + Sync, F: Shelf, K: Sink, G: Gate + Sync>(
     }
 }
 
-// What a run is to answer, after the new table was put onto the shelf, if there is one. Behind the plan only this takes memory.
+// What a run is to answer, after all was put onto the shelf.
 fn answered<R: Threads + Wait + Sync, F: Shelf, G: Gate + Sync>(
     rt: &R,
     alloc: Global,
@@ -111,6 +129,26 @@ fn answered<R: Threads + Wait + Sync, F: Shelf, G: Gate + Sync>(
     shelf: &mut F,
     gate: &G,
 ) -> Result<Answer, Memory>
+    ensures intended { IfOk result (λ a. Intended (texts words.now) (F.held shelf.old) (F.read_faults shelf.old) (F.read_faults shelf.new) (F.replace_faults shelf.old) (F.replace_faults shelf.new) a.status a.output (F.held shelf.new)) }
+    ensures memory { OnErr result (IsNoMake (texts words.now) → F.held shelf.new ≡ F.held shelf.old) }
+    ensures unfinished { OnErr result ((count : ℕ) → IsMake (texts words.now) count → PutsFirst count (F.held shelf.old) (F.held shelf.new)) }
+{
+    match modules_of(words) {
+        Some(count) => made(rt, alloc, count, shelf, gate),
+        None => checked(rt, alloc, words, shelf, gate),
+    }
+}
+
+// The same of a check, or of words that are no command, after the new table was put onto the shelf, if there is one. Behind the plan
+// only this takes memory.
+fn checked<R: Threads + Wait + Sync, F: Shelf, G: Gate + Sync>(
+    rt: &R,
+    alloc: Global,
+    words: &[&str],
+    shelf: &mut F,
+    gate: &G,
+) -> Result<Answer, Memory>
+    requires { IsNoMake (texts words.now) }
     ensures intended { IfOk result (λ a. Intended (texts words.now) (F.held shelf.old) (F.read_faults shelf.old) (F.read_faults shelf.new) (F.replace_faults shelf.old) (F.replace_faults shelf.new) a.status a.output (F.held shelf.new)) }
     ensures memory { OnErr result (F.held shelf.new ≡ F.held shelf.old) }
 {

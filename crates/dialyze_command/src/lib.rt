@@ -4,6 +4,7 @@
 mod answer;
 mod begin;
 mod check;
+mod making;
 mod plan;
 mod running;
 mod status;

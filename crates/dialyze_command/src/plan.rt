@@ -1,17 +1,17 @@
-//! What a run means to answer, and to put onto the shelf before: all of it but the writing.
+//! What a check means to answer, and to put onto the shelf before: all of it but the writing.
 ghost use Rattle.std.specs.Prelude.{◌≡◌, ℕ, ◌+◌, ◌<◌, ◌≤◌, ◌^◌, List, None, Some, drop, length, slice_get, IfOk, IfSome};
 ghost use Rattle.table_keep.specs.Model.{entries_so, sources_so};
 ghost use Rattle.analysis_sources.specs.Words.{texts};
 ghost use Rattle.dialyze_command.specs.Lines.{duplicate, duplicate_line};
 ghost use Rattle.dialyze_command.specs.Outcome.{Checks, IsBegun};
+ghost use Rattle.dialyze_command.specs.Words.{IsNoMake};
 ghost use Rattle.dialyze_command.specs.steps.Plans.{IsJudged, IsMade, IsNewAs, IsPlan, first_of, second_of};
 
-use crate::answer::{
-    Answer, TOO_LONG, duplicate, refuse, reported, too_many, unread, unreplaced_line, usage,
-};
+use crate::answer::{Answer, TOO_LONG, duplicate, refuse, reported, too_many, unread, usage};
 use crate::begin::{Begun, table_to_begin};
 use crate::words::{Command, command_of};
 use analysis::{Analysis, Fault, analyse};
+use analysis_answers::{MOST_FILES, replace_fault_line};
 use analysis_sources::{ReadFault, discard_sources, read_sources};
 use core_scope::SetFault;
 use da_shelf::{Gate, Shelf};
@@ -21,9 +21,6 @@ use std::thread::Threads;
 use table_file::{Table, WriteFault, write_table};
 use table_keep::Source;
 use type_kinds::{Bytes, List, Memory};
-
-/// How many files a check may name.
-pub const MOST_FILES: usize = 1024;
 
 /// What a run means to answer, and the table that it is to put onto the shelf before, if there is one.
 #[derive(Drop)]
@@ -41,7 +38,7 @@ pub struct NewTable {
     pub line: Bytes,
 }
 
-/// What a run means to answer.
+/// What a run means to answer, where the words don't ask for generated modules.
 pub fn intended<R: Threads + Wait + Sync, F: Shelf, G: Gate + Sync>(
     rt: &R,
     alloc: Global,
@@ -49,6 +46,7 @@ pub fn intended<R: Threads + Wait + Sync, F: Shelf, G: Gate + Sync>(
     shelf: &mut F,
     gate: &G,
 ) -> Result<Plan, Memory>
+    requires { IsNoMake (texts words.now) }
     ensures plan { IfOk result (λ p. IsPlan (texts words.now) (F.held shelf.old) (F.read_faults shelf.old) (F.read_faults shelf.new) p.answer.status p.answer.output p.table) }
     ensures within { IfOk result (λ p. IfSome p.table (λ t. t.word < length words.now)) }
     ensures held { F.held shelf.new ≡ F.held shelf.old }
@@ -184,8 +182,8 @@ fn judged<R: Threads + Wait + Sync, G: Gate + Sync>(
     }
 }
 
-// The position of the first of two modules with the same name.
-fn first_of(fault: SetFault) -> u32
+/// The position of the first of two modules with the same name.
+pub fn first_of(fault: SetFault) -> u32
     ensures { result ≡ first_of fault }
 {
     match fault {
@@ -193,8 +191,8 @@ fn first_of(fault: SetFault) -> u32
     }
 }
 
-// The position of the second of them.
-fn second_of(fault: SetFault) -> u32
+/// The position of the second of them.
+pub fn second_of(fault: SetFault) -> u32
     ensures { result ≡ second_of fault }
 {
     match fault {
@@ -255,7 +253,7 @@ fn with_new(
 {
     match write_table(alloc, table) {
         Ok(bytes) => {
-            let line = unreplaced_line(alloc, name)?;
+            let line = replace_fault_line(alloc, name)?;
             let table = Some(NewTable { word, bytes, line });
             Ok(Plan { answer, table })
         }

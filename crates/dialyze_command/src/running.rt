@@ -1,20 +1,20 @@
 //! A run of the program, from the words that the host gives to the code that it takes.
-ghost use Rattle.std.specs.Prelude.{◌≡◌, map, IfOk};
+ghost use Rattle.std.specs.Prelude.{◌≡◌, map};
 ghost use Rattle.std.specs.String.{string_bytes};
 ghost use Rattle.std.specs.Process.{exit_status};
-ghost use Rattle.analysis_sources.specs.Words.{texts};
 ghost use Rattle.dialyze_command.specs.declared.status.Status.{Status as TheStatus};
 ghost use Rattle.dialyze_command.specs.Codes.{code_of};
 ghost use Rattle.dialyze_command.specs.Runs.{IsRun};
 
 use crate::check::dialyze;
 use crate::status::Status;
+use analysis_answers::texts_of;
 use da_shelf::{Gate, Shelf, Sink};
 use std::alloc::Global;
 use std::process::ExitCode;
 use std::sync::Wait;
 use std::thread::Threads;
-use type_kinds::{List, Memory};
+use type_kinds::Memory;
 
 /// Carries out the command that these words are, on this shelf and this sink, as `dialyze` does, and gives the code of the status: 0
 /// where nothing was found, 1 for a refusal, 2 where a report was written, 3 for a table that is none, 4 for the fault of a device, 5
@@ -49,15 +49,4 @@ fn status_of<R: Threads + Wait + Sync, F: Shelf, K: Sink, G: Gate + Sync>(
         Ok(texts) => dialyze(rt, alloc, texts.as_slice(), shelf, out, gate),
         Err(Memory) => Status::Memory,
     }
-}
-
-// The words as texts.
-fn texts_of(alloc: Global, words: &Vec<String>) -> Result<List<&str>, Memory>
-    ensures { IfOk result (λ found. texts found ≡ map string_bytes words.now.items) }
-{
-    let mut found = List::new(alloc);
-    for word in words {
-        found.add(word.as_str())?;
-    }
-    Ok(found)
 }

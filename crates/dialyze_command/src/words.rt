@@ -2,9 +2,11 @@
 ghost use Rattle.std.specs.Prelude.{◌≡◌, ◌↔◌, ℕ, ◌+◌, ◌≤◌, ◌<◌, ◌^◌, drop, length, IsTrue, MatchOption};
 ghost use Rattle.std.specs.Fmt.{decimal};
 ghost use Rattle.analysis_sources.specs.Words.{texts};
-ghost use Rattle.dialyze_command.specs.Words.{Adds, AreFiles, IsCheck, IsFile, IsNoCommand, most_workers, option_word, plain, workers_asked};
+ghost use Rattle.dialyze_command.specs.Words.{Adds, IsCheck, IsMake, IsNoCheck, IsNoMake, most_modules, option_word, plain, workers_asked};
 ghost use Rattle.dialyze_command.specs.steps.Options.{AddsNothing, Begins, EndsOptions, HasNoOptions, IsNoOption};
 
+use analysis_answers::{are_files, is_file};
+use core_make::MOST_MODULES;
 use type_kinds::{digits_len, parse_decimal};
 
 /// How many workers a check may have.
@@ -43,9 +45,22 @@ impl Command {
     }
 }
 
-/// The command that the words are: `check`, then options in any order, each at most once, and then one file or more.
+/// How many generated modules the words ask for: `make`, and then a number from 1 to 1,000.
+pub fn modules_of(words: &[&str]) -> Option<u32>
+    ensures { MatchOption result (IsNoMake (texts words.now)) (λ count. IsMake (texts words.now) count) }
+{
+    let [command, number] = words else {
+        return None;
+    };
+    if *command != "make" {
+        return None;
+    }
+    number_of(number, MOST_MODULES)
+}
+
+/// The check that the words ask for: `check`, then options in any order, each at most once, and then one file or more.
 pub fn command_of(words: &[&str]) -> Option<Command>
-    ensures { MatchOption result (IsNoCommand (texts words.now)) (λ c. IsCheck (texts words.now) c (drop c.start (texts words.now))) }
+    ensures { MatchOption result (IsNoCheck (texts words.now)) (λ c. IsCheck (texts words.now) c (drop c.start (texts words.now))) }
 {
     let Some((command, asked)) = words.split_first() else {
         return None;
@@ -166,7 +181,7 @@ fn with_workers(value: &str, before: Command) -> Option<Command>
     if before.workers.is_some() {
         return None;
     }
-    let Some(workers) = workers_of(value) else {
+    let Some(workers) = number_of(value, MOST_WORKERS) else {
         return None;
     };
     Some(Command {
@@ -176,9 +191,10 @@ fn with_workers(value: &str, before: Command) -> Option<Command>
     })
 }
 
-// The number of workers that a word asks for.
-fn workers_of(word: &str) -> Option<u32>
-    ensures { MatchOption result ((n : ℕ) → 1 ≤ n → n ≤ most_workers → word.now ≡ decimal n → ⊥) (λ n. (word.now ≡ decimal n) × (1 ≤ n) × (n ≤ most_workers)) }
+// The number from 1 to `most` that a word is, as it is printed.
+fn number_of(word: &str, most: u32) -> Option<u32>
+    requires { most ≤ most_modules }
+    ensures { MatchOption result ((n : ℕ) → 1 ≤ n → n ≤ most → word.now ≡ decimal n → ⊥) (λ n. (word.now ≡ decimal n) × (1 ≤ n) × (n ≤ most)) }
 {
     let digits = word.as_bytes();
     if !begins_number(digits) {
@@ -190,7 +206,7 @@ fn workers_of(word: &str) -> Option<u32>
     let Some(number) = parse_decimal(digits) else {
         return None;
     };
-    if number > u128::from(MOST_WORKERS) {
+    if number > u128::from(most) {
         return None;
     }
     Some(number as u32)
@@ -202,28 +218,6 @@ fn begins_number(digits: &[u8]) -> bool
 {
     match digits.first() {
         Some(first) => *first != b'0',
-        None => false,
-    }
-}
-
-// Whether each word is a file's name.
-fn are_files(words: &[&str]) -> bool
-    ensures { IsTrue result ↔ AreFiles (texts words.now) }
-{
-    for word in words {
-        if !is_file(word) {
-            return false;
-        }
-    }
-    true
-}
-
-// Whether a word is a file's name: it isn't empty and doesn't begin with `-`.
-fn is_file(word: &str) -> bool
-    ensures { IsTrue result ↔ IsFile word.now }
-{
-    match word.as_bytes().first() {
-        Some(byte) => *byte != b'-',
         None => false,
     }
 }

@@ -1,4 +1,4 @@
-//! Tests of the program's one call: modules with the lines of their reports, refusals, tables between runs, and devices that fail.
+//! Tests of the program's one call that are no texts with answers: what workers do at the gate.
 #![tactic(auto)]
 
 #[cfg(test)]

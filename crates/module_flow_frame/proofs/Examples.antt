@@ -17,6 +17,7 @@ use Rattle.cons_tree.specs.declared.parts.Summary.{Summary}
 use Rattle.warn_list.specs.declared.finding.FindingKind.TheVariants.{NeverCalled, UnknownFunction}
 use Rattle.cons_gen_frame.specs.Agreement.{AreAlike}
 use Rattle.module_flow.specs.Flow.{Callees, findings}
+use Rattle.module_flow_frame.specs.Sites.{definition, call, Site, line_at, sites_of_module}
 use Rattle.module_flow_frame.proofs.Called.{findings_frame}
 
 abbrev at_line : ℕ → Note
@@ -61,3 +62,17 @@ module _ (k : Mark) where
 
   when_unknown : findings (knowing_of_n Unknown) x ≡ record { label = 0; kind = NeverCalled f_name; line = 1 } ∷ record { label = 1; kind = UnknownFunction (codes "n") g_name; line = 2 } ∷ []
   when_unknown = refl
+
+  -- ---- the places of which a report on it may speak, and their lines
+
+  abbrev the_definition : Site
+  the_definition = record { mark = mark 0; speaks = definition f_name; notes = at_line 1 ∷ at_line 1 ∷ [] }
+
+  abbrev the_call : Site
+  the_call = record { mark = mark 1; speaks = call (codes "n") g_name; notes = at_line 2 ∷ at_line 1 ∷ at_line 1 ∷ [] }
+
+  places : sites_of_module x ≡ the_definition ∷ the_call ∷ []
+  places = refl
+
+  line_of_call : line_at the_call ≡ 2
+  line_of_call = refl

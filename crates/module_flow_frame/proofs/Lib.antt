@@ -8,3 +8,5 @@ mod Unknowns
 mod Modules
 mod Called
 mod Examples
+mod Tied
+mod TiedCalls

@@ -1,5 +1,6 @@
-//! The law, as a function that does nothing: who calls it has its clauses.
+//! The laws, as functions that do nothing: who calls one has its clauses.
 ghost use Rattle.module_flow_frame.specs.Frame.{FindingsFrame, LinesFrame, OutsideFrame};
+ghost use Rattle.module_flow_frame.specs.Sites.{TiedFindings, TiedLines};
 
 use warn_list::one_text;
 
@@ -14,3 +15,11 @@ pub fn findings_rest_on_calls()
 {
     one_text();
 }
+
+/// Each finding of a module is tied to its text: at its label stands a definition of the module, an application,
+/// a call or a clause, as its kind says and with its names; its line is that of the node; and the compiler didn't
+/// make it (`findings`). So the lines of the report are those of findings that are tied to the module (`lines`).
+pub fn findings_are_tied()
+    ensures findings { TiedFindings }
+    ensures lines { TiedLines }
+{}

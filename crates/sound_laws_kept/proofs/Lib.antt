@@ -6,6 +6,7 @@ pub mod Graphs
 mod Groupwise
 mod Linking
 mod Mixed
+mod OneAnalysis
 pub mod Names
 mod Rests
 mod Scratch
@@ -13,5 +14,5 @@ pub mod Shown
 mod Solving
 mod Tables
 pub mod Trees
-mod Waves
+pub mod Waves
 mod Wholes

@@ -1,5 +1,5 @@
 -- Names, and look-ups by name.
-use Rattle.std.proofs.Common.{◌≡◌, Bool, true, false, cond, List, [], ◌∷◌, ◌++◌, Contains, inl, inr, Option, Some, None, refl, sym, ap, ◌∙◌, subst, true≢false}
+use Rattle.std.proofs.Common.{◌≡◌, Bool, true, false, cond, List, [], ◌∷◌, ◌++◌, Contains, inl, inr, Option, Some, None, refl, sym, ap, ◌∙◌, subst}
 use Rattle.std.specs.Cmp.Lexicographic.{pointwise, pointwise_decides, bytes_decides}
 use Rattle.type_kinds.proofs.Lists.{contains_none, contains_first, contains_later, contains_cases}
 use Rattle.type_kinds.specs.declared.atom.Atom.{Atom}
@@ -11,14 +11,13 @@ use Rattle.cons_tree.specs.SameBy.{same_by, same_by_equal}
 use Rattle.cons_tree.specs.declared.parts.Callee.{Callee}
 use Rattle.sound_laws.specs.Accepted.{AreAccepted}
 use Rattle.analysis_summaries.specs.Known.{module_names}
-use Rattle.table_keep.specs.Model.{Source, trees, source_of, is_there, is_in, picked}
+pub use Rattle.sound_laws_outside.proofs.Members.{clash}
+use Rattle.table_keep.specs.declared.source.Source.{Source as HandedIn}
+use Rattle.table_keep.specs.Model.{Source, sources_so, trees, source_of, is_there, is_in, picked}
 use Rattle.table_keep.specs.Calls.{called_functions, called_modules}
 use Rattle.table_keep.specs.Groups.{has}
 use Rattle.table_keep.proofs.CallLaws.{modules_exactly}
 use Rattle.sound_laws_kept.specs.Solving.{AreSources}
-
-pub clash : {A : Type 0} (b : Bool) → b ≡ true → b ≡ false → A
-clash b t f = absurd (true≢false (sym t ∙ f))
 
 -- ---- names
 
@@ -131,7 +130,7 @@ contained_in (x ∷ xs) s e = elim (contains_cases x s xs e) [
   | inr more ↦ is_in_later x xs s.tree.name (contained_in xs s more)
 ]
 
-accepted_picked : (p : Atom → Bool) (ss : List Source) → AreAccepted (trees ss) → AreAccepted (trees (picked p ss))
+pub accepted_picked : (p : Atom → Bool) (ss : List Source) → AreAccepted (trees ss) → AreAccepted (trees (picked p ss))
 accepted_picked p [] are = tt
 accepted_picked p (s ∷ ss) are = by (p s.tree.name) (accepted_picked p ss are.1)
   where
@@ -139,7 +138,12 @@ accepted_picked p (s ∷ ss) are = by (p s.tree.name) (accepted_picked p ss are.
     by true rest = (are.0, rest)
     by false rest = rest
 
-accepted_append : (xs ys : List Source) → AreAccepted (trees xs) → AreAccepted (trees ys) → AreAccepted (trees (xs ++ ys))
+-- sources that are handed in are accepted by their type
+pub accepted_sources : (ss : List HandedIn) → AreAccepted (trees (sources_so ss))
+accepted_sources [] = tt
+accepted_sources (s ∷ ss) = ((s.checked, refl), accepted_sources ss)
+
+pub accepted_append : (xs ys : List Source) → AreAccepted (trees xs) → AreAccepted (trees ys) → AreAccepted (trees (xs ++ ys))
 accepted_append [] ys a b = b
 accepted_append (x ∷ xs) ys a b = (a.0, accepted_append xs ys a.1 b)
 

@@ -53,7 +53,7 @@ uses_none T M todo (x ∷ xs) none h e =
     by true is here rest = ap (λ z. uses_any todo (entry_of T z)) (name_is h x is) ∙ here
     by false is here rest = rest (ap (λ b. b || has xs h) (sym is) ∙ e)
 
-touches_none : (T : List Entry) (M : List Source) (hs : List Atom) → touches T M [] hs ≡ false
+pub touches_none : (T : List Entry) (M : List Source) (hs : List Atom) → touches T M [] hs ≡ false
 touches_none T M [] = refl
 touches_none T M (h ∷ hs) =
     ap (λ b. b || (uses_any [] (entry_of T h) || touches T M [] hs)) (any_in_nothing (calls_of T M h))

@@ -9,7 +9,7 @@ use Rattle.core_ast.specs.Model as m
 use Rattle.core_scope.specs.Asks.{erlang}
 use Rattle.core_scope.specs.Names.{Distinct, same_atom, has_function}
 use Rattle.cons_tree.specs.declared.parts.Callee.{Callee}
-use Rattle.cons_tree.specs.declared.parts.Callee.TheVariants.{Undefined, Unknown}
+use Rattle.cons_tree.specs.declared.parts.Callee.TheVariants.{Unknown}
 use Rattle.cons_tree.specs.declared.parts.Summary.{Summary}
 use Rattle.cons_tree.proofs.NameLaws.{home_is}
 use Rattle.comp_rounds.specs.Rounds.{Callees, Function, is_member, summaries}
@@ -20,7 +20,7 @@ use Rattle.sound_laws_rounds.specs.Whole.{AreFunctionsOf, AreKnown, IsWhole}
 use Rattle.analysis_summaries.specs.Functions.{all_functions}
 use Rattle.analysis_summaries.specs.Known.{module_names}
 use Rattle.sound_laws_whole.proofs.Named.{InModules, all_in_modules, module_there, no_module}
-use Rattle.sound_laws_whole.proofs.Wholes.{accepted_once, home_there, home_among}
+use Rattle.sound_laws_whole.proofs.Wholes.{accepted_once, home_there, home_among, no_summary}
 use Rattle.sound_laws_outside.specs.Over.{is_home, IsKnownOver}
 use Rattle.sound_laws_outside.proofs.Members.{clash, each_has, member_named, member_of, module_under, one_module, functions_over, home_over}
 use Rattle.table_keep.specs.Made.{IsKnown}
@@ -45,10 +45,6 @@ allows_if false x c a = a
 allows_exported : (b : Bool) (c : Callee) → (b ≡ true → IsKnown c) → Allows (if b then exported else hidden) c
 allows_exported false c k = tt
 allows_exported true c k = subst (Allows exported) (sym (k refl).1) tt
-
-no_summary : (c : Callee) (s : Summary) → (c ≡ Undefined) ⊎ (c ≡ Unknown) → summary_of c ≡ Some s → ⊥
-no_summary c s (inl e) k = let n : None ≡ Some s = sym (ap summary_of e) ∙ k in absurd cc
-no_summary c s (inr e) k = let n : None ≡ Some s = sym (ap summary_of e) ∙ k in absurd cc
 
 named_so : (U : Program) (h : Atom) (x : m.Module) → module_named U h ≡ Some x → x.name ≡ h
 named_so [] h x e = absurd cc

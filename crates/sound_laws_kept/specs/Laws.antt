@@ -25,6 +25,12 @@ KeptLaw = (Src M : List Source) (T new scratch : List Entry) (before reports all
     → (w : IsWritten T M reports new) → IsWritten [] (with_kept (kept w.known T M w.groups) M Src) all scratch
     → (new ≡ scratch) × (reports ≡ take (length M) all)
 
+-- From the empty table there is one analysis of sources: whatever the numbers of workers, in two runs the reports and the new table are
+-- the same.
+abbrev pub OneAnalysisLaw : Type 0
+OneAnalysisLaw = (M : List Source) (reports others : List (List ℕ)) (new other : List Entry) → AreSources M → IsWritten [] M reports new → IsWritten [] M others other
+    → (reports ≡ others) × (new ≡ other)
+
 -- The new table is again the table of sources: of what is handed in and of the kept sources, wherever these have one.
 abbrev pub OneTableLaw : Type 0
 OneTableLaw = (A B : List Entry) → IsTrue (rises is_name_before (map (λ e. e.name) A)) → IsTrue (rises is_name_before (map (λ e. e.name) B)) → ((h : Atom) → entry_of A h ≡ entry_of B h) → A ≡ B

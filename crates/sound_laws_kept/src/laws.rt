@@ -1,5 +1,5 @@
 //! The laws, as functions that do nothing: who calls one has its clauses.
-ghost use Rattle.sound_laws_kept.specs.Laws.{FoundLaw, KeptLaw, OneTableLaw, RestsLaw, WaveLaw};
+ghost use Rattle.sound_laws_kept.specs.Laws.{FoundLaw, KeptLaw, OneAnalysisLaw, OneTableLaw, RestsLaw, WaveLaw};
 
 use module_flow_frame::findings_rest_on_calls;
 use sound_laws_outside::{known_is_carried, known_of_parts, one_is_known};
@@ -28,6 +28,13 @@ pub fn reports_are_found()
     known_of_parts();
     one_is_known();
     one_text();
+}
+
+/// From the empty table there is one analysis of sources.
+pub fn one_analysis()
+    ensures { OneAnalysisLaw }
+{
+    kept_is_from_scratch();
 }
 
 /// A table whose entries rise by name is given by what it has under each name.

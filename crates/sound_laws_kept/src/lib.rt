@@ -5,5 +5,6 @@
 mod laws;
 
 pub use laws::{
-    kept_is_from_scratch, one_table, reports_are_found, stands_rests, waves_are_groups,
+    kept_is_from_scratch, one_analysis, one_table, reports_are_found, stands_rests,
+    waves_are_groups,
 };

@@ -1,5 +1,6 @@
 -- What is known of modules may be carried over to another order, and to what is alike outside.
 use Rattle.std.proofs.Common.{◌≡◌, ℕ, Bool, true, false, [], inl, inr, Contains, refl, sym, ◌∙◌, subst}
+use Rattle.std.proofs.lemmas.Bool.{false_from_ne_true}
 use Rattle.type_kinds.specs.declared.atom.Atom.{Atom}
 use Rattle.core_scope.specs.Asks.{erlang}
 use Rattle.core_scope.specs.Names.{same_atom}
@@ -12,14 +13,14 @@ use Rattle.cons_gen_frame.specs.Agreement.{AreAlike}
 use Rattle.sound_laws_whole.proofs.Components.{AgreesBut}
 use Rattle.sound_laws_outside.specs.Over.{is_home}
 use Rattle.sound_laws_outside.specs.Laws.{CarriedLaw}
-use Rattle.sound_laws_outside.proofs.Members.{clash, not_true, far_is, member_over, still_known, framed, together_over, home_in, functions_over, home_over}
+use Rattle.sound_laws_outside.proofs.Members.{clash, far_is, member_over, still_known, framed, together_over, home_in, functions_over, home_over}
 
 pub carried : CarriedLaw
 carried xs ys outside around known other same agree is equal beyond = record {
   number = is.number;
   component = is.component;
   out = λ h f e. beyond h f (not_home h e);
-  none = λ h f e lacks. sym (equal h f (back_home h e)) ∙ is.none h f (back_home h e) (not_true (is_member (all_functions xs) h f) (λ t. clash (is_member (all_functions ys) h f) (member_over (all_functions xs) (all_functions ys) there h f t) lacks));
+  none = λ h f e lacks. sym (equal h f (back_home h e)) ∙ is.none h f (back_home h e) (false_from_ne_true (is_member (all_functions xs) h f) (λ t. clash (is_member (all_functions ys) h f) (member_over (all_functions xs) (all_functions ys) there h f t) lacks));
   within = λ n g has. there g (is.within n g has);
   numbered = is.numbered;
   all = λ g has. is.all g (back g has);
@@ -41,7 +42,7 @@ carried xs ys outside around known other same agree is equal beyond = record {
     back_home = home_over ys xs same.back
 
     not_home : (h : Atom) → is_home ys h ≡ false → is_home xs h ≡ false
-    not_home h e = not_true (is_home xs h) (λ t. clash (is_home ys h) (home_over xs ys same.there h t) e)
+    not_home h e = false_from_ne_true (is_home xs h) (λ t. clash (is_home ys h) (home_over xs ys same.there h t) e)
 
     but : (n : ℕ) (g : Function) (t : CallTarget) → Contains (is.component n) g → Contains (targets [] g.body) t → AgreesBut (is.component n) known other g.home t
     but n g (defined f count) has stands = inr (equal g.home f (home_in xs g (is.within n g has)))

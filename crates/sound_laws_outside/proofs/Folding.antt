@@ -1,7 +1,7 @@
 -- What component by component is solved is known by components in the end.
 use Rattle.std.proofs.Common.{◌≡◌, ℕ, zero, ◌<◌, ◌≤◌, true, false, List, [], ◌∷◌, length, ◌⊎◌, inl, inr, Some, Contains, refl, sym, ap, ◌∙◌, subst, arith}
 use Rattle.std.specs.Prelude.{slice_get, if◌then◌else◌}
-use Rattle.std.proofs.lemmas.Bool.{cases_lt}
+use Rattle.std.proofs.lemmas.Bool.{cases_lt, false_from_ne_true}
 use Rattle.std.proofs.lemmas.Option.{slice_get_within, same_Some}
 use Rattle.type_kinds.proofs.Lists.{contains_at, contains_first, position_of}
 use Rattle.type_kinds.specs.declared.atom.Atom.{Atom}
@@ -30,7 +30,7 @@ use Rattle.sound_laws_whole.proofs.Wholes as whole
 use Rattle.sound_laws_whole.proofs.Wholes.{source_of, summarized_at}
 use Rattle.sound_laws_outside.specs.Over.{is_home, Finds, Leads, Reaches, by_call, by_calls, Together, IsKnownOver}
 use Rattle.sound_laws_outside.specs.Laws.{SolvedLaw}
-use Rattle.sound_laws_outside.proofs.Members.{clash, not_true, member_named, home_in}
+use Rattle.sound_laws_outside.proofs.Members.{clash, member_named, home_in}
 
 none_in : (is : List ℕ) → ((i : ℕ) → Contains is i → ⊥) → is ≡ []
 none_in [] h = refl
@@ -177,7 +177,7 @@ module _ (xs : List m.Module) (accepted : AreAccepted xs) (apart : Distinct (mod
       number = number;
       component = gs;
       out = λ h f e.
-          still h f (not_true (is_member fs h f) (λ t. let j = member_named fs h f t in clash (is_home xs h) (sym (ap (is_home xs) j.home_is) ∙ home_in xs j.function j.there) e))
+          still h f (false_from_ne_true (is_member fs h f) (λ t. let j = member_named fs h f t in clash (is_home xs h) (sym (ap (is_home xs) j.home_is) ∙ home_in xs j.function j.there) e))
           ∙ ap (λ b. if b then Undefined else outside h f) e;
       none = λ h f e lacks. still h f lacks ∙ ap (λ b. if b then Undefined else outside h f) e;
       within = λ n g has. (let p = picked_from fs (members_of c n) g has in contains_at fs p.0 g p.2);

@@ -1,5 +1,5 @@
 -- Functions among others, and modules among others, by their names.
-use Rattle.std.proofs.Common.{◌≡◌, ◌≢◌, ◌⊎◌, Bool, true, false, List, [], ◌∷◌, ◌++◌, map, inl, inr, Contains, refl, sym, ap, ap₂, ◌∙◌, subst, true≢false}
+use Rattle.std.proofs.Common.{◌≡◌, ◌≢◌, ◌⊎◌, Bool, true, false, List, [], ◌∷◌, ◌++◌, map, inl, inr, Contains, sym, ap, ap₂, ◌∙◌, subst, true≢false}
 use Rattle.std.proofs.lemmas.List.{map-append}
 use Rattle.std.proofs.lemmas.List.Elements.{Contains-append_left, Contains-append_right, Contains-append_cases}
 use Rattle.type_kinds.proofs.Lists.{contains_at, contains_cases, contains_first, contains_later, contains_none}
@@ -25,10 +25,6 @@ use Rattle.sound_laws_outside.specs.Over.{is_home, Reaches, by_call, by_calls, T
 
 pub clash : {A : Type 0} (b : Bool) → b ≡ true → b ≡ false → A
 clash b t f = absurd (true≢false (sym t ∙ f))
-
-pub not_true : (b : Bool) → (b ≡ true → ⊥) → b ≡ false
-not_true true n = absurd (n refl)
-not_true false n = refl
 
 pub far_is : (h : Atom) → same_atom h erlang ≡ false → h ≢ erlang
 far_is h far e = true≢false (sym (ap (same_atom h) (sym e) ∙ home_itself h) ∙ far)

@@ -1,5 +1,6 @@
 -- What is known of modules is known of each part of them.
 use Rattle.std.proofs.Common.{◌≡◌, ℕ, Bool, true, false, cond, List, [], ◌∷◌, inl, inr, Contains, refl, sym, ap, ◌∙◌, subst}
+use Rattle.std.proofs.lemmas.Bool.{false_from_ne_true}
 use Rattle.type_kinds.proofs.Lists.{contains_first, contains_none}
 use Rattle.type_kinds.specs.declared.atom.Atom.{Atom}
 use Rattle.core_ast.specs.declared.syntax.FunName.{FunName}
@@ -9,7 +10,7 @@ use Rattle.analysis_summaries.specs.Functions.{all_functions}
 use Rattle.sound_laws_whole.specs.Once.{NamedOnce}
 use Rattle.sound_laws_outside.specs.Over.{is_home, Reaches, by_call, by_calls, Together}
 use Rattle.sound_laws_outside.specs.Laws.{PartsLaw}
-use Rattle.sound_laws_outside.proofs.Members.{clash, not_true, member_named, member_of, joined, of_all, all_there, module_under, one_module, home_in, functions_over, home_over, functions_at}
+use Rattle.sound_laws_outside.proofs.Members.{clash, member_named, member_of, joined, of_all, all_there, module_under, one_module, home_in, functions_over, home_over, functions_at}
 
 -- a component, if its first function is of the part
 abbrev part_of : (Atom → Bool) → List Function → List Function
@@ -48,7 +49,7 @@ parts xs ys outside known apart part is = record {
   number = is.number;
   component = λ n. part_of (is_home ys) (is.component n);
   out = λ h f e. refl;
-  none = λ h f e lacks. is.none h f (home_over ys xs part.there h e) (not_true (is_member (all_functions xs) h f) (λ t. lost h f e t lacks));
+  none = λ h f e lacks. is.none h f (home_over ys xs part.there h e) (false_from_ne_true (is_member (all_functions xs) h f) (λ t. lost h f e t lacks));
   within = λ n g has. inside n g (part_has (is_home ys) (is.component n) g has);
   numbered = λ n g has. is.numbered n g (part_has (is_home ys) (is.component n) g has).there;
   all = λ g has. has_part (is_home ys) (is.component (is.number g.home g.name)) g (is.all g (there g has)) (λ k among. near g k has among);

@@ -67,7 +67,7 @@ export_defined functions (g ∷ exports) positions e f has =
       | inr more ↦ export_defined functions exports (other_places positions) parts.1 f more
     ]
 
-exports_defined : (p : m.Module) → module_breaks p ≡ [] → (f : FunName) → has_function p.exports f ≡ true → Contains (defined_names p.defs) f
+pub exports_defined : (p : m.Module) → module_breaks p ≡ [] → (f : FunName) → has_function p.exports f ≡ true → Contains (defined_names p.defs) f
 exports_defined p sound f e =
     export_defined (defined_names p.defs) p.exports p.export_places (open_three (new_functions [] p.defs) (export_breaks (defined_names p.defs) p.exports p.export_places) (def_breaks (module_scope p) p.defs) sound).1 f (contained_has p.exports f e)
 

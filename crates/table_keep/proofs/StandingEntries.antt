@@ -1,5 +1,5 @@
 -- Whether the entries of a group stand, step by step.
-use Rattle.std.proofs.Common.{◌≡◌, ℕ, ◌+◌, ◌<◌, ◌≤◌, Bool, true, false, ◌&&◌, ◌↔◌, IsTrue, List, Option, Some, length, map, drop, slice_get, get_or, refl, sym, ap, ◌∙◌}
+use Rattle.std.proofs.Common.{◌≡◌, ℕ, ◌+◌, ◌<◌, ◌≤◌, Bool, true, false, ◌&&◌, ◌↔◌, IsTrue, List, Option, Some, length, map, drop, slice_get, get_or, refl, sym, ap, ◌∙◌, true≢false}
 use Rattle.std.specs.Cmp.Lexicographic.{bytes_decides, pointwise}
 use Rattle.std.proofs.lemmas.List.{drop_all}
 use Rattle.type_kinds.specs.declared.atom.Atom.{Atom}
@@ -78,3 +78,15 @@ as_other (Known s) never = refl
 as_other (Local s) never = absurd (never s refl)
 as_other Undefined never = refl
 as_other Unknown never = refl
+
+-- ---- two tests and a third
+
+pub two_fail : (a b c : Bool) → (a && b) ≡ false → false ≡ (a && (b && c))
+two_fail true true c e = absurd (true≢false e)
+two_fail true false c e = refl
+two_fail false b c e = refl
+
+pub two_hold : (a b c : Bool) → (a && b) ≡ true → c ≡ (a && (b && c))
+two_hold true true c e = refl
+two_hold true false c e = absurd (true≢false (sym e))
+two_hold false b c e = absurd (true≢false (sym e))

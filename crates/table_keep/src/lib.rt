@@ -20,4 +20,4 @@ pub use grouping::groups;
 pub use laws::{call_laws, spelled_laws};
 pub use made::entry_from;
 pub use source::{Source, discard_source};
-pub use unchanged_groups::unchanged;
+pub use unchanged_groups::{entry_may_stand, unchanged};

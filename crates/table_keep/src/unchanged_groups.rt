@@ -1,5 +1,5 @@
 //! Whether the entries of a group still stand.
-ghost use Rattle.std.specs.Prelude.{◌≡◌, ◌<◌, Some, length, map};
+ghost use Rattle.std.specs.Prelude.{◌≡◌, ◌<◌, ◌&&◌, Some, length, map};
 ghost use Rattle.std.specs.Cmp.Lexicographic.{pointwise};
 ghost use Rattle.core_scope.specs.Names.{same_atom};
 ghost use Rattle.cons_tree.specs.Callees.{as_called, found};
@@ -60,6 +60,7 @@ fn member_stands(
 }
 
 // Whether an entry stands, where its module's source is at this position.
+#[tactic(auto, using(crate::proofs::StandingEntries::two_fail, crate::proofs::StandingEntries::two_hold))]
 fn entry_stands(
     sources: &[Source],
     at: Option<u32>,
@@ -70,13 +71,27 @@ fn entry_stands(
     requires { IsWithin sources.now at }
     ensures { result ≡ entry_stands (member_names group.now) (λ h f. as_called (found known.now h f)) (found_at (sources_so sources.now) at) (Some (entry_so entry.now)) }
 {
-    if !is_old(sources, at, entry) {
-        return false;
-    }
-    if !has_group(entry.group.as_slice(), group) {
+    if !entry_may_stand(sources, at, entry, group) {
         return false;
     }
     all_used_stand(entry.used.as_slice(), known)
+}
+
+/// Whether an entry may stand, by what stands of functions: the source at this position, if there is one, has its digest, and its
+/// group is this one. Takes no memory.
+pub fn entry_may_stand(
+    sources: &[Source],
+    at: Option<u32>,
+    entry: &Entry,
+    group: &[GroupMember],
+) -> bool
+    requires { IsWithin sources.now at }
+    ensures { result ≡ (is_old (found_at (sources_so sources.now) at) (entry_so entry.now) && pointwise same_atom entry.now.group (member_names group.now)) }
+{
+    if !is_old(sources, at, entry) {
+        return false;
+    }
+    has_group(entry.group.as_slice(), group)
 }
 
 // Whether the source at a position, if there is one, has the entry's digest.

@@ -1,5 +1,5 @@
 -- That a type is read in one way: two types with one text are one. What a text is that is the text of a type.
-use Rattle.std.proofs.Common.{◌≡◌, ℕ, zero, suc, true, false, List, [], ◌∷◌, ◌++◌, map, drop, refl, sym, ap, ◌∙◌, subst, arith, append_assoc, true≢false}
+use Rattle.std.proofs.Common.{◌≡◌, ℕ, zero, suc, Bool, true, false, cond, List, [], ◌∷◌, ◌++◌, map, drop, refl, sym, ap, ◌∙◌, subst, arith, append_assoc, true≢false}
 use Rattle.std.specs.Prelude.{codes}
 use Rattle.std.proofs.lemmas.List.{append-nil}
 use borrow.Author.Tests.{ltb-true}
@@ -13,7 +13,7 @@ use Rattle.type_lattice_model.specs.Operations.{of_atoms, of_list, ops}
 use Rattle.type_lattice_model.specs.Normal.{AreElements, NormalAt}
 use Rattle.type_lattice.specs.Types.{Type4, none, is_none, same_type}
 use Rattle.type_text.specs.Words.{WordStop, TypeStop}
-use Rattle.type_text.specs.Texts.{after, separated, range_word, is_any, text_at, text_of}
+use Rattle.type_text.specs.Texts.{after, separated, range_word, parts_words, is_any, text_at, text_of}
 use Rattle.type_text.specs.WordTypes.{of_ints, of_functions, of_row, IsWord, AreWords, WordsOf, spelled, joined_with, one_atom, one_int, ints_between, one_arity, proper_list, any_list, one_tuple, name_of, named}
 use Rattle.type_text.proofs.WordStarts.{no_close, signed-start, at_every_int, all_range, at_quote, at_number, at_range, at_arity, at_list, at_tuple, at_named}
 use Rattle.type_lattice_model.proofs.LevelLaws.{level_laws}
@@ -94,28 +94,41 @@ level_once : (d : ℕ) → Once d
 level_once zero = base_once
 level_once (suc d) = next_once d (level_once d)
 
+-- what a text begins with is one type, where what follows may follow a type
+pub front_once : (s t : Type4) (r q : List ℕ) → TypeStop r → TypeStop q → text_of s ++ r ≡ text_of t ++ q → (s ≡ t) × (r ≡ q)
+unfolding text_of
+front_once s t r q f g e = let once = level_once 4 s.ty t.ty r q s.normal t.normal f g e in (same_type s t once.0, once.1)
+
 -- two types with one text are one
 pub text_once : (s t : Type4) → text_of s ≡ text_of t → s ≡ t
-unfolding text_of
-text_once s t e =
-    same_type s t (level_once 4 s.ty t.ty [] [] s.normal t.normal tt tt (append-nil (text_at 4 s.ty) ∙ e ∙ sym (append-nil (text_at 4 t.ty)))).0
+text_once s t e = (front_once s t [] [] tt tt (append-nil (text_of s) ∙ e ∙ sym (append-nil (text_of t)))).0
 
--- ---- a text that is the text of a type and of nothing else
+-- ---- a text that begins with that of a type
 
--- the text is that of the type, and nothing is left
-pub nothing_left : (text : List ℕ) (t : Type4) → text ≡ text_of t → text ≡ text_at 4 t.ty ++ []
+pub front_text : (text rest : List ℕ) (t : Type4) → text ≡ text_of t ++ rest → text ≡ text_at 4 t.ty ++ rest
 unfolding text_of
-nothing_left text t e = e ∙ sym (append-nil (text_at 4 t.ty))
+front_text text rest t e = e
 
 -- what begins as none is written is none
-pub none_read : (text more : List ℕ) (t u : Type4) → text ≡ codes "none()" ++ more → u ≡ none → text ≡ text_of t → u ≡ t
+pub none_read : (text more rest : List ℕ) (t u : Type4) → text ≡ codes "none()" ++ more → u ≡ none → text ≡ text_of t ++ rest → (u ≡ t) × (more ≡ rest)
 unfolding none
-none_read text more t u e f g = same_type u t (ap (λ x. x.ty) f ∙ sym (at_none (way 4 t.ty t.normal) [] more (sym (nothing_left text t g) ∙ e)).0)
+none_read text more rest t u e f g =
+    let at = at_none (way 4 t.ty t.normal) rest more (sym (front_text text rest t g) ∙ e) in
+    (same_type u t (ap (λ x. x.ty) f ∙ sym at.0), at.1)
 
 not_any : is_any 4 (ops 4).none ≡ false
 unfolding ops
 not_any = refl
 
-pub some_read : (text : List ℕ) (t : Type4) → ((more : List ℕ) → text ≡ codes "none()" ++ more → ⊥) → text ≡ text_of t → is_none t ≡ false
+none_text : text_at 4 (ops 4).none ≡ codes "none()"
+none_text =
+    ap (λ b. cond b (codes "any()") (cond ((ops 4).is_none (ops 4).none) (codes "none()") (separated (codes " | ") (parts_words (text_at 3) (ops 4).none)))) not_any
+    ∙ ap (λ b. cond b (codes "none()") (separated (codes " | ") (parts_words (text_at 3) (ops 4).none))) (level_laws 4).is_none-none
+
+pub some_read : (text rest : List ℕ) (t : Type4) → ((more : List ℕ) → text ≡ codes "none()" ++ more → ⊥) → text ≡ text_of t ++ rest → is_none t ≡ false
 unfolding is_none
-some_read text t e g = grind (arith, nothing_left, not_any, (level_laws 4).none-is_none)
+some_read text rest t e g = by (is_none t) refl
+  where
+    by : (b : Bool) → is_none t ≡ b → is_none t ≡ false
+    by false is = is
+    by true is = absurd (e rest (front_text text rest t g ∙ ap (λ x. x ++ rest) (ap (text_at 4) ((level_laws 4).none-is_none t.ty is) ∙ none_text)))

@@ -7,6 +7,7 @@ mod printing;
 mod reading;
 mod words;
 
-pub use laws::text_laws;
+pub use laws::{front_laws, text_laws};
+pub use leaves::{after_word, read_arity, read_quoted};
 pub use printing::print;
-pub use reading::{TextFault, read};
+pub use reading::{TextFault, read, read_front};

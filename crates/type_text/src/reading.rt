@@ -1,7 +1,9 @@
-ghost use Rattle.std.specs.Prelude.{◌≡◌, false, Some, Err, IfOk};
+ghost use Rattle.std.specs.Prelude.{◌≡◌, ℕ, List, ◌++◌, false, Some, Err, IfOk};
+ghost use Rattle.std.specs.Option.{IsSomeAnd};
 ghost use Rattle.type_lattice.specs.Types.{Type4, is_none};
 ghost use Rattle.type_text.specs.declared.reading.TextFault.TheVariants.{NotAType};
 ghost use Rattle.type_text.specs.Texts.{text_of};
+ghost use Rattle.type_text.specs.Words.{TypeStop};
 
 use crate::leaves::after_word;
 use crate::printing::print;
@@ -9,7 +11,6 @@ use crate::words::read_type;
 use std::alloc::Global;
 use type_kinds::{Bytes, Memory};
 use type_lattice::Ty;
-use type_lattice_trees::discard;
 
 /// Why a text isn't read.
 #[derive(Clone, Copy, Debug, PartialEq, Eq)]
@@ -41,30 +42,40 @@ pub fn read(alloc: Global, text: &[u8]) -> Result<Ty, TextFault>
 }
 
 // The type that the whole text is, where it is the text of one. Other texts may be read too.
-#[tactic(auto, using(crate::proofs::TextOnce::some_read))]
 fn whole(alloc: Global, text: &[u8]) -> Result<Option<Ty>, Memory>
     ensures { IfOk result (λ r. (t : Type4) → text.now ≡ text_of t → r ≡ Some t) }
 {
+    match read_front(alloc, text)? {
+        None => Ok(None),
+        Some((t, rest)) => {
+            if rest.is_empty() {
+                Ok(Some(t))
+            } else {
+                Ok(None)
+            }
+        }
+    }
+}
+
+/// The type that the text begins with, and what stands behind it: where the text is that of a type, with nothing behind it, a
+/// comma or a bracket that closes, it is this type. Other texts may be read too, so who reads one prints what was read again, and
+/// compares. `Memory` if allocation fails.
+pub fn read_front<'a>(alloc: Global, text: &'a [u8]) -> Result<Option<(Ty, &'a [u8])>, Memory>
+    ensures { IfOk result (λ r. (t : Type4) (rest : List ℕ) → TypeStop rest → text.now ≡ text_of t ++ rest → IsSomeAnd r (λ p. (p.0 ≡ t) × (p.1.now ≡ rest))) }
+{
     match after_word(text, b"none()") {
-        Some(_) => Ok(Some(Ty::none())),
-        None => with_values(alloc, text),
+        Some(rest) => Ok(Some((Ty::none(), rest))),
+        None => read_some(alloc, text),
     }
 }
 
 // The same for types that have a value.
-fn with_values(alloc: Global, text: &[u8]) -> Result<Option<Ty>, Memory>
-    ensures { IfOk result (λ r. (t : Type4) → is_none t ≡ false → text.now ≡ text_of t → r ≡ Some t) }
+fn read_some<'a>(alloc: Global, text: &'a [u8]) -> Result<Option<(Ty, &'a [u8])>, Memory>
+    ensures { IfOk result (λ r. (t : Type4) (rest : List ℕ) → is_none t ≡ false → TypeStop rest → text.now ≡ text_of t ++ rest → IsSomeAnd r (λ p. (p.0 ≡ t) × (p.1.now ≡ rest))) }
 {
     match read_type(alloc, 4, text)? {
         None => Ok(None),
-        Some((node, rest)) => {
-            if rest.is_empty() {
-                Ok(Some(Ty::of_node(node)))
-            } else {
-                discard(node);
-                Ok(None)
-            }
-        }
+        Some((node, rest)) => Ok(Some((Ty::of_node(node), rest))),
     }
 }
 

@@ -1,15 +1,16 @@
-ghost use Rattle.std.specs.Prelude.{◌≤◌, IfOk, length};
+ghost use Rattle.std.specs.Prelude.{◌<◌, ◌≤◌, IfOk, length};
 
 use da_shelf::{
     FileShelf, Gate, MemShelf, MemSink, OpenGate, Shelf, ShelfFault, Sink, SinkFault, StdoutSink,
     give,
 };
-use std::alloc::Global;
+use std::alloc::{AllocError, Global};
 use std::cell::{Cell, RefCell};
 use std::fmt::Display;
 use std::fs::Permissions;
 use std::io::ErrorKind;
 use std::os::unix::fs::PermissionsExt;
+use std::path::PathBuf;
 use std::test::Fail;
 use std::{env, fs, io};
 use type_kinds::{Bytes, List, Memory};
@@ -31,102 +32,151 @@ fn pass<G: Gate + Sync>(gate: &G) {
     gate.leave(0, 1);
 }
 
-#[test]
-fn a_shelf_in_memory_fails_at_the_listed_reads(rt: HostRuntime) -> Result<(), Fail> {
-    let alloc = rt.alloc();
-    let mut shelf = MemShelf::new(alloc, numbers(alloc, &[2, 5])?, List::new(alloc));
+// Whether a name is read as these bytes.
+fn reads_as<F: Shelf>(shelf: &mut F, name: &str, bytes: &[u8]) -> bool {
+    match shelf.read(name) {
+        Ok(read) => read.as_slice() == bytes,
+        Err(_) => false,
+    }
+}
+
+// A shelf of two names, one of which is put twice.
+fn filled(alloc: Global, fail_reads: &[u32]) -> Result<MemShelf, Memory> {
+    let fail_reads = numbers(alloc, fail_reads)?;
+    let mut shelf = MemShelf::new(alloc, fail_reads, List::new(alloc));
+    put_three(&mut shelf)?;
+    Ok(shelf)
+}
+
+fn put_three(shelf: &mut MemShelf) -> Result<(), Memory> {
     shelf.put("a", b"first")?;
     shelf.put("b", b"")?;
-    shelf.put("a", b"second")?;
+    shelf.put("a", b"second")
+}
+
+// The reads in order, and the fault of each.
+const READS: &[(&str, Option<ShelfFault>)] = &[
+    ("a", None),
+    ("a", Some(ShelfFault::Failed)),
+    ("c", Some(ShelfFault::Missing)),
+    ("b", None),
+    ("c", Some(ShelfFault::Failed)),
+];
+
+#[test]
+fn a_shelf_in_memory_fails_at_the_listed_reads(rt: HostRuntime) -> Result<(), Memory> {
+    let mut shelf = filled(rt.alloc(), &[2, 5])?;
     assert!(rt; shelf.look("a") == Some(b"second".as_slice()));
     assert!(rt; shelf.look("b") == Some(b"".as_slice()));
     assert!(rt; shelf.look("") == None);
-    let names = ["a", "a", "c", "b", "c"];
-    let fault = [
-        None,
-        Some(ShelfFault::Failed),
-        Some(ShelfFault::Missing),
-        None,
-        Some(ShelfFault::Failed),
-    ];
-    for i in 0..5 {
+    for (name, fault) in READS {
         assert!(rt;
-            read_by_bound(&mut shelf, names[i]).err() == fault[i],
-            "read {i}"
+            read_by_bound(&mut shelf, name).err() == *fault,
+            "read of {name}, {fault:?}"
         );
     }
-    assert!(rt; shelf.read("a")?.as_slice() == b"second".as_slice());
+    assert!(rt; reads_as(&mut shelf, "a", b"second"));
     Ok(())
 }
 
-#[test]
-fn a_shelf_in_memory_fails_at_the_listed_replaces(rt: HostRuntime) -> Result<(), Fail> {
-    let alloc = rt.alloc();
-    let mut shelf = MemShelf::new(alloc, List::new(alloc), numbers(alloc, &[2, 3])?);
+// The replaces of `a` in order, whether each is taken, and what is held then.
+const REPLACES: &[(&[u8], bool, &[u8])] = &[
+    (b"second", true, b"second"),
+    (b"third", false, b"second"),
+    (b"", false, b"second"),
+    (b"", true, b""),
+];
+
+// A shelf of one name.
+fn first(alloc: Global, fail_replaces: &[u32]) -> Result<MemShelf, Memory> {
+    let fail_replaces = numbers(alloc, fail_replaces)?;
+    let mut shelf = MemShelf::new(alloc, List::new(alloc), fail_replaces);
     shelf.put("a", b"first")?;
-    let rows: [(&str, &[u8], bool, &[u8]); 4] = [
-        ("a", b"second", true, b"second"),
-        ("a", b"third", false, b"second"),
-        ("a", b"", false, b"second"),
-        ("a", b"", true, b""),
-    ];
-    for (name, bytes, taken, held) in rows {
-        let answer = replace_by_bound(&mut shelf, name, bytes);
-        assert!(rt; answer.is_ok() == taken);
-        assert!(rt; taken || answer == Err(ShelfFault::Failed));
-        assert!(rt; shelf.look(name) == Some(held));
+    Ok(shelf)
+}
+
+#[test]
+fn a_shelf_in_memory_fails_at_the_listed_replaces(rt: HostRuntime) -> Result<(), Memory> {
+    let mut shelf = first(rt.alloc(), &[2, 3])?;
+    for (bytes, taken, held) in REPLACES {
+        let answer = replace_by_bound(&mut shelf, "a", bytes);
+        assert!(rt; answer.is_ok() == *taken);
+        assert!(rt; *taken || answer == Err(ShelfFault::Failed));
+        assert!(rt; shelf.look("a") == Some(*held));
     }
     assert!(rt; replace_by_bound(&mut shelf, "b", b"new").is_ok());
-    assert!(rt; shelf.read("b")?.as_slice() == b"new".as_slice());
+    assert!(rt; reads_as(&mut shelf, "b", b"new"));
     assert!(rt; shelf.look("a") == Some(b"".as_slice()));
     Ok(())
 }
 
+const GIVEN: &[u8] = b"in pieces of ten bytes.";
+
+// The room of a sink, the writes that fail, and how many of 23 bytes are taken.
+const SINKS: &[(u32, &[u32], usize)] = &[
+    (100, &[], 23),
+    (23, &[4], 23),
+    (100, &[3], 20),
+    (100, &[1], 0),
+    (7, &[], 7),
+];
+
+fn sink(alloc: Global, piece: u32, room: u32, fail_writes: &[u32]) -> Result<MemSink, Memory>
+    requires { 0 < piece }
+{
+    let fail_writes = numbers(alloc, fail_writes)?;
+    MemSink::new(alloc, piece, room, fail_writes)
+}
+
 #[test]
-fn a_sink_in_memory_takes_what_is_given(rt: HostRuntime) -> Result<(), Fail> {
-    let alloc = rt.alloc();
-    let text = b"in pieces of ten bytes.".as_slice();
-    let rows: [(u32, &[u32], usize); 5] = [
-        (100, &[], 23),
-        (23, &[4], 23),
-        (100, &[3], 20),
-        (100, &[1], 0),
-        (7, &[], 7),
-    ];
-    for (room, fail_writes, taken) in rows {
-        let mut sink = MemSink::new(alloc, 10, room, numbers(alloc, fail_writes)?)?;
-        let answer = give(&mut sink, text);
-        assert!(rt; answer.is_ok() == (taken == 23), "room {room}");
-        assert!(rt; taken <= 23);
-        assert!(rt; sink.bytes() == &text[..taken], "room {room}");
+fn a_sink_in_memory_takes_what_is_given(rt: HostRuntime) -> Result<(), Memory> {
+    assert!(rt; GIVEN.len() == 23);
+    for (room, fail_writes, taken) in SINKS {
+        let mut sink = sink(rt.alloc(), 10, *room, fail_writes)?;
+        let answer = give(&mut sink, GIVEN);
+        assert!(rt; answer.is_ok() == (*taken == 23), "room {room}");
+        assert!(rt; Some(sink.bytes()) == GIVEN.get(..*taken), "room {room}");
     }
     Ok(())
 }
 
 #[test]
-fn nothing_is_given_without_a_write(rt: HostRuntime) -> Result<(), Fail> {
-    let alloc = rt.alloc();
-    let mut sink = MemSink::new(alloc, 1, 0, numbers(alloc, &[1])?)?;
+fn nothing_is_given_without_a_write(rt: HostRuntime) -> Result<(), Memory> {
+    let mut sink = sink(rt.alloc(), 1, 0, &[1])?;
     assert!(rt; give(&mut sink, b"") == Ok(()));
     assert!(rt; sink.bytes().is_empty());
     pass(&OpenGate);
     Ok(())
 }
 
+// A path in the folder for what doesn't last.
+fn temporary(rt: &HostRuntime, name: &str) -> Result<PathBuf, Fail> {
+    let mut path = env::temp_dir(rt)?;
+    path.push(name)?;
+    Ok(path)
+}
+
+// Writes a file, reads it by the shelf, and removes it.
+fn is_read_whole(
+    rt: &HostRuntime,
+    shelf: &mut FileShelf<&HostRuntime>,
+    name: &str,
+) -> Result<bool, Fail> {
+    fs::write(rt, name, "module")?;
+    let whole = reads_as(shelf, name, b"module");
+    fs::remove_file(rt, name)?;
+    Ok(whole)
+}
+
 #[test]
 fn files_are_read_whole_or_missing(rt: HostRuntime) -> Result<(), Fail> {
-    let alloc = rt.alloc();
-    let mut path = env::temp_dir(&rt)?;
-    path.push("da_shelf_reads_this.core")?;
+    let path = temporary(&rt, "da_shelf_reads_this.core")?;
     let name = path
         .as_path()
         .to_str()
         .ok_or("the folder's name is no text")?;
-    let mut shelf = FileShelf::new(&rt, alloc)?;
-    fs::write(&rt, name, "module")?;
-    let read = read_by_bound(&mut shelf, name);
-    fs::remove_file(&rt, name)?;
-    assert!(rt; read?.as_slice() == b"module".as_slice());
+    let mut shelf = FileShelf::new(&rt, rt.alloc())?;
+    assert!(rt; is_read_whole(&rt, &mut shelf, name)?);
     assert!(rt; read_by_bound(&mut shelf, name).err() == Some(ShelfFault::Missing));
     assert!(rt; read_by_bound(&mut shelf, "/").err() == Some(ShelfFault::Failed));
     Ok(())
@@ -168,32 +218,70 @@ fn replaced_whole(
     ]
 }
 
+// A name behind a folder's.
+fn behind(alloc: Global, folder: &str, name: &str) -> Result<String, AllocError> {
+    format!(in alloc; "{folder}{name}")
+}
+
+// The same of a file in the folder.
+fn replaced_in(
+    rt: &HostRuntime,
+    shelf: &mut FileShelf<&HostRuntime>,
+    folder: &str,
+    name: &str,
+) -> Result<[bool; 4], AllocError> {
+    let second = behind(rt.alloc(), folder, "/table.new0")?;
+    let below = behind(rt.alloc(), folder, "/table/below")?;
+    let whole = replaced_whole(rt, shelf, [name, second.as_str(), below.as_str()]);
+    drop(second);
+    drop(below);
+    Ok(whole)
+}
+
+// Whether the folder itself isn't replaced, and what was tried is removed.
+fn folder_stays(
+    rt: &HostRuntime,
+    shelf: &mut FileShelf<&HostRuntime>,
+    folder: &str,
+) -> Result<bool, AllocError> {
+    let beside = behind(rt.alloc(), folder, ".new0")?;
+    let answer = replace_by_bound(shelf, folder, b"third");
+    let left = is_there(rt, beside.as_str());
+    drop(beside);
+    Ok(answer == Err(ShelfFault::Failed) && !left)
+}
+
+// Makes the folder, and takes it away again: whether it was made and is gone, what is replaced in it,
+// and whether the folder itself stays.
+fn replaced_and_cleared(
+    rt: &HostRuntime,
+    shelf: &mut FileShelf<&HostRuntime>,
+    folder: &str,
+    name: &str,
+) -> Result<(bool, [bool; 4], bool), AllocError> {
+    let made = fs::create_dir(rt, folder).is_ok();
+    let whole = replaced_in(rt, shelf, folder, name);
+    let stays = folder_stays(rt, shelf, folder);
+    let cleared = fs::remove_file(rt, name).is_ok() && fs::remove_dir(rt, folder).is_ok();
+    Ok((made && cleared, whole?, stays?))
+}
+
 #[test]
 fn files_are_replaced_whole(rt: HostRuntime) -> Result<(), Fail> {
-    let alloc = rt.alloc();
-    let mut path = env::temp_dir(&rt)?;
-    path.push("da_shelf_replaces_here")?;
+    let path = temporary(&rt, "da_shelf_replaces_here")?;
     let folder = path
         .as_path()
         .to_str()
         .ok_or("the folder's name is no text")?;
-    let name = format!(in alloc; "{folder}/table")?;
-    let second = format!(in alloc; "{folder}/table.new0")?;
-    let below = format!(in alloc; "{folder}/table/below")?;
-    let beside = format!(in alloc; "{folder}.new0")?;
-    let mut shelf = FileShelf::new(&rt, alloc)?;
-    let made = fs::create_dir(&rt, folder).is_ok();
-    let names = [name.as_str(), second.as_str(), below.as_str()];
-    let whole = replaced_whole(&rt, &mut shelf, names);
-    // a folder isn't replaced, and what was tried is removed
-    let over_folder = replace_by_bound(&mut shelf, folder, b"third");
-    let left = is_there(&rt, beside.as_str());
-    let cleared = fs::remove_file(&rt, name.as_str()).is_ok()
-        && fs::remove_dir(&rt, folder).is_ok();
-    assert!(rt; made && cleared);
+    let name = behind(rt.alloc(), folder, "/table")?;
+    let mut shelf = FileShelf::new(&rt, rt.alloc())?;
+    let answer = replaced_and_cleared(&rt, &mut shelf, folder, name.as_str());
+    drop(shelf);
+    drop(name);
+    let (cleared, whole, stays) = answer?;
+    assert!(rt; cleared);
     assert!(rt; whole == [true; 4]);
-    assert!(rt; over_folder == Err(ShelfFault::Failed));
-    assert!(rt; !left);
+    assert!(rt; stays);
     Ok(())
 }
 

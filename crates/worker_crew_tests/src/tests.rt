@@ -12,10 +12,10 @@ use worker_crew::run_crew;
 
 // The job that the seat is given.
 fn taken(rt: &impl Abort, board: &mut Board<Chains>, seat: u32) -> Job<Chains> {
-    let Take::Given(job) = board.take(seat).expect(rt, "memory") else {
-        panic!(rt; "no job for seat {seat}");
-    };
-    job
+    match board.take(seat).expect(rt, "memory") {
+        Take::Given(job) => job,
+        _ => panic!(rt; "no job"),
+    }
 }
 
 fn solved(rt: &impl Abort, work: &Chains, job: Job<Chains>) -> Done<Chains> {
@@ -25,45 +25,70 @@ fn solved(rt: &impl Abort, work: &Chains, job: Job<Chains>) -> Done<Chains> {
     done
 }
 
+// Finishes what the seat solved, which has to fit.
+fn finish(rt: &impl Abort, board: &mut Board<Chains>, seat: u32, done: Done<Chains>) {
+    if !board.fits(seat, &done) {
+        panic!(rt; "what seat {seat} solved doesn't fit");
+    }
+    board.finish(seat, done);
+}
+
+// What a seat is told.
+#[derive(Clone, Copy, PartialEq, Eq)]
+enum Reply {
+    Given,
+    NoneReady,
+    AllDone,
+    Stopped,
+}
+
+fn told(rt: &impl Abort, board: &mut Board<Chains>, seat: u32) -> Reply {
+    match board.take(seat).expect(rt, "memory") {
+        Take::Given(_) => Reply::Given,
+        Take::NoneReady => Reply::NoneReady,
+        Take::AllDone => Reply::AllDone,
+        Take::Stopped => Reply::Stopped,
+    }
+}
+
+// Two seats take a component each, a third none, and both are finished.
+fn finish_both(rt: &impl Abort, work: &Chains, board: &mut Board<Chains>) {
+    let first = taken(rt, board, 0);
+    let second = taken(rt, board, 1);
+    assert!(rt; first.component == 0 && second.component == 1);
+    assert!(rt; told(rt, board, 2) == Reply::NoneReady);
+    let done = solved(rt, work, first);
+    assert!(rt; !board.fits(1, &done));
+    finish(rt, board, 0, done);
+    finish(rt, board, 1, solved(rt, work, second));
+}
+
+const HISTORY: &[Event] = &[
+    Event::Taken(0, 0),
+    Event::Taken(1, 1),
+    Event::Finished(0, 0),
+    Event::Finished(1, 1),
+];
+
+// The output of the second component for this part and no inputs.
+fn output_of(alloc: Global, board: &Board<Chains>, part: u32) -> Option<u32> {
+    let none: List<Shared<u32>> = List::new(alloc);
+    board.find(1, &part, &none).map(|output| *output.get())
+}
+
 #[test]
 fn a_board_step_by_step(rt: HostRuntime) {
     let alloc = rt.alloc();
     let work = Chains::new(alloc, 2, 1).expect(&rt, "memory");
     let mut board = Board::new(alloc, &work).expect(&rt, "memory");
-    let first = taken(&rt, &mut board, 0);
-    let second = taken(&rt, &mut board, 1);
-    assert!(rt; first.component == 0 && second.component == 1);
-    let Take::NoneReady = board.take(2).expect(&rt, "memory") else {
-        panic!(&rt; "a third component");
-    };
-    let done = solved(&rt, &work, first);
-    assert!(rt; !board.fits(1, &done));
-    assert!(rt; board.fits(0, &done));
-    if board.fits(0, &done) {
-        board.finish(0, done);
-    }
-    let done = solved(&rt, &work, second);
-    if board.fits(1, &done) {
-        board.finish(1, done);
-    }
-    let Take::AllDone = board.take(2).expect(&rt, "memory") else {
-        panic!(&rt; "not done");
-    };
-    let history = [
-        Event::Taken(0, 0),
-        Event::Taken(1, 1),
-        Event::Finished(0, 0),
-        Event::Finished(1, 1),
-    ];
-    assert!(rt; board.journal() == history.as_slice());
-    let none: List<Shared<u32>> = List::new(alloc);
-    assert!(rt; board.find(1, &1, &none).map(|output| *output.get()) == Some(1));
-    assert!(rt; board.find(1, &0, &none).is_none());
+    finish_both(&rt, &work, &mut board);
+    assert!(rt; told(&rt, &mut board, 2) == Reply::AllDone);
+    assert!(rt; board.journal() == HISTORY);
+    assert!(rt; output_of(alloc, &board, 1) == Some(1));
+    assert!(rt; output_of(alloc, &board, 0).is_none());
     board.stop();
     board.stop();
-    let Take::Stopped = board.take(2).expect(&rt, "memory") else {
-        panic!(&rt; "goes on");
-    };
+    assert!(rt; told(&rt, &mut board, 2) == Reply::Stopped);
     assert!(rt; board.journal().len() == 5);
 }
 
@@ -77,21 +102,42 @@ fn few_looks_along_a_chain(rt: HostRuntime) {
         let job = taken(&rt, &mut board, 0);
         assert!(rt; job.component == component);
         let done = solved(&rt, &work, job);
-        if !board.fits(0, &done) {
-            panic!(&rt; "component {component} doesn't fit");
-        }
-        board.finish(0, done);
+        finish(&rt, &mut board, 0, done);
     }
     assert!(rt; board.journal().len() == 8192);
+    // Each component that is taken was looked at.
+    assert!(rt; board.looks() >= 4096);
     assert!(rt; board.looks() < 100_000);
 }
 
 // How many components the journal finishes.
-fn finished(journal: &[Event]) -> usize {
-    journal
-        .iter()
-        .filter(|event| matches!(event, Event::Finished(_, _)))
-        .count()
+fn finished(journal: &[Event]) -> u32 {
+    let mut count = 0u32;
+    for event in journal {
+        if let Event::Finished(_, _) = event {
+            count = count.saturating_add(1);
+        }
+    }
+    count
+}
+
+const OUTPUTS: &[u32] = &[0, 0, 0, 3, 3, 3, 6, 6, 6];
+
+fn are_outputs(outputs: &[Shared<u32>]) -> bool {
+    for (output, number) in outputs.iter().zip(OUTPUTS) {
+        if *output.get() != *number {
+            return false;
+        }
+    }
+    true
+}
+
+// Expects the nine outputs of what is solved, and that `assemble` solves nothing.
+fn expect_assembled(rt: &impl Abort, alloc: Global, work: &Chains, board: &Board<Chains>) {
+    let outputs = assemble(alloc, work, board).expect(rt, "memory");
+    assert!(rt; outputs.len() == 9);
+    assert!(rt; are_outputs(outputs.as_slice()));
+    assert!(rt; work.solves() == 9);
 }
 
 // Solves three chains of three by `workers` workers: each component is solved once, and not again by
@@ -107,13 +153,7 @@ fn solve_once<R: Threads + Wait + Abort + Sync>(rt: &R, alloc: Global, workers: 
     assert!(rt; gate.entries() == 9);
     assert!(rt; work.solves() == 9);
     assert!(rt; finished(board.journal()) == 9);
-    let outputs = assemble(alloc, &work, &board).expect(rt, "memory");
-    let numbers = [0, 0, 0, 3, 3, 3, 6, 6, 6];
-    assert!(rt; outputs.len() == 9);
-    for (output, number) in outputs.as_slice().iter().zip(numbers) {
-        assert!(rt; *output.get() == number);
-    }
-    assert!(rt; work.solves() == 9);
+    expect_assembled(rt, alloc, &work, &board);
 }
 
 #[test]
@@ -144,10 +184,24 @@ fn one_that_lacks_memory_stops_all(rt: HostRuntime) {
 // What a crew and `assemble` give of nine components, if allocation doesn't fail.
 fn count_of_outputs<R: Threads + Wait + Sync>(rt: &R, alloc: Global) -> Result<usize, Memory> {
     let work = Chains::new(alloc, 9, 3)?;
-    let board = Board::new(alloc, &work)?;
-    let board = run_crew(rt, &work, board, 3, &OpenGate)?;
-    let outputs = assemble(alloc, &work, &board)?;
-    Ok(outputs.len())
+    let count = count_assembled(rt, alloc, &work);
+    drop(work);
+    count
+}
+
+fn count_assembled<R: Threads + Wait + Sync>(
+    rt: &R,
+    alloc: Global,
+    work: &Chains,
+) -> Result<usize, Memory> {
+    let board = Board::new(alloc, work)?;
+    let board = run_crew(rt, work, board, 3, &OpenGate)?;
+    let outputs = assemble(alloc, work, &board);
+    drop(board);
+    let outputs = outputs?;
+    let count = outputs.len();
+    drop(outputs);
+    Ok(count)
 }
 
 #[test]

@@ -1,7 +1,10 @@
 //! What workers do at the gate.
-use super::tables::{run_on, shelf_of};
-use dialyze_command::Status;
-use std::test::Fail;
+use da_shelf::{Gate, MemShelf, MemSink};
+use dialyze_command::{Status, dialyze};
+use std::alloc::Global;
+use std::sync::Wait;
+use std::thread::Threads;
+use type_kinds::{List, Memory};
 use worker_crew_tests::{MeetingGate, WatchingGate};
 
 // Nine functions in three chains: nine components.
@@ -18,6 +21,19 @@ const CHAINS: &str = "module 'm' ['a'/0,'d'/0,'g'/0] attributes []
 end
 ";
 
+// What a run of these words answers on the chains.
+fn status_of<R: Threads + Wait + Sync, G: Gate + Sync>(
+    rt: &R,
+    alloc: Global,
+    words: &[&str],
+    gate: &G,
+) -> Result<Status, Memory> {
+    let mut shelf = MemShelf::new(alloc, List::new(alloc), List::new(alloc));
+    let mut sink = MemSink::new(alloc, 4096, 4096, List::new(alloc))?;
+    shelf.put("m.core", CHAINS.as_bytes())?;
+    Ok(dialyze(rt, alloc, words, &mut shelf, &mut sink, gate))
+}
+
 const BY_UP_TO_FOUR: &[&[&str]] = &[
     &["check", "m.core"],
     &["check", "--workers", "2", "m.core"],
@@ -27,27 +43,24 @@ const BY_UP_TO_FOUR: &[&[&str]] = &[
 
 // Each component is entered with and left once, by the seat that solves it.
 #[test]
-fn each_component_once(rt: HostRuntime) -> Result<(), Fail> {
-    let alloc = rt.alloc();
-    let mut shelf = shelf_of(alloc, &[("m.core", CHAINS)])?;
+fn each_component_once(rt: HostRuntime) -> Result<(), Memory> {
     for words in BY_UP_TO_FOUR {
         let gate = WatchingGate::new();
-        let answer = run_on(&rt, alloc, words, &mut shelf, &gate)?;
-        assert_eq!(rt; answer.0, Status::Clean);
+        let status = status_of(&rt, rt.alloc(), words, &gate)?;
+        assert_eq!(rt; status, Status::Clean);
         assert!(rt; gate.saw(0b1_1111_1111));
     }
     Ok(())
 }
 
+const BY_TWO: &[&str] = &["check", "--workers", "2", "m.core"];
+
 // Two workers are in the gate at once.
 #[test]
-fn two_at_once(rt: HostRuntime) -> Result<(), Fail> {
-    let alloc = rt.alloc();
-    let mut shelf = shelf_of(alloc, &[("m.core", CHAINS)])?;
+fn two_at_once(rt: HostRuntime) -> Result<(), Memory> {
     let gate = MeetingGate::new();
-    let words = ["check", "--workers", "2", "m.core"];
-    let answer = run_on(&rt, alloc, &words, &mut shelf, &gate)?;
-    assert_eq!(rt; answer.0, Status::Clean);
+    let status = status_of(&rt, rt.alloc(), BY_TWO, &gate)?;
+    assert_eq!(rt; status, Status::Clean);
     assert!(rt; gate.met());
     Ok(())
 }

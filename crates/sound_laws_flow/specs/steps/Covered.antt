@@ -6,11 +6,12 @@ use Rattle.core_ast.specs.Model as m
 use Rattle.core_scope.specs.Asks.{one_value}
 use Rattle.core_scope.specs.Functions.{LabelledFunction}
 use Rattle.core_scope.specs.Names.{defined_names}
-use Rattle.type_lattice_model.specs.Values.{Value, int, atom, bits, float, pid, port, reference, nil, cons, tuple, map, closure, external, foreign, Values, no_value, and_value, ValuePairs, no_pair, and_pair, Env, no_variable, and_variable, and_frame}
+use Rattle.type_lattice_model.specs.Values.{Value, closure, Values, Env, no_variable, Local}
 use Rattle.type_lattice.specs.Types.{Type4, HasTypes, Below, any}
 use Rattle.cons_tree.specs.declared.parts.Callee.{Callee}
 use Rattle.core_meaning.specs.Programs.{Program, module_named, function_at, AreAtLabels, locals_of, is_exported, top_function}
 use Rattle.core_meaning.specs.Meaning.{Event, made, chosen, applied, entered, gave, back}
+use Rattle.core_meaning_values.specs.Covered as values
 use Rattle.module_flow_calls.specs.Functions.{defined_labels}
 use Rattle.module_flow_state.specs.Scopes.{WalkScope, outermost, with_variables, with_functions}
 use Rattle.module_flow_state.specs.States.{FlowState, parameters_of, result_of}
@@ -45,38 +46,24 @@ module _ (U : Program) (callee : Atom → FunName → Callee) (states : Atom →
   abbrev pub HasResult : Atom → (label : ℕ) → WalkScope → List Type4 → Type 0
   HasResult home l sc ps = (c : LabelledFunction) (ts : List Type4) → function_at U home l ≡ Some c → walk (world_of U callee states home) (with_variables sc c.parameters ps) one_value c.body ≡ Some ts → Below (first ts) (result_of (states home) l)
 
-  abbrev mutual
-    -- Each closure that the value holds may be entered with anything: what it captured is covered and has the types that are
-    -- seen at some position, and the walk of its body there is borne out. Where it is a function of its module, the state says so.
-    pub Covered : Value → Type 0
-    Covered (int n) = Unit {0}
-    Covered (atom a) = Unit {0}
-    Covered (bits bs) = Unit {0}
-    Covered (float s) = Unit {0}
-    Covered (pid n) = Unit {0}
-    Covered (port n) = Unit {0}
-    Covered (reference n) = Unit {0}
-    Covered nil = Unit {0}
-    Covered (cons h t) = Covered h × Covered t
-    Covered (tuple vs) = AreCovered vs
-    Covered (map ps) = PairsCovered ps
-    Covered (closure home l n env) = CoveredEnv home env × (((sc : WalkScope) × (IsSeen home sc env × IsBorneOut home l sc [])) × ((f : FunName) → top_function U home f ≡ Some (closure home l n env) → IsOpen (world_of U callee states home) (DeadClause home) (DeadCall home) l n))
-    Covered (external x f n) = Unit {0}
-    Covered (foreign x n) = Unit {0}
+  -- Of a closure: it may be entered with anything, since what it captured has the types that are seen at some position, and the walk
+  -- of its body there is borne out. Where it is a function of its module, the state says so.
+  abbrev pub OfClosure : Atom → (label arity : ℕ) → Env → Type 0
+  OfClosure home l n env = ((sc : WalkScope) × (IsSeen home sc env × IsBorneOut home l sc [])) × ((f : FunName) → top_function U home f ≡ Some (closure home l n env) → IsOpen (world_of U callee states home) (DeadClause home) (DeadCall home) l n)
 
-    pub AreCovered : Values → Type 0
-    AreCovered no_value = Unit {0}
-    AreCovered (and_value v vs) = Covered v × AreCovered vs
+  -- Of a frame of an environment: it is a `letrec` of the module.
+  abbrev pub OfFrame : Atom → List Local → Env → Type 0
+  OfFrame home ls env = (ds : m.Defs) × ((locals_of ds ≡ ls) × (AreAtLabels U home ds × ((sc : WalkScope) × (IsSeen home sc env × (NamesOnce ds × FineFunctions (world_of U callee states home) (DeadClause home) (DeadCall home) (with_functions sc ds) ds)))))
 
-    pub PairsCovered : ValuePairs → Type 0
-    PairsCovered no_pair = Unit {0}
-    PairsCovered (and_pair k v ps) = Covered k × (Covered v × PairsCovered ps)
+  -- each closure that the value holds is so, and each that it has captured
+  abbrev pub Covered : Value → Type 0
+  Covered v = values.Covered OfClosure OfFrame v
 
-    -- an environment of a module: its frames are `letrec`s of the module
-    pub CoveredEnv : Atom → Env → Type 0
-    CoveredEnv home no_variable = Unit {0}
-    CoveredEnv home (and_variable x v env) = Covered v × CoveredEnv home env
-    CoveredEnv home (and_frame ls env) = CoveredEnv home env × ((ds : m.Defs) × ((locals_of ds ≡ ls) × (AreAtLabels U home ds × ((sc : WalkScope) × (IsSeen home sc env × (NamesOnce ds × FineFunctions (world_of U callee states home) (DeadClause home) (DeadCall home) (with_functions sc ds) ds))))))
+  abbrev pub AreCovered : Values → Type 0
+  AreCovered vs = values.AreCovered OfClosure OfFrame vs
+
+  abbrev pub CoveredEnv : Atom → Env → Type 0
+  CoveredEnv home env = values.CoveredEnv OfClosure OfFrame home env
 
   -- What the states allow of one event: closures that are made are covered, a function of a module is entered only with values of
   -- the state's parameters, and nothing that is reported happens.

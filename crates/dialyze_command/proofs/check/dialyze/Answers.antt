@@ -11,11 +11,11 @@ returns-in-Ok-give-clause-outcome g c =
 
 pub returns-in-Ok-give-clause-kept : goal.returns-in-Ok-give-clause-kept
 returns-in-Ok-give-clause-kept g c =
-    λ a. kept.kept_it c.kept_is_from_scratch.ensures c.reports_are_found.ensures c.nothing_is_false.ensures.whole _ _ _ _ _ _ _ _ c.in-Ok.answer.output _ _ c.in-Ok.ensures.intended (c.in-Ok-give.ensures.all ∙ ap (appended (g.K.Sink.written c.args.out.now)) c.as_slice.ensures) a
+    λ asks a. kept.kept_it c.kept_is_from_scratch.ensures c.reports_are_found.ensures c.nothing_is_false.ensures.whole c.findings_are_tied.ensures.lines _ _ _ _ _ _ _ _ c.in-Ok.answer.output _ _ c.in-Ok.ensures.intended (c.in-Ok-give.ensures.all ∙ ap (appended (g.K.Sink.written c.args.out.now)) c.as_slice.ensures) asks a
 
 pub returns-in-Ok-give-clause-sound : goal.returns-in-Ok-give-clause-sound
 returns-in-Ok-give-clause-sound g c =
-    λ a. kept.sound_it c.kept_is_from_scratch.ensures c.reports_are_found.ensures c.nothing_is_false.ensures.whole _ _ _ _ _ _ _ _ c.in-Ok.answer.output _ _ c.in-Ok.ensures.intended (c.in-Ok-give.ensures.all ∙ ap (appended (g.K.Sink.written c.args.out.now)) c.as_slice.ensures) a
+    λ asks a. kept.sound_it c.kept_is_from_scratch.ensures c.reports_are_found.ensures c.nothing_is_false.ensures.whole c.findings_are_tied.ensures.lines _ _ _ _ _ _ _ _ c.in-Ok.answer.output _ _ c.in-Ok.ensures.intended (c.in-Ok-give.ensures.all ∙ ap (appended (g.K.Sink.written c.args.out.now)) c.as_slice.ensures) asks a
 
 pub returns-in-Ok-give-clause-usage : goal.returns-in-Ok-give-clause-usage
 returns-in-Ok-give-clause-usage g c = λ a. usage_it _ _ _ _ _ _ _ _ _ c.in-Ok.ensures.intended a
@@ -63,4 +63,4 @@ pub returns-in-Ok-give-clause-possible : goal.returns-in-Ok-give-clause-possible
 returns-in-Ok-give-clause-possible g c = possible_it _ _ _ _ _ _ _ _ c.in-Ok.answer.output c.in-Ok.ensures.intended
 
 pub returns-in-Ok-give-clause-held : goal.returns-in-Ok-give-clause-held
-returns-in-Ok-give-clause-held g c = λ a. stays_it _ _ _ _ _ _ _ _ c.in-Ok.answer.output c.in-Ok.ensures.intended a
+returns-in-Ok-give-clause-held g c = λ none a. stays_it _ _ _ _ _ _ _ _ c.in-Ok.answer.output c.in-Ok.ensures.intended none a

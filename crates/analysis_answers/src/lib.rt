@@ -1,0 +1,13 @@
+//! What the programs over the analysis share: how a run ends, the lines of what isn't a report, and which words are files.
+#![tactic(auto)]
+
+mod lines;
+mod run_status;
+mod words;
+
+pub use lines::{
+    TOO_MANY, duplicate_line, duplicate_refusal, read_fault_line, refusal_line, replace_fault_line,
+    table_fault_line, table_fault_number, too_many_line,
+};
+pub use run_status::RunStatus;
+pub use words::{MOST_FILES, are_files, is_file, texts_of};

@@ -1,0 +1,9 @@
+//! The success typings of modules that are analysed together: each function's summary, in the order of the text.
+#![tactic(auto)]
+
+mod laws;
+mod listing;
+mod solving;
+
+pub use laws::small_definitions;
+pub use solving::{SummariesFault, summaries};

@@ -1,0 +1,3 @@
+pub mod Coverage
+mod Handed
+pub mod Held

@@ -1,0 +1,138 @@
+-- What a make gives, one step after another: each way out.
+use Rattle.std.proofs.Common.{◌≡◌, inl, inr, ℕ, ◌^◌, ◌<◌, ◌≤◌, List, [], ◌∷◌, length, map, refl, sym, ap, ap₂, ◌∙◌, subst, Option, Some, Result, Ok, Err, arith}
+use Rattle.std.specs.Prelude.{IfOk, OnErr}
+use Rattle.std.specs.List.{concat}
+use Rattle.std.proofs.lemmas.List.{length-map}
+use Rattle.type_kinds.specs.declared.memory.Memory.{Memory}
+use Rattle.call_graph.specs.Calls.{functions_of}
+use Rattle.core_make.specs.Modules.{module_text, generated}
+use Rattle.core_scope.specs.Checked.{module_of, tree_of}
+use Rattle.core_scope.specs.Sets.{StandsEarlier}
+use Rattle.core_scope.specs.declared.fault.SetFault.{SetFault}
+use Rattle.da_shelf.specs.Counts.{Rose}
+use Rattle.da_shelf.specs.Told.{Files, IsOldOrNew}
+use Rattle.table_file.specs.declared.tables.Table.{Table}
+use Rattle.table_keep.specs.declared.source.Source.{Source as HandedIn}
+use Rattle.table_keep.specs.Model.{source_so, sources_so, trees, entry_so, entries_so}
+use Rattle.sound_laws_kept.specs.Solving.{IsWritten}
+use Rattle.analysis.specs.declared.analysing.Fault.TheVariants.{Set}
+use Rattle.analysis.specs.Reports.{IsSetFault}
+use Rattle.analysis_sources.specs.declared.refusals.SourceFault.{SourceFault}
+use Rattle.analysis_sources.specs.Reading.{AreHeld, AreRead, TextFails}
+use Rattle.analysis_sources.specs.declared.reading.ReadFault.TheVariants as read
+use Rattle.analysis_sources.specs.Refusals.{refusal_line}
+use Rattle.dialyze_command.specs.declared.answer.Answer.{Answer}
+use Rattle.dialyze_command.specs.declared.status.Status.TheVariants.{Warnings}
+use Rattle.dialyze_command.specs.Lines.{refused, duplicate, duplicate_line}
+use Rattle.dialyze_command.specs.Making.{file_name, file_names, generated_files, with_first, line_count, summary_line, IsSummary, text_refused, names_one, counted, PutsFirst}
+use Rattle.dialyze_command.specs.Outcome.{Intended, answered, unreplaced, made, of_generated}
+use Rattle.dialyze_command.specs.Words.{IsMake}
+use Rattle.dialyze_command.specs.steps.Plans.{first_of, second_of}
+use Rattle.dialyze_command.specs.steps.Puts as p
+use Rattle.dialyze_command.proofs.MakeFiles.{generated_held, made_length}
+use Rattle.dialyze_command.proofs.PlanExits.{own_names, set_told}
+use Rattle.dialyze_command.proofs.WordExits.{one_make}
+
+-- ---- files that are put one after another
+
+rose_since : (early before now : ℕ) → early ≤ before → Rose before now → Rose early now
+rose_since early before now h (inl a) = inl (omega (arith, h, a))
+rose_since early before now h (inr a) = inr a
+
+-- the shelf doesn't take one
+pub put_fails : (n k early before now : ℕ) (told mid after : Option Files) (text : List ℕ) (answer : Answer) → k < n → mid ≡ with_first n k told → text ≡ module_text n k → early ≤ before
+    → p.IsUnput k text mid after before now answer → p.IsPut n told after early now (Some answer)
+put_fails n k early before now told mid after text answer h front is low u = (
+  k,
+  h,
+  record {
+    status_so = u.status_so;
+    output_so = u.output_so;
+    rose = rose_since early before now low u.rose;
+    whole = subst (λ t. IsOldOrNew (with_first n k told) after (file_name k) t) is (subst (λ t. IsOldOrNew t after (file_name k) text) front u.whole);
+  },
+)
+
+-- ---- what is answered
+
+module _ (n : ℕ) (small : n < 2 ^ 64) (texts : List (List ℕ)) (is : texts ≡ generated n) (sources : List HandedIn)
+    (read_so : (told : Option Files) (files : List (List ℕ)) → AreHeld told files texts → (after : ℕ) × AreRead told 0 files (sources_so sources) after) where
+  all_read : (after : ℕ) × AreRead (Some (generated_files n)) 0 (file_names n) (sources_so sources) after
+  all_read = read_so (Some (generated_files n)) (file_names n) (subst (AreHeld (Some (generated_files n)) (file_names n)) (sym is) (generated_held n small))
+
+  many : length (sources_so sources) ≡ n
+  many = made_length n (sources_so sources) (record { after = all_read.0; read = all_read.1 })
+
+  pub as_many : length sources ≡ n
+  as_many = sym (length-map sources source_so) ∙ many
+
+  pub summed_it : (r : Result Answer Memory) → IfOk r (λ a. p.IsCounted (sources_so sources) a.status a.output) → IfOk r (λ a. IsSummary n a.status a.output)
+  summed_it (Err e) h = tt
+  summed_it (Ok a) (p.same_names first second s o h) =
+      names_one first second s o (record { sources = sources_so sources; read = record { after = all_read.0; read = all_read.1 }; is = h })
+  summed_it (Ok a) (p.lines reports new s o own written) =
+      counted (sources_so sources) reports new s (o ∙ ap (λ k. summary_line k (length (functions_of (trees (sources_so sources)))) (line_count (concat reports))) many)
+      (record { after = all_read.0; read = all_read.1 }) own written
+
+pub refused_it : (n number v : ℕ) (fault f : SourceFault) (texts : List (List ℕ)) (r : Result Answer Memory) → n < 2 ^ 64 → texts ≡ generated n
+    → ((told : Option Files) (files : List (List ℕ)) → AreHeld told files texts → TextFails told files (read.Refused number fault)) → v ≡ number → f ≡ fault
+    → IfOk r (λ a. a.status ≡ refused v f) → IfOk r (λ a. a.output ≡ refusal_line (file_name v) f) → IfOk r (λ a. IsSummary n a.status a.output)
+refused_it n number v fault f texts (Err e) small is fails at same s o = tt
+refused_it n number v fault f texts (Ok a) small is fails at same s o =
+    text_refused number fault (s ∙ ap₂ refused at same) (o ∙ ap₂ (λ k g. refusal_line (file_name k) g) at same)
+    (fails (Some (generated_files n)) (file_names n) (subst (AreHeld (Some (generated_files n)) (file_names n)) (sym is) (generated_held n small)))
+
+pub never_fails : (n word : ℕ) (texts : List (List ℕ)) → n < 2 ^ 64 → texts ≡ generated n
+    → ((told : Option Files) (files : List (List ℕ)) → AreHeld told files texts → TextFails told files (read.Failed word)) → ⊥
+never_fails n word texts small is fails =
+    fails (Some (generated_files n)) (file_names n) (subst (AreHeld (Some (generated_files n)) (file_names n)) (sym is) (generated_held n small))
+
+-- ---- what the analysis says of the modules
+
+trees_same : (sources : List HandedIn) → map (λ (s : HandedIn). tree_of s.checked) sources ≡ trees (sources_so sources)
+trees_same [] = refl
+trees_same (s ∷ ss) = ap (λ ts. tree_of s.checked ∷ ts) (trees_same ss)
+
+pub counted_it : (sources : List HandedIn) (table new : Table) (reports : List (List ℕ)) (modules functions : ℕ) (r : Result Answer Memory) → table.entries ≡ [] → modules ≡ length sources
+    → ((j : ℕ) → j < length sources → StandsEarlier (map (λ (s : HandedIn). (module_of s.checked).name) sources) j → ⊥) → IsWritten (entries_so table) (sources_so sources) reports (entries_so new)
+    → functions ≡ length (functions_of (map (λ (s : HandedIn). tree_of s.checked) sources)) → IfOk r (λ a. a.status ≡ Warnings) → IfOk r (λ a. a.output ≡ summary_line modules functions (line_count (concat reports)))
+    → IfOk r (λ a. p.IsCounted (sources_so sources) a.status a.output)
+counted_it sources table new reports modules functions (Err e) none is own written count s o = tt
+counted_it sources table new reports modules functions (Ok a) none is own written count s o =
+    p.lines reports (entries_so new) s
+    (o ∙ ap₂ (λ k f. summary_line k f (line_count (concat reports))) (is ∙ sym (length-map sources source_so)) (count ∙ ap (λ ts. length (functions_of ts)) (trees_same sources)))
+    (own_names sources own) (subst (λ T. IsWritten T (sources_so sources) reports (entries_so new)) (ap (map entry_so) none) written)
+
+pub twins_it : (sources : List HandedIn) (fault : SetFault) (first second : ℕ) (r : Result Answer Memory) → IsSetFault (map (λ (s : HandedIn). (module_of s.checked).name) sources) (Set fault)
+    → first ≡ first_of fault → second ≡ second_of fault → IfOk r (λ a. a.status ≡ duplicate second first) → IfOk r (λ a. a.output ≡ duplicate_line (file_name second) (file_name first))
+    → IfOk r (λ a. p.IsCounted (sources_so sources) a.status a.output)
+twins_it sources fault first second (Err e) h f g s o = tt
+twins_it sources fault first second (Ok a) h f g s o = p.same_names first second s o (set_told sources fault first second h f g)
+
+-- ---- all are put
+
+pub made_all : (n early now : ℕ) (told after : Option Files) (r : Result Answer Memory) → after ≡ with_first n n told → IfOk r (λ a. IsSummary n a.status a.output)
+    → IfOk r (λ a. p.IsMadeAs n told after early now a)
+made_all n early now told after (Err e) same h = tt
+made_all n early now told after (Ok a) same h = p.all_put same h
+
+pub all_first : (n : ℕ) (told after : Option Files) (r : Result Answer Memory) → after ≡ with_first n n told → OnErr r (PutsFirst n told after)
+all_first n told after (Ok a) same = tt
+all_first n told after (Err e) same = (n, omega arith, same)
+
+pub made_failed : (n early now : ℕ) (told after : Option Files) (answer : Answer) → p.IsPut n told after early now (Some answer) → p.IsMadeAs n told after early now answer
+made_failed n early now told after answer h = p.one_failed h.0 h.1 h.2
+
+-- ---- the run
+
+pub made_intended : (words : List (List ℕ)) (told after : Option Files) (rb rn n k count : ℕ) (r : Result Answer Memory) → IsMake words count → IfOk r (λ a. p.IsMadeAs count told after n k a)
+    → IfOk r (λ a. Intended words told rb rn n k a.status a.output after)
+made_intended words told after rb rn n k count (Err e) asks h = tt
+made_intended words told after rb rn n k count (Ok a) asks (p.all_put same is) = answered (made count asks is same)
+made_intended words told after rb rn n k count (Ok a) asks (p.one_failed number h u) =
+    unreplaced number (file_name number) u.status_so u.output_so (of_generated (record { count = count; make = asks; within = h; called = refl; whole = u.whole })) u.rose
+
+pub made_unfinished : (words : List (List ℕ)) (told after : Option Files) (count : ℕ) (r : Result Answer Memory) → IsMake words count → OnErr r (PutsFirst count told after)
+    → OnErr r ((other : ℕ) → IsMake words other → PutsFirst other told after)
+made_unfinished words told after count (Ok a) asks h = tt
+made_unfinished words told after count (Err e) asks h = λ other also. subst (λ m. PutsFirst m told after) (one_make asks also) h

@@ -1,0 +1,11 @@
+mod Calling
+mod Entering
+mod Finding
+mod Fitting
+mod Forms
+mod Invariant
+mod Lists
+mod Lying
+mod Parts
+mod Program
+mod Runs
