@@ -1,0 +1,8 @@
+mod Examples
+mod Found
+mod LineLaws
+mod LineParts
+mod Printed
+mod SameTyping
+mod SigLaws
+mod TypeExits
