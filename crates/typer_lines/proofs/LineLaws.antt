@@ -10,7 +10,7 @@ use Rattle.type_text.specs.Words.{TypeStop, WordStop}
 use Rattle.cons_tree.proofs.Copied.{same_signature}
 use Rattle.typer_lines.specs.declared.typing.Typing.{Typing}
 use Rattle.typer_lines.specs.Lines.{IsTyping, typing_line}
-use Rattle.typer_lines.proofs.LineParts.{behind_types, behind_arity, behind_name, behind_home, line_text}
+use Rattle.typer_lines.proofs.LineParts.{behind_home, behind_name, line_text, arity_text, name_parts, result_text, signature_parts}
 
 -- what a text begins with is one atom, one number, one type
 abbrev pub QuotedOnce : Type 0
@@ -57,9 +57,11 @@ module _ (front : FrontOnce) where
 pub lines_once : QuotedOnce → NumberOnce → FrontOnce → (s t : Typing) → IsTyping s → IsTyping t → typing_line s ≡ typing_line t → s ≡ t
 lines_once quote number front s t h k e =
     let home = quote s.home t.home (behind_home s) (behind_home t) (sym (line_text s) ∙ e ∙ line_text t) in
-    let name = quote s.name.name t.name.name (behind_name s) (behind_name t) (ap (drop 1) home.1) in
-    let arity = number s.name.arity t.name.arity (behind_arity s) (behind_arity t) (omega (arith, h.few)) (omega (arith, k.few)) refl refl (ap (drop 1) name.1) in
-    let args = types_once front s.sig.args t.sig.args (behind_types s) (behind_types t) (h.taken ∙ arity.0 ∙ sym k.taken) refl refl (ap (drop 2) arity.1) in
+    let names = sym (name_parts s.name (behind_name s)) ∙ home.1 ∙ name_parts t.name (behind_name t) in
+    let name = quote s.name.name t.name.name (arity_text s.name (behind_name s)) (arity_text t.name (behind_name t)) (ap (drop 1) names) in
+    let arity = number s.name.arity t.name.arity (behind_name s) (behind_name t) (omega (arith, h.few)) (omega (arith, k.few)) refl refl (ap (drop 1) name.1) in
+    let sigs = sym (signature_parts s.sig) ∙ arity.1 ∙ signature_parts t.sig in
+    let args = types_once front s.sig.args t.sig.args (result_text s.sig) (result_text t.sig) (h.taken ∙ arity.0 ∙ sym k.taken) refl refl (ap (drop 2) sigs) in
     let cut = append_cancel_right (text_of s.sig.result) (text_of t.sig.result) (10 ∷ []) (ap (drop 5) args.1) in
     let value = front s.sig.result t.sig.result [] [] tt tt (append-nil (text_of s.sig.result) ∙ cut ∙ sym (append-nil (text_of t.sig.result))) in
     let sig = same_signature s.sig t.sig args.0 value.0 in

@@ -7,33 +7,33 @@ use Rattle.type_text.specs.Texts.{separated, text_of}
 use Rattle.core_ast.specs.declared.syntax.FunName.{FunName}
 use Rattle.cons_tree.specs.declared.parts.Sig.{Sig}
 use Rattle.typer_lines.specs.declared.typing.Typing.{Typing}
-use Rattle.typer_lines.specs.Lines.{typing_line}
+use Rattle.typer_lines.specs.Lines.{name_text, signature_text, typing_line}
 
--- behind the types of the arguments, behind the number of arguments, behind the name and behind the module's name
-abbrev pub behind_types : Typing → List ℕ
-behind_types t = codes ") -> " ++ (text_of t.sig.result ++ 10 ∷ [])
-
-abbrev pub behind_arity : Typing → List ℕ
-behind_arity t = codes " (" ++ (separated (codes ",") (map text_of t.sig.args) ++ behind_types t)
+-- ---- the module's name, and the function's
 
 abbrev pub behind_name : Typing → List ℕ
-behind_name t = codes "/" ++ (decimal t.name.arity ++ behind_arity t)
+behind_name t = codes " " ++ signature_text t.sig ++ 10 ∷ []
 
 abbrev pub behind_home : Typing → List ℕ
-behind_home t = codes ":" ++ (quoted t.name.name ++ behind_name t)
+behind_home t = name_text t.name ++ behind_name t
 
-regrouped : (a b c d e f g h i j : List ℕ) → a ++ b ++ c ++ d ++ e ++ f ++ g ++ h ++ i ++ j ≡ a ++ (b ++ (c ++ (d ++ (e ++ (f ++ (g ++ (h ++ (i ++ j))))))))
-regrouped a b c d e f g h i j = simp append_assoc
+regrouped : (a b c d e : List ℕ) → a ++ b ++ c ++ d ++ e ≡ a ++ (b ++ (c ++ d ++ e))
+regrouped a b c d e = simp append_assoc
 
 pub line_text : (t : Typing) → typing_line t ≡ quoted t.home ++ behind_home t
-line_text t =
-    regrouped (quoted t.home) (codes ":") (quoted t.name.name) (codes "/") (decimal t.name.arity) (codes " (") (separated (codes ",") (map text_of t.sig.args)) (codes ") -> ") (text_of t.sig.result)
-    (10 ∷ [])
+line_text t = regrouped (quoted t.home) (name_text t.name) (codes " ") (signature_text t.sig) (10 ∷ [])
 
--- the same of the name, as its reader has it, and of the signature
-pub name_text : (f : FunName) (rest : List ℕ) → codes ":" ++ (quoted f.name ++ (codes "/" ++ (decimal f.arity ++ rest))) ≡ codes ":" ++ quoted f.name ++ codes "/" ++ decimal f.arity ++ rest
-name_text f rest = simp append_assoc
+-- ---- what stands in these
 
-pub signature_text : (s : Sig) → codes " (" ++ (separated (codes ",") (map text_of s.args) ++ (codes ") -> " ++ (text_of s.result ++ 10 ∷ [])))
-    ≡ codes " (" ++ separated (codes ",") (map text_of s.args) ++ codes ") -> " ++ text_of s.result ++ 10 ∷ []
-signature_text s = simp append_assoc
+abbrev pub arity_text : FunName → List ℕ → List ℕ
+arity_text f rest = codes "/" ++ (decimal f.arity ++ rest)
+
+pub name_parts : (f : FunName) (rest : List ℕ) → name_text f ++ rest ≡ codes ":" ++ (quoted f.name ++ arity_text f rest)
+name_parts f rest = simp append_assoc
+
+-- the type of the value, with the end of the line
+abbrev pub result_text : Sig → List ℕ
+result_text s = codes ") -> " ++ (text_of s.result ++ 10 ∷ [])
+
+pub signature_parts : (s : Sig) → codes " " ++ signature_text s ++ 10 ∷ [] ≡ codes " (" ++ (separated (codes ",") (map text_of s.args) ++ result_text s)
+signature_parts s = simp append_assoc

@@ -1,30 +1,12 @@
 -- The types of a line, one after another: each way out of reading them.
 use Rattle.std.proofs.Common.{◌≡◌, ℕ, ◌-◌, List, [], ◌∷◌, ◌++◌, drop, length, map, Option, Some, None, sym, ap, ◌∙◌, arith, append_assoc}
 use Rattle.std.specs.Prelude.{codes}
-use Rattle.std.specs.Option.{IsSomeAnd}
 use Rattle.std.specs.Borrow.{Bor}
 use Rattle.type_lattice.specs.Types.{Type4}
-use Rattle.type_text.specs.Texts.{after, separated, text_of}
+use Rattle.type_text.specs.Texts.{after, text_of}
 use Rattle.type_text.specs.Words.{TypeStop}
+use Rattle.typer_lines.specs.steps.Reads.{Adds, ReadsOne, ReadsTypes, ReadsMore}
 use Rattle.typer_lines.proofs.LineLaws.{later_stop, first_text}
-
--- what is left of the text is the rest, and the types were added
-abbrev Adds : (before now added : List Type4) (rest : List ℕ) → Option (Bor (List ℕ)) → Type 0
-Adds before now added rest r = IsSomeAnd r (λ left. left.now ≡ rest) × (now ≡ before ++ added)
-
--- where a type stands first, it is added, and what stands behind it is left
-abbrev pub ReadsOne : (text : List ℕ) (before now : List Type4) → Option (Bor (List ℕ)) → Type 0
-ReadsOne text before now r = (t : Type4) (rest : List ℕ) → TypeStop rest → text ≡ text_of t ++ rest → Adds before now (t ∷ []) rest r
-
--- the same of so many types, each behind a comma
-abbrev pub ReadsMore : (count : ℕ) (text : List ℕ) (before now : List Type4) → Option (Bor (List ℕ)) → Type 0
-ReadsMore count text before now r =
-    (ts : List Type4) (rest : List ℕ) → length ts ≡ count → TypeStop rest → text ≡ after (codes ",") (map text_of ts) ++ rest → Adds before now ts rest r
-
--- the same with commas between
-abbrev pub ReadsTypes : (count : ℕ) (text : List ℕ) (before now : List Type4) → Option (Bor (List ℕ)) → Type 0
-ReadsTypes count text before now r =
-    (ts : List Type4) (rest : List ℕ) → length ts ≡ count → TypeStop rest → text ≡ separated (codes ",") (map text_of ts) ++ rest → Adds before now ts rest r
 
 -- ---- a type, and those behind it
 

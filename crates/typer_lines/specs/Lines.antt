@@ -3,6 +3,8 @@ use Rattle.std.specs.Prelude.{◌≡◌, ℕ, ◌≤◌, List, [], ◌∷◌, �
 use Rattle.std.specs.Fmt.{decimal}
 use Rattle.type_kinds.specs.Quoted.{quoted}
 use Rattle.type_text.specs.Texts.{separated, text_of}
+use Rattle.core_ast.specs.declared.syntax.FunName.{FunName}
+use Rattle.cons_tree.specs.declared.parts.Sig.{Sig}
 use Rattle.typer_lines.specs.declared.typing.TheConstants.{MOST_ARGUMENTS}
 use Rattle.typer_lines.specs.declared.typing.Typing.{Typing}
 
@@ -11,8 +13,14 @@ pub record IsTyping (t : Typing) : Type 0 where
   pub taken : length t.sig.args ≡ t.name.arity
   pub few : t.name.arity ≤ MOST_ARGUMENTS
 
--- the module's name, the function's, how many arguments it takes, their types, the type of the value, and a line feed
+-- a function's name and how many arguments it takes, behind its module: :'f'/1
+abbrev pub name_text : FunName → List ℕ
+name_text f = codes ":" ++ quoted f.name ++ codes "/" ++ decimal f.arity
+
+-- the types of the arguments and the type of the value: (0) -> 'z'
+abbrev pub signature_text : Sig → List ℕ
+signature_text s = codes "(" ++ separated (codes ",") (map text_of s.args) ++ codes ") -> " ++ text_of s.result
+
+-- the whole line, with the line feed that ends it
 abbrev pub typing_line : Typing → List ℕ
-typing_line t =
-    quoted t.home ++ codes ":" ++ quoted t.name.name ++ codes "/" ++ decimal t.name.arity
-    ++ codes " (" ++ separated (codes ",") (map text_of t.sig.args) ++ codes ") -> " ++ text_of t.sig.result ++ 10 ∷ []
+typing_line t = quoted t.home ++ name_text t.name ++ codes " " ++ signature_text t.sig ++ 10 ∷ []

@@ -1,9 +1,7 @@
 //! Typings as lines.
-ghost use Rattle.std.specs.Prelude.{◌≡◌, [], ◌∷◌, ◌++◌, codes, map, OnOk};
-ghost use Rattle.std.specs.Fmt.{decimal};
-ghost use Rattle.type_kinds.specs.Quoted.{quoted};
+ghost use Rattle.std.specs.Prelude.{◌≡◌, ◌++◌, codes, map, OnOk};
 ghost use Rattle.type_text.specs.Texts.{after, separated, text_of};
-ghost use Rattle.typer_lines.specs.Lines.{typing_line};
+ghost use Rattle.typer_lines.specs.Lines.{name_text, signature_text, typing_line};
 
 use crate::typing::Typing;
 use cons_tree::Sig;
@@ -27,12 +25,14 @@ pub fn append_line_of(home: &Atom, name: &FunName, sig: &Sig, out: &mut Bytes) -
 {
     home.text(out)?;
     append_name(name, out)?;
-    append_signature(sig, out)
+    out.append(b" ")?;
+    append_signature(sig, out)?;
+    out.append(b"\n")
 }
 
 // Appends the name behind its module.
 fn append_name(name: &FunName, out: &mut Bytes) -> Result<(), Memory>
-    ensures { OnOk result (out.new ≡ out.old ++ codes ":" ++ quoted name.now.name ++ codes "/" ++ decimal name.now.arity) }
+    ensures { OnOk result (out.new ≡ out.old ++ name_text name.now) }
 {
     out.append(b":")?;
     name.name.text(out)?;
@@ -40,15 +40,14 @@ fn append_name(name: &FunName, out: &mut Bytes) -> Result<(), Memory>
     out.append_decimal(name.arity)
 }
 
-// Appends the types of the arguments and of the value, and the end of the line.
+// Appends the types of the arguments and of the value.
 fn append_signature(sig: &Sig, out: &mut Bytes) -> Result<(), Memory>
-    ensures { OnOk result (out.new ≡ out.old ++ codes " (" ++ separated (codes ",") (map text_of sig.now.args) ++ codes ") -> " ++ text_of sig.now.result ++ 10 ∷ []) }
+    ensures { OnOk result (out.new ≡ out.old ++ signature_text sig.now) }
 {
-    out.append(b" (")?;
+    out.append(b"(")?;
     append_types(sig.args.as_slice(), out)?;
     out.append(b") -> ")?;
-    print(&sig.result, out)?;
-    out.append(b"\n")
+    print(&sig.result, out)
 }
 
 // Appends the types with commas between.

@@ -1,17 +1,16 @@
 //! Lines as typings.
-ghost use Rattle.std.specs.Prelude.{◌≡◌, ℕ, ◌+◌, ◌≤◌, List, [], ◌∷◌, ◌++◌, codes, length, map, Some, Err, IfOk, IfSome};
-ghost use Rattle.std.specs.Fmt.{decimal};
+ghost use Rattle.std.specs.Prelude.{◌≡◌, ℕ, ◌+◌, ◌≤◌, List, [], ◌∷◌, ◌++◌, codes, length, Some, Err, IfOk, IfSome};
 ghost use Rattle.std.specs.Option.{IsSomeAnd};
-ghost use Rattle.type_kinds.specs.Quoted.{quoted};
 ghost use Rattle.core_ast.specs.declared.syntax.FunName.{FunName as TheName};
 ghost use Rattle.cons_tree.specs.declared.parts.Sig.{Sig as TheSig};
 ghost use Rattle.type_lattice.specs.Types.{Type4};
-ghost use Rattle.type_text.specs.Texts.{after, separated, text_of};
-ghost use Rattle.type_text.specs.Words.{TypeStop, WordStop};
+ghost use Rattle.type_text.specs.Texts.{text_of};
+ghost use Rattle.type_text.specs.Words.{WordStop};
 ghost use Rattle.typer_lines.specs.declared.reading.LineFault.TheVariants.{NotALine};
 ghost use Rattle.typer_lines.specs.declared.typing.Typing.{Typing as TheTyping};
 ghost use Rattle.typer_lines.specs.declared.typing.TheConstants.{MOST_ARGUMENTS};
-ghost use Rattle.typer_lines.specs.Lines.{IsTyping, typing_line};
+ghost use Rattle.typer_lines.specs.Lines.{IsTyping, name_text, signature_text, typing_line};
+ghost use Rattle.typer_lines.specs.steps.Reads.{ReadsOne, ReadsTypes, ReadsMore};
 
 use crate::typing::{MOST_ARGUMENTS, Typing};
 use cons_tree::Sig;
@@ -77,7 +76,7 @@ fn candidate(alloc: Global, line: &[u8]) -> Result<Option<Typing>, Memory>
 
 // The name of a function behind its module, and what stands behind it.
 fn read_name(alloc: Global, text: &[u8]) -> Result<Option<(FunName, &[u8])>, Memory>
-    ensures complete { IfOk result (λ r. (f : TheName) (rest : List ℕ) → f.arity ≤ MOST_ARGUMENTS → WordStop rest → text.now ≡ codes ":" ++ quoted f.name ++ codes "/" ++ decimal f.arity ++ rest → IsSomeAnd r (λ p. (p.0 ≡ f) × (p.1.now ≡ rest))) }
+    ensures complete { IfOk result (λ r. (f : TheName) (rest : List ℕ) → f.arity ≤ MOST_ARGUMENTS → WordStop rest → text.now ≡ name_text f ++ rest → IsSomeAnd r (λ p. (p.0 ≡ f) × (p.1.now ≡ rest))) }
     ensures few { IfOk result (λ r. IfSome r (λ p. p.0.arity ≤ MOST_ARGUMENTS)) }
 {
     let Some(text) = after_word(text, b":") else {
@@ -99,7 +98,7 @@ fn read_name(alloc: Global, text: &[u8]) -> Result<Option<(FunName, &[u8])>, Mem
 
 // The types of so many arguments and of the value, and the end of the line.
 fn read_signature(alloc: Global, arity: u32, text: &[u8]) -> Result<Option<Sig>, Memory>
-    ensures complete { IfOk result (λ r. (s : TheSig) → length s.args ≡ arity → text.now ≡ codes " (" ++ separated (codes ",") (map text_of s.args) ++ codes ") -> " ++ text_of s.result ++ 10 ∷ [] → r ≡ Some s) }
+    ensures complete { IfOk result (λ r. (s : TheSig) → length s.args ≡ arity → text.now ≡ codes " " ++ signature_text s ++ 10 ∷ [] → r ≡ Some s) }
     ensures count { IfOk result (λ r. IfSome r (λ s. length s.args ≡ arity)) }
 {
     let Some(text) = after_word(text, b" (") else {
@@ -157,7 +156,7 @@ fn read_types<'a>(
     text: &'a [u8],
     types: &mut List<Ty>,
 ) -> Result<Option<&'a [u8]>, Memory>
-    ensures complete { IfOk result (λ r. (ts : List Type4) (rest : List ℕ) → length ts ≡ count → TypeStop rest → text.now ≡ separated (codes ",") (map text_of ts) ++ rest → IsSomeAnd r (λ left. left.now ≡ rest) × (types.new ≡ types.old ++ ts)) }
+    ensures complete { IfOk result (λ r. ReadsTypes count text.now types.old types.new r) }
     ensures count { IfOk result (λ r. IfSome r (λ _. length types.new ≡ length types.old + count)) }
 {
     if count == 0 {
@@ -176,7 +175,7 @@ fn read_more<'a>(
     text: &'a [u8],
     types: &mut List<Ty>,
 ) -> Result<Option<&'a [u8]>, Memory>
-    ensures complete { IfOk result (λ r. (ts : List Type4) (rest : List ℕ) → length ts ≡ count → TypeStop rest → text.now ≡ after (codes ",") (map text_of ts) ++ rest → IsSomeAnd r (λ left. left.now ≡ rest) × (types.new ≡ types.old ++ ts)) }
+    ensures complete { IfOk result (λ r. ReadsMore count text.now types.old types.new r) }
     ensures count { IfOk result (λ r. IfSome r (λ _. length types.new ≡ length types.old + count)) }
 {
     if count == 0 {
@@ -197,7 +196,7 @@ fn read_one<'a>(
     text: &'a [u8],
     types: &mut List<Ty>,
 ) -> Result<Option<&'a [u8]>, Memory>
-    ensures complete { IfOk result (λ r. (t : Type4) (rest : List ℕ) → TypeStop rest → text.now ≡ text_of t ++ rest → IsSomeAnd r (λ left. left.now ≡ rest) × (types.new ≡ types.old ++ t ∷ [])) }
+    ensures complete { IfOk result (λ r. ReadsOne text.now types.old types.new r) }
     ensures count { IfOk result (λ r. IfSome r (λ _. length types.new ≡ length types.old + 1)) }
 {
     match read_front(alloc, text)? {

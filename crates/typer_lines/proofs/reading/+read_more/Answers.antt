@@ -1,6 +1,7 @@
 use Rattle.std.proofs.Common.{subst}
 use Rattle.std.proofs.lemmas.Result.{IfOk-weaker}
-use Rattle.typer_lines.proofs.TypeExits.{ReadsOne, no_comma, more_lack, more_read}
+use Rattle.typer_lines.specs.steps.Reads.{ReadsOne}
+use Rattle.typer_lines.proofs.TypeExits.{no_comma, more_lack, more_read}
 use Rattle.typer_lines.proofs.reading.+read_more.Goals as goal
 
 pub returns-in_default-clause-complete : goal.returns-in_default-clause-complete

@@ -1,6 +1,7 @@
 use Rattle.std.proofs.Common.{subst}
 use Rattle.std.proofs.lemmas.Result.{IfOk-weaker}
-use Rattle.typer_lines.proofs.TypeExits.{ReadsOne, types_lack, types_read}
+use Rattle.typer_lines.specs.steps.Reads.{ReadsOne}
+use Rattle.typer_lines.proofs.TypeExits.{types_lack, types_read}
 use Rattle.typer_lines.proofs.reading.read_types.Goals as goal
 
 pub returns-in-None-clause-complete : goal.returns-in-None-clause-complete
