@@ -31,7 +31,7 @@ use Rattle.dialyze_command.specs.declared.answer.Answer.{Answer}
 use Rattle.dialyze_command.specs.declared.begin.Begun.{Begun}
 use Rattle.dialyze_command.specs.declared.begin.Begun.TheVariants.{Reads, Says}
 use Rattle.dialyze_command.specs.declared.plan.NewTable.{NewTable}
-use Rattle.dialyze_command.specs.declared.plan.Plan.{Plan}
+use Rattle.dialyze_command.specs.declared.plan.CheckPlan.{CheckPlan}
 use Rattle.dialyze_command.specs.declared.status.Status.{Status}
 use Rattle.dialyze_command.specs.declared.status.Status.TheVariants.{Usage, DeviceFault}
 use Rattle.dialyze_command.specs.declared.words.Command.{Command}
@@ -180,7 +180,7 @@ module _ (words : List (Bor (List ℕ))) (command : Command) (checks : Checks (t
           (s ∙ ap (λ w. DeviceFault (Read w)) (is ∙ fails.1))
           (o ∙ ap (λ w. read_fault_line (get_or words w d).now) is ∙ ap read_fault_line called)
 
-      pub judged_words : (sources : List HandedIn) (r : Result Plan Memory) → ((after : ℕ) × AreRead told 0 files (sources_so sources) after)
+      pub judged_words : (sources : List HandedIn) (r : Result CheckPlan Memory) → ((after : ℕ) × AreRead told 0 files (sources_so sources) after)
           → IfOk r (λ q. p.IsJudged (texts words) command (entries_so table) (sources_so sources) q.answer.status q.answer.output q.table)
           → IfOk r (λ q. p.IsPlan (texts words) told rb rn q.answer.status q.answer.output q.table)
       judged_words sources (Ok q) h judged =
@@ -198,7 +198,7 @@ own_names sources own j h e =
     own j (subst (λ n. j < n) (length-map (sources_so sources) (λ (s : Source). s.tree) ∙ length-map sources source_so) h)
     (subst (λ ns. StandsEarlier ns j) (sym (names_same sources)) e)
 
-pub analysed_it : (ws : List (List ℕ)) (command : Command) (table new : Table) (sources : List HandedIn) (reports : List (List ℕ)) (r : Result Plan Memory)
+pub analysed_it : (ws : List (List ℕ)) (command : Command) (table new : Table) (sources : List HandedIn) (reports : List (List ℕ)) (r : Result CheckPlan Memory)
     → ((j : ℕ) → j < length sources → StandsEarlier (map (λ (s : HandedIn). (module_of s.checked).name) sources) j → ⊥) → IsWritten (entries_so table) (sources_so sources) reports (entries_so new)
     → IfOk r (λ q. p.IsMade ws command.out reports new q.answer.status q.answer.output q.table)
     → IfOk r (λ q. p.IsJudged ws command (entries_so table) (sources_so sources) q.answer.status q.answer.output q.table)
@@ -219,7 +219,7 @@ set_within start total sources fault first second long h e g =
     let k = length-map (trees (sources_so sources)) (λ (x : m.Module). x.name) ∙ length-map (sources_so sources) (λ (s : Source). s.tree) ∙ length-map sources source_so in
     (omega (arith, k, is.within, is.before, long), omega (arith, k, is.within, long))
 
-pub twins_it : (words : List (Bor (List ℕ))) (command : Command) (table : Table) (sources : List HandedIn) (fault : SetFault) (first second : ℕ) (r : Result Plan Memory) → command.start + length sources ≡ length words
+pub twins_it : (words : List (Bor (List ℕ))) (command : Command) (table : Table) (sources : List HandedIn) (fault : SetFault) (first second : ℕ) (r : Result CheckPlan Memory) → command.start + length sources ≡ length words
     → IsSetFault (map (λ (s : HandedIn). (module_of s.checked).name) sources) (Set fault) → first ≡ p.first_of fault → second ≡ p.second_of fault
     → IfOk r (λ q. q.answer.status ≡ duplicate (command.start + second) (command.start + first))
     → IfOk r (λ q. (file other : List ℕ) → slice_get (drop command.start (texts words)) second ≡ Some file → slice_get (drop command.start (texts words)) first ≡ Some other → q.answer.output ≡ duplicate_line file other)
@@ -245,7 +245,7 @@ twins_output words start first second d e output h k o file other x y =
 
 -- ---- the table that is to be written
 
-pub made_named : (words : List (Bor (List ℕ))) (out : Option ℕ) (word : ℕ) (d : Bor (List ℕ)) (reports : List (List ℕ)) (new : Table) (answer : Answer) (r : Result Plan Memory) → out ≡ Some word → IfSome out (λ w. w < length words)
+pub made_named : (words : List (Bor (List ℕ))) (out : Option ℕ) (word : ℕ) (d : Bor (List ℕ)) (reports : List (List ℕ)) (new : Table) (answer : Answer) (r : Result CheckPlan Memory) → out ≡ Some word → IfSome out (λ w. w < length words)
     → SaysWhether answer.status answer.output → answer.output ≡ concat reports → IfOk r (λ q. p.IsNewAs (get_or words word d).now word answer new q.answer.status q.answer.output q.table)
     → IfOk r (λ q. p.IsMade (texts words) out reports new q.answer.status q.answer.output q.table)
 made_named words out word d reports new answer (Err e) given h says o is = tt
@@ -266,7 +266,7 @@ made_named words out word d reports new answer (Ok q) given h says o is = by is
           line_so = line;
         })
 
-pub made_within : (name : List ℕ) (word total : ℕ) (answer : Answer) (new : Table) (r : Result Plan Memory) → word < total → IfOk r (λ q. p.IsNewAs name word answer new q.answer.status q.answer.output q.table)
+pub made_within : (name : List ℕ) (word total : ℕ) (answer : Answer) (new : Table) (r : Result CheckPlan Memory) → word < total → IfOk r (λ q. p.IsNewAs name word answer new q.answer.status q.answer.output q.table)
     → IfOk r (λ q. IfSome q.table (λ t. t.word < total))
 made_within name word total answer new (Err e) h is = tt
 made_within name word total answer new (Ok q) h is = by is
@@ -277,7 +277,7 @@ made_within name word total answer new (Ok q) h is = by is
 
 -- ---- the table to begin with comes first
 
-pub reads_plan : (ws : List (List ℕ)) (told mid : Option Files) (early rb rn : ℕ) (r : Result Plan Memory) → mid ≡ told → early ≤ rb → IfOk r (λ q. p.IsPlan ws mid rb rn q.answer.status q.answer.output q.table)
+pub reads_plan : (ws : List (List ℕ)) (told mid : Option Files) (early rb rn : ℕ) (r : Result CheckPlan Memory) → mid ≡ told → early ≤ rb → IfOk r (λ q. p.IsPlan ws mid rb rn q.answer.status q.answer.output q.table)
     → IfOk r (λ q. p.IsPlan ws told early rn q.answer.status q.answer.output q.table)
 reads_plan ws told mid early rb rn (Err e) same h is = tt
 reads_plan ws told mid early rb rn (Ok q) same h is = plan_since h (subst (λ t. p.IsPlan ws t rb rn q.answer.status q.answer.output q.table) same is)

@@ -9,7 +9,7 @@ use Rattle.analysis_sources.specs.declared.refusals.Device.TheVariants.{Replace}
 use Rattle.analysis_sources.specs.Words.{texts}
 use Rattle.dialyze_command.specs.declared.answer.Answer.{Answer}
 use Rattle.dialyze_command.specs.declared.plan.NewTable.{NewTable}
-use Rattle.dialyze_command.specs.declared.plan.Plan.{Plan}
+use Rattle.dialyze_command.specs.declared.plan.CheckPlan.{CheckPlan}
 use Rattle.dialyze_command.specs.declared.status.Status.TheVariants.{DeviceFault}
 use Rattle.dialyze_command.specs.Outcome.{Intended, answered, unreplaced, passed, under, of_new_table}
 use Rattle.dialyze_command.specs.steps.Plans as p
@@ -59,7 +59,7 @@ carried words told after rb rn n k plan made a (p.stores command reports new tab
     }))
     rose
 
-pub answered_so : (words : List (List ℕ)) (told mid after : Option Files) (rb rm rn n m k : ℕ) (plan : Plan) (r : Result Answer Memory) → p.IsPlan words told rb rm plan.answer.status plan.answer.output plan.table → mid ≡ told → m ≡ n → rn ≡ rm
+pub answered_so : (words : List (List ℕ)) (told mid after : Option Files) (rb rm rn n m k : ℕ) (plan : CheckPlan) (r : Result Answer Memory) → p.IsPlan words told rb rm plan.answer.status plan.answer.output plan.table → mid ≡ told → m ≡ n → rn ≡ rm
     → IfOk r (λ a. p.IsStored words mid after m k plan.answer plan.table a) → IfOk r (λ a. Intended words told rb rn n k a.status a.output after)
 answered_so words told mid after rb rm rn n m k plan (Err e) is same also reads stored = tt
 answered_so words told mid after rb rm rn n m k plan (Ok a) is same also reads stored =

@@ -24,7 +24,7 @@ use type_kinds::{Bytes, List, Memory};
 
 /// What a run means to answer, and the table that it is to put onto the shelf before, if there is one.
 #[derive(Drop)]
-pub struct Plan {
+pub struct CheckPlan {
     pub answer: Answer,
     pub table: Option<NewTable>,
 }
@@ -45,7 +45,7 @@ pub fn intended<R: Threads + Wait + Sync, F: Shelf, G: Gate + Sync>(
     words: &[&str],
     shelf: &mut F,
     gate: &G,
-) -> Result<Plan, Memory>
+) -> Result<CheckPlan, Memory>
     requires { IsNoMake (texts words.now) }
     ensures plan { IfOk result (λ p. IsPlan (texts words.now) (F.held shelf.old) (F.read_faults shelf.old) (F.read_faults shelf.new) p.answer.status p.answer.output p.table) }
     ensures within { IfOk result (λ p. IfSome p.table (λ t. t.word < length words.now)) }
@@ -55,14 +55,14 @@ pub fn intended<R: Threads + Wait + Sync, F: Shelf, G: Gate + Sync>(
 {
     let Some(command) = command_of(words) else {
         let answer = usage(alloc)?;
-        return Ok(Plan {
+        return Ok(CheckPlan {
             answer,
             table: None,
         });
     };
     if words.len() - command.start > MOST_FILES {
         let answer = too_many(alloc)?;
-        return Ok(Plan {
+        return Ok(CheckPlan {
             answer,
             table: None,
         });
@@ -78,7 +78,7 @@ fn planned<R: Threads + Wait + Sync, F: Shelf, G: Gate + Sync>(
     command: Command,
     shelf: &mut F,
     gate: &G,
-) -> Result<Plan, Memory>
+) -> Result<CheckPlan, Memory>
     requires checks { Checks (texts words.now) command (drop command.start (texts words.now)) }
     ensures plan { IfOk result (λ p. IsPlan (texts words.now) (F.held shelf.old) (F.read_faults shelf.old) (F.read_faults shelf.new) p.answer.status p.answer.output p.table) }
     ensures within { IfOk result (λ p. IfSome p.table (λ t. t.word < length words.now)) }
@@ -88,7 +88,7 @@ fn planned<R: Threads + Wait + Sync, F: Shelf, G: Gate + Sync>(
 {
     match table_to_begin(alloc, words, command.plt, shelf) {
         Ok(Begun::Reads(table)) => with_table(rt, alloc, words, command, &table, shelf, gate),
-        Ok(Begun::Says(answer)) => Ok(Plan {
+        Ok(Begun::Says(answer)) => Ok(CheckPlan {
             answer,
             table: None,
         }),
@@ -105,7 +105,7 @@ fn with_table<R: Threads + Wait + Sync, F: Shelf, G: Gate + Sync>(
     table: &Table,
     shelf: &mut F,
     gate: &G,
-) -> Result<Plan, Memory>
+) -> Result<CheckPlan, Memory>
     requires checks { Checks (texts words.now) command (drop command.start (texts words.now)) }
     requires begun { IsBegun (texts words.now) (F.held shelf.old) command.plt table.now }
     ensures plan { IfOk result (λ p. IsPlan (texts words.now) (F.held shelf.old) (F.read_faults shelf.old) (F.read_faults shelf.new) p.answer.status p.answer.output p.table) }
@@ -118,14 +118,14 @@ fn with_table<R: Threads + Wait + Sync, F: Shelf, G: Gate + Sync>(
         Ok(sources) => judge(rt, alloc, words, command, sources, table, gate),
         Err(ReadFault::Refused(word, fault)) => {
             let answer = refuse(alloc, words[word as usize], word, fault)?;
-            Ok(Plan {
+            Ok(CheckPlan {
                 answer,
                 table: None,
             })
         }
         Err(ReadFault::Failed(word)) => {
             let answer = unread(alloc, words[word as usize], word)?;
-            Ok(Plan {
+            Ok(CheckPlan {
                 answer,
                 table: None,
             })
@@ -143,7 +143,7 @@ fn judge<R: Threads + Wait + Sync, G: Gate + Sync>(
     sources: List<Source>,
     table: &Table,
     gate: &G,
-) -> Result<Plan, Memory>
+) -> Result<CheckPlan, Memory>
     requires checks { Checks (texts words.now) command (drop command.start (texts words.now)) }
     requires whole { command.start + length sources ≡ length words.now }
     ensures judged { IfOk result (λ p. IsJudged (texts words.now) command (entries_so table.now) (sources_so sources) p.answer.status p.answer.output p.table) }
@@ -163,7 +163,7 @@ fn judged<R: Threads + Wait + Sync, G: Gate + Sync>(
     sources: &[Source],
     table: &Table,
     gate: &G,
-) -> Result<Plan, Memory>
+) -> Result<CheckPlan, Memory>
     requires checks { Checks (texts words.now) command (drop command.start (texts words.now)) }
     requires whole { command.start + length sources.now ≡ length words.now }
     ensures judged { IfOk result (λ p. IsJudged (texts words.now) command (entries_so table.now) (sources_so sources.now) p.answer.status p.answer.output p.table) }
@@ -202,7 +202,13 @@ pub fn second_of(fault: SetFault) -> u32
 
 // The answer where the modules of the files at these positions have the same name, where the first file is the word at
 // the position `start`.
-fn twins(alloc: Global, words: &[&str], start: u32, first: u32, second: u32) -> Result<Plan, Memory>
+fn twins(
+    alloc: Global,
+    words: &[&str],
+    start: u32,
+    first: u32,
+    second: u32,
+) -> Result<CheckPlan, Memory>
     requires first { start + first < length words.now }
     requires second { start + second < length words.now }
     requires few { length words.now < 2 ^ 32 }
@@ -213,7 +219,7 @@ fn twins(alloc: Global, words: &[&str], start: u32, first: u32, second: u32) -> 
     let file = words[(start + second) as usize];
     let other = words[(start + first) as usize];
     let answer = duplicate(alloc, file, start + second, other, start + first)?;
-    Ok(Plan {
+    Ok(CheckPlan {
         answer,
         table: None,
     })
@@ -225,7 +231,7 @@ fn made(
     words: &[&str],
     out: Option<usize>,
     analysis: &Analysis,
-) -> Result<Plan, Memory>
+) -> Result<CheckPlan, Memory>
     requires within { IfSome out (λ word. word < length words.now) }
     requires few { IfSome out (λ word. word < 2 ^ 32) }
     ensures made { IfOk result (λ p. IsMade (texts words.now) out analysis.now.reports analysis.now.table p.answer.status p.answer.output p.table) }
@@ -234,7 +240,7 @@ fn made(
     let answer = reported(alloc, analysis.reports.as_slice())?;
     match out {
         Some(word) => with_new(alloc, words[word], word as u32, answer, &analysis.table),
-        None => Ok(Plan {
+        None => Ok(CheckPlan {
             answer,
             table: None,
         }),
@@ -248,19 +254,19 @@ fn with_new(
     word: u32,
     answer: Answer,
     table: &Table,
-) -> Result<Plan, Memory>
+) -> Result<CheckPlan, Memory>
     ensures made { IfOk result (λ p. IsNewAs name.now word answer table.now p.answer.status p.answer.output p.table) }
 {
     match write_table(alloc, table) {
         Ok(bytes) => {
             let line = replace_fault_line(alloc, name)?;
             let table = Some(NewTable { word, bytes, line });
-            Ok(Plan { answer, table })
+            Ok(CheckPlan { answer, table })
         }
         Err(WriteFault::TooLong) => {
             let answer = refuse(alloc, name, word, TOO_LONG)?;
             let table = None;
-            Ok(Plan { answer, table })
+            Ok(CheckPlan { answer, table })
         }
         Err(WriteFault::Memory) => Err(Memory),
     }
