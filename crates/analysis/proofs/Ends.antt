@@ -1,7 +1,7 @@
 -- What is decided before the first wave, and what is written behind the last one.
-use Rattle.std.proofs.Common.{◌≡◌, ◌↔◌, ℕ, zero, ◌<◌, ◌≤◌, Bool, true, false, not, cond, ◌||◌, ◌&&◌, List, [], ◌∷◌, map, filter, ◌⊎◌, inl, inr, Contains, length, slice_get, Option, Some, None, IsTrue, refl, sym, ap, ap₂, ◌∙◌, subst, arith}
+use Rattle.std.proofs.Common.{◌≡◌, ℕ, Bool, true, false, not, cond, ◌||◌, List, [], ◌∷◌, map, Contains, length, Option, Some, None, IsTrue, refl, sym, ap, ap₂, ◌∙◌, subst, arith}
 use Rattle.std.proofs.lemmas.Bool.{false_from_ne_true}
-use Rattle.type_kinds.proofs.Lists.{contains_first, contains_later, contains_at, position_of}
+use Rattle.type_kinds.proofs.Lists.{position_of}
 use Rattle.type_kinds.specs.declared.atom.Atom.{Atom}
 use Rattle.core_ast.specs.declared.syntax.FunName.{FunName}
 use Rattle.core_scope.specs.Names.{same_atom}
@@ -10,18 +10,18 @@ use Rattle.cons_tree.specs.declared.parts.Callee.TheVariants.{Unknown}
 use Rattle.comp_rounds.specs.Rounds.{Callees}
 use Rattle.table_file.specs.Order.{rises, is_name_before}
 use Rattle.table_keep.specs.Model.{Source, Entry, Result, source_of, is_there, is_in, entry_of}
-use Rattle.table_keep.specs.Groups.{Groups, IsGroups, has, Leads, Together, group_of}
-use Rattle.table_keep.specs.Kept.{Standing, Results, is_candidate, calls_of, calls_by, stands, is_kept, kept, is_new, finally}
-use Rattle.table_keep.specs.Made.{made, exported, IsKnown}
+use Rattle.table_keep.specs.Groups.{Groups, has, group_of}
+use Rattle.table_keep.specs.Kept.{Standing, Results, is_candidate, calls_of, calls_by, is_kept, kept, is_new, finally}
+use Rattle.table_keep.specs.Made.{made, exported}
 use Rattle.sound_laws_kept.specs.Written.{new_entry, made_of}
-use Rattle.sound_laws_kept.specs.Solving.{IsSolved, IsWritten, AreSources}
-use Rattle.sound_laws_kept.proofs.Names.{clash, name_is, some_is, none_some, there_is}
-use Rattle.sound_laws_kept.proofs.Graphs.{in_own_group, together_over}
+use Rattle.sound_laws_kept.specs.Solving.{IsWritten, AreSources}
+use Rattle.sound_laws_kept.proofs.Names.{clash, map_there, name_is, some_is, none_some, there_is}
+use Rattle.sound_laws_kept.proofs.Graphs.{in_own_group, groups_over}
 use Rattle.sound_laws_kept.proofs.Folds.{kept_is, kept_candidate, kept_facts, finally_is, none_stands}
-use Rattle.sound_laws_kept.proofs.Trees.{own_source, own_name, source_stands}
+use Rattle.sound_laws_kept.proofs.Trees.{own_name, source_stands}
 use Rattle.sound_laws_kept.proofs.Shown.{one_summarized}
 use Rattle.analysis.specs.steps.Deciding.{seen, IsDecided, AreDecided}
-use Rattle.analysis.specs.steps.Making.{kept_of, lines_in, IsMade, AreNew, AreOpen}
+use Rattle.analysis.specs.steps.Making.{kept_of, lines_in, AreNew, AreOpen}
 
 -- ---- before the first wave
 
@@ -60,32 +60,6 @@ kept_entry_of changed (e ∷ es) h = by (has changed e.name) refl (same_atom h e
         let here : has changed h ≡ true = ap (has changed) (name_is h e.name is) ∙ in_it in
         rest ∙ ap (λ b. cond b None (entry_of es h)) here ∙ sym (ap (λ b. cond b None (Some e)) here)
     by true in_it false is rest = rest
-
--- ---- the same groups, by the same nodes, each of which calls the same
-
-module _ (nodes : Atom → Bool) (out : Atom → List Atom) (others : Atom → Bool) (over : Atom → List Atom)
-    (node : (a : Atom) → nodes a ≡ others a) (same : (a : Atom) → nodes a ≡ true → out a ≡ over a) where
-  same_back : (a : Atom) → others a ≡ true → over a ≡ out a
-  same_back a e = sym (same a (node a ∙ e))
-
-  pub still_groups : (g : Groups) → IsGroups nodes out g → IsGroups others over g
-  still_groups g is = record {
-    low = λ a e. is.low a (node a ∙ e);
-    together = λ a b e f. let r = is.together a b (node a ∙ e) (node b ∙ f) in (
-      λ number. together_over nodes out others over (λ x k. sym (node x) ∙ k) same a b (r.0 number),
-      λ with_it. r.1 (together_over others over nodes out (λ x k. node x ∙ k) same_back a b with_it),
-    );
-    downward = λ a b l. is.downward a b (node a ∙ l.0, node b ∙ l.1, subst (λ xs. has xs b ≡ true) (same_back a l.0) l.2);
-    members = λ n a. let r = is.members n a in (
-      λ e. let k = r.0 e in (sym (node a) ∙ k.0, k.1),
-      λ k. r.1 (node a ∙ k.0, k.1),
-    );
-    sorted = is.sorted;
-  }
-
-map_there : {A B : Type 0} (f g : A → B) (xs : List A) → ((x : A) → Contains xs x → f x ≡ g x) → map f xs ≡ map g xs
-map_there f g [] e = refl
-map_there f g (x ∷ xs) e = ap₂ (λ y ys. y ∷ ys) (e x (contains_first x xs)) (map_there f g xs (λ y has_y. e y (contains_later x y xs has_y)))
 
 -- ---- behind the last wave
 
@@ -247,7 +221,7 @@ module _ (T : List Entry) (M : List Source) (are : AreSources M) (known : Callee
       known = R;
       analysis = record {
         candidates = D.candidates;
-        new = still_groups (is_candidate K M) (calls_of K M) (is_new R T M g) (calls_of T M) new_node new_calls N.groups N.grouped;
+        new = groups_over (is_candidate K M) (calls_of K M) (is_new R T M g) (calls_of T M) (λ h e. sym (new_node h) ∙ e) (λ h e. new_node h ∙ e) new_calls N.groups N.grouped;
         results = record {
           of_entry = λ h e is at. d.of_entry h e is (D.candidates.low h (kept_candidate R T M g h is)) at;
           solved = λ n less is. d.solved n (omega arith) less is;

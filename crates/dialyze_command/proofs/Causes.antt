@@ -107,30 +107,30 @@ by_scopes e (not_accepted h) = h
 
 -- ---- the words and the table
 
-not_many : {words files : List (List ℕ)} {command : Command} → Checks words command files → ChecksTooMany words → ⊥
+pub not_many : {words files : List (List ℕ)} {command : Command} → Checks words command files → ChecksTooMany words → ⊥
 not_many h k = let few = h.few in let e = ap (λ fs. list_length fs) (one_check h.check k.check).1 in let long = k.many in absurd (omega arith)
 
-no_command_checks : {words files : List (List ℕ)} {command : Command} → Checks words command files → IsNoCommand words → ⊥
+pub no_command_checks : {words files : List (List ℕ)} {command : Command} → Checks words command files → IsNoCommand words → ⊥
 no_command_checks {files = files} {command = command} h none = none (inl (command, files, h.check))
 
 -- words that ask for a check ask for no generated modules
-no_make : {words files : List (List ℕ)} {command : Command} {count : ℕ} → Checks words command files → IsMake words count → ⊥
+pub no_make : {words files : List (List ℕ)} {command : Command} {count : ℕ} → Checks words command files → IsMake words count → ⊥
 no_make h asks = one_command h.check asks
 
-one_word_there : (words : List (List ℕ)) (option : Option ℕ) (v w : ℕ) (m n : List ℕ) → Names words option v m → Names words option w n → (v ≡ w) × (m ≡ n)
+pub one_word_there : (words : List (List ℕ)) (option : Option ℕ) (v w : ℕ) (m n : List ℕ) → Names words option v m → Names words option w n → (v ≡ w) × (m ≡ n)
 one_word_there words option v w m n h k =
     let same : v ≡ w = some_is (sym h.given ∙ k.given) in
     (same, some_is (sym h.there ∙ ap (slice_get words) same ∙ k.there))
 
 -- a table is named once
-one_name : {words : List (List ℕ)} {v w : ℕ} {m n : List ℕ} → NamesTable words v m → NamesTable words w n → (v ≡ w) × (m ≡ n)
+pub one_name : {words : List (List ℕ)} {v w : ℕ} {m n : List ℕ} → NamesTable words v m → NamesTable words w n → (v ≡ w) × (m ≡ n)
 one_name {words} {v} {w} {m} {n} h k =
     one_word_there words k.command.plt v w m n (subst (λ c. Names words c.plt v m) (one_check h.checks.check k.checks.check).0 h.plt) k.plt
 
-one_held : (held : Files) {m n : List ℕ} {a b : List ℕ} → m ≡ n → Holds (Some held) m a → Holds (Some held) n b → a ≡ b
+pub one_held : (held : Files) {m n : List ℕ} {a b : List ℕ} → m ≡ n → Holds (Some held) m a → Holds (Some held) n b → a ≡ b
 one_held held e h k = some_is (sym h ∙ ap (get held) e ∙ k)
 
-not_both_held : (held : Files) {m n : List ℕ} {a : List ℕ} → m ≡ n → Holds (Some held) m a → Lacks (Some held) n → ⊥
+pub not_both_held : (held : Files) {m n : List ℕ} {a : List ℕ} → m ≡ n → Holds (Some held) m a → Lacks (Some held) n → ⊥
 not_both_held held e h k = let f = sym h ∙ ap (get held) e ∙ k in absurd cc
 
 -- the bytes that the table to begin with is read from, if one is named
@@ -146,7 +146,7 @@ named_bytes {words} {files} {held} {command} {w} {n} h k = by h.begun
     by (named v m bytes there holds spells) =
         (bytes, h.table, subst (λ x. Holds (Some held) x bytes) (one_word_there words command.plt v w m n there names).1 holds, spells)
 
-lacking_begins : {words files : List (List ℕ)} {held : Files} {command : Command} {w : ℕ} {n : List ℕ} → NamesTable words w n → Lacks (Some held) n → Begins words (Some held) command files → ⊥
+pub lacking_begins : {words files : List (List ℕ)} {held : Files} {command : Command} {w : ℕ} {n : List ℕ} → NamesTable words w n → Lacks (Some held) n → Begins words (Some held) command files → ⊥
 lacking_begins {held = held} h lacks begins = let b = named_bytes begins h in not_both_held held refl b.2 lacks
 
 -- ---- from the status to the cause
@@ -214,7 +214,7 @@ refused_of_outcome {words} {held} {status} word fault (made count asks is c) e =
           refused_so = subst (RefusedAt (Some (generated_files count)) (file_names count) at) (one_fault_of at word other fault same) h;
         })
     by (names_one first second a b h) = absurd ((is_other word fault (sym a ∙ e)).0 refl)
-    by (counted sources reports new a b d f g) = let k = is_other word fault (sym a ∙ e) in absurd (omega (arith, k.2))
+    by (counted sources reports new a b d f i g) = let k = is_other word fault (sym a ∙ e) in absurd (omega (arith, k.2))
 
 missing_not_faulty : {told : Option Files} {files : List (List ℕ)} {at : ℕ} → RefusedAt told files at missing → IsMissingAt told files at
 missing_not_faulty (not_held e h) = h
@@ -295,7 +295,7 @@ duplicate_of_outcome {words} {held} {status} word other (made count asks is c) e
           other_place = let k : first ≡ other = ap other_by same in omega (arith, k);
           duplicate_module = h;
         }
-    by (counted sources reports new a b d f g) = let k : 101 ≡ 14 = ap mark (sym a ∙ e) in absurd (omega (arith, k))
+    by (counted sources reports new a b d f i g) = let k : 101 ≡ 14 = ap mark (sym a ∙ e) in absurd (omega (arith, k))
 
 modules_of : {words : List (List ℕ)} {held : Files} {command : Command} {reports : List (List ℕ)} {new : Table} → Analyses words (Some held) command reports new → NamesModules words held
 modules_of {held = held} {command = command} h =
@@ -316,7 +316,7 @@ modules_of_outcome {words} {held} {status} (made count asks is c) h k = by is
     by : {output : List ℕ} → IsSummary count status output → NamesModules words held
     by (text_refused at fault a b g) = absurd (omega (arith, h, ap mark a, (mark_of fault.name).0))
     by (names_one first second a b g) = absurd (omega (arith, h, ap mark a))
-    by (counted sources reports new a b d f g) =
+    by (counted sources reports new a b d f i g) =
         record { from = generated_files count; start = 0; files = file_names count; reads = by_make count asks refl refl refl; sources = sources; read = d; names = f }
 
 analysed_modules : {words : List (List ℕ)} {held : Files} {status : Status} {output : List ℕ} {after : Option Files} → Outcome words (Some held) status output after → IsAnalysed words held status → NamesModules words held
@@ -338,7 +338,7 @@ earlier : {names : List Atom} {i j : ℕ} → FirstDuplicate names i j → Stand
 earlier {i = i} h = (i, h.before, h.same)
 
 -- one module is the first that has the name of one before it
-one_second : (names : List Atom) (i j k l : ℕ) → FirstDuplicate names i j → FirstDuplicate names k l → j ≡ l
+pub one_second : (names : List Atom) (i j k l : ℕ) → FirstDuplicate names i j → FirstDuplicate names k l → j ≡ l
 one_second names i j k l h g = by (order j l)
   where
     by : (j < l) ⊎ ((l < j) ⊎ (j ≡ l)) → j ≡ l
@@ -346,7 +346,7 @@ one_second names i j k l h g = by (order j l)
     by (inr (inl a)) = absurd (h.least l a (earlier g))
     by (inr (inr a)) = a
 
-one_first : (names : List Atom) (i j k : ℕ) → FirstDuplicate names i j → FirstDuplicate names k j → i ≡ k
+pub one_first : (names : List Atom) (i j k : ℕ) → FirstDuplicate names i j → FirstDuplicate names k j → i ≡ k
 one_first names i j k h g = by (order i k)
   where
     by : (i < k) ⊎ ((k < i) ⊎ (i ≡ k)) → i ≡ k
@@ -354,7 +354,7 @@ one_first names i j k h g = by (order i k)
     by (inr (inl a)) = absurd (h.earliest k a g.same)
     by (inr (inr a)) = a
 
-own_or_duplicate : (xs : List m.Module) (i j : ℕ) → HaveOwnNames xs → FirstDuplicate (module_names xs) i j → ⊥
+pub own_or_duplicate : (xs : List m.Module) (i j : ℕ) → HaveOwnNames xs → FirstDuplicate (module_names xs) i j → ⊥
 own_or_duplicate xs i j own h =
     own j (subst (λ n. j < n) (length-map xs (λ (x : m.Module). x.name)) h.within) (earlier h)
 
@@ -376,7 +376,7 @@ module _ (one_list : (held : Files) (files : List (List ℕ)) (xs ys : List Sour
     (none_refused : (held : Files) (files : List (List ℕ)) (xs : List Source) (after i : ℕ) (f : SourceFault) → AreRead (Some held) 0 files xs after → RefusedAt (Some held) files i f → ⊥)
     (fault_once : (f g : FaultOfTable) (bytes : List ℕ) → (f ≡ t.Memory → ⊥) → (g ≡ t.Memory → ⊥) → IsFirst f bytes → IsFirst g bytes → f ≡ g)
     (no_fault : (f : FaultOfTable) (table : Table) → IsTrue (list_all has_short_types table.entries) → IsFirst f (table_bytes table) → f ≡ t.Memory) where
-  faulty_begins : {words files : List (List ℕ)} {held : Files} {command : Command} {w : ℕ} {n bytes : List ℕ} {fault : FaultOfTable} → NamesTable words w n → Holds (Some held) n bytes → IsFaultOf bytes fault → Begins words (Some held) command files → ⊥
+  pub faulty_begins : {words files : List (List ℕ)} {held : Files} {command : Command} {w : ℕ} {n bytes : List ℕ} {fault : FaultOfTable} → NamesTable words w n → Holds (Some held) n bytes → IsFaultOf bytes fault → Begins words (Some held) command files → ⊥
   faulty_begins {held = held} {fault = fault} h holds is begins =
       let b = named_bytes begins h in
       is.some (no_fault fault b.1 b.3.short (subst (IsFirst fault) (one_held held refl holds b.2 ∙ b.3.bytes_so) is.first))
@@ -406,7 +406,7 @@ module _ (one_list : (held : Files) (files : List (List ℕ)) (xs ys : List Sour
   make_level : {words : List (List ℕ)} {held : Files} {count : ℕ} {status : Status} {output : List ℕ} → IsSummary count status output → Level words held (generated_files count) 0 (file_names count) status
   make_level (text_refused at fault a b h) = refused_level at fault (a ∙ ap (λ n. refused n fault) (from_zero at)) h
   make_level (names_one first second a b h) = twice_level first second (a ∙ ap (λ n. duplicate n first) (from_zero second) ∙ ap (duplicate (0 + second)) (from_zero first)) h
-  make_level (counted sources reports new a b d f g) = read_level sources d f (is_warned a)
+  make_level (counted sources reports new a b d f i g) = read_level sources d f (is_warned a)
 
   level : {words files : List (List ℕ)} {held from : Files} {start : ℕ} {status : Status} {output : List ℕ} {after : Option Files} → Outcome words (Some held) status output after
       → Reads words held from start files → Level words held from start files status
@@ -436,7 +436,7 @@ module _ (one_list : (held : Files) (files : List (List ℕ)) (xs ys : List Sour
   refused_answered {files = files} {from = from} at word fault (twice_level first second e i) is h = absurd (none_refused from files i.sources i.read.after at fault i.read.read h)
   refused_answered {files = files} {from = from} at word fault (read_level M read names status_so) is h = absurd (none_refused from files M read.after at fault read.read h)
 
-  same_sources : {from : Files} {files : List (List ℕ)} {xs ys : List Source} → ReadsAll (Some from) files xs → ReadsAll (Some from) files ys → xs ≡ ys
+  pub same_sources : {from : Files} {files : List (List ℕ)} {xs ys : List Source} → ReadsAll (Some from) files xs → ReadsAll (Some from) files ys → xs ≡ ys
   same_sources {from} {files} {xs} {ys} h k = one_list from files xs ys h.after k.after h.read k.read
 
   twice_answered : {words : List (List ℕ)} {held : Files} {status : Status} (word other : ℕ) → (h : NamesTwice words held word other) → Level words held h.from h.start h.files status

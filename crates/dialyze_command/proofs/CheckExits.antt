@@ -25,7 +25,7 @@ says_answer (says_yes a b) = subst IsAnswer (sym a) tt
 summary_answer : {n : ℕ} {status : Status} {output : List ℕ} → IsSummary n status output → IsAnswer status
 summary_answer (text_refused at fault a b c) = subst IsAnswer (sym a) tt
 summary_answer (names_one first second a b c) = subst IsAnswer (sym a) tt
-summary_answer (counted sources reports new a b c d f) = subst IsAnswer (sym a) tt
+summary_answer (counted sources reports new a b c d f g) = subst IsAnswer (sym a) tt
 
 -- every outcome is an answer
 answers : {words : List (List ℕ)} {told after : Option Files} {status : Status} {output : List ℕ} → Outcome words told status output after → IsAnswer status
@@ -101,8 +101,8 @@ summary_mark (text_refused at fault a b c) (inl e) = (mark_of fault.name).2 (sym
 summary_mark (text_refused at fault a b c) (inr e) = absurd (omega (arith, e, ap mark a, (mark_of fault.name).0))
 summary_mark (names_one first second a b c) (inl e) = absurd (omega (arith, e, ap mark a))
 summary_mark (names_one first second a b c) (inr e) = absurd (omega (arith, e, ap mark a))
-summary_mark (counted sources reports new a b c d f) (inl e) = absurd (omega (arith, e, ap mark a))
-summary_mark (counted sources reports new a b c d f) (inr e) = absurd (omega (arith, e, ap mark a))
+summary_mark (counted sources reports new a b c d f g) (inl e) = absurd (omega (arith, e, ap mark a))
+summary_mark (counted sources reports new a b c d f g) (inr e) = absurd (omega (arith, e, ap mark a))
 
 usage_to : {words : List (List ℕ)} {told after : Option Files} {status : Status} {output : List ℕ} → Outcome words told status output after → status ≡ Usage → IsNoCommand words
 usage_to (usage a b c d) e = d
@@ -210,7 +210,7 @@ table_late {word = word} h = (plt_before h.checks.check word h.plt.given).0
 summary_possible : {words : List (List ℕ)} {count : ℕ} {status : Status} {output : List ℕ} → IsMake words count → IsSummary count status output → IsPossible words status
 summary_possible {words} {count} asks (text_refused at fault a b c) = subst (IsPossible words) (sym a) (of_number count at fault asks (refused_number count at fault c) refl)
 summary_possible {words} {count} asks (names_one first second a b c) = subst (IsPossible words) (sym a) (of_numbers count second first asks c.is.before (duplicate_number count first second c) refl)
-summary_possible {words} asks (counted sources reports new a b c d f) = subst (IsPossible words) (sym a) tt
+summary_possible {words} asks (counted sources reports new a b c d f g) = subst (IsPossible words) (sym a) tt
 
 possible_outcome : {words : List (List ℕ)} {told after : Option Files} {status : Status} {output : List ℕ} → Outcome words told status output after → IsPossible words status
 possible_outcome {words} (usage a b c d) = subst (IsPossible words) (sym a) tt

@@ -18,7 +18,7 @@ use Rattle.sound_laws.specs.Accepted.{AreAccepted}
 use Rattle.sound_laws_rounds.specs.Whole.{IsWhole}
 use Rattle.sound_laws_flow.specs.Claims.{NothingFalse}
 use Rattle.module_flow_frame.specs.Sites.{TiedLines}
-use Rattle.sound_laws_kept.specs.Laws.{KeptLaw, FoundLaw, DigestsTell}
+use Rattle.sound_laws_kept.specs.Laws.{AgainLaw, KeptLaw, FoundLaw, DigestsTell}
 use Rattle.sound_laws_kept.specs.Solving.{AreSources, IsWritten}
 use Rattle.sound_laws_kept.specs.Written.{new_entry}
 use Rattle.sound_laws_kept.proofs.Names.{accepted_append, accepted_picked}
@@ -26,13 +26,13 @@ use Rattle.dialyze_command.specs.declared.status.Status.{Status}
 use Rattle.dialyze_command.specs.Outcome.{HaveOwnNames, module_names, IsBegun, empty, named, Intended, IsPassed}
 use Rattle.dialyze_command.specs.Words.{AsksForCheck}
 use Rattle.dialyze_command.proofs.CheckExits.{passed_it}
-use Rattle.dialyze_command.specs.Laws.{Passed, NothingReportedFalse, WritesFromScratch, WritesNothingFalse, whole_of}
+use Rattle.dialyze_command.specs.Laws.{BeganWith, IsFromScratch, Passed, NothingReportedFalse, WritesFromScratch, WritesNothingFalse, whole_of}
 
 -- the law of findings, as its crate states it
 abbrev pub WholeLaw : Type 0
 WholeLaw = (U : Program) (K : Callees) (x : m.Module) → AreAccepted U → IsWhole U K → HasModule U x → NothingFalse U K x
 
-are_sources : (M : List Source) → AreAccepted (trees M) → HaveOwnNames (trees M) → AreSources M
+pub are_sources : (M : List Source) → AreAccepted (trees M) → HaveOwnNames (trees M) → AreSources M
 are_sources M accepted own = record {
   accepted = accepted;
   distinct = none_earlier (module_names (trees M)) (λ j h e. own j (subst (λ n. j < n) (length-map (trees M) (λ (y : m.Module). y.name)) h) e);
@@ -95,7 +95,7 @@ empty_written = record {
 
 -- ---- the laws of a check that passed
 
-module _ (kept_law : KeptLaw) (found_law : FoundLaw) (whole_law : WholeLaw) (tied_law : TiedLines) where
+module _ (kept_law : KeptLaw) (again_law : AgainLaw) (found_law : FoundLaw) (whole_law : WholeLaw) (tied_law : TiedLines) where
   found_so : (Src M : List Source) (T new : List Entry) (before reports : List (List ℕ)) → AreSources Src → AreSources M → DigestsTell Src M → IsWritten [] Src before T → (w : IsWritten T M reports new)
       → NothingReportedFalse (whole_of w Src) M reports
   found_so Src M T new before reports of_src of_m tell table w =
@@ -118,9 +118,22 @@ module _ (kept_law : KeptLaw) (found_law : FoundLaw) (whole_law : WholeLaw) (tie
     pub from_scratch : WritesFromScratch words held after before now
     from_scratch = record {
       passed = passed;
-      kept_so = λ Src began all scratch w.
-          kept_law Src passed.analyses.sources (entries_so passed.analyses.begins.table) (entries_so passed.new) scratch began.reports passed.reports all began.sources of_m began.digests began.table passed.analyses.written w;
+      kept_so = scratch_so;
     }
+      where
+        scratch_so : (Src : List Source) → BeganWith Src passed.analyses.sources (entries_so passed.analyses.begins.table)
+            → IsFromScratch (whole_of passed.analyses.written Src) passed.analyses.sources passed.reports (entries_so passed.new)
+        scratch_so Src began =
+            let M = passed.analyses.sources in
+            let T = entries_so passed.analyses.begins.table in
+            let new = entries_so passed.new in
+            let again = again_law Src M T new began.reports passed.reports began.sources of_m began.digests began.table passed.analyses.written in
+            record {
+              all = again.0;
+              scratch = again.1;
+              reports_so = (kept_law Src M T new new began.reports passed.reports again.0 began.sources of_m began.digests began.table passed.analyses.written again.1).1;
+              only = λ others other w. kept_law Src M T new other began.reports passed.reports others began.sources of_m began.digests began.table passed.analyses.written w;
+            }
 
     alone_so : passed.command.plt ≡ None → NothingReportedFalse passed.analyses.sources passed.analyses.sources passed.reports
     alone_so none =

@@ -4,11 +4,14 @@ mod CheckExits
 mod Joined
 mod KeptExits
 mod Numbers
+mod OneOutcome
+mod SameCommand
 mod Places
 mod MakeExits
 mod MakeFiles
 mod PlanExits
 mod PrintedNumbers
 mod StoreExits
+mod TableModels
 mod Texts
 mod WordExits

@@ -15,6 +15,7 @@ use Rattle.table_file.specs.declared.tables.Table.{Table}
 use Rattle.table_keep.specs.declared.source.Source.{Source as HandedIn}
 use Rattle.table_keep.specs.Model.{source_so, sources_so, trees, entry_so, entries_so}
 use Rattle.sound_laws_kept.specs.Solving.{IsWritten}
+use Rattle.sound_laws_kept.proofs.Names.{accepted_sources}
 use Rattle.analysis.specs.declared.analysing.Fault.TheVariants.{Set}
 use Rattle.analysis.specs.Reports.{IsSetFault}
 use Rattle.analysis_sources.specs.declared.refusals.SourceFault.{SourceFault}
@@ -72,7 +73,7 @@ module _ (n : ℕ) (small : n < 2 ^ 64) (texts : List (List ℕ)) (is : texts �
       names_one first second s o (record { sources = sources_so sources; read = record { after = all_read.0; read = all_read.1 }; is = h })
   summed_it (Ok a) (p.lines reports new s o own written) =
       counted (sources_so sources) reports new s (o ∙ ap (λ k. summary_line k (length (functions_of (trees (sources_so sources)))) (line_count (concat reports))) many)
-      (record { after = all_read.0; read = all_read.1 }) own written
+      (record { after = all_read.0; read = all_read.1 }) own (accepted_sources sources) written
 
 pub refused_it : (n number v : ℕ) (fault f : SourceFault) (texts : List (List ℕ)) (r : Result Answer Memory) → n < 2 ^ 64 → texts ≡ generated n
     → ((told : Option Files) (files : List (List ℕ)) → AreHeld told files texts → TextFails told files (read.Refused number fault)) → v ≡ number → f ≡ fault

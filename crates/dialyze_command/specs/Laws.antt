@@ -35,11 +35,13 @@ pub record BeganWith (Src M : List Source) (T : List Entry) : Type 0 where
 abbrev pub whole_of : {T : List Entry} {M : List Source} {reports : List (List ℕ)} {new : List Entry} → IsWritten T M reports new → List Source → List Source
 whole_of {T} {M} w Src = with_kept (kept w.known T M w.groups) M Src
 
--- The reports and the new table are those that every analysis of the program from the empty table gives: of its first sources, which are
--- handed in, and of all.
-abbrev pub IsFromScratch : (program M : List Source) → (reports : List (List ℕ)) → (new : List Entry) → Type 0
-IsFromScratch program M reports new =
-    (all : List (List ℕ)) (scratch : List Entry) → IsWritten [] program all scratch → (new ≡ scratch) × (reports ≡ take (length M) all)
+-- There is an analysis of the program from the empty table, whose new table is this one and whose first reports are these: those of the
+-- program's first sources, which are handed in. And it is so with every such analysis.
+pub record IsFromScratch (program M : List Source) (reports : List (List ℕ)) (new : List Entry) : Type 0 where
+  pub all : List (List ℕ)
+  pub scratch : IsWritten [] program all new
+  pub reports_so : reports ≡ take (length M) all
+  pub only : (others : List (List ℕ)) (other : List Entry) → IsWritten [] program others other → (new ≡ other) × (reports ≡ take (length M) others)
 
 -- The reports are the lines of what is found in each module by what is known of the functions of the whole program; nothing that is
 -- found is false of a run of it, but for unknown functions, which say nothing of runs; and each line is tied to a place of the module's

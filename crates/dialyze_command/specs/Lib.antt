@@ -6,5 +6,6 @@ pub mod Making
 pub mod Outcome
 pub mod Causes
 pub mod Laws
+pub mod OneOutcome
 pub mod Runs
 pub mod steps

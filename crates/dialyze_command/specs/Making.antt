@@ -7,6 +7,7 @@ use Rattle.call_graph.specs.Calls.{functions_of}
 use Rattle.core_make.specs.Modules.{module_text}
 use Rattle.da_shelf.specs.Told.{Files}
 use Rattle.table_keep.specs.Model.{Source, Entry, trees}
+use Rattle.sound_laws.specs.Accepted.{AreAccepted}
 use Rattle.sound_laws_kept.specs.Solving.{IsWritten}
 use Rattle.analysis_sources.specs.declared.refusals.SourceFault.{SourceFault}
 use Rattle.analysis_sources.specs.Reading.{RefusedAt}
@@ -63,5 +64,5 @@ pub data IsSummary (n : ℕ) (status : Status) (output : List ℕ) : Type 0 wher
       → IsDuplicate (Some (generated_files n)) (file_names n) first second → IsSummary n status output
   counted : (sources : List Source) (reports : List (List ℕ)) (new : List Entry) → status ≡ Warnings
       → output ≡ summary_line n (length (functions_of (trees sources))) (line_count (concat reports))
-      → ReadsAll (Some (generated_files n)) (file_names n) sources → HaveOwnNames (trees sources) → IsWritten [] sources reports new
-      → IsSummary n status output
+      → ReadsAll (Some (generated_files n)) (file_names n) sources → HaveOwnNames (trees sources) → AreAccepted (trees sources)
+      → IsWritten [] sources reports new → IsSummary n status output

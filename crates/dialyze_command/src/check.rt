@@ -23,7 +23,7 @@ use analysis_sources::{Device, one_reading_of_files};
 use da_shelf::{Gate, Shelf, Sink, SinkFault, give};
 use module_flow_frame::findings_are_tied;
 use sound_laws_flow::nothing_is_false;
-use sound_laws_kept::{kept_is_from_scratch, reports_are_found};
+use sound_laws_kept::{kept_is_from_scratch, reports_are_found, table_is_of_sources};
 use std::alloc::Global;
 use std::sync::Wait;
 use std::thread::Threads;
@@ -108,6 +108,7 @@ pub fn dialyze<R: Threads + Wait + Sync, F: Shelf, K: Sink, G: Gate + Sync>(
     one_reading_of_files();
     table_laws();
     kept_is_from_scratch();
+    table_is_of_sources();
     reports_are_found();
     nothing_is_false();
     findings_are_tied();

@@ -4,6 +4,7 @@
 mod answer;
 mod begin;
 mod check;
+mod laws;
 mod making;
 mod plan;
 mod running;
@@ -12,5 +13,6 @@ mod store;
 mod words;
 
 pub use check::dialyze;
+pub use laws::one_outcome;
 pub use running::run_over;
 pub use status::Status;

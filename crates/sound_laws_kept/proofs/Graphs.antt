@@ -33,7 +33,7 @@ all_ascend : (xs : List Atom) → rises is_name_before xs ≡ true → is_ascend
 all_ascend [] up = refl
 all_ascend (x ∷ xs) up = and_from (is_below_all name_cmp x xs) (is_ascending name_cmp xs) (below_all x xs up) (all_ascend xs (rises_behind x xs up))
 
-has_is_item : (xs : List Atom) (h : Atom) → has xs h ≡ has_item name_cmp xs h
+pub has_is_item : (xs : List Atom) (h : Atom) → has xs h ≡ has_item name_cmp xs h
 has_is_item [] h = refl
 has_is_item (x ∷ xs) h = ap₂ (λ a b. a || b) (texts_ties h x) (has_is_item xs h)
 
@@ -97,6 +97,28 @@ module _ (nodes : Atom → Bool) (out : Atom → List Atom) (more : Atom → Boo
   pub together_over : (a b : Atom) → Together nodes out a b → Together more over a b
   together_over a b (inl e) = inl e
   together_over a b (inr both) = inr (reaches_over a b both.0, reaches_over b a both.1)
+
+-- ---- the same graph, by other tests of its nodes: its groups are the same
+
+module _ (nodes : Atom → Bool) (out : Atom → List Atom) (others : Atom → Bool) (over : Atom → List Atom) (node : (a : Atom) → nodes a ≡ true → others a ≡ true)
+    (back : (a : Atom) → others a ≡ true → nodes a ≡ true) (same : (a : Atom) → nodes a ≡ true → out a ≡ over a) where
+  same_back : (a : Atom) → others a ≡ true → over a ≡ out a
+  same_back a e = sym (same a (back a e))
+
+  pub groups_over : (g : Groups) → IsGroups nodes out g → IsGroups others over g
+  groups_over g is = record {
+    low = λ a e. is.low a (back a e);
+    together = λ a b e f. let r = is.together a b (back a e) (back b f) in (
+      λ number. together_over nodes out others over node same a b (r.0 number),
+      λ with_it. r.1 (together_over others over nodes out back same_back a b with_it),
+    );
+    downward = λ a b l. is.downward a b (back a l.0, back b l.1, subst (λ xs. has xs b ≡ true) (same_back a l.0) l.2);
+    members = λ n a. let r = is.members n a in (
+      λ e. let k = r.0 e in (node a k.0, k.1),
+      λ k. r.1 (back a k.0, k.1),
+    );
+    sorted = is.sorted;
+  }
 
 -- ---- back into a smaller graph that has all members of a group: a way between two members never leaves the group
 

@@ -1,5 +1,7 @@
+mod Again
 mod Calls
 pub mod Folds
+mod Entries
 mod Found
 mod FromScratch
 pub mod Graphs

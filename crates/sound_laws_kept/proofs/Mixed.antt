@@ -1,25 +1,26 @@
 -- The analysis with the table of some sources: what stands in the end is the solution of what is handed in and of the kept sources.
-use Rattle.std.proofs.Common.{◌≡◌, ℕ, suc, Bool, true, false, cond, not, ◌||◌, ◌&&◌, List, [], ◌∷◌, Contains, inl, inr, Option, Some, None, refl, sym, ap, ap₂, ◌∙◌, subst}
+use Rattle.std.proofs.Common.{◌≡◌, ℕ, suc, Bool, true, false, cond, not, ◌||◌, ◌&&◌, List, [], Contains, inl, inr, Option, Some, None, refl, sym, ap, ap₂, ◌∙◌, subst}
 use Rattle.std.specs.Cmp.Lexicographic.{bytes_decides}
 use Rattle.std.proofs.lemmas.Bool.{and_parts, and_from, or_left, or_right, or_cases, not_from_false, not-true, false_from_ne_true}
-use Rattle.type_kinds.proofs.Lists.{contains_first, contains_later}
 use Rattle.type_kinds.proofs.Truths.{same_tests}
 use Rattle.type_kinds.specs.declared.atom.Atom.{Atom}
 use Rattle.core_ast.specs.declared.syntax.FunName.{FunName}
 use Rattle.call_graph.specs.Outside.{Called}
 use Rattle.cons_tree.specs.declared.parts.Callee.TheVariants.{Unknown}
-use Rattle.table_keep.specs.Model.{Source, Entry, Result, source_of, is_there, is_in, picked, entry_of}
+use Rattle.table_keep.specs.Model.{Source, Entry, source_of, is_there, is_in, picked, entry_of}
 use Rattle.table_keep.specs.Calls.{called_functions, called_modules}
 use Rattle.table_keep.specs.Groups.{Together, Groups, IsGroups, has, group_of}
 use Rattle.table_keep.specs.Kept.{Solves, Standing, Results, AreResults, callee_among, is_candidate, calls_of, calls_by, is_old, all_stand, callee_by, with_results, handed, stands, is_kept, kept, is_new, finally}
-use Rattle.table_keep.specs.Made.{used_of, made}
+use Rattle.table_keep.specs.Made.{used_of}
 use Rattle.sound_laws_kept.specs.Written.{made_of, new_entry, IsAnalysisBy, with_kept}
 use Rattle.sound_laws_kept.specs.Solving.{AreSources}
 use Rattle.sound_laws_kept.specs.Laws.{DigestsTell}
 use Rattle.sound_laws_kept.proofs.Solving.{Carries, GivesOne, GivesParts, IsPart, AgreeOutside, SameSources}
-use Rattle.sound_laws_kept.proofs.Names.{clash, some_is, none_some, there_is, picked_source, picked_from, picked_there, picked_out, are_picked, append_source, are_appended}
+use Rattle.sound_laws_kept.proofs.Names.{clash, some_is, there_is, picked_source, picked_from, picked_there, picked_out, are_picked, append_source, are_appended}
 use Rattle.sound_laws_kept.proofs.Graphs as graphs
 use Rattle.sound_laws_kept.proofs.Folds as folds
+use Rattle.sound_laws_kept.proofs.Entries as entries_of
+use Rattle.sound_laws_kept.proofs.Entries.{FromSource, made_same}
 use Rattle.sound_laws_kept.proofs.Scratch as scratch
 use Rattle.sound_laws_kept.proofs.Scratch.{IsSolution, picked_is, is_in_of, node_of, candidate_in, calls_named, calls_home}
 
@@ -53,29 +54,10 @@ module _ (solves : Solves) (carries : Carries solves) (gives_one : GivesOne solv
   -- ---- the entries of the table
 
   abbrev pub written : Source → Atom → Entry
-  written s h = made s (group_of V h) KS (RS h)
+  written = entries_of.written V KS RS
 
-  entry_by : (h : Atom) → entry_of T h ≡ made_of (source_of Src h) (group_of V h) KS (RS h)
-  unfolding new_entry
-  entry_by h =
-      entries h
-      ∙ ap (λ b. cond b (entry_of [] h) (made_of (source_of Src h) (group_of V h) KS (RS h))) (scratch.none_kept RS Src S of_src.candidates h)
-
-  pub record FromSource (h : Atom) (e : Entry) : Type 0 where
-    pub source : Source
-    pub there : source_of Src h ≡ Some source
-    pub is_written : e ≡ written source h
-
-  entry_source : (h : Atom) (e : Entry) → entry_of T h ≡ Some e → FromSource h e
-  entry_source h e at = by (source_of Src h) refl
-    where
-      by : (o : Option Source) → source_of Src h ≡ o → FromSource h e
-      by None none = none_some (sym (ap (λ o. made_of o (group_of V h) KS (RS h)) none) ∙ sym (entry_by h) ∙ at)
-      by (Some s) there = record {
-        source = s;
-        there = there;
-        is_written = some_is (sym at ∙ entry_by h ∙ ap (λ o. made_of o (group_of V h) KS (RS h)) there);
-      }
+  entry_source : (h : Atom) (e : Entry) → entry_of T h ≡ Some e → FromSource Src V KS RS h e
+  entry_source = entries_of.entry_source Src T S V RS of_src.candidates entries
 
   -- ---- what is handed in, and the kept sources
 
@@ -229,7 +211,7 @@ module _ (solves : Solves) (carries : Carries solves) (gives_one : GivesOne solv
     pub source_groups : (h x : Atom) → is_kept_now h ≡ true → has (group_of S h) x ≡ has (group_of u h) x
     source_groups h x k =
         let facts = kept_facts h k in
-        scratch.new_groups Src S V RS of_src.candidates of_src.new h (is_in_of Src h facts.source facts.in_src) x
+        scratch.new_groups Src S RS of_src.candidates V of_src.new h (is_in_of Src h facts.source facts.in_src) x
         ∙ ap (λ ns. has ns x) facts.group ∙ kept_groups h x k
 
     -- ---- a kept module: what the table's sources gave is carried over
@@ -400,39 +382,11 @@ module _ (solves : Solves) (carries : Carries solves) (gives_one : GivesOne solv
 
   -- so the groups of the new table's modules are groups of what is there
   pub there_groups : (n : Groups) → IsGroups (is_new R T M g) (calls_of T M) n → IsGroups (is_candidate [] U) (calls_of [] U) n
-  there_groups n of_n = record {
-    low = λ a node. of_n.low a (to_new a node);
-    together = λ a b c d. (
-      λ e. new_over a b ((of_n.together a b (to_new a c) (to_new b d)).0 e),
-      λ t. (of_n.together a b (to_new a c) (to_new b d)).1 (over_new a b t),
-    );
-    downward = λ a b l. of_n.downward a b (to_new a l.0, to_new b l.1, ap (λ names. has names b) (sym (same_calls a (node_in a l.0))) ∙ l.2);
-    members = λ m a. (
-      λ e. (let of = (of_n.members m a).0 e in (node_of U a (new_in a of.0), of.1)),
-      λ e. (of_n.members m a).1 (to_new a e.0, e.1),
-    );
-    sorted = of_n.sorted;
-  }
-    where
-      to_new : (a : Atom) → is_candidate [] U a ≡ true → is_new R T M g a ≡ true
-      to_new a e = in_new a (node_in a e)
+  there_groups n of_n =
+      graphs.groups_over (is_new R T M g) (calls_of T M) (is_candidate [] U) (calls_of [] U) (λ a e. node_of U a (new_in a e)) (λ a e. in_new a (node_in a e))
+      (λ a e. sym (same_calls a (new_in a e))) n of_n
 
   -- ---- and the same entries and results
-
-  used_same : (group : List Atom) (K L : Standing) (cs : List Called) → ((c : Called) → Contains cs c → has group c.0 ≡ false → K c.0 c.1 ≡ L c.0 c.1) → used_of group K cs ≡ used_of group L cs
-  used_same group K L [] same = refl
-  used_same group K L (x ∷ xs) same = by (has group x.0) refl (used_same group K L xs (λ c e. same c (contains_later x c xs e)))
-    where
-      by : (b : Bool) → has group x.0 ≡ b → used_of group K xs ≡ used_of group L xs
-          → cond b (used_of group K xs) ((x, K x.0 x.1) ∷ used_of group K xs) ≡ cond b (used_of group L xs) ((x, L x.0 x.1) ∷ used_of group L xs)
-      by true is rest = rest
-      by false is rest = ap₂ (λ c us. (x, c) ∷ us) (same x (contains_first x xs) is) rest
-
-  made_same : (s : Source) (gr hr : List Atom) (K L : Standing) (a b : Result) → gr ≡ hr → ((c : Called) → Contains (called_functions s.tree) c → has gr c.0 ≡ false → K c.0 c.1 ≡ L c.0 c.1) → a ≡ b
-      → made s gr K a ≡ made s hr L b
-  made_same s gr hr K L a b groups calls result =
-      ap₂ (λ us r. record { name = s.tree.name; digest = s.digest; group = gr; calls = called_modules s.tree; used = us; result = r }) (used_same gr K L (called_functions s.tree) calls) result
-      ∙ ap (λ names. made s names L b) groups
 
   module _ (u : Groups) (of_u : IsGroups (is_candidate [] U) (calls_of [] U) u) (n v : Groups) (RU : Results) (of_n : IsGroups (is_new R T M g) (calls_of T M) n) (of_v : IsGroups (is_new RU [] U u) (calls_of [] U) v)
       (u_results : AreResults solves [] U u RU) where
@@ -452,7 +406,7 @@ module _ (solves : Solves) (carries : Carries solves) (gives_one : GivesOne solv
     groups_same h e x =
         graphs.one_group (is_new R T M g) (calls_of T M) n of_n (is_candidate [] U) (calls_of [] U) u of_u h (in_new h e) (node_of U h e)
         (λ a node t. (node_of U a (new_in a node), new_over h a t)) (λ a node t. (in_new a (node_in a node), over_new h a t)) x
-        ∙ scratch.new_groups U u v RU of_u of_v h e x
+        ∙ scratch.new_groups U u RU of_u v of_v h e x
 
     group_list : (h : Atom) → is_in U h ≡ true → group_of n h ≡ group_of v h
     group_list h e = graphs.one_list (is_new R T M g) (calls_of T M) n of_n (is_new RU [] U u) (calls_of [] U) v of_v h (groups_same h e)
@@ -461,7 +415,7 @@ module _ (solves : Solves) (carries : Carries solves) (gives_one : GivesOne solv
     kept_list h k =
         (kept_facts h k).group
         ∙ graphs.one_list (is_candidate T M) (calls_of T M) g is (is_new RU [] U u) (calls_of [] U) v of_v h
-        (λ x. kept_groups u of_u h x k ∙ scratch.new_groups U u v RU of_u of_v h (kept_in h k) x)
+        (λ x. kept_groups u of_u h x k ∙ scratch.new_groups U u RU of_u v of_v h (kept_in h k) x)
 
     scratch_entry : (h : Atom) → new_entry RU [] U u v h ≡ made_of (source_of U h) (group_of v h) KU (RU h)
     unfolding new_entry

@@ -1,5 +1,5 @@
 -- Names, and look-ups by name.
-use Rattle.std.proofs.Common.{◌≡◌, Bool, true, false, cond, List, [], ◌∷◌, ◌++◌, Contains, inl, inr, Option, Some, None, refl, sym, ap, ◌∙◌, subst}
+use Rattle.std.proofs.Common.{◌≡◌, Bool, true, false, cond, List, [], ◌∷◌, ◌++◌, Contains, map, inl, inr, Option, Some, None, refl, sym, ap, ap₂, ◌∙◌, subst}
 use Rattle.std.specs.Cmp.Lexicographic.{pointwise, pointwise_decides, bytes_decides}
 use Rattle.type_kinds.proofs.Lists.{contains_none, contains_first, contains_later, contains_cases}
 use Rattle.type_kinds.specs.declared.atom.Atom.{Atom}
@@ -36,6 +36,12 @@ callee_is c d e = (same_by_equal callee_code c d).0 e
 -- a module calls the modules of the functions that it calls
 pub called_has : (x : m.Module) (c : Called) → Contains (called_functions x) c → has (called_modules x) c.0 ≡ true
 called_has x c e = (modules_exactly x c.0).1 (c, e, refl)
+
+-- ---- what is made of each item of a list
+
+pub map_there : {A B : Type 0} (f g : A → B) (xs : List A) → ((x : A) → Contains xs x → f x ≡ g x) → map f xs ≡ map g xs
+map_there f g [] e = refl
+map_there f g (x ∷ xs) e = ap₂ (λ y ys. y ∷ ys) (e x (contains_first x xs)) (map_there f g xs (λ y has_y. e y (contains_later x y xs has_y)))
 
 -- ---- sources by name
 

@@ -1,5 +1,5 @@
 -- The analysis from the empty table: what stands in the end is the one solution.
-use Rattle.std.proofs.Common.{◌≡◌, ℕ, zero, suc, ◌<◌, ◌≤◌, Bool, true, false, cond, ◌||◌, List, [], Contains, inl, inr, Some, None, refl, sym, ap, ◌∙◌, subst, arith}
+use Rattle.std.proofs.Common.{◌≡◌, ℕ, zero, suc, ◌<◌, ◌≤◌, Bool, true, false, cond, ◌||◌, List, [], ◌∷◌, Contains, inl, inr, Some, None, refl, sym, ap, ◌∙◌, subst, arith}
 use Rattle.std.proofs.lemmas.Bool.{cases_lt, or_left, or_cases, false_from_ne_true}
 use Rattle.type_kinds.specs.declared.atom.Atom.{Atom}
 use Rattle.core_ast.specs.declared.syntax.FunName.{FunName}
@@ -11,7 +11,7 @@ use Rattle.table_keep.specs.Groups.{Groups, IsGroups, has, group_of}
 use Rattle.table_keep.specs.Kept.{Solves, Standing, Results, AreResults, callee_among, is_candidate, calls_of, calls_by, stands, is_kept, kept, is_new, finally}
 use Rattle.sound_laws_kept.specs.Solving.{AreSources}
 use Rattle.sound_laws_kept.proofs.Solving.{Carries, GivesOne, AgreeOutside}
-use Rattle.sound_laws_kept.proofs.Names.{clash, none_some, called_has, picked_source, picked_from, picked_there, are_picked}
+use Rattle.sound_laws_kept.proofs.Names.{clash, itself, none_some, called_has, picked_source, picked_from, picked_there, are_picked}
 use Rattle.sound_laws_kept.proofs.Graphs as graphs
 use Rattle.sound_laws_kept.proofs.Graphs.{in_own_group, member_number}
 use Rattle.sound_laws_kept.proofs.Folds as folds
@@ -65,44 +65,82 @@ none_kept R U u is h = false_from_ne_true (kept R [] U u h) (λ e. lacks e (fold
         none_some facts.there
 
 module _ (solves : Solves) (carries : Carries solves) (gives_one : GivesOne solves) (U : List Source) (are : AreSources U) where
-  -- ---- the analysis gives a solution
+  -- ---- the analysis gives a solution, and a solution is an analysis
 
-  module _ (u : Groups) (R : Results) (is : IsGroups (is_candidate [] U) (calls_of [] U) u) (results : AreResults solves [] U u R) where
+  module _ (u : Groups) (R : Results) (is : IsGroups (is_candidate [] U) (calls_of [] U) u) where
     abbrev F : ℕ → Standing
     F = stands R [] U u
 
     group_not_kept : (h : Atom) → is_in U h ≡ true → is_kept R [] U u (u.number h) ≡ false
     group_not_kept h in_it = sym (folds.kept_is R [] U u h (node_of U h in_it)) ∙ none_kept R U u is h
 
-    pub scratch_solution : IsSolution solves U u (finally R [] U u) R
-    scratch_solution = record {
-      outside = λ h f none. folds.final_outside R [] U u is h f (candidate_in U h ∙ none);
-      inside = λ h f in_it.
-          folds.final_solved R [] U u is h f (node_of U h in_it) (group_not_kept h in_it)
-          ∙ ap (λ c. cond c (callee_among (R h).exports f) Unknown) in_it;
+    final_outside : (h : Atom) (f : FunName) → is_in U h ≡ false → finally R [] U u h f ≡ Unknown
+    final_outside h f none = folds.final_outside R [] U u is h f (candidate_in U h ∙ none)
+
+    final_inside : (h : Atom) (f : FunName) → is_in U h ≡ true → finally R [] U u h f ≡ callee_among (R h).exports f
+    final_inside h f in_it =
+        folds.final_solved R [] U u is h f (node_of U h in_it) (group_not_kept h in_it)
+        ∙ ap (λ c. cond c (callee_among (R h).exports f) Unknown) in_it
+
+    stays : (h x : Atom) (f : FunName) → is_in (picked (has (group_of u h)) U) x ≡ false → F (suc (u.number h)) x f ≡ F (u.number h) x f
+    stays h x f out = by (has (group_of u h) x) refl
+      where
+        by : (b : Bool) → has (group_of u h) x ≡ b → F (suc (u.number h)) x f ≡ F (u.number h) x f
+        by true e =
+            clash (is_in U x)
+            (sym (candidate_in U x) ∙ graphs.member_is_node (is_candidate [] U) (calls_of [] U) u is (u.number h) x e)
+            (sym (ap is_there (picked_there (has (group_of u h)) U x e)) ∙ out)
+        by false e = folds.stay R [] U u (u.number h) x f e
+
+    -- what a group calls outside of itself stands in the end as when it is decided
+    settles : (h : Atom) → AgreeOutside (picked (has (group_of u h)) U) (F (u.number h)) (finally R [] U u)
+    settles h y s c there call out =
+        let at = picked_is (has (group_of u h)) U y s there in
+        let node = node_of U y (is_in_of U y s at.there) in
+        let number : u.number y ≡ u.number h = member_number (is_candidate [] U) (calls_of [] U) u is (u.number h) y at.by_name in
+        let calls = calls_home U y s c at.there call in
+        sym (folds.calls_settled R [] U u is y c.0 c.1 node calls ∙ ap (λ n. F (suc n) c.0 c.1) number ∙ stays h c.0 c.1 out)
+
+    pub scratch_solution : AreResults solves [] U u R → IsSolution solves U u (finally R [] U u) R
+    scratch_solution results = record {
+      outside = final_outside;
+      inside = final_inside;
       solved = λ h in_it.
           carries.over (picked (has (group_of u h)) U) (picked (has (group_of u h)) U) (F (u.number h)) (finally R [] U u) R R
-          (are_picked (has (group_of u h)) U are) (are_picked (has (group_of u h)) U are) (λ x. refl) (agree h) (λ x e. refl)
+          (are_picked (has (group_of u h)) U are) (are_picked (has (group_of u h)) U are) (λ x. refl) (settles h) (λ x e. refl)
           (results.solved (u.number h) (is.low h (node_of U h in_it)) (group_not_kept h in_it));
     }
-      where
-        stays : (h x : Atom) (f : FunName) → is_in (picked (has (group_of u h)) U) x ≡ false → F (suc (u.number h)) x f ≡ F (u.number h) x f
-        stays h x f out = by (has (group_of u h) x) refl
-          where
-            by : (b : Bool) → has (group_of u h) x ≡ b → F (suc (u.number h)) x f ≡ F (u.number h) x f
-            by true e =
-                clash (is_in U x)
-                (sym (candidate_in U x) ∙ graphs.member_is_node (is_candidate [] U) (calls_of [] U) u is (u.number h) x e)
-                (sym (ap is_there (picked_there (has (group_of u h)) U x e)) ∙ out)
-            by false e = folds.stay R [] U u (u.number h) x f e
 
-        agree : (h : Atom) → AgreeOutside (picked (has (group_of u h)) U) (F (u.number h)) (finally R [] U u)
-        agree h y s c there call out =
-            let at = picked_is (has (group_of u h)) U y s there in
-            let node = node_of U y (is_in_of U y s at.there) in
-            let number : u.number y ≡ u.number h = member_number (is_candidate [] U) (calls_of [] U) u is (u.number h) y at.by_name in
-            let calls = calls_home U y s c at.there call in
-            sym (folds.calls_settled R [] U u is y c.0 c.1 node calls ∙ ap (λ n. F (suc n) c.0 c.1) number ∙ stays h c.0 c.1 out)
+    -- where nothing is solved of nothing
+    pub solution_results : ((K : Standing) → solves [] K R) → (K : Standing) → IsSolution solves U u K R → AreResults solves [] U u R
+    solution_results nothing K a = record {
+      of_entry = λ h e k there. none_some there;
+      solved = λ n low not_kept. by n (u.members n) refl;
+    }
+      where
+        same : (h : Atom) (f : FunName) → K h f ≡ finally R [] U u h f
+        same h f = so (is_in U h) refl
+          where
+            so : (b : Bool) → is_in U h ≡ b → K h f ≡ finally R [] U u h f
+            so true e = a.inside h f e ∙ sym (final_inside h f e)
+            so false e = a.outside h f e ∙ sym (final_outside h f e)
+
+        none_picked : (xs : List Source) → picked (has []) xs ≡ []
+        none_picked [] = refl
+        none_picked (s ∷ ss) = none_picked ss
+
+        at : (h : Atom) → is_in U h ≡ true → solves (picked (has (group_of u h)) U) (F (u.number h)) R
+        at h in_it =
+            carries.over (picked (has (group_of u h)) U) (picked (has (group_of u h)) U) K (F (u.number h)) R R
+            (are_picked (has (group_of u h)) U are) (are_picked (has (group_of u h)) U are) (λ x. refl)
+            (λ y s c there call out. same c.0 c.1 ∙ sym (settles h y s c there call out)) (λ x e. refl) (a.solved h in_it)
+
+        by : (n : ℕ) (group : List Atom) → u.members n ≡ group → solves (picked (has (u.members n)) U) (F n) R
+        by n [] e = subst (λ xs. solves xs (F n) R) (sym (ap (λ group. picked (has group) U) e ∙ none_picked U)) (nothing (F n))
+        by n (x ∷ xs) e =
+            let member : has (u.members n) x ≡ true = ap (λ group. has group x) e ∙ ap (λ b. b || has xs x) (itself x) in
+            let node = graphs.member_is_node (is_candidate [] U) (calls_of [] U) u is n x member in
+            subst (λ m. solves (picked (has (u.members m)) U) (F m) R) (member_number (is_candidate [] U) (calls_of [] U) u is n x member) (at x (sym (candidate_in U x) ∙ node))
 
   -- ---- there is one solution: group by group
 
@@ -159,7 +197,7 @@ module _ (solves : Solves) (carries : Carries solves) (gives_one : GivesOne solv
 
 -- ---- the groups of the new table's modules are those of the candidates
 
-module _ (U : List Source) (u v : Groups) (R : Results) (is : IsGroups (is_candidate [] U) (calls_of [] U) u) (new : IsGroups (is_new R [] U u) (calls_of [] U) v) where
+module _ (U : List Source) (u : Groups) (R : Results) (is : IsGroups (is_candidate [] U) (calls_of [] U) u) where
   new_in : (h : Atom) → is_new R [] U u h ≡ true → is_in U h ≡ true
   unfolding is_new
   new_in h e = elim (or_cases (is_in U h) (kept R [] U u h) e) [
@@ -171,14 +209,14 @@ module _ (U : List Source) (u v : Groups) (R : Results) (is : IsGroups (is_candi
   unfolding is_new
   in_new h e = or_left (is_in U h) (kept R [] U u h) e
 
-  to_new : (h : Atom) → is_candidate [] U h ≡ true → is_new R [] U u h ≡ true
+  pub to_new : (h : Atom) → is_candidate [] U h ≡ true → is_new R [] U u h ≡ true
   to_new h e = in_new h (sym (candidate_in U h) ∙ e)
 
-  from_new : (h : Atom) → is_new R [] U u h ≡ true → is_candidate [] U h ≡ true
+  pub from_new : (h : Atom) → is_new R [] U u h ≡ true → is_candidate [] U h ≡ true
   from_new h e = node_of U h (new_in h e)
 
-  pub new_groups : (h : Atom) → is_in U h ≡ true → (x : Atom) → has (group_of u h) x ≡ has (group_of v h) x
-  new_groups h in_it =
+  pub new_groups : (v : Groups) → IsGroups (is_new R [] U u) (calls_of [] U) v → (h : Atom) → is_in U h ≡ true → (x : Atom) → has (group_of u h) x ≡ has (group_of v h) x
+  new_groups v new h in_it =
       graphs.one_group (is_candidate [] U) (calls_of [] U) u is (is_new R [] U u) (calls_of [] U) v new h (node_of U h in_it) (in_new h in_it)
       (λ a node together. (to_new a node, graphs.together_over (is_candidate [] U) (calls_of [] U) (is_new R [] U u) (calls_of [] U) to_new (λ x e. refl) h a together))
       (λ a node together. (from_new a node, graphs.together_over (is_new R [] U u) (calls_of [] U) (is_candidate [] U) (calls_of [] U) from_new (λ x e. refl) h a together))

@@ -3,13 +3,15 @@ use Rattle.std.specs.Prelude.{◌≡◌, ℕ, ◌<◌, true, Some, List, [], Con
 use Rattle.type_kinds.specs.declared.atom.Atom.{Atom}
 use Rattle.core_ast.specs.declared.syntax.FunName.{FunName}
 use Rattle.table_file.specs.Order.{rises, is_name_before}
+use Rattle.call_graph.specs.Outside.{Called}
+use Rattle.cons_tree.specs.declared.parts.Callee.{Callee}
 use Rattle.comp_rounds.specs.Rounds.{Callees}
 use Rattle.module_flow.specs.Flow.{findings}
 use Rattle.sound_laws_rounds.specs.Whole.{IsWhole}
 use Rattle.warn_list.specs.Lines.{AreLines}
 use Rattle.table_keep.specs.Model.{Source, Entry, trees, source_of, is_in, entry_of}
-use Rattle.table_keep.specs.Groups.{Groups, IsGroups}
-use Rattle.table_keep.specs.Kept.{Standing, Results, is_candidate, calls_of, stands, kept}
+use Rattle.table_keep.specs.Groups.{Groups, IsGroups, has}
+use Rattle.table_keep.specs.Kept.{Standing, Results, is_candidate, calls_of, is_old, stands, kept}
 use Rattle.sound_laws_kept.specs.Written.{with_kept}
 use Rattle.sound_laws_kept.specs.Solving.{IsSolved, IsWritten, AreSources}
 use Rattle.sound_laws_kept.specs.Waves.{wave_from, to_solve, IsWave}
@@ -25,13 +27,27 @@ KeptLaw = (Src M : List Source) (T new scratch : List Entry) (before reports all
     → (w : IsWritten T M reports new) → IsWritten [] (with_kept (kept w.known T M w.groups) M Src) all scratch
     → (new ≡ scratch) × (reports ≡ take (length M) all)
 
--- From the empty table there is one analysis of sources: whatever the numbers of workers, in two runs the reports and the new table are
--- the same.
+-- There is such an analysis from the empty table, and the new table is its table: so that is again the table of sources, of what is handed
+-- in and of the kept sources.
+abbrev pub AgainLaw : Type 0
+AgainLaw = (Src M : List Source) (T new : List Entry) (before reports : List (List ℕ)) → AreSources Src → AreSources M → DigestsTell Src M → IsWritten [] Src before T
+    → (w : IsWritten T M reports new) → (all : List (List ℕ)) × IsWritten [] (with_kept (kept w.known T M w.groups) M Src) all new
+
+-- What an entry uses is of modules that its text calls: where that text is handed in, by its digest, or no text of its name is.
+abbrev pub UseCalled : (T : List Entry) (M : List Source) → Type 0
+UseCalled T M = (h : Atom) (e : Entry) (u : Called × Callee) → entry_of T h ≡ Some e → is_old (source_of M h) e ≡ true → Contains e.used u → has (calls_of T M h) u.0.0 ≡ true
+
+-- There is one analysis of sources with such a table: whatever the numbers of workers, in two runs the reports and the new table are the
+-- same.
 abbrev pub OneAnalysisLaw : Type 0
-OneAnalysisLaw = (M : List Source) (reports others : List (List ℕ)) (new other : List Entry) → AreSources M → IsWritten [] M reports new → IsWritten [] M others other
+OneAnalysisLaw = (T : List Entry) (M : List Source) (reports others : List (List ℕ)) (new other : List Entry) → AreSources M → UseCalled T M → IsWritten T M reports new → IsWritten T M others other
     → (reports ≡ others) × (new ≡ other)
 
--- The new table is again the table of sources: of what is handed in and of the kept sources, wherever these have one.
+-- The table of some sources is such a table.
+abbrev pub EntriesUseCalledLaw : Type 0
+EntriesUseCalledLaw = (Src M : List Source) (T : List Entry) (before : List (List ℕ)) → DigestsTell Src M → IsWritten [] Src before T → UseCalled T M
+
+-- Entries that rise by name are given by the entry of each name.
 abbrev pub OneTableLaw : Type 0
 OneTableLaw = (A B : List Entry) → IsTrue (rises is_name_before (map (λ e. e.name) A)) → IsTrue (rises is_name_before (map (λ e. e.name) B)) → ((h : Atom) → entry_of A h ≡ entry_of B h) → A ≡ B
 

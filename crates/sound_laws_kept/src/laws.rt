@@ -1,5 +1,5 @@
 //! The laws, as functions that do nothing: who calls one has its clauses.
-ghost use Rattle.sound_laws_kept.specs.Laws.{FoundLaw, KeptLaw, OneAnalysisLaw, OneTableLaw, RestsLaw, WaveLaw};
+ghost use Rattle.sound_laws_kept.specs.Laws.{AgainLaw, EntriesUseCalledLaw, FoundLaw, KeptLaw, OneAnalysisLaw, OneTableLaw, RestsLaw, WaveLaw};
 
 use module_flow_frame::findings_rest_on_calls;
 use sound_laws_outside::{known_is_carried, known_of_parts, one_is_known};
@@ -18,6 +18,17 @@ pub fn kept_is_from_scratch()
     one_table();
 }
 
+/// There is such an analysis, and the new table is its table: so it is again the table of sources.
+pub fn table_is_of_sources()
+    ensures { AgainLaw }
+{
+    findings_rest_on_calls();
+    known_is_carried();
+    known_of_parts();
+    one_is_known();
+    one_text();
+}
+
 /// What is reported with the table of some sources is found by what is known of the functions of a whole program: of
 /// what is handed in and of the kept sources.
 pub fn reports_are_found()
@@ -30,12 +41,21 @@ pub fn reports_are_found()
     one_text();
 }
 
-/// From the empty table there is one analysis of sources.
+/// There is one analysis of sources with a table whose entries use functions of modules that their texts call.
 pub fn one_analysis()
     ensures { OneAnalysisLaw }
 {
-    kept_is_from_scratch();
+    findings_rest_on_calls();
+    known_is_carried();
+    one_is_known();
+    one_text();
+    one_table();
 }
+
+/// The table of some sources is such a table.
+pub fn entries_use_called()
+    ensures { EntriesUseCalledLaw }
+{}
 
 /// A table whose entries rise by name is given by what it has under each name.
 pub fn one_table()

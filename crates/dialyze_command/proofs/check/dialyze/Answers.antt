@@ -11,11 +11,11 @@ returns-in-Ok-give-clause-outcome g c =
 
 pub returns-in-Ok-give-clause-kept : goal.returns-in-Ok-give-clause-kept
 returns-in-Ok-give-clause-kept g c =
-    λ asks a. kept.kept_it c.kept_is_from_scratch.ensures c.reports_are_found.ensures c.nothing_is_false.ensures.whole c.findings_are_tied.ensures.lines _ _ _ _ _ _ _ _ c.in-Ok.answer.output _ _ c.in-Ok.ensures.intended (c.in-Ok-give.ensures.all ∙ ap (appended (g.K.Sink.written c.args.out.now)) c.as_slice.ensures) asks a
+    λ asks a. kept.kept_it c.kept_is_from_scratch.ensures c.table_is_of_sources.ensures c.reports_are_found.ensures c.nothing_is_false.ensures.whole c.findings_are_tied.ensures.lines _ _ _ _ _ _ _ _ c.in-Ok.answer.output _ _ c.in-Ok.ensures.intended (c.in-Ok-give.ensures.all ∙ ap (appended (g.K.Sink.written c.args.out.now)) c.as_slice.ensures) asks a
 
 pub returns-in-Ok-give-clause-sound : goal.returns-in-Ok-give-clause-sound
 returns-in-Ok-give-clause-sound g c =
-    λ asks a. kept.sound_it c.kept_is_from_scratch.ensures c.reports_are_found.ensures c.nothing_is_false.ensures.whole c.findings_are_tied.ensures.lines _ _ _ _ _ _ _ _ c.in-Ok.answer.output _ _ c.in-Ok.ensures.intended (c.in-Ok-give.ensures.all ∙ ap (appended (g.K.Sink.written c.args.out.now)) c.as_slice.ensures) asks a
+    λ asks a. kept.sound_it c.kept_is_from_scratch.ensures c.table_is_of_sources.ensures c.reports_are_found.ensures c.nothing_is_false.ensures.whole c.findings_are_tied.ensures.lines _ _ _ _ _ _ _ _ c.in-Ok.answer.output _ _ c.in-Ok.ensures.intended (c.in-Ok-give.ensures.all ∙ ap (appended (g.K.Sink.written c.args.out.now)) c.as_slice.ensures) asks a
 
 pub returns-in-Ok-give-clause-usage : goal.returns-in-Ok-give-clause-usage
 returns-in-Ok-give-clause-usage g c = λ a. usage_it _ _ _ _ _ _ _ _ _ c.in-Ok.ensures.intended a
