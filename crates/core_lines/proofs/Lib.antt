@@ -1,0 +1,5 @@
+mod Counted
+mod ExpressionExits
+mod Joining
+mod PatternExits
+mod Rounds
