@@ -1,0 +1,7 @@
+mod Homes
+mod LeftOut
+mod OneApplication
+mod OneList
+mod Same
+mod Sorted
+mod Within
