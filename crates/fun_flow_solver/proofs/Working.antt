@@ -1,7 +1,7 @@
 -- What the steps of the worklist keep.
 use Rattle.std.proofs.Common.{◌≡◌, ℕ, ◌<◌, ◌⊎◌, ◌↔◌, inl, inr, true, List, [], ◌∷◌, ◌++◌, length, refl, sym, ◌∙◌, ap, subst, Contains, Option, Some, None, arith, below_more, ◌+◌}
 use Rattle.std.specs.List.{list_any}
-use Rattle.std.specs.Prelude.{◌==◌, slice_index, slice_index_or, Result, Ok, Err, OnOk}
+use Rattle.std.specs.Prelude.{◌==◌, slice_index, slice_index_or}
 use Rattle.std.proofs.lemmas.List.{get_or_default}
 use Rattle.std.proofs.lemmas.List.Elements.{Contains-append_left, Contains-push, Contains-push_cases}
 use Rattle.fun_flow_solver.specs.declared.problem.Pair.{Pair}
@@ -184,14 +184,6 @@ link_keeps P sets out queue sets' out' queue' from to m only there n e j =
         | inr is ↦ subst (λ z. Leads sets' z x) (sym is.1) (there x (subst (λ z. Leads sets z x) is.0 h))
       ];
     }
-
-pub on_ok : {A E P Q : Type 0} (r : Result A E) → (P → Q) → OnOk r P → OnOk r Q
-on_ok (Ok x) f h = f h
-on_ok (Err e) f h = tt
-
-pub on_ok_both : {A E P Q S : Type 0} (r : Result A E) → (P → Q → S) → OnOk r P → OnOk r Q → OnOk r S
-on_ok_both (Ok x) f h k = f h k
-on_ok_both (Err e) f h k = tt
 
 pub applied_grows : (P : Problem) (sets out sets' out' : List (List ℕ)) (c : Application) (x : ℕ) → Grows sets sets' → Grows out out' → IsApplied P sets out c x → IsApplied P sets' out' c x
 applied_grows P sets out sets' out' c x g e a = (λ u. g c.place 0 (a.0 u), λ r b. e r c.place (a.1 r b))
