@@ -6,3 +6,5 @@ pub mod Scopes
 pub mod Sets
 pub mod Standing
 pub mod Worked
+pub mod ValueRules
+pub mod CallRules
