@@ -1,5 +1,5 @@
 -- What stands in a list and at its places, beside what std has of it.
-use Rattle.std.proofs.Common.{◌≡◌, ℕ, zero, suc, ◌+◌, ◌<◌, ◌⊎◌, inl, inr, List, [], ◌∷◌, ◌++◌, length, get_or, slice_get, take, drop, map, Contains, Option, Some, None, option_copied, Bor, sym, refl, ap, ◌∙◌, add-one, drop-cons, take-suc, arith}
+use Rattle.std.proofs.Common.{◌≡◌, ℕ, zero, suc, ◌+◌, ◌<◌, ◌⊎◌, inl, inr, List, [], ◌∷◌, ◌++◌, length, get_or, slice_get, take, drop, map, Contains, Option, Some, None, option_copied, Bor, sym, refl, ap, ◌∙◌, add-one, drop-cons, take-suc, append_assoc, arith}
 use Rattle.std.proofs.lemmas.List.{map-append, get_or_past}
 use Rattle.std.proofs.lemmas.Option.{slice_get-get_or, slice_get_within, get_or_from_slice_get}
 
@@ -66,3 +66,11 @@ same_head x y xs ys e = cc
 
 pub same_tail : {X : Type 0} (x y : X) (xs ys : List X) → x ∷ xs ≡ y ∷ ys → xs ≡ ys
 same_tail x y xs ys e = cc
+
+-- ---- what is appended part by part
+
+pub two_parts : {X : Type 0} (o p q a b : List X) → p ≡ o ++ a → q ≡ p ++ b → q ≡ o ++ (a ++ b)
+two_parts o p q a b first second = second ∙ ap (λ z. z ++ b) first ∙ append_assoc o a b
+
+pub three_parts : {X : Type 0} (o p q r a b c : List X) → p ≡ o ++ a → q ≡ p ++ b → r ≡ q ++ c → r ≡ o ++ (a ++ b ++ c)
+three_parts o p q r a b c first second third = two_parts o q r (a ++ b) c (two_parts o p q a b first second) third

@@ -36,3 +36,7 @@ pub not_under : (r : Ordering) (b : Bool) → is_ge r ≡ b → is_lt r ≡ not 
 not_under Less b h = ap not h
 not_under Equal b h = ap not h
 not_under Greater b h = ap not h
+
+-- what is the same as something that is the same as a third is the same as that
+pub both_ways : {A B C : Type 0} → A ↔ B → B ↔ C → A ↔ C
+both_ways h k = (λ a. k.0 (h.0 a), λ c. h.1 (k.1 c))

@@ -1,4 +1,3 @@
 mod LineTexts
 mod OneOrder
-mod Parts
 mod Sorting

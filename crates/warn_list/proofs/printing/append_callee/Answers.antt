@@ -1,7 +1,7 @@
 use Rattle.std.proofs.Common.{◌++◌, ◌∙◌, sym, ap, codes}
 use Rattle.std.specs.Fmt.{decimal}
 use Rattle.warn_list.specs.Lines.{callee_text}
-use Rattle.warn_list.proofs.Parts.{three_parts}
+use Rattle.type_kinds.proofs.Lists.{three_parts}
 use Rattle.warn_list.proofs.printing.append_callee.Goals as goal
 
 pub returns-in_ok-append-in-Value-2 : goal.returns-in_ok-append-in-Value-2

@@ -1,6 +1,6 @@
 use Rattle.std.proofs.Common.{◌++◌, ◌∙◌, sym, ap, codes}
 use Rattle.warn_list.specs.Lines.{callee_text, kind_text}
-use Rattle.warn_list.proofs.Parts.{two_parts}
+use Rattle.type_kinds.proofs.Lists.{two_parts}
 use Rattle.warn_list.proofs.printing.append_kind.Goals as goal
 
 pub returns-in_ok-append-in-DeadCall : goal.returns-in_ok-append-in-DeadCall
