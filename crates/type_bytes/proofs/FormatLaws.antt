@@ -1,7 +1,7 @@
 -- What it says that things are read as they are spelled, and nothing else.
 use Rattle.std.proofs.Common.{◌≡◌, ◌⊎◌, inl, inr, ℕ, zero, suc, ◌<◌, ◌^◌, Bool, true, false, cond, List, [], ◌∷◌, ◌++◌, Option, Some, None, length, take, drop, get_or, refl, sym, ap, ◌∙◌, subst, arith, append_assoc}
 use Rattle.std.specs.Prelude.{IsTrue, nat_lt}
-use Rattle.std.specs.List.{flat_map, list_all}
+use Rattle.std.specs.List.{flat_map, list_all, AllByRecursion as Each}
 use Rattle.std.specs.Int.{w32, from_be_bytes}
 use Rattle.std.proofs.lemmas.List.{take-append-drop, length-append, length-take}
 use Rattle.std.proofs.lemmas.Nat.{be_bytes_4, from_be_bytes-to_be_bytes_4}
@@ -74,10 +74,6 @@ granted true r y e = (refl, e)
 granted false r y e = never y e
 
 -- ---- n items
-
-abbrev pub Each : {X : Type 0} → (X → Type 0) → List X → Type 0
-Each P [] = Unit {0}
-Each P (x ∷ xs) = P x × Each P xs
 
 module _ {X : Type 0} {Good : X → Type 0} {spelled : X → List ℕ} {f : List ℕ → Option (X × List ℕ)} (t : Format Good spelled f) where
   many_complete : (n : ℕ) (xs : List X) (rest : List ℕ) → length xs ≡ n → Each Good xs → many n f (flat_map spelled xs ++ rest) ≡ Some (xs, rest)

@@ -18,9 +18,10 @@ use Rattle.std.proofs.lemmas.Option.{some_pair_parts}
 use Rattle.type_lattice_model.specs.Tables.{is_table}
 use Rattle.type_lattice_model.specs.Shapes.{Functions, no_function, of_arity, all_functions, Cell, product, tags, Tuples, sizes, all_tuples, Parts}
 use Rattle.type_lattice_model.specs.Operations.{Ops, ops}
+use Rattle.type_lattice_model.specs.Full.{is_any}
 use Rattle.type_lattice.specs.Types.{Type4}
 use Rattle.type_bytes.specs.declared.faults.ShapeFault.TheVariants.{Short, Broken}
-use Rattle.type_bytes.specs.Spelling.{is_any, bytes_of}
+use Rattle.type_bytes.specs.Spelling.{bytes_of}
 use Rattle.type_bytes.specs.ShortNames.{has_short_names}
 use Rattle.type_bytes.specs.Shapes.{TypeShape, IsShort}
 use Rattle.type_bytes.specs.steps.Cuts as cut

@@ -14,6 +14,8 @@ use Rattle.type_kinds_sets.specs.Ascending.{is_ascending}
 use Rattle.type_lattice_model.specs.Tables.{keys}
 use Rattle.type_lattice_model.specs.Shapes.{PlainParts, TypeAt, Body}
 use Rattle.type_lattice_model.specs.Operations.{ops, plain_none, of_plain}
+use Rattle.type_lattice_model.specs.Full.{is_any}
+use Rattle.type_lattice_model.proofs.FullLaws.{any_is_all, all_is_any}
 use Rattle.type_lattice_trees.specs.declared.node.Node.{Node}
 use Rattle.type_lattice_trees.specs.declared.node.Node.TheVariants as v
 use Rattle.type_lattice_trees.specs.declared.node.PartsOf.{PartsOf}
@@ -23,11 +25,9 @@ use Rattle.type_lattice_trees.specs.View.{view, row_view, tags_view, body_view, 
 use Rattle.type_lattice_trees.proofs.Views.{view_any, view_of, fits_of, normal_parts, one_more}
 use Rattle.type_bytes.specs.declared.faults.BytesFault.{BytesFault}
 use Rattle.type_bytes.specs.declared.faults.BytesFault.TheVariants as faults
-use Rattle.type_bytes.specs.Spelling.{is_any}
 use Rattle.type_bytes.specs.steps.Reading.{◌>>=◌, Fails, many, given, product_at, tags_at, body_at, masked_at, behind_at, element_at, type_at}
 use Rattle.type_bytes.proofs.FormatLaws.{AreBytes}
 use Rattle.type_bytes.proofs.TypeFormats.{masked_normal}
-use Rattle.type_bytes.proofs.Writes.{any_is_all, all_is_any}
 
 -- ---- behind the first byte
 

@@ -1,7 +1,7 @@
 -- Sets of atoms and of integers, bit strings and functions are read as they are spelled, and nothing else.
 use Rattle.std.proofs.Common.{◌≡◌, inl, inr, ℕ, zero, suc, ◌+◌, ◌*◌, ◌-◌, ◌/◌, ◌%◌, ◌<◌, ◌^◌, ℤ, pos, negsuc, true, false, cond, ◌&&◌, List, [], ◌∷◌, ◌++◌, Option, Some, None, length, take, drop, get_or, refl, sym, ap, ◌∙◌, subst, arith, true≢false}
 use Rattle.std.specs.Prelude.{IsTrue, nat_lt, nat_le, ◌==◌}
-use Rattle.std.specs.List.{flat_map, list_all}
+use Rattle.std.specs.List.{flat_map, list_all, AllByRecursion as Each}
 use Rattle.std.specs.Int.{w128, from_be_bytes, to_be_bytes, cast_signed, cast_unsigned}
 use Rattle.std.specs.Ordering.{int_cmp}
 use Rattle.std.proofs.lemmas.List.{take-append-drop, length-append, length-take}
@@ -35,7 +35,7 @@ use Rattle.type_lattice_model.specs.Normal.{NormalFunctions}
 use Rattle.type_bytes.specs.Spelling.{int_bytes, name_bytes, four_bytes, atoms_bytes, ints_bytes, bits_bytes, functions_bytes, low_number, high_number}
 use Rattle.type_bytes.specs.ShortNames.{is_short, are_short}
 use Rattle.type_bytes.specs.steps.Reading.{◌>>=◌, first, many, given, number_at, name_at, int_at, names_at, atoms_at, low_at, high_at, interval_at, numbers_at, ints_at, bits_at, functions_at}
-use Rattle.type_bytes.proofs.FormatLaws.{AreBytes, bytes_front, byte_at, Format, bound, was_given, chosen, never, passed, granted, Each, many_format, number_format, name_format, short_each, each_short}
+use Rattle.type_bytes.proofs.FormatLaws.{AreBytes, bytes_front, byte_at, Format, bound, was_given, chosen, never, passed, granted, many_format, number_format, name_format, short_each, each_short}
 
 -- ---- integers of sixteen bytes
 

@@ -1,7 +1,7 @@
 -- Lists, tuples and the parts of a type are read as they are spelled, and nothing else.
 use Rattle.std.proofs.Common.{◌≡◌, inl, inr, ℕ, zero, suc, ◌+◌, ◌*◌, ◌-◌, ◌/◌, ◌%◌, ◌<◌, ◌≤◌, Bool, true, false, not, cond, List, [], ◌∷◌, ◌++◌, Option, Some, None, is_some, length, refl, sym, ap, ◌∙◌, subst, arith, append_assoc, true≢false}
 use Rattle.std.specs.Prelude.{IsTrue, nat_lt, nat_le, ◌==◌}
-use Rattle.std.specs.List.{flat_map}
+use Rattle.std.specs.List.{flat_map, AllByRecursion as Each}
 use Rattle.std.specs.Int.{bit_at}
 use Rattle.std.specs.Coded.{Coded-set, coded_bool}
 use Rattle.std.specs.Ordering.{nat_cmp}
@@ -22,7 +22,7 @@ use Rattle.type_lattice_model.specs.Normal.{NormalFunctions}
 use Rattle.type_bytes.specs.Spelling.{two_bytes, name_bytes, atoms_bytes, ints_bytes, bits_bytes, functions_bytes, cell_bytes, tag_bytes, body_bytes, size_bytes, tuples_bytes, atoms_part, ints_part, bits_part, functions_part, has_tuples, cell_part, tuples_part, parts_of, mask, part_bytes, some_bytes, all_bytes}
 use Rattle.type_bytes.specs.ShortNames.{is_short, are_short}
 use Rattle.type_bytes.specs.steps.Reading.{◌>>=◌, first, many, given, where_set, name_at, atoms_at, ints_at, bits_at, functions_at, cell_at, is_open, product_at, tag_at, tags_at, body_at, size_at, sizes_at, tuples_at, mask_flags, parts_at, masked_at}
-use Rattle.type_bytes.proofs.FormatLaws.{AreBytes, Format, bytes_left, bound, was_given, chosen, never, passed, granted, Each, many_format, name_format}
+use Rattle.type_bytes.proofs.FormatLaws.{AreBytes, Format, bytes_left, bound, was_given, chosen, never, passed, granted, many_format, name_format}
 use Rattle.type_bytes.proofs.SetFormats.{atoms_format, ints_format, bits_format, functions_format}
 use Rattle.type_bytes.proofs.MaskLaws.{bit_adds, number_of, AreBits, bits_of, of_bits}
 use Rattle.type_bytes.proofs.Writes.{no_bytes}

@@ -1,7 +1,7 @@
 -- Types are read as they are spelled, and nothing else, level by level.
 use Rattle.std.proofs.Common.{◌≡◌, inl, inr, ℕ, zero, suc, ◌<◌, ◌≤◌, Bool, true, false, not, cond, ◌&&◌, ◌||◌, List, [], ◌∷◌, ◌++◌, Option, Some, None, is_some, length, refl, sym, ap, ◌∙◌, subst, arith, true≢false}
 use Rattle.std.specs.Prelude.{IsTrue, ◌==◌}
-use Rattle.std.specs.List.{list_all}
+use Rattle.std.specs.List.{list_all, AllByRecursion as Each}
 use Rattle.std.proofs.lemmas.List.{length-append}
 use Rattle.std.proofs.lemmas.Bool.{false_from_ne_true, or_parts, cases_Bool, and_from}
 use Rattle.std.proofs.lemmas.Option.{some_pair_parts}
@@ -16,15 +16,17 @@ use Rattle.type_lattice_model.specs.Normal.{NormalCell, AreElements, FirstIsOpen
 use Rattle.type_lattice_model.specs.Values.{nil}
 use Rattle.type_lattice_model.proofs.CellLaws.{filled-not_none}
 use Rattle.type_lattice_model.proofs.LevelLaws.{level_laws}
+use Rattle.type_lattice_model.specs.Full.{is_any}
+use Rattle.type_lattice_model.proofs.FullLaws.{any_is_all}
 use Rattle.type_lattice.specs.Types.{Type4, same_type}
-use Rattle.type_bytes.specs.Spelling.{has_tuples, parts_of, mask, all_bytes, is_any, bytes_at, bytes_of}
+use Rattle.type_bytes.specs.Spelling.{has_tuples, parts_of, mask, all_bytes, bytes_at, bytes_of}
 use Rattle.type_bytes.specs.ShortNames.{is_short, are_short, is_short_cell, is_short_tag, is_short_body, is_short_size, are_short_tuples, are_short_parts, is_short_at, has_short_names}
 use Rattle.type_bytes.specs.Shapes.{BeginNoType}
 use Rattle.type_bytes.specs.steps.Reading.{◌>>=◌, given, is_open, masked_at, behind_at, element_at, type_at}
-use Rattle.type_bytes.proofs.FormatLaws.{AreBytes, Format, bound, was_given, chosen, never, granted, Each}
+use Rattle.type_bytes.proofs.FormatLaws.{AreBytes, Format, bound, was_given, chosen, never, granted}
 use Rattle.type_bytes.proofs.MaskLaws.{one_if, number_of}
 use Rattle.type_bytes.proofs.TreeFormats.{GoodCell, GoodTag, GoodBody, GoodSize, GoodTuples, GoodMasked, masked_format}
-use Rattle.type_bytes.proofs.Writes.{any_is_all, any_bytes}
+use Rattle.type_bytes.proofs.Writes.{any_bytes}
 use Rattle.type_bytes.proofs.Shorts.{any_short}
 
 -- ---- whether a mask is 0

@@ -1,23 +1,19 @@
 -- The bytes of a type, from those of its parts.
-use Rattle.std.proofs.Common.{◌≡◌, ℕ, zero, suc, ◌+◌, ◌*◌, ◌-◌, ◌<◌, ◌≤◌, Bool, true, false, not, cond, ◌&&◌, List, [], ◌∷◌, ◌++◌, Option, Some, None, is_some, length, map, take, refl, sym, ap, ◌∙◌, subst, true≢false, arith, append_assoc}
+use Rattle.std.proofs.Common.{◌≡◌, ℕ, zero, suc, ◌+◌, ◌*◌, ◌-◌, ◌<◌, ◌≤◌, Bool, true, false, not, cond, List, [], ◌∷◌, ◌++◌, Option, Some, None, is_some, length, map, take, refl, sym, ap, ◌∙◌, subst, true≢false, arith, append_assoc}
 use Rattle.std.specs.Prelude.{IsTrue, slice_index_or, ◌↔◌}
 use borrow.Author.Tests.{ltb-true}
 use Rattle.std.specs.List.{flat_map, list_all}
-use Rattle.std.specs.Coded.{Coded-set, coded_bool}
 use Rattle.std.proofs.lemmas.List.{take_more, append-nil}
 use Rattle.std.proofs.lemmas.Bool.{false_from_ne_true}
 use Rattle.type_kinds.proofs.Truths.{first, second}
 use Rattle.type_kinds_sets.specs.Names as names
-use Rattle.type_kinds_sets.specs.Names.{Names}
 use Rattle.type_kinds_sets.specs.Numbers as numbers
-use Rattle.type_kinds_sets.specs.Numbers.{Numbers}
-use Rattle.type_kinds_sets.specs.declared.ends.Low.TheVariants as low
-use Rattle.type_kinds_sets.specs.declared.ends.High.TheVariants as high
-use Rattle.type_kinds_sets.specs.declared.bits.Bits.{Bits}
-use Rattle.type_kinds_sets.specs.declared.bits.Bits.TheVariants.{No, Whole, Any}
-use Rattle.type_lattice_model.specs.Shapes.{Functions, no_function, of_arity, all_functions, PlainParts, Cell, Tuples, sizes, all_tuples, Parts, TypeAt}
-use Rattle.type_lattice_model.specs.Operations.{ops, plain_all, is_no_bits, is_no_function}
+use Rattle.type_kinds_sets.specs.declared.bits.Bits.TheVariants.{Any}
+use Rattle.type_lattice_model.specs.Shapes.{PlainParts, sizes, Parts, TypeAt}
+use Rattle.type_lattice_model.specs.Operations.{ops, is_no_bits, is_no_function}
 use Rattle.type_lattice_model.specs.Normal.{NormalTags, NormalAt}
+use Rattle.type_lattice_model.specs.Full.{is_any}
+use Rattle.type_lattice_model.proofs.FullLaws.{any_is_all, all_is_any}
 use Rattle.type_lattice_trees.specs.declared.node.Node.{Node}
 use Rattle.type_lattice_trees.specs.declared.node.Node.TheVariants as v
 use Rattle.type_lattice_trees.specs.declared.node.PartsOf.{PartsOf}
@@ -30,83 +26,8 @@ use Rattle.type_lattice_trees.specs.declared.node.TuplesOf.TheVariants.{Sizes}
 use Rattle.type_lattice_trees.specs.declared.node.TagOf.{TagOf}
 use Rattle.type_lattice_trees.specs.View.{view, row_view, tags_view, body_view, sizes_view, tuples_view, parts_view, cell_of, Fits, EachNode, EachTag, EachInBody, BodyFits, SizesFit, TuplesFit}
 use Rattle.type_lattice_trees.proofs.Views.{view_any, view_of, of_above, fits_of}
-use Rattle.type_bytes.specs.Spelling.{tag_bytes, body_bytes, size_bytes, atoms_part, ints_part, bits_part, functions_part, cell_part, tuples_part, parts_of, part_bytes, some_bytes, all_bytes, is_all_atoms, is_all_ints, is_all_bits, is_all_functions, is_all_plain, is_any_cell, is_every_tuple, is_any, bytes_at}
+use Rattle.type_bytes.specs.Spelling.{tag_bytes, body_bytes, size_bytes, atoms_part, ints_part, bits_part, functions_part, cell_part, tuples_part, parts_of, part_bytes, some_bytes, all_bytes, bytes_at}
 use Rattle.type_bytes.specs.ShortNames.{is_short_tag, is_short_body, is_short_size, are_short_tuples, are_short_parts, is_short_at}
-
--- ---- whether all parts are full
-
-atoms_all : (s : Names) → is_all_atoms s ≡ true → s ≡ names.every
-atoms_all (names.some xs e) h = absurd (true≢false (sym h))
-atoms_all names.every h = refl
-
-ints_all : (s : Numbers) → is_all_ints s ≡ true → s ≡ numbers.all
-ints_all (numbers.some xs e) h = absurd (true≢false (sym h))
-ints_all (numbers.between low.Min high.Max e) h = ap (numbers.between low.Min high.Max) (Coded-set coded_bool true true e refl)
-ints_all (numbers.between l k e) h = absurd (true≢false (sym h))
-
-bits_all : (b : Bits) → is_all_bits b ≡ true → b ≡ Any
-bits_all No h = absurd (true≢false (sym h))
-bits_all Whole h = absurd (true≢false (sym h))
-bits_all Any h = refl
-
-functions_all : (f : Functions) → is_all_functions f ≡ true → f ≡ all_functions
-functions_all no_function h = absurd (true≢false (sym h))
-functions_all (of_arity n) h = absurd (true≢false (sym h))
-functions_all all_functions h = refl
-
-plain_is_all : (p : PlainParts) → is_all_plain p ≡ true → p ≡ plain_all
-plain_is_all p h =
-    let nils = first _ p.flags.map h in
-    let references = first _ p.flags.nil nils in
-    let ports = first _ p.flags.reference references in
-    let pids = first _ p.flags.port ports in
-    let floats = first _ p.flags.pid pids in
-    let functions = first _ p.flags.float floats in
-    let bits = first _ (is_all_functions p.functions) functions in
-    let ints = first _ (is_all_bits p.bits) bits in
-    λ i. record {
-      atoms = atoms_all p.atoms (first (is_all_atoms p.atoms) (is_all_ints p.ints) ints) i;
-      ints = ints_all p.ints (second (is_all_atoms p.atoms) (is_all_ints p.ints) ints) i;
-      bits = bits_all p.bits (second _ (is_all_bits p.bits) bits) i;
-      flags = record {
-        float = second _ p.flags.float floats i;
-        pid = second _ p.flags.pid pids i;
-        port = second _ p.flags.port ports i;
-        reference = second _ p.flags.reference references i;
-        nil = second _ p.flags.nil nils i;
-        map = second _ p.flags.map h i;
-      };
-      functions = functions_all p.functions (second _ (is_all_functions p.functions) functions) i;
-    }
-
-tuples_all : {E : Type 0} (t : Tuples E) → is_every_tuple t ≡ true → t ≡ all_tuples
-tuples_all (sizes m) h = absurd (true≢false (sym h))
-tuples_all all_tuples h = refl
-
-open_cell : (b c : Bool) → cond b false c ≡ true → (b ≡ false) × (c ≡ true)
-open_cell true c h = absurd (true≢false (sym h))
-open_cell false c h = (refl, h)
-
-cell_all : {E : Type 0} (full : E → Bool) (any : E) → ((e : E) → full e ≡ true → e ≡ any) → (c : Option (Cell E)) → is_any_cell full c ≡ true → c ≡ Some (record { element = any; is_proper = false })
-cell_all full any f None h = absurd (true≢false (sym h))
-cell_all full any f (Some c) h = λ i. Some (record { element = f c.element (open_cell c.is_proper (full c.element) h).1 i; is_proper = (open_cell c.is_proper (full c.element) h).0 i })
-
--- where they are, the type is every value
-pub any_is_all : (d : ℕ) (t : TypeAt d) → is_any d t ≡ true → t ≡ (ops d).any
-unfolding ops
-any_is_all zero t h = h
-any_is_all (suc d) t h =
-    let lists = first _ (is_every_tuple t.tuples) h in
-    λ i. record {
-      plain = plain_is_all t.plain (first (is_all_plain t.plain) _ lists) i;
-      cell = cell_all (is_any d) (ops d).any (any_is_all d) t.cell (second (is_all_plain t.plain) _ lists) i;
-      tuples = tuples_all t.tuples (second _ (is_every_tuple t.tuples) h) i;
-    }
-
-pub all_is_any : (d : ℕ) → is_any d (ops d).any ≡ true
-unfolding ops
-all_is_any zero = refl
-all_is_any (suc d) = ap (λ b. b && true) (all_is_any d)
 
 -- ---- the bytes of a tree
 

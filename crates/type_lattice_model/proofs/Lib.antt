@@ -3,6 +3,7 @@ pub mod CanonicalLaws
 pub mod CellLaws
 pub mod CutLaws
 pub mod ElementLaws
+pub mod FullLaws
 pub mod LatticeLaws
 pub mod LevelLaws
 pub mod LeastLaws

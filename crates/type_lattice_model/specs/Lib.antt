@@ -7,6 +7,7 @@ pub mod Operations
 pub mod Normal
 pub mod Cut
 pub mod Elements
+pub mod Full
 pub mod Parts
 pub mod Laws
 pub mod ValueShapes

@@ -1,45 +1,20 @@
 -- The text of a type, from that of its parts.
-use Rattle.std.proofs.Common.{◌≡◌, ℕ, zero, suc, ◌-◌, Bool, true, cond, ◌&&◌, List, [], ◌∷◌, ◌++◌, map, codes, refl, sym, ap, ◌∙◌, true≢false, arith, append_assoc}
-use Rattle.std.specs.Coded.{Coded-set, coded_bool}
+use Rattle.std.proofs.Common.{◌≡◌, ℕ, zero, suc, ◌-◌, true, cond, List, [], ◌∷◌, ◌++◌, map, codes, refl, sym, ap, ◌∙◌, arith, append_assoc}
 use Rattle.type_kinds.specs.Quoted.{quoted}
 use Rattle.type_kinds_sets.specs.Names.{Name}
-use Rattle.type_kinds_sets.specs.Numbers as numbers
-use Rattle.type_kinds_sets.specs.Numbers.{Numbers}
-use Rattle.type_kinds_sets.specs.declared.ends.Low.TheVariants as low
-use Rattle.type_kinds_sets.specs.declared.ends.High.TheVariants as high
-use Rattle.type_lattice_model.specs.Shapes.{Body, Parts, TypeAt}
-use Rattle.type_lattice_model.specs.Operations.{Ops, parts_any, ops}
+use Rattle.type_lattice_model.specs.Shapes.{Body}
+use Rattle.type_lattice_model.specs.Operations.{ops}
+use Rattle.type_lattice_model.proofs.FullLaws.{any_is_all, all_is_any}
 use Rattle.type_lattice_trees.specs.declared.node.Node.{Node}
 use Rattle.type_lattice_trees.specs.declared.node.Node.TheVariants as v
 use Rattle.type_lattice_trees.specs.declared.node.PartsOf.{PartsOf}
 use Rattle.type_lattice_trees.specs.View.{view, parts_view, Fits, EachInParts}
 use Rattle.type_lattice_trees.proofs.Views.{view_of, of_above, fits_of, below_fits}
-use Rattle.type_text.specs.Texts.{separated, tuple_word, tag_words, size_words, parts_words, is_all_ints, is_all_plain, is_any_cell, is_every_tuple, is_any, text_at}
+use Rattle.type_text.specs.Texts.{separated, tuple_word, tag_words, size_words, parts_words, text_at}
 
 -- the elements of parts stand for types of the level below
 pub each_below : (t : Node) (p : PartsOf Node) → t ≡ v.Of p → (d : ℕ) → Fits d t → EachInParts (Fits (d - 1)) p
 each_below t p e d h = (below_fits t p e d h).each
-
--- ---- whether all parts are full
-
-ints_all : (s : Numbers) → is_all_ints s ≡ true → s ≡ numbers.all
-ints_all (numbers.some xs e) h = absurd (true≢false (sym h))
-ints_all (numbers.between low.Min high.Max e) h = ap (numbers.between low.Min high.Max) (Coded-set coded_bool true true e refl)
-ints_all (numbers.between l k e) h = absurd (true≢false (sym h))
-
--- where they are, the type is every value
-parts_all : {E : Type 0} (o : Ops E) (full : E → Bool) → ((e : E) → full e ≡ true → e ≡ o.any) → (t : Parts E) → (is_all_plain t.plain && is_any_cell full t.cell && is_every_tuple t.tuples) ≡ true → t ≡ parts_any o
-parts_all o full all t h = grind (arith, ints_all)
-
-pub any_is_all : (d : ℕ) (t : TypeAt d) → is_any d t ≡ true → t ≡ (ops d).any
-unfolding ops
-any_is_all zero t h = h
-any_is_all (suc d) t h = parts_all (ops d) (is_any d) (any_is_all d) t h
-
-all_is_any : (d : ℕ) → is_any d (ops d).any ≡ true
-unfolding ops
-all_is_any zero = refl
-all_is_any (suc d) = ap (λ b. b && true) (all_is_any d)
 
 -- ---- the text of a tree
 

@@ -13,10 +13,11 @@ use Rattle.type_lattice_model.specs.Operations.{of_atoms, of_list, ops}
 use Rattle.type_lattice_model.specs.Normal.{AreElements, NormalAt}
 use Rattle.type_lattice.specs.Types.{Type4, none, is_none, same_type}
 use Rattle.type_text.specs.Words.{WordStop, TypeStop}
-use Rattle.type_text.specs.Texts.{after, separated, range_word, parts_words, is_any, text_at, text_of}
+use Rattle.type_text.specs.Texts.{after, separated, range_word, parts_words, text_at, text_of}
 use Rattle.type_text.specs.WordTypes.{of_ints, of_functions, of_row, IsWord, AreWords, WordsOf, spelled, joined_with, one_atom, one_int, ints_between, one_arity, proper_list, any_list, one_tuple, name_of, named}
 use Rattle.type_text.proofs.WordStarts.{no_close, signed-start, at_every_int, all_range, at_quote, at_number, at_range, at_arity, at_list, at_tuple, at_named}
 use Rattle.type_lattice_model.proofs.LevelLaws.{level_laws}
+use Rattle.type_lattice_model.specs.Full.{is_any}
 use Rattle.type_text.proofs.WordLaws.{words_of}
 use Rattle.type_text.proofs.WordReads.{way, way_once, words-text, at_none, not_at_end, words_text, words_stop, EachWords, next_word, no_word, row_text, row_stop, EachRow, next_element, no_element, whole_row, no_row}
 use Rattle.type_text.proofs.LeafLaws.{quoted_once, decimal_once, signed_once, ends_once}

@@ -34,7 +34,8 @@ use Rattle.type_lattice_model.proofs.BodyLaws.{tagged, body_of_in, body_of_out, 
 use Rattle.type_lattice_model.proofs.TableLaws as tables
 use Rattle.type_lattice_model.proofs.PartsLaws.{shape_lattice}
 use Rattle.type_lattice_model.proofs.LevelLaws.{level_laws}
-use Rattle.type_text.specs.Texts.{separated, word_if, atom_words, range_word, int_words, bits_words, function_words, plain_words, cell_words, tuple_word, tag_words, body_words, size_words, tuples_words, parts_words, is_any, text_at}
+use Rattle.type_lattice_model.specs.Full.{is_any}
+use Rattle.type_text.specs.Texts.{separated, word_if, atom_words, range_word, int_words, bits_words, function_words, plain_words, cell_words, tuple_word, tag_words, body_words, size_words, tuples_words, parts_words, text_at}
 use Rattle.type_text.specs.WordTypes.{AreWords, Named, name_of, type_named, of_ints, of_bits, of_functions, of_cell, of_row, IsWordOf, named, one_atom, every_atom, one_int, ints_between, every_float, whole_bits, every_bits, every_pid, every_port, every_reference, every_map, every_function, one_arity, empty_list, proper_list, any_list, every_tuple, one_tuple, AreWordsOf, spelled, WordsOf}
 
 -- ---- words in a row

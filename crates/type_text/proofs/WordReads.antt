@@ -14,14 +14,15 @@ use Rattle.type_lattice_trees.specs.declared.node.Node.{Node}
 use Rattle.type_lattice_trees.specs.declared.node.Node.TheVariants as v
 use Rattle.type_lattice_trees.specs.View.{view, row_view, Fits}
 use Rattle.type_lattice_trees.proofs.Views.{fits_normal, view_any, each_more}
-use Rattle.type_text.specs.Texts.{after, separated, is_any, text_at}
+use Rattle.type_text.specs.Texts.{after, separated, text_at}
 use Rattle.type_text.specs.Words.{WordStop, TypeStop}
 use Rattle.type_text.specs.Starts.{begins_number, Lacks, NoTypeName}
 use Rattle.type_text.specs.WordTypes.{IsWord, AreWords, spelled, joined_with, WordsOf}
 use Rattle.type_text.proofs.WordStarts.{Unlike, unlike_word, number-start, some_start}
 use Rattle.type_text.proofs.WordLaws.{words_of}
-use Rattle.type_text.proofs.Prints.{any_is_all}
 use Rattle.type_lattice_model.proofs.LevelLaws.{level_laws}
+use Rattle.type_lattice_model.specs.Full.{is_any}
+use Rattle.type_lattice_model.proofs.FullLaws.{any_is_all}
 
 -- ---- how the text of a type begins
 

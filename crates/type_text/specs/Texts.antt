@@ -1,5 +1,5 @@
 -- How a type is written: `none()`, `any()`, or what its parts have, part by part, with ` | ` between.
-use Rattle.std.specs.Prelude.{ℕ, zero, suc, Bool, true, false, cond, ◌&&◌, List, [], ◌∷◌, ◌++◌, map, Option, Some, None, codes}
+use Rattle.std.specs.Prelude.{ℕ, zero, suc, Bool, true, false, cond, List, [], ◌∷◌, ◌++◌, map, Option, Some, None, codes}
 use Rattle.std.specs.Fmt.{decimal, signed_decimal}
 use Rattle.type_kinds.specs.Quoted.{quoted}
 use Rattle.type_kinds_sets.specs.Names as names
@@ -14,6 +14,7 @@ use Rattle.type_kinds_sets.specs.declared.bits.Bits.{Bits}
 use Rattle.type_kinds_sets.specs.declared.bits.Bits.TheVariants.{No, Whole, Any}
 use Rattle.type_lattice_model.specs.Shapes.{Functions, no_function, of_arity, all_functions, PlainParts, Cell, Body, product, tags, Tuples, sizes, all_tuples, Parts, TypeAt}
 use Rattle.type_lattice_model.specs.Operations.{ops}
+use Rattle.type_lattice_model.specs.Full.{is_any}
 use Rattle.type_lattice.specs.Types.{Type4}
 
 -- ---- words in a row
@@ -109,43 +110,6 @@ module _ {E : Type 0} (text : E → List ℕ) where
   parts_words p = plain_words p.plain ++ cell_words p.cell ++ tuples_words p.tuples
 
 -- ---- types
-
-abbrev pub is_all_atoms : Names → Bool
-is_all_atoms (names.some xs _) = false
-is_all_atoms names.every = true
-
-abbrev pub is_all_ints : Numbers → Bool
-is_all_ints (numbers.some xs _) = false
-is_all_ints (numbers.between low.Min high.Max _) = true
-is_all_ints (numbers.between l h _) = false
-
-abbrev pub is_all_bits : Bits → Bool
-is_all_bits No = false
-is_all_bits Whole = false
-is_all_bits Any = true
-
-abbrev pub is_all_functions : Functions → Bool
-is_all_functions no_function = false
-is_all_functions (of_arity n) = false
-is_all_functions all_functions = true
-
-abbrev pub is_all_plain : PlainParts → Bool
-is_all_plain p =
-    is_all_atoms p.atoms && is_all_ints p.ints && is_all_bits p.bits && is_all_functions p.functions
-    && p.flags.float && p.flags.pid && p.flags.port && p.flags.reference && p.flags.nil && p.flags.map
-
-abbrev pub is_any_cell : {E : Type 0} → (E → Bool) → Option (Cell E) → Bool
-is_any_cell is_any None = false
-is_any_cell is_any (Some c) = cond c.is_proper false (is_any c.element)
-
-abbrev pub is_every_tuple : {E : Type 0} → Tuples E → Bool
-is_every_tuple (sizes m) = false
-is_every_tuple all_tuples = true
-
--- whether all parts of a type are full
-abbrev pub is_any : (d : ℕ) → TypeAt d → Bool
-is_any zero t = t
-is_any (suc d) t = is_all_plain t.plain && is_any_cell (is_any d) t.cell && is_every_tuple t.tuples
 
 abbrev pub text_at : (d : ℕ) → TypeAt d → List ℕ
 text_at zero t = cond t (codes "any()") (codes "none()")

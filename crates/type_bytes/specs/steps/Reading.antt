@@ -16,9 +16,9 @@ use Rattle.type_kinds_sets.specs.declared.bits.Bits.TheVariants.{No, Whole, Any}
 use Rattle.type_lattice_model.specs.Tables.{is_table}
 use Rattle.type_lattice_model.specs.Shapes.{Flags, Functions, no_function, of_arity, all_functions, Cell, Body, product, tags, Tuples, sizes, all_tuples, Parts, TypeAt}
 use Rattle.type_lattice_model.specs.Operations.{Ops, ops}
+use Rattle.type_lattice_model.specs.Full.{is_any}
 use Rattle.type_bytes.specs.declared.faults.BytesFault.{BytesFault}
 use Rattle.type_bytes.specs.declared.faults.BytesFault.TheVariants as faults
-use Rattle.type_bytes.specs.Spelling.{is_any}
 
 infixl 10 ◌>>=◌
 abbrev pub ◌>>=◌ : {A B : Type 0} → Option A → (A → Option B) → Option B
