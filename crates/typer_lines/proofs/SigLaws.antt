@@ -1,5 +1,5 @@
 -- A signature that is made of the types of one is this one.
-use Rattle.std.proofs.Common.{◌≡◌, ◌↔◌, Bool, true, false, cond, not, List, [], ◌∷◌, map, refl, sym, ap, ap₂, ◌∙◌}
+use Rattle.std.proofs.Common.{◌≡◌, ◌↔◌, Bool, true, false, cond, not, List, [], ◌∷◌, drop, get_or, map, refl, sym, ap, ap₂, ◌∙◌}
 use Rattle.std.specs.Prelude.{◌||◌, IsTrue}
 use Rattle.std.proofs.lemmas.Bool.{and_parts}
 use Rattle.type_lattice.specs.Types.{Type4, none, is_none}
@@ -23,15 +23,7 @@ agreed_same law ts e = by (has_none ts) refl
     by false is = ap (λ b. cond b (map (λ t. none) ts) ts) is
     by true is = ap (λ b. cond b (map (λ t. none) ts) ts) is ∙ all_are law ts (sym (ap (λ b. not b || all_none ts) is) ∙ e)
 
-abbrev first_of : Type4 → List Type4 → Type4
-first_of d [] = d
-first_of d (t ∷ ts) = t
-
-abbrev rest_of : List Type4 → List Type4
-rest_of [] = []
-rest_of (t ∷ ts) = ts
-
 pub made_again : NoneLaw → (made s : Sig) → made.result ∷ made.args ≡ agreed (s.result ∷ s.args) → made ≡ s
 made_again law made s e =
     let types = e ∙ agreed_same law (s.result ∷ s.args) s.agreed in
-    same_signature made s (ap rest_of types) (ap (first_of none) types)
+    same_signature made s (ap (drop 1) types) (ap (λ ts. get_or ts 0 none) types)
