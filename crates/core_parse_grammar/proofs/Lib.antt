@@ -14,3 +14,5 @@ mod ConstantPartExits
 pub mod NotedExits
 mod NameExits
 mod VariableExits
+pub mod Walks
+pub mod Arities

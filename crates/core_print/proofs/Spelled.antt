@@ -1,6 +1,7 @@
 -- What tokens of a text spell fits.
 use Rattle.std.proofs.Common.{◌≡◌, ℕ, ℤ, pos, negsuc, ◌+◌, ◌<◌, ◌≤◌, List, [], ◌∷◌, Bool, true, false, ◌&&◌, not, Option, Some, None, IsTrue, refl, sym, ◌∙◌, arith, true≢false}
 use Rattle.std.specs.Prelude.{if◌then◌else◌, nat_lt, nat_le, bytes_eq, unsigned_abs, ⊤}
+use Rattle.std.specs.List.{AllByRecursion as Each}
 use Rattle.std.proofs.lemmas.Bool.Decides.{nat_tests}
 use Rattle.std.proofs.lemmas.Bool.{and_parts, not-true}
 use Rattle.type_kinds.specs.declared.place.Place.{Place}
@@ -21,11 +22,12 @@ use Rattle.core_scan.specs.Vocabulary.{words, symbols, sort_in}
 use Rattle.core_scan.specs.Spells.{IsName, IsFloat, is_variable_start}
 use Rattle.core_parse_grammar.specs.declared.notes.Constant.{Constant}
 use Rattle.core_parse_grammar.specs.declared.notes.Constant.TheVariants.{Number, Pair, Generated, Another}
-use Rattle.core_parse_grammar.specs.Build.{kind_text, kind_value, value, magnitude, at, Noted, with_note, note_or_none, note_of, line_within, NameAt, byte_trees, byte_patterns, before, let_, do_, map_tree, FunctionParts, note_function, export_names, note_module}
-use Rattle.core_parse_grammar.specs.Grammar.{Part, a, first, the, Nonterminal, SaidBy, Said, Action, Way, ways, noted_, annotation, many, more, annotated_module, «module», attribute, function_name, definition, function, definitions, variable, variables, literal, constant, other_constant, constant_list, constant_rest, constant_tail, constant_segment, constant_pair, expression, bare_expression, other_expression, list, list_rest, list_tail, segment, pairs as pairs_part, more_pairs, pair, bare_pair, clauses_to, clause, bare_clause, clause_patterns, pattern, bare_pattern, other_pattern, alias_variable, pattern_list, pattern_rest, pattern_tail, pattern_segment, pattern_pair, bare_pattern_pair}
+use Rattle.core_parse_grammar.specs.Build.{kind_text, kind_value, value, at, Noted, with_note, note_or_none, note_of, line_within, NameAt, byte_trees, byte_patterns, before, let_, do_, map_tree, FunctionParts, note_function, export_names, note_module}
+use Rattle.core_parse_grammar.specs.Grammar.{Part, a, first, the, Nonterminal, SaidBy, Said, ways, noted_, annotation, many, more, annotated_module, «module», attribute, function_name, definition, function, definitions, variable, variables, literal, constant, other_constant, constant_list, constant_rest, constant_tail, constant_segment, constant_pair, expression, bare_expression, other_expression, list, list_rest, list_tail, segment, pairs as pairs_part, more_pairs, pair, bare_pair, clauses_to, clause, bare_clause, clause_patterns, pattern, bare_pattern, other_pattern, alias_variable, pattern_list, pattern_rest, pattern_tail, pattern_segment, pattern_pair, bare_pattern_pair}
 use Rattle.core_parse_grammar.specs.Labels.{numbered}
-use Rattle.core_parse_grammar.specs.Spells.{Reads, ReadsOne, ReadsAll, SpellsTo}
-use Rattle.core_parse_grammar.specs.Spells as r
+use Rattle.core_parse_grammar.specs.Spells.{Reads, SpellsTo}
+use Rattle.core_parse_grammar.proofs.Arities.{magnitude_small}
+use Rattle.core_parse_grammar.proofs.Walks.{AllKeep, walk}
 use Rattle.core_print.specs.Tokens.{AreBytes}
 use Rattle.core_print.specs.Fits.{LineFits, NoteFits, LiteralFits, NameFits, NamesFit, VariableFits, VariablesFit, SomeTrees, SomePatterns, Fits, AllFit, PairsFit, SegmentsFit, ClausesFit, DefsFit, PatternFits, PatternsFit, PatPairsFit, PatSegmentsFit, ModuleFits}
 
@@ -116,14 +118,6 @@ value_good (k.Atom v) g = omega arith
 value_good (k.Text v) g = omega arith
 value_good (k.Symbol v) g = omega arith
 
-arity_good : (z : ℤ) → magnitude z ≤ 255
-arity_good (pos n) = by (nat_le n 255) refl
-  where
-    by : (t : Bool) → nat_le n 255 ≡ t → (if t then n else 0) ≤ 255
-    by true e = grind (arith, nat_tests)
-    by false e = omega arith
-arity_good (negsuc n) = omega arith
-
 within_fits : (z : ℤ) → LineFits (line_within z)
 within_fits (negsuc n) = tt
 within_fits (pos n) = by (nat_lt 0 n) refl (nat_lt n 2147483648) refl
@@ -139,10 +133,6 @@ note_of_fits (Number n ∷ cs) = within_fits n
 note_of_fits (Pair n ∷ cs) = within_fits n
 note_of_fits (Generated ∷ cs) = tt
 note_of_fits (Another ∷ cs) = tt
-
-abbrev Each : {X : Type 0} → (X → Type 0) → List X → Type 0
-Each P [] = ⊤
-Each P (x ∷ xs) = P x × Each P xs
 
 module _ (l : ℕ) where
   abbrev UpdatedFits : ℕ → Option m.Tree → Type 0
@@ -203,14 +193,6 @@ module _ (l : ℕ) where
     GoodSaid (pattern_segment d) x = PatternFits l d x.value × AllFit l d x.args
     GoodSaid (pattern_pair d) x = Fits l d x.key × PatternFits l d x.value
     GoodSaid (bare_pattern_pair d) x = Fits l d x.key × PatternFits l d x.value
-
-  abbrev WayGood : (n : Nonterminal) (ps : List Part) → Action ps (Said n) → Type 0
-  WayGood n [] v = GoodSaid n v
-  WayGood n (p ∷ ps) f = (x : SaidBy p) → GoodBy p x → WayGood n ps (f x)
-
-  abbrev WaysGood : (n : Nonterminal) → List (Way (Said n)) → Type 0
-  WaysGood n [] = ⊤
-  WaysGood n (w ∷ ws) = WayGood n w.parts w.says × WaysGood n ws
 
   -- ---- what the ways make of good parts
 
@@ -367,7 +349,7 @@ module _ (l : ℕ) where
   string_patterns_fit p d [] deep h = absurd h
   string_patterns_fit p d (b ∷ bs) deep h = (omega arith, deep, tt, byte_patterns_fit p (d + 1) (b ∷ bs) deep h, (deep, tt, tt))
 
-  ways_good : (n : Nonterminal) → WaysGood n (ways n)
+  ways_good : (n : Nonterminal) → AllKeep GoodBy n (ways n)
   ways_good (noted_ p) = (λ x0 h0. (h0, tt), (λ x0 h0 x1 h1 x2 h2. (h1, h2), tt))
   ways_good annotation = (λ x0 h0 x1 h1 x2 h2 x3 h3. note_of_fits x2, tt)
   ways_good (many c p) = (λ x0 h0. tt, (λ x0 h0 x1 h1. (h0, h1), tt))
@@ -377,7 +359,7 @@ module _ (l : ℕ) where
   ways_good attribute = (λ x0 h0 x1 h1 x2 h2. tt, tt)
   ways_good (definitions c d) = (λ x0 h0. tt, (λ x0 h0 x1 h1. (h0.0, h0.1, h0.2, h0.3, h1), tt))
   ways_good (definition d) = (λ x0 h0 x1 h1 x2 h2. (let f = function_noted x2.value x2.note d h2.0 h2.1 in (h0.0, f.0, f.1, f.2)), tt)
-  ways_good function_name = (λ x0 h0 x1 h1 x2 h2. arity_good (value x2), tt)
+  ways_good function_name = (λ x0 h0 x1 h1 x2 h2. magnitude_small (value x2), tt)
   ways_good (function d) = (λ x0 h0 x1 h1 x2 h2 x3 h3 x4 h4. (tt, vars_fit x2 h2, h4), tt)
   ways_good variable = (λ x0 h0. (variable_text x0.value.kind h0.0.0 h0.0.1, h0.1), tt)
   ways_good variables = (λ x0 h0. (h0, tt), (λ x0 h0 x1 h1. vars_fit x1 h1, tt))
@@ -391,7 +373,7 @@ module _ (l : ℕ) where
   ways_good (constant_pair d) = (λ x0 h0 x1 h1 x2 h2. tt, tt)
   ways_good (expression d) = (λ x0 h0. tree_noted x0.value x0.note d h0.0 h0.1, tt)
   ways_good (bare_expression d) = (λ x0 h0. (h0.0, tt, h0.2, h0.3, h0.4), (λ x0 h0. h0, tt))
-  ways_good (other_expression d) = (λ x0 h0. (h0.0, tt, variable_text x0.kind h0.1 h0.2), (λ x0 h0 x1 h1 x2 h2. (h0.0, tt, arity_good (value x2)), (λ x0 h0. (h0.0, tt, h0.1), (λ x0 h0 x1 h1 x2 h2 x3 h3 x4 h4. (h0.0, tt, vars_fit x2 h2, h4), (λ x0 h0 x1 h1 x2 h2 x3 h3. (h0.0, tt, h3), (λ x0 h0 x1 h1. (h0.0, tt, all_fit (d + 1) x1 h1), (λ x0 h0 x1 h1. (h0.0, tt, all_fit (d + 1) x1 h1), (λ x0 h0 x1 h1. (h0.0, tt, segments_fit (d + 1) x1 h1), (λ x0 h0 x1 h1. map_fits x0.place (pairs x1.pairs) x1.updated d h0.0 h1.0 h1.1, (λ x0 h0 x1 h1 x2 h2 x3 h3 x4 h4 x5 h5. let_kept x0.place x1 x3 x5 d h0.0 h1 h3 h5, (λ x0 h0 x1 h1 x2 h2. do_kept x0.place x1 x2 d h0.0 h1 h2, (λ x0 h0 x1 h1 x2 h2 x3 h3 x4 h4. (h0.0, tt, tt, h1, (h3.0, h3.1, h3.2, h3.3, h4)), (λ x0 h0 x1 h1 x2 h2. (h0.0, tt, h1, h2), (λ x0 h0 x1 h1 x2 h2 x3 h3. (h0.0, tt, h1, all_fit (d + 1) x3 h3), (λ x0 h0 x1 h1 x2 h2 x3 h3 x4 h4 x5 h5. (h0.0, tt, h1, h3, all_fit (d + 1) x5 h5), (λ x0 h0 x1 h1 x2 h2 x3 h3. (h0.0, tt, all_fit (d + 1) x3 h3), (λ x0 h0 x1 h1 x2 h2 x3 h3 x4 h4 x5 h5 x6 h6 x7 h7 x8 h8 x9 h9. (h0.0, tt, h1, h3, h5, h7, h9), (λ x0 h0 x1 h1 x2 h2 x3 h3 x4 h4. (h0.0, tt, h1, h2, h4), (λ x0 h0 x1 h1. (h0.0, tt, h1), tt)))))))))))))))))))
+  ways_good (other_expression d) = (λ x0 h0. (h0.0, tt, variable_text x0.kind h0.1 h0.2), (λ x0 h0 x1 h1 x2 h2. (h0.0, tt, magnitude_small (value x2)), (λ x0 h0. (h0.0, tt, h0.1), (λ x0 h0 x1 h1 x2 h2 x3 h3 x4 h4. (h0.0, tt, vars_fit x2 h2, h4), (λ x0 h0 x1 h1 x2 h2 x3 h3. (h0.0, tt, h3), (λ x0 h0 x1 h1. (h0.0, tt, all_fit (d + 1) x1 h1), (λ x0 h0 x1 h1. (h0.0, tt, all_fit (d + 1) x1 h1), (λ x0 h0 x1 h1. (h0.0, tt, segments_fit (d + 1) x1 h1), (λ x0 h0 x1 h1. map_fits x0.place (pairs x1.pairs) x1.updated d h0.0 h1.0 h1.1, (λ x0 h0 x1 h1 x2 h2 x3 h3 x4 h4 x5 h5. let_kept x0.place x1 x3 x5 d h0.0 h1 h3 h5, (λ x0 h0 x1 h1 x2 h2. do_kept x0.place x1 x2 d h0.0 h1 h2, (λ x0 h0 x1 h1 x2 h2 x3 h3 x4 h4. (h0.0, tt, tt, h1, (h3.0, h3.1, h3.2, h3.3, h4)), (λ x0 h0 x1 h1 x2 h2. (h0.0, tt, h1, h2), (λ x0 h0 x1 h1 x2 h2 x3 h3. (h0.0, tt, h1, all_fit (d + 1) x3 h3), (λ x0 h0 x1 h1 x2 h2 x3 h3 x4 h4 x5 h5. (h0.0, tt, h1, h3, all_fit (d + 1) x5 h5), (λ x0 h0 x1 h1 x2 h2 x3 h3. (h0.0, tt, all_fit (d + 1) x3 h3), (λ x0 h0 x1 h1 x2 h2 x3 h3 x4 h4 x5 h5 x6 h6 x7 h7 x8 h8 x9 h9. (h0.0, tt, h1, h3, h5, h7, h9), (λ x0 h0 x1 h1 x2 h2 x3 h3 x4 h4. (h0.0, tt, h1, h2, h4), (λ x0 h0 x1 h1. (h0.0, tt, h1), tt)))))))))))))))))))
   ways_good (list d) = (λ x0 h0. string_fits x0.place d (kind_text x0.kind) h0.0 (string_text x0.kind h0.1 h0.2), (λ x0 h0 x1 h1 x2 h2. (h0.0, fits_deep x1 (d + 1) h1, tt, (h1, h2.0), h2.1 (fits_deep x1 (d + 1) h1)), tt))
   ways_good (list_rest d) = (λ x0 h0. (tt, λ deep. (deep, tt, tt)), (λ x0 h0 x1 h1 x2 h2. ((h1, h2.0), h2.1), (λ x0 h0 x1 h1 x2 h2. h1, tt)))
   ways_good (list_tail d) = (λ x0 h0. (h0.3, λ deep. h0.4), (λ x0 h0. (tt, λ deep. h0), (λ x0 h0 x1 h1 x2 h2. (tt, λ deep. note_kept x2 x1 (d + 1) h2 h1), tt)))
@@ -417,20 +399,8 @@ module _ (l : ℕ) where
 
   -- ---- what is read is good
 
-  mutual
-    good : (p : Part) (ts us : List Token) (v : SaidBy p) → TokensGood ts → Reads l p ts v us → GoodBy p v × TokensGood us
-    good (a c) ts us v g (r.token h) = ((g.0, h), g.1)
-    good (first d c) ts us v g (r.node h deep) = ((deep, g.0, h), g.1)
-    good (the n) ts us v g (r.part h) = one_good n (ways n) ts us v (ways_good n) g h
-
-    one_good : (n : Nonterminal) (ws : List (Way (Said n))) (ts us : List Token) (v : Said n) → WaysGood n ws → TokensGood ts → ReadsOne l n ws ts v us → GoodSaid n v × TokensGood us
-    one_good n (w ∷ ws) ts us v gs g (r.here h) = all_good n w.parts w.says ts us v gs.0 g h
-    one_good n (w ∷ ws) ts us v gs g (r.later h) = one_good n ws ts us v gs.1 g h
-    one_good n [] ts us v gs g h = elim h [ ]
-
-    all_good : (n : Nonterminal) (ps : List Part) (f : Action ps (Said n)) (ts us : List Token) (v : Said n) → WayGood n ps f → TokensGood ts → ReadsAll l n ps f ts v us → GoodSaid n v × TokensGood us
-    all_good n [] f ts us v w g r.none = (w, g)
-    all_good n (p ∷ ps) f ts us v w g (r.one {x = x} {us = mid} h k) = let z = good p ts mid x g h in all_good n ps (f x) mid us v (w x z.0) z.1 k
+  good : (p : Part) (ts us : List Token) (v : SaidBy p) → TokensGood ts → Reads l p ts v us → GoodBy p v
+  good p ts us v g h = walk GoodBy l TokensGood (λ c t left known fit. ((known.0, fit), known.1)) (λ d c t left known fit deep. ((deep, known.0, fit), known.1)) ways_good p ts us v g h
 
   pub spelled_fits : (ts : List Token) (x : m.Module) → TokensGood ts → SpellsTo l ts x → (y : m.Module) × ModuleFits l y × (numbered y ≡ x)
-  spelled_fits ts x g h = (h.says, (good (the annotated_module) ts [] h.says g h.reads).0, h.labels)
+  spelled_fits ts x g h = (h.says, good (the annotated_module) ts [] h.says g h.reads, h.labels)

@@ -1,10 +1,11 @@
 -- What the grammar says of every module that is spelled: functions have at most 255 arguments, and there are at least as many tokens as
 -- functions.
-use Rattle.std.proofs.Common.{◌≡◌, ℕ, suc, ◌+◌, ◌≤◌, ◌<◌, ℤ, pos, List, [], ◌∷◌, Contains, inl, inr, Some, None, Option, length, refl, ap, ◌∙◌, subst, arith}
+use Rattle.std.proofs.Common.{◌≡◌, ℕ, suc, ◌+◌, ◌≤◌, ◌<◌, List, [], ◌∷◌, Contains, Some, None, Option, length, refl, ap, ◌∙◌, subst, arith}
 use Rattle.std.proofs.Math.Logic.{∥∥₁_elim}
 use Rattle.std.proofs.Props.{props}
-use Rattle.type_kinds.proofs.Lists.{contains_none, contains_cases}
 use Rattle.std.proofs.lemmas.List.{append-nil}
+use Rattle.std.proofs.lemmas.List.Elements.{All-contains, All-from_recursion}
+use Rattle.std.specs.List.{AllByRecursion as Each}
 use Rattle.type_kinds.specs.declared.atom.Atom.{Atom}
 use Rattle.call_graph.specs.Calls.{functions_in, functions_of, module_functions}
 use Rattle.core_ast.specs.Model as m
@@ -13,18 +14,15 @@ use Rattle.core_ast.specs.declared.syntax.FunName.{FunName}
 use Rattle.core_ast.specs.declared.syntax.Note.{Note}
 use Rattle.core_ast.specs.declared.syntax.FunDefOf.{FunDefOf}
 use Rattle.core_scan.specs.declared.token.Token.{Token}
-use Rattle.core_parse_grammar.specs.Build.{Noted, NameAt, magnitude, value, with_note, note_option, note_module, export_names}
-use Rattle.core_parse_grammar.specs.Grammar.{Part, a, first, the, Nonterminal, noted_, many, more, annotated_module, «module», function_name, definition, definitions, SaidBy, Said, Action, Way, ways}
+use Rattle.core_parse_grammar.specs.Build.{Noted, NameAt, value, with_note, note_option, note_module, export_names}
+use Rattle.core_parse_grammar.specs.Grammar.{Part, a, first, the, Nonterminal, noted_, many, more, annotated_module, «module», function_name, definition, definitions, SaidBy, Said, ways}
 use Rattle.core_parse_grammar.specs.Labels.{numbered, number, number_defs}
-use Rattle.core_parse_grammar.specs.Spells.{Reads, ReadsOne, ReadsAll, SpellsTo, SpellsModule}
-use Rattle.core_parse_grammar.specs.Spells as r
+use Rattle.core_parse_grammar.specs.Spells.{Reads, SpellsModule}
+use Rattle.core_parse_grammar.proofs.Arities.{magnitude_small}
+use Rattle.core_parse_grammar.proofs.Walks.{AllKeepCounted, all_free_counted, walk_counted}
 use Rattle.core_scope.specs.Accepted.{IsSpelled}
 
 -- ---- what is said of a value, and how many tokens it takes at least
-
-abbrev Each : {X : Type 0} → (X → Type 0) → List X → Type 0
-Each P [] = Unit {0}
-Each P (x ∷ xs) = P x × Each P xs
 
 abbrev IsSmall : FunName → Type 0
 IsSmall f = f.arity < 256
@@ -64,27 +62,8 @@ abbrev mutual
 
 -- ---- each way of the grammar keeps both
 
-abbrev KeepsBoth : (n : Nonterminal) (ps : List Part) → Action ps (Said n) → (taken : ℕ) → Type 0
-KeepsBoth n [] v taken = GoodSaid n v × (size_said n v ≤ taken)
-KeepsBoth n (p ∷ ps) f taken = (x : SaidBy p) → Good p x → KeepsBoth n ps (f x) (taken + size p x)
-
-abbrev AllKeep : (n : Nonterminal) → List (Way (Said n)) → Type 0
-AllKeep n [] = Unit {0}
-AllKeep n (w ∷ ws) = KeepsBoth n w.parts w.says 0 × AllKeep n ws
-
--- where nothing is said of a value, and it may take no token
-module _ (n : Nonterminal) (free : (v : Said n) (taken : ℕ) → GoodSaid n v × (size_said n v ≤ taken)) where
-  keeps_free : (ps : List Part) (f : Action ps (Said n)) (taken : ℕ) → KeepsBoth n ps f taken
-  keeps_free [] v taken = free v taken
-  keeps_free (p ∷ ps) f taken = λ x g. keeps_free ps (f x) (taken + size p x)
-
-  all_free : (ws : List (Way (Said n))) → AllKeep n ws
-  all_free [] = tt
-  all_free (w ∷ ws) = (keeps_free w.parts w.says 0, all_free ws)
-
-small_magnitude : (z : ℤ) → magnitude z < 256
-small_magnitude (pos n) = grind arith
-small_magnitude z = omega arith
+abbrev Both : (p : Part) → SaidBy p → ℕ → Type 0
+Both p v taken = Good p v × (size p v ≤ taken)
 
 count_defs : (ds : List (FunDefOf m.Tree)) → count (defs ds) ≡ length ds
 count_defs [] = refl
@@ -101,50 +80,31 @@ noted_exports x h = by x.note
     by None = (h, refl)
     by (Some n) = (h, refl)
 
-all_keep : (n : Nonterminal) → AllKeep n (ways n)
-all_keep (noted_ p) = (λ x g. (g, omega arith), ((λ t tg x g n ng. (g, omega arith)), tt))
-all_keep (many c p) = (λ t g. (tt, omega arith), ((λ x g xs gs. ((g, gs), omega arith)), tt))
-all_keep (more c p) = (λ t g. (tt, omega arith), ((λ t tg x g xs gs. ((g, gs), omega arith)), tt))
-all_keep annotated_module = (λ x g. (let e = noted_exports x g in (e.0, omega (arith, e.1))), tt)
-all_keep «module» = ((λ t1 g1 x g2 t3 g3 es ges t5 g5 t6 g6 us gus ds gds. (each_export es ges, omega (arith, count_defs ds))), tt)
-all_keep function_name = ((λ x g s gs n gn. (small_magnitude (value n), omega arith)), tt)
-all_keep (definition d) = ((λ x g e ge f gf. (tt, omega arith)), tt)
-all_keep (definitions c d) = (λ t g. (tt, omega arith), ((λ x g xs gs. (tt, omega arith)), tt))
-all_keep n = all_free n (λ v taken. (tt, omega arith)) (ways n)
+all_keep : (n : Nonterminal) → AllKeepCounted Both n (ways n)
+all_keep (noted_ p) = (λ x k g. (g.0, omega (arith, g.1)), ((λ t i tg x j g n k ng. (g.0, omega (arith, g.1))), tt))
+all_keep (many c p) = (λ t k g. (tt, omega arith), ((λ x j g xs k gs. ((g.0, gs.0), omega arith)), tt))
+all_keep (more c p) = (λ t k g. (tt, omega arith), ((λ t i tg x j g xs k gs. ((g.0, gs.0), omega arith)), tt))
+all_keep annotated_module = (λ x k g. (let e = noted_exports x g.0 in (e.0, omega (arith, e.1, g.1))), tt)
+all_keep «module» = (
+  (λ t1 k1 g1 x k2 g2 t3 k3 g3 es k4 ges t5 k5 g5 t6 k6 g6 us k7 gus ds k8 gds. (each_export es ges.0, omega (arith, count_defs ds, gds.1))),
+  tt,
+)
+all_keep function_name = ((λ x i g s j gs n k gn. (omega (arith, magnitude_small (value n)), omega arith)), tt)
+all_keep (definition d) = ((λ x i g e j ge f k gf. (tt, omega (arith, ge.1))), tt)
+all_keep (definitions c d) = (λ t k g. (tt, omega arith), ((λ x j g xs k gs. (tt, omega (arith, g.1, gs.1))), tt))
+all_keep n = all_free_counted Both n (λ v taken. (tt, omega arith)) (ways n)
 
--- ---- so does all that is read
-
-module _ (l : ℕ) where
-  mutual
-    both : (p : Part) (ts us : List Token) (v : SaidBy p) → Reads l p ts v us → Good p v × (size p v + length us ≤ length ts)
-    both (a c) ts us v (r.token h) = (tt, omega arith)
-    both (first d c) ts us v (r.node h k) = (tt, omega arith)
-    both (the n) ts us v (r.part h) = both_one n (ways n) (all_keep n) ts us v h
-
-    both_one : (n : Nonterminal) (ws : List (Way (Said n))) → AllKeep n ws → (ts us : List Token) (v : Said n) → ReadsOne l n ws ts v us → GoodSaid n v × (size_said n v + length us ≤ length ts)
-    both_one n (w ∷ ws) keep ts us v (r.here h) = let q = both_all n w.parts w.says 0 keep.0 ts us v h in (q.0, omega (arith, q.1))
-    both_one n (w ∷ ws) keep ts us v (r.later h) = both_one n ws keep.1 ts us v h
-    both_one n [] keep ts us v h = elim h [ ]
-
-    both_all : (n : Nonterminal) (ps : List Part) (f : Action ps (Said n)) (taken : ℕ) → KeepsBoth n ps f taken → (ts us : List Token) (v : Said n) → ReadsAll l n ps f ts v us → GoodSaid n v × (size_said n v + length us ≤ taken + length ts)
-    both_all n [] f taken keep ts us v r.none = (keep.0, omega (arith, keep.1))
-    both_all n (p ∷ ps) f taken keep ts us v (r.one {x} {us = mid} h k) =
-        let here = both p ts mid x h in
-        let rest = both_all n ps (f x) (taken + size p x) (keep x here.0) mid us v k in
-        (rest.0, omega (arith, here.1, rest.1))
+-- so they hold of all that is read
+both : (l : ℕ) (p : Part) (ts us : List Token) (v : SaidBy p) → Reads l p ts v us → Good p v × (size p v + length us ≤ length ts)
+both l p ts us v h =
+    let w = walk_counted Both l (λ left. Unit {0}) (λ c t left known fit. ((tt, omega arith), tt)) (λ d c t left known fit deep. ((tt, omega arith), tt)) all_keep p ts us v tt h in
+    (w.holds.0, omega (arith, w.holds.1, w.counted))
 
 -- ---- modules
 
 count_numbered : (n : ℕ) (ds : m.Defs) → count (number_defs n ds).0 ≡ count ds
 count_numbered n m.no_def = refl
 count_numbered n (m.and_def f i xs t ds) = ap suc (count_numbered (number (n + 1) t).1 ds)
-
-each_contained : (fs : List FunName) (f : FunName) → Each IsSmall fs → Contains fs f → f.arity < 256
-each_contained [] f h c = absurd (contains_none f c)
-each_contained (g ∷ fs) f h c = elim (contains_cases g f fs c) [
-  | inl e ↦ subst IsSmall e h.0
-  | inr later ↦ each_contained fs f h.1 later
-]
 
 count_functions : (home : Atom) (es : List FunName) (ds : m.Defs) → length (functions_in home es ds) ≡ count ds
 count_functions home es m.no_def = refl
@@ -166,4 +126,4 @@ exports_by_tokens ts x h =
 
 -- a function that a spelled module exports has at most 255 arguments
 pub small_exports : (x : m.Module) (f : FunName) → IsSpelled x → Contains x.exports f → f.arity < 256
-small_exports x f h c = ∥∥₁_elim {P = f.arity < 256} h (hlevel props) (λ t. each_contained x.exports f (exports_by_tokens t.tokens x t.spells) c)
+small_exports x f h c = ∥∥₁_elim {P = f.arity < 256} h (hlevel props) (λ t. All-contains IsSmall x.exports f (All-from_recursion IsSmall x.exports (exports_by_tokens t.tokens x t.spells)) c)
