@@ -1,6 +1,7 @@
 -- The loops that add pairs: what each round keeps.
 use Rattle.std.proofs.Common.{◌≡◌, ◌↔◌, ℕ, ◌+◌, ◌<◌, ◌≤◌, ◌⊎◌, inl, inr, List, [], ◌∷◌, ◌++◌, Contains, length, drop, get_or, map, sym, ap, ◌∙◌, subst, add-one, length-append}
 use Rattle.std.proofs.lemmas.List.{map-append, append_assoc, append-nil, drop_all}
+use Rattle.type_kinds.proofs.Truths.{both_ways}
 use Rattle.type_kinds.proofs.Lists.{drop_next, contains_none, contains_first, contains_later, contains_cases}
 use Rattle.components.specs.Graph.{Leads}
 use Rattle.type_kinds.specs.declared.atom.Atom.{Atom}
@@ -48,9 +49,6 @@ pairs_round g h from cs rest c is added i j = (there, back)
       | inl e ↦ inl ((added i j).1 (inr (b.0, sym e)))
       | inr d ↦ inr (b.0, d)
     ]
-
-pub both_ways : {A B C : Type 0} → A ↔ B → B ↔ C → A ↔ C
-both_ways h k = (λ a. k.0 (h.0 a), λ c. h.1 (k.1 c))
 
 pub pairs_exit : (g first : Graph) (from : ℕ) (cs left : List ℕ) → left ≡ [] → ((i j : ℕ) → WithLeft g from left i j ↔ WithLeft first from cs i j) → (i j : ℕ) → Leads g i j ↔ WithLeft first from cs i j
 pairs_exit g first from cs left none h i j = (λ a. (h i j).0 (inl a), λ b. back ((h i j).1 b))

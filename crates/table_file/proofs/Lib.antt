@@ -6,7 +6,7 @@ mod FieldLaws
 mod FunctionLaws
 mod LeafLaws
 mod OnceLaws
-mod RiseLaws
+pub mod RiseLaws
 mod SameLaws
 mod SigReading
 mod TableLaws

@@ -97,9 +97,6 @@ named_round names new old from called rest x is pairs i j = subst (λ l. With ne
       | inr n ↦ inr (p.0, n)
     ]
 
-pub both_ways : {A B C : Type 0} → A ↔ B → B ↔ C → A ↔ C
-both_ways h k = (λ a. k.0 (h.0 a), λ c. h.1 (k.1 c))
-
 pub named_exit : (names : List Atom) (new old : List (List ℕ)) (from : ℕ) (left called : List Atom) → left ≡ []
     → ((i j : ℕ) → With new from (IsNamed names left) i j ↔ With old from (IsNamed names called) i j) → (i j : ℕ) → Leads new i j ↔ With old from (IsNamed names called) i j
 named_exit names new old from left called none kept i j = (λ l. (kept i j).0 (inl l), λ w. back ((kept i j).1 w))

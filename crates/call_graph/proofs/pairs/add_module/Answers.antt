@@ -1,10 +1,11 @@
 use Rattle.std.proofs.Common.{◌≡◌, ◌↔◌, ◌+◌, ◌++◌, Contains, length, drop, map, ap, ◌∙◌, subst, arith}
 use Rattle.std.proofs.lemmas.List.{drop_all}
+use Rattle.type_kinds.proofs.Truths.{both_ways}
 use Rattle.core_ast.specs.Tree.{all_defs, module_tree, tree}
 use Rattle.call_graph.specs.Targets.{targets}
 use Rattle.call_graph.specs.Calls.{functions_in, module_functions}
 use Rattle.call_graph.specs.steps.Walking.{callees, missed_in}
-use Rattle.call_graph.proofs.GraphRounds.{WithPairs, all_added, body_callees, body_missed, function_at, left_longer, module_round, next_function, none_left, one_more, both_ways}
+use Rattle.call_graph.proofs.GraphRounds.{WithPairs, all_added, body_callees, body_missed, function_at, left_longer, module_round, next_function, none_left, one_more}
 use Rattle.call_graph.proofs.pairs.add_module.Goals as goal
 
 pub add_pairs-requires-clause-from : goal.add_pairs-requires-clause-from

@@ -2,7 +2,8 @@ use Rattle.std.proofs.Common.{◌∙◌, ◌+◌, drop, arith}
 use Rattle.std.specs.Prelude.{slice_index}
 use Rattle.std.proofs.lemmas.List.Elements.{Contains-get_or}
 use Rattle.std.proofs.lemmas.List.{drop_all, drop_more}
-use Rattle.call_graph.proofs.GraphRounds.{pairs_round, pairs_exit, both_ways}
+use Rattle.type_kinds.proofs.Truths.{both_ways}
+use Rattle.call_graph.proofs.GraphRounds.{pairs_round, pairs_exit}
 use Rattle.call_graph.proofs.pairs.add_pairs.Goals as goal
 
 pub add-requires-clause-from : goal.add-requires-clause-from

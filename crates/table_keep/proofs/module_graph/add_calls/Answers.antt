@@ -2,7 +2,8 @@ use Rattle.std.proofs.Common.{◌∙◌, ◌+◌, drop, arith}
 use Rattle.std.proofs.lemmas.List.{drop_all}
 use Rattle.indexmap.specs.IndexMap.{keys}
 use Rattle.type_kinds.proofs.Lists.{drop_next}
-use Rattle.table_keep.proofs.CallPairs.{named_round, named_exit, both_ways}
+use Rattle.type_kinds.proofs.Truths.{both_ways}
+use Rattle.table_keep.proofs.CallPairs.{named_round, named_exit}
 use Rattle.table_keep.proofs.module_graph.add_calls.Goals as goal
 
 pub loop-name-preserved : goal.loop-name-preserved
