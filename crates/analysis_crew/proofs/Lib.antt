@@ -4,5 +4,6 @@ mod Laid
 mod Listed
 mod Loops
 mod Outputs
+pub mod Passed
 mod Same
 mod Works

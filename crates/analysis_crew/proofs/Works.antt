@@ -2,20 +2,15 @@
 use Rattle.std.proofs.Common.{◌≡◌, ◌≢◌, Bool, true, false, ℕ, ◌+◌, ◌<◌, List, [], ◌∷◌, ◌++◌, length, map, ◌⊎◌, inl, inr, Some, Ok, Err, IfOk, Result, Contains, All, refl, sym, ap, ap₂, ◌∙◌, subst, arith, length-append, add-one}
 use Rattle.std.specs.Prelude.{slice_get, slice_index_or, option_map, if◌then◌else◌}
 use Rattle.std.specs.List.{list_any}
-use Rattle.std.proofs.lemmas.List.{length-map}
 use Rattle.std.proofs.lemmas.Option.{slice_get-map, slice_get-get_or}
 use Rattle.summary_board.proofs.Below.{length_each_below, get_each_below}
 use Rattle.comp_rounds.proofs.SameCallees.{pointwise}
-use Rattle.core_scope.proofs.NameLaws.{none_earlier}
 use Rattle.type_kinds.proofs.Lists.{contains_first, contains_later}
 use Rattle.type_kinds.specs.declared.atom.Atom.{Atom}
 use Rattle.core_ast.specs.declared.syntax.FunName.{FunName}
 use Rattle.core_ast.specs.Model as m
 use Rattle.core_scope.specs.Asks.{erlang}
-use Rattle.core_scope.specs.Checked.{module_of, tree_of}
 use Rattle.core_scope.specs.Names.{Distinct}
-use Rattle.core_scope.specs.Sets.{StandsEarlier}
-use Rattle.core_scope.specs.declared.checked.Checked.{Checked}
 use Rattle.call_graph.specs.Calls.{ModuleFunction, functions_of, GoesTo}
 use Rattle.call_graph.specs.Outside.{outside_of, GoesInside}
 use Rattle.call_graph.specs.Targets.{CallTarget, targets}
@@ -172,21 +167,6 @@ known_by_outputs xs c around first known fs first_is fs_is is =
     is
     ∙ ap (λ k. after_components k fs c c.count) first_is
     ∙ ap (λ gs. after_components (closed_over around (module_names xs)) gs c c.count) fs_is
-
--- ---- modules that are passed
-
-pub accepted_all : {S : Type 0} (f : S → Checked) (ss : List S) → AreAccepted (map (λ s. tree_of (f s)) ss)
-accepted_all f [] = tt
-accepted_all f (s ∷ ss) = ((f s, refl), accepted_all f ss)
-
-pub names_of : {S : Type 0} (f : S → Checked) (ss : List S) → map (λ s. (module_of (f s)).name) ss ≡ module_names (map (λ s. tree_of (f s)) ss)
-names_of f [] = refl
-names_of f (s ∷ ss) = ap (λ names. (module_of (f s)).name ∷ names) (names_of f ss)
-
-pub apart_all : {S : Type 0} (f : S → Checked) (ss : List S) → ((j : ℕ) → j < length ss → StandsEarlier (map (λ s. (module_of (f s)).name) ss) j → ⊥) → Distinct (module_names (map (λ s. tree_of (f s)) ss))
-apart_all f ss h =
-    subst Distinct (names_of f ss)
-    (none_earlier (map (λ s. (module_of (f s)).name) ss) (λ j within before. h j (subst (λ n. j < n) (length-map ss (λ s. (module_of (f s)).name)) within) before))
 
 -- ---- one component after another
 

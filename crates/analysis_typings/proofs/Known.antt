@@ -1,8 +1,8 @@
 -- Each function of accepted modules with distinct names has a summary, where they are analysed together.
-use Rattle.std.proofs.Common.{◌≡◌, ℕ, ◌<◌, Bool, true, false, cond, ◌||◌, List, [], ◌∷◌, length, map, ◌⊎◌, inl, inr, Some, Contains, Result, Ok, Err, refl, sym, ap, ap₂, ◌∙◌, subst, true≢false}
+use Rattle.std.proofs.Common.{◌≡◌, ℕ, ◌<◌, true, false, ◌||◌, List, [], ◌∷◌, length, map, ◌⊎◌, inl, inr, Contains, Result, Ok, Err, sym, ap, ap₂, ◌∙◌, subst, true≢false}
 use Rattle.std.specs.Prelude.{IfOk}
 use Rattle.std.proofs.Math.Bool.{or-true}
-use Rattle.std.proofs.lemmas.List.{length-map, map-append}
+use Rattle.std.proofs.lemmas.List.{map-append}
 use Rattle.std.proofs.lemmas.Option.{slice_get_within}
 use Rattle.type_kinds.proofs.Lists.{contains_none, contains_cases}
 use Rattle.type_kinds.specs.declared.memory.Memory.{Memory}
@@ -13,34 +13,20 @@ use Rattle.core_scope.specs.Checked.{module_of, tree_of}
 use Rattle.core_scope.specs.declared.checked.Checked.{Checked}
 use Rattle.core_scope.specs.Names.{Distinct, defined_names}
 use Rattle.core_scope.specs.Sets.{StandsEarlier}
-use Rattle.core_scope.proofs.NameLaws.{none_earlier}
 use Rattle.call_graph.specs.Calls.{module_functions, functions_of}
-use Rattle.cons_tree.specs.declared.parts.Callee.TheVariants.{Known, Local, Unknown}
+use Rattle.cons_tree.specs.declared.parts.Callee.TheVariants.{Unknown}
 use Rattle.cons_tree.specs.declared.parts.Summary.{Summary}
-use Rattle.comp_rounds.specs.Rounds.{Callees, Function, callee_of, is_member}
+use Rattle.comp_rounds.specs.Rounds.{Callees, is_member}
 use Rattle.sound_laws.specs.Accepted.{AreAccepted}
 use Rattle.sound_laws.specs.Knowledge.{summary_of}
 use Rattle.analysis_summaries.specs.Functions.{summarized, all_functions}
 use Rattle.analysis_summaries.specs.Known.{module_names, all_unknown, known_over}
 use Rattle.analysis_summaries.specs.Whole.{IsWholeOver}
 use Rattle.sound_laws_whole.proofs.Named.{search_named, member_append, from_member}
+use Rattle.sound_laws_rounds.proofs.Callees.{summary_is}
 use Rattle.sound_laws_whole.proofs.Wholes.{callee_at}
+use Rattle.analysis_crew.proofs.Passed.{accepted_all, apart_all}
 use Rattle.analysis_typings.specs.Typings.{AreTypings, AreKnownOf, HasSummary}
-
--- ---- modules that are handed in
-
-pub accepted_all : {S : Type 0} (f : S → Checked) (ss : List S) → AreAccepted (map (λ s. tree_of (f s)) ss)
-accepted_all f [] = tt
-accepted_all f (s ∷ ss) = ((f s, refl), accepted_all f ss)
-
-names_of : {S : Type 0} (f : S → Checked) (ss : List S) → map (λ s. (module_of (f s)).name) ss ≡ module_names (map (λ s. tree_of (f s)) ss)
-names_of f [] = refl
-names_of f (s ∷ ss) = ap (λ names. (module_of (f s)).name ∷ names) (names_of f ss)
-
-apart_all : {S : Type 0} (f : S → Checked) (ss : List S) → ((j : ℕ) → j < length ss → StandsEarlier (map (λ s. (module_of (f s)).name) ss) j → ⊥) → Distinct (module_names (map (λ s. tree_of (f s)) ss))
-apart_all f ss h =
-    subst Distinct (names_of f ss)
-    (none_earlier (map (λ s. (module_of (f s)).name) ss) (λ j within before. h j (subst (λ n. j < n) (length-map ss (λ s. (module_of (f s)).name)) within) before))
 
 -- ---- a definition is a function
 
@@ -59,13 +45,6 @@ member_all (y ∷ xs) x f among has =
     ∙ member_append (map summarized (module_functions y)) (all_functions xs) x.name f
     ∙ in_first y x xs f (elim (contains_cases y x xs among) [ inl same ↦ inl same | inr later ↦ inr (member_all xs x f later has) ]) has
 
-has_summary : (g : Function) (s : Summary) → summary_of (callee_of g s) ≡ Some s
-has_summary g s = by g.exported
-  where
-    by : (b : Bool) → summary_of (cond b (Known s) (Local s)) ≡ Some s
-    by true = refl
-    by false = refl
-
 pub whole_has : (xs : List m.Module) → AreAccepted xs → Distinct (module_names xs) → (around known : Callees) → IsWholeOver around xs known
     → (x : m.Module) → Contains xs x → (f : FunName) → Contains (defined_names x.defs) f → HasSummary (known x.name f)
 whole_has xs accepted apart around known w x among f has =
@@ -73,7 +52,7 @@ whole_has xs accepted apart around known w x among f has =
     (elim (search_named (all_functions xs) x.name f) [
       | inl p ↦
           let at = callee_at xs accepted apart w.graph w.is_graph w.numbering w.is_numbering around p.position p.function p.there (slice_get_within (all_functions xs) p.position p.function p.there) in
-          (at.0, ap summary_of (ap₂ (known_over around xs w.numbering) p.home_is p.name_is ∙ at.1) ∙ has_summary p.function at.0)
+          (at.0, ap summary_of (ap₂ (known_over around xs w.numbering) p.home_is p.name_is ∙ at.1) ∙ summary_is p.function at.0)
       | inr none ↦ absurd (true≢false (sym (member_all xs x f among has) ∙ none))
     ])
 

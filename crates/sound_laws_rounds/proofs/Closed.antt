@@ -25,6 +25,7 @@ use Rattle.sound_laws.specs.Knowledge.{Allows, summary_of}
 use Rattle.sound_laws.specs.Summaries as laws
 use Rattle.sound_laws.specs.Summaries.{Definition, definition_of, IsWithin, AreClosed, strict_of, lenient_of}
 use Rattle.sound_laws_rounds.specs.Whole.{IsFunctionOf, AreFunctionsOf, AreKnown, IsWhole}
+use Rattle.sound_laws_rounds.proofs.Callees.{summary_is}
 use Rattle.sound_laws_rounds.proofs.Inferred.{inferred_within, same_below}
 
 -- names that are one
@@ -67,13 +68,6 @@ allowed_alike x g s t h = by g.exported h
 
     by : (b : Bool) → Allows x (cond b (Known s) (Local s)) → Allows x (cond b (Known t) (Local t))
     by b k = at x b k
-
-summary_is : (g : Function) (s : Summary) → summary_of (callee_of g s) ≡ Some s
-summary_is g s = by g.exported
-  where
-    by : (b : Bool) → summary_of (cond b (Known s) (Local s)) ≡ Some s
-    by true = refl
-    by false = refl
 
 module _ (T : TypeFacts) (alive : (c : Cons Part) (xs ys : Types) → has_none xs ≡ false → solution c xs ≡ Some ys → has_none ys ≡ false) (settles : (around : Callees) (gs : List Function) → all_below (given around gs (strict_signatures around gs)) (strict_signatures around gs) ≡ true) (U : Program) (K : Callees) (whole : IsWhole U K) where
   -- ---- honest

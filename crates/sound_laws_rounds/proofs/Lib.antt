@@ -1,2 +1,3 @@
+pub mod Callees
 mod Closed
 mod Inferred

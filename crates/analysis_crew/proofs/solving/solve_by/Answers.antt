@@ -4,7 +4,8 @@ use Rattle.core_scope.specs.Checked.{tree_of}
 use Rattle.cons_tree.specs.Callees.{found}
 use Rattle.comp_rounds.specs.Members.{function_of}
 use Rattle.analysis_summaries.specs.Known.{closed_over}
-use Rattle.analysis_crew.proofs.Works.{accepted_all, names_of, apart_all, outputs_known, known_by_outputs}
+use Rattle.analysis_crew.proofs.Passed.{accepted_all, names_of, apart_all}
+use Rattle.analysis_crew.proofs.Works.{outputs_known, known_by_outputs}
 use Rattle.analysis_crew.proofs.solving.solve_by.Goals as goal
 
 pub solve_members-done-requires-clause-numbering : goal.solve_members-done-requires-clause-numbering
