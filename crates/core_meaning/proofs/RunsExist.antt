@@ -3,20 +3,18 @@
 use Rattle.std.proofs.Common.{◌≡◌, ℕ, suc, true, false, ◌||◌, inl, inr, List, [], ◌∷◌, ◌++◌, length, Some, Contains, sym, ap, ◌∙◌, subst, arith}
 use Rattle.std.specs.Cmp.Lexicographic.{bytes_decides}
 use Rattle.std.proofs.lemmas.Bool.{cases_Bool}
-use Rattle.type_kinds.proofs.Lists.{contains_none, contains_first, contains_later, contains_cases}
+use Rattle.type_kinds.proofs.Lists.{contains_first, contains_later}
 use Rattle.type_kinds.specs.declared.atom.Atom.{Atom}
-use Rattle.type_kinds.specs.declared.place.Place.{Place}
 use Rattle.core_ast.specs.declared.syntax.FunName.{FunName}
 use Rattle.core_ast.specs.Model as m
-use Rattle.core_scope.specs.declared.fault.ScopeRule.TheVariants.{DefinedExports}
 use Rattle.core_scope.specs.Asks as asks
 use Rattle.core_scope.specs.Names as scopes
-use Rattle.core_scope.specs.Names.{same_atom, has_variable, has_function, bound_by, defined_names, module_scope}
-use Rattle.core_scope.specs.Breaks.{unless, next_place, other_places, new_functions, export_breaks, def_breaks, module_breaks}
+use Rattle.core_scope.specs.Names.{same_atom, has_variable, bound_by, defined_names, module_scope}
+use Rattle.core_scope.specs.Breaks.{new_functions, export_breaks, def_breaks, module_breaks}
 use Rattle.core_scope.specs.Places.{HaveArity}
 use Rattle.core_scope.specs.Places.StandsIn.{itself}
 use Rattle.core_scope.proofs.NameLaws.{contained_has}
-use Rattle.core_scope.proofs.Unbroken.{open_two, open_three, holds}
+use Rattle.core_scope.proofs.Unbroken.{open_three, exports_stand}
 use Rattle.type_lattice_model.specs.Canonical.{spelled}
 use Rattle.type_lattice_model.specs.Values.{Value, closure, Values, no_value, and_value, count, no_variable}
 use Rattle.bif_types.specs.Results.{one_value}
@@ -37,16 +35,6 @@ contained_variable (y ∷ ys) x h = elim (cases_Bool (same_atom x y)) [
   | inl same ↦ subst (λ z. Contains (y ∷ ys) z) (sym ((bytes_decides x y).0 same)) (contains_first y ys)
   | inr other ↦ contains_later y x ys (contained_variable ys x (sym (ap (λ b. b || has_variable ys x) other) ∙ h))
 ]
-
--- what a module exports it defines
-exports_stand : (fs : List FunName) (gs : List FunName) (places : List Place) → export_breaks fs gs places ≡ [] → (f : FunName) → Contains gs f → Contains fs f
-exports_stand fs [] places e f h = absurd (contains_none f h)
-exports_stand fs (g ∷ gs) places e f h =
-    let r = open_two (unless (has_function fs g) DefinedExports (next_place places)) (export_breaks fs gs (other_places places)) e in
-    elim (contains_cases g f gs h) [
-      | inl same ↦ subst (λ x. Contains fs x) same (contained_has fs g (holds (has_function fs g) DefinedExports (next_place places) r.0))
-      | inr later ↦ exports_stand fs gs (other_places places) r.1 f later
-    ]
 
 module _ (once : (v w : Value) → spelled v ≡ spelled w → v ≡ w) (U : Program) (p : m.Module) (text : Text U p)
     (known : HasModule U p) (sound : module_breaks p ≡ []) (arities : HaveArity p.defs) (labelled : AreAtLabels U p.name p.defs) where

@@ -1,11 +1,11 @@
 -- What breaks no rule has no part that does: the parts of a form, and what each test says where it passes.
 -- A form's parts are opened by the law for their number, since `breaks` computes on the form.
-use Rattle.std.proofs.Common.{◌≡◌, ℕ, ◌⊎◌, inl, inr, ◌||◌, Bool, true, false, not, List, [], ◌∷◌, ◌++◌, Contains, length, eqb, eqb-true, refl, sym, ap, ◌∙◌, arith}
+use Rattle.std.proofs.Common.{◌≡◌, ℕ, ◌⊎◌, inl, inr, ◌||◌, Bool, true, false, not, List, [], ◌∷◌, ◌++◌, Contains, length, eqb, eqb-true, refl, sym, ap, ◌∙◌, subst, arith}
 use Rattle.std.specs.List.{list_any}
 use Rattle.std.proofs.lemmas.List.Folds.{list_any-append}
 use Rattle.std.proofs.lemmas.Bool.{or_parts, not-true, or_cases}
-use Rattle.core_scope.proofs.NameLaws.{function_itself}
-use Rattle.type_kinds.proofs.Lists.{contains_cases}
+use Rattle.core_scope.proofs.NameLaws.{function_itself, contained_has}
+use Rattle.type_kinds.proofs.Lists.{contains_none, contains_cases}
 use Rattle.type_kinds.specs.declared.place.Place.{Place}
 use Rattle.core_ast.specs.declared.syntax.Mark.{Mark}
 use Rattle.core_ast.specs.declared.syntax.VarName.{VarName}
@@ -14,9 +14,10 @@ use Rattle.core_ast.specs.Model as m
 use Rattle.core_ast.specs.Lengths.{how_many_patterns}
 use Rattle.core_scope.specs.declared.ask.Ask.{Ask}
 use Rattle.core_scope.specs.declared.fault.ScopeRule.{ScopeRule}
+use Rattle.core_scope.specs.declared.fault.ScopeRule.TheVariants.{DefinedExports}
 use Rattle.core_scope.specs.Names.{Distinct, same_function, has_function, defined_names}
 use Rattle.core_scope.specs.Asks.{gives, suffices}
-use Rattle.core_scope.specs.Breaks.{unless, degree, new_functions, arity_of, width_of, catches, module_breaks}
+use Rattle.core_scope.specs.Breaks.{unless, degree, new_functions, next_place, other_places, export_breaks, arity_of, width_of, catches, module_breaks}
 
 pub open_two : {X : Type 0} (a b : List X) → a ++ b ≡ [] → (a ≡ []) × (b ≡ [])
 open_two [] b e = (refl, e)
@@ -83,3 +84,13 @@ defined_once before (m.and_def f i xs t ds) e =
 
 pub module_defined_once : (x : m.Module) → module_breaks x ≡ [] → Distinct (defined_names x.defs)
 module_defined_once x e = defined_once [] x.defs (open_three (new_functions [] x.defs) _ _ e).0
+
+-- what a module exports it defines
+pub exports_stand : (fs : List FunName) (gs : List FunName) (places : List Place) → export_breaks fs gs places ≡ [] → (f : FunName) → Contains gs f → Contains fs f
+exports_stand fs [] places e f h = absurd (contains_none f h)
+exports_stand fs (g ∷ gs) places e f h =
+    let r = open_two (unless (has_function fs g) DefinedExports (next_place places)) (export_breaks fs gs (other_places places)) e in
+    elim (contains_cases g f gs h) [
+      | inl same ↦ subst (λ x. Contains fs x) same (contained_has fs g (holds (has_function fs g) DefinedExports (next_place places) r.0))
+      | inr later ↦ exports_stand fs gs (other_places places) r.1 f later
+    ]

@@ -9,15 +9,13 @@ use Rattle.std.proofs.lemmas.Option.{slice_get_within, slice_get-map}
 use Rattle.core_scope.proofs.NameLaws.{contained_has}
 use Rattle.type_kinds.proofs.Lists.{contains_none, contains_first, contains_later, contains_cases}
 use Rattle.type_kinds.specs.declared.atom.Atom.{Atom}
-use Rattle.type_kinds.specs.declared.place.Place.{Place}
 use Rattle.core_ast.specs.declared.syntax.FunName.{FunName}
 use Rattle.core_ast.specs.Model as m
 use Rattle.core_scope.specs.Asks.{erlang}
-use Rattle.core_scope.specs.Breaks.{unless, export_breaks, module_breaks, next_place, other_places, new_functions, def_breaks}
+use Rattle.core_scope.specs.Breaks.{export_breaks, module_breaks, new_functions, def_breaks}
 use Rattle.core_scope.specs.Checked.{tree_of, is_accepted}
 use Rattle.core_scope.specs.Names.{Distinct, defined_names, same_atom, has_function, module_scope}
-use Rattle.core_scope.specs.declared.fault.ScopeRule.TheVariants.{DefinedExports}
-use Rattle.core_scope.proofs.Unbroken.{open_two, open_three, holds, module_defined_once}
+use Rattle.core_scope.proofs.Unbroken.{open_three, module_defined_once, exports_stand}
 use Rattle.call_graph.specs.Calls.{ModuleFunction, functions_of, GoesTo}
 use Rattle.call_graph.specs.Targets.CallTarget.{defined, inner, remote}
 use Rattle.call_graph.specs.Targets.{CallTarget, targets}
@@ -58,18 +56,9 @@ accepted_sound (x ∷ xs) h p has =
       | inr more ↦ accepted_sound xs h.1 p more
     ]
 
-export_defined : (functions exports : List FunName) (positions : List Place) → export_breaks functions exports positions ≡ [] → (f : FunName) → Contains exports f → Contains functions f
-export_defined functions [] positions e f has = absurd (contains_none f has)
-export_defined functions (g ∷ exports) positions e f has =
-    let parts = open_two (unless (has_function functions g) DefinedExports (next_place positions)) (export_breaks functions exports (other_places positions)) e in
-    elim (contains_cases g f exports has) [
-      | inl same ↦ subst (Contains functions) same (contained_has functions g (holds (has_function functions g) DefinedExports (next_place positions) parts.0))
-      | inr more ↦ export_defined functions exports (other_places positions) parts.1 f more
-    ]
-
 pub exports_defined : (p : m.Module) → module_breaks p ≡ [] → (f : FunName) → has_function p.exports f ≡ true → Contains (defined_names p.defs) f
 exports_defined p sound f e =
-    export_defined (defined_names p.defs) p.exports p.export_places (open_three (new_functions [] p.defs) (export_breaks (defined_names p.defs) p.exports p.export_places) (def_breaks (module_scope p) p.defs) sound).1 f (contained_has p.exports f e)
+    exports_stand (defined_names p.defs) p.exports p.export_places (open_three (new_functions [] p.defs) (export_breaks (defined_names p.defs) p.exports p.export_places) (def_breaks (module_scope p) p.defs) sound).1 f (contained_has p.exports f e)
 
 -- ---- what is known before any component is solved
 
