@@ -1,0 +1,11 @@
+//! Places, items and rules of a flow of functions as values of the code, and what a walk through a program
+//! looks up: names with values, and the functions that modules export.
+#![tactic(auto)]
+
+mod bindings;
+mod places;
+mod table;
+
+pub use bindings::Bindings;
+pub use places::{Item, Place, Rule};
+pub use table::{Functions, ModuleTable, Resolved, define_all, define_module, module_table};
