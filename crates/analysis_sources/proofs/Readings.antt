@@ -1,11 +1,11 @@
 -- Files that are read one after another.
-use Rattle.std.proofs.Common.{◌≡◌, ℕ, ◌+◌, ◌<◌, ◌≤◌, List, [], ◌∷◌, ◌++◌, length, take, sym, ap, ◌∙◌, subst, Some, Ok, Err, Result, arith, get_or, inl, inr, add-one, take_all}
+use Rattle.std.proofs.Common.{◌≡◌, ℕ, ◌+◌, ◌<◌, ◌≤◌, List, [], ◌∷◌, ◌++◌, length, take, sym, ap, ◌∙◌, subst, Some, Ok, Err, Result, get_or, add-one, take_all}
 use Rattle.std.proofs.lemmas.List.{map-append, length-map}
 use Rattle.std.specs.Prelude.{slice_get, Option, option_map, IfErr}
 use Rattle.std.specs.Borrow.{Bor}
 use Rattle.std.proofs.Math.Seq.{take-suc}
 use Rattle.std.proofs.lemmas.Option.{slice_get_within, get_or_from_slice_get, slice_get-map, slice_get-get_or}
-use Rattle.da_shelf.specs.Counts.{Rose}
+use Rattle.da_shelf.proofs.CountLaws.{rose_since}
 use Rattle.da_shelf.specs.Told.{Files, Holds, Lacks}
 use Rattle.table_keep.specs.declared.source.Source.{Source as HandedIn}
 use Rattle.table_keep.specs.Model.{Source, source_so, sources_so}
@@ -15,11 +15,6 @@ use Rattle.analysis_sources.specs.Reading.{AreRead, IsReached, RefusedAt, not_he
 use Rattle.analysis_sources.specs.steps.ReadingSteps.{OneRefused, lacking, faulty, FailsOne, FailsBytes, IsReadAs}
 use Rattle.analysis_sources.specs.Words.{texts}
 use Rattle.analysis_sources.specs.Sources.{room, IsTextOf, IsAtFault}
-
--- a count that rose after a call rose in all
-rose_from : (a b n : ℕ) → a ≤ b → Rose b n → Rose a n
-rose_from a b n low (inl up) = inl (omega arith)
-rose_from a b n low (inr last) = inr last
 
 pub take_whole : (fs : List (List ℕ)) (i : ℕ) → length fs ≤ i → take i fs ≡ fs
 take_whole fs i h = take_all i fs h
@@ -95,7 +90,7 @@ fails_at told now words first i w d xs before b n (Refused at fault) a low h e s
     refused_so (faulty bytes k l) =
         at_fault (record { file = w.now; bytes = bytes; before = before; reached = reached; held_so = subst (λ t. Holds t w.now bytes) same k; is = l })
 fails_at told now words first i w d xs before b n (Failed at) a low h e same front one =
-    (i, one.0, (w.now, before, record { there = text_at words i w d h e; sources = xs; read = front }), rose_from a b n low one.1)
+    (i, one.0, (w.now, before, record { there = text_at words i w d h e; sources = xs; read = front }), rose_since a b n low one.1)
 fails_at told now words first i w d xs before b n Memory a low h e same front one = tt
 
 pub ruleset readings = (source_read, all_read, fails_at)

@@ -1,3 +1,4 @@
+pub mod CountLaws
 mod Examples
 mod Search
 mod Written

@@ -1,6 +1,6 @@
 -- What a check that passed wrote is what an analysis from scratch gives, and nothing of it is false.
-use Rattle.std.proofs.Common.{◌≡◌, ℕ, zero, suc, ◌<◌, List, [], ◌∷◌, ◌++◌, Contains, length, map, refl, sym, ◌∙◌, ap, subst, Option, Some, None, append-nil, arith}
-use Rattle.std.specs.Prelude.{IfSome, slice_index_or, Bool, true, false, not, ◌&&◌, if◌then◌else◌}
+use Rattle.std.proofs.Common.{◌≡◌, ℕ, zero, suc, ◌<◌, List, [], ◌∷◌, ◌++◌, Contains, length, map, sym, ◌∙◌, ap, subst, Option, Some, None, append-nil, arith}
+use Rattle.std.specs.Prelude.{IfSome, slice_index_or, Bool, not, ◌&&◌, if◌then◌else◌}
 use Rattle.std.specs.Cmp.Lexicographic.{bytes_decides}
 use Rattle.std.proofs.lemmas.Bool.{false_from_ne_true}
 use Rattle.std.proofs.lemmas.List.{length-map}
@@ -12,16 +12,15 @@ use Rattle.comp_rounds.specs.Rounds.{Callees}
 use Rattle.core_meaning.specs.Programs.{Program, HasModule, module_named}
 use Rattle.da_shelf.specs.Told.{Files, appended}
 use Rattle.table_keep.specs.Model.{Source, Entry, trees, picked, is_in, entry_so, entries_so}
-use Rattle.table_keep.specs.Groups.{Groups, IsGroups}
-use Rattle.table_keep.specs.Kept.{Results, is_candidate, calls_of, is_new, kept}
+use Rattle.table_keep.specs.Kept.{Results, kept}
 use Rattle.sound_laws.specs.Accepted.{AreAccepted}
 use Rattle.sound_laws_rounds.specs.Whole.{IsWhole}
 use Rattle.sound_laws_flow.specs.Claims.{NothingFalse}
 use Rattle.module_flow_frame.specs.Sites.{TiedLines}
 use Rattle.sound_laws_kept.specs.Laws.{AgainLaw, KeptLaw, FoundLaw, DigestsTell}
 use Rattle.sound_laws_kept.specs.Solving.{AreSources, IsWritten}
-use Rattle.sound_laws_kept.specs.Written.{new_entry}
 use Rattle.sound_laws_kept.proofs.Names.{accepted_append, accepted_picked}
+use Rattle.sound_laws_kept.proofs.NothingWritten.{nothing_written}
 use Rattle.dialyze_command.specs.declared.status.Status.{Status}
 use Rattle.dialyze_command.specs.Outcome.{HaveOwnNames, module_names, IsBegun, empty, named, Intended, IsPassed}
 use Rattle.dialyze_command.specs.Words.{AsksForCheck}
@@ -58,40 +57,11 @@ has_module (x ∷ M) xs s d (suc k) h e =
 
 -- ---- the empty table is that of no sources
 
-no_groups : Groups
-no_groups = record { number = λ h. 0; count = 0; members = λ n. [] }
-
 nothing_known : Results
 nothing_known h = record { exports = []; lines = [] }
 
-false_true : {X : Type 0} → false ≡ true → X
-false_true e = absurd cc
-
-no_group : (nodes : Atom → Bool) (out : Atom → List Atom) → ((h : Atom) → nodes h ≡ false) → IsGroups nodes out no_groups
-unfolding no_groups
-no_group nodes out none = record {
-  low = λ a h. false_true (sym (none a) ∙ h);
-  together = λ a b h k. false_true (sym (none a) ∙ h);
-  downward = λ a b h. omega arith;
-  members = λ n a. (λ e. false_true e, λ h. false_true (sym (none a) ∙ h.0));
-  sorted = λ n. refl;
-}
-
 empty_written : IsWritten [] [] [] []
-unfolding no_groups kept is_new new_entry
-empty_written = record {
-  groups = no_groups;
-  new_groups = no_groups;
-  known = nothing_known;
-  analysis = record {
-    candidates = no_group (is_candidate [] []) (calls_of [] []) (λ h. refl);
-    new = no_group (is_new nothing_known [] [] no_groups) (calls_of [] []) (λ h. refl);
-    results = record { of_entry = λ h e k f. false_true k; solved = λ n h. absurd (omega (arith, h)) };
-  };
-  reports_so = refl;
-  entries = λ h. refl;
-  rising = refl;
-}
+empty_written = nothing_written nothing_known
 
 -- ---- the laws of a check that passed
 

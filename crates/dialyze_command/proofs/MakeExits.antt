@@ -1,5 +1,5 @@
 -- What a make gives, one step after another: each way out.
-use Rattle.std.proofs.Common.{◌≡◌, inl, inr, ℕ, ◌^◌, ◌<◌, ◌≤◌, List, [], ◌∷◌, length, map, refl, sym, ap, ap₂, ◌∙◌, subst, Option, Some, Result, Ok, Err, arith}
+use Rattle.std.proofs.Common.{◌≡◌, ℕ, ◌^◌, ◌<◌, ◌≤◌, List, [], ◌∷◌, length, map, refl, sym, ap, ap₂, ◌∙◌, subst, Option, Some, Result, Ok, Err, arith}
 use Rattle.std.specs.Prelude.{IfOk, OnErr}
 use Rattle.std.specs.List.{concat}
 use Rattle.std.proofs.lemmas.List.{length-map}
@@ -9,7 +9,7 @@ use Rattle.core_make.specs.Modules.{module_text, generated}
 use Rattle.core_scope.specs.Checked.{module_of, tree_of}
 use Rattle.core_scope.specs.Sets.{StandsEarlier}
 use Rattle.core_scope.specs.declared.fault.SetFault.{SetFault}
-use Rattle.da_shelf.specs.Counts.{Rose}
+use Rattle.da_shelf.proofs.CountLaws.{rose_since}
 use Rattle.da_shelf.specs.Told.{Files, IsOldOrNew}
 use Rattle.table_file.specs.declared.tables.Table.{Table}
 use Rattle.table_keep.specs.declared.source.Source.{Source as HandedIn}
@@ -35,10 +35,6 @@ use Rattle.dialyze_command.proofs.PlanExits.{own_names, set_told}
 use Rattle.dialyze_command.proofs.WordExits.{one_make}
 
 -- ---- files that are put one after another
-
-rose_since : (early before now : ℕ) → early ≤ before → Rose before now → Rose early now
-rose_since early before now h (inl a) = inl (omega (arith, h, a))
-rose_since early before now h (inr a) = inr a
 
 -- the shelf doesn't take one
 pub put_fails : (n k early before now : ℕ) (told mid after : Option Files) (text : List ℕ) (answer : Answer) → k < n → mid ≡ with_first n k told → text ≡ module_text n k → early ≤ before

@@ -12,6 +12,7 @@ use Rattle.core_scope.specs.declared.fault.SetFault.{SetFault}
 use Rattle.analysis.specs.declared.analysing.Fault.TheVariants.{Set}
 use Rattle.analysis.specs.Reports.{IsSetFault}
 use Rattle.core_scope.specs.Sets.{StandsEarlier, FirstDuplicate}
+use Rattle.da_shelf.proofs.CountLaws.{rose_since}
 use Rattle.da_shelf.specs.Counts.{Rose}
 use Rattle.da_shelf.specs.Told.{Files}
 use Rattle.table_file.specs.declared.tables.Table.{Table}
@@ -100,13 +101,9 @@ pub plan_since : {ws : List (List ℕ)} {told : Option Files} {early rb rn : ℕ
 plan_since h (p.stores command reports new table some analyses says o is) = p.stores command reports new table some analyses says o is
 plan_since {ws} {told} {early} {rb} {rn} {status} {output} h (p.answers none means) = p.answers none (λ n k. since n k (means n k))
   where
-    rose_since : Rose rb rn → Rose early rn
-    rose_since (inl a) = inl (omega (arith, h, a))
-    rose_since (inr a) = inr a
-
     since : (n k : ℕ) → Intended ws told rb rn n k status output told → Intended ws told early rn n k status output told
     since n k (answered o) = answered o
-    since n k (unread word name s o e is rose) = unread word name s o e is (rose_since rose)
+    since n k (unread word name s o e is rose) = unread word name s o e is (rose_since early rb rn h rose)
     since n k (unreplaced word name s o is rose) = unreplaced word name s o is rose
 
 -- modules that the code hands in are accepted

@@ -10,6 +10,7 @@ mod Linking
 mod Mixed
 mod OneAnalysis
 pub mod Names
+pub mod NothingWritten
 mod Rests
 mod Scratch
 pub mod Shown
