@@ -2,6 +2,7 @@
 -- closure that no argument holds.
 use Rattle.std.proofs.Common.{◌≡◌, ℕ, zero, suc, ℤ, pos, Bool, true, ◌||◌, List, [], ◌∷◌, Option, Some, None, length, inl, inr, refl, sym, ap, ◌∙◌, subst}
 use Rattle.std.specs.Prelude.{nat_abs}
+use Rattle.std.proofs.lemmas.Option.{same_Some}
 use Rattle.type_kinds.specs.declared.atom.Atom.{Atom}
 use Rattle.type_lattice_model.specs.Parts.{value_at}
 use Rattle.type_lattice_model.specs.Values.{Value, int, Values, no_value, and_value, count}
@@ -56,12 +57,9 @@ satisfied f b value args quiet a e h =
 
 -- ---- closures of what is given
 
-the_one : (w v : Value) → Some w ≡ Some v → w ≡ v
-the_one w v e = cc
-
 at_position : (es : Values) (n : ℕ) (v c : Value) → value_at es n ≡ Some v → HoldsClosure c v → HoldClosure c es
 at_position no_value n v c e i = absurd cc
-at_position (and_value w ws) zero v c e i = inl (subst (HoldsClosure c) (sym (the_one w v e)) i)
+at_position (and_value w ws) zero v c e i = inl (subst (HoldsClosure c) (sym (same_Some w v e)) i)
 at_position (and_value w ws) (suc n) v c e i = inr (at_position ws n v c e i)
 
 told : (v c : Value) (P : Type 0) → Tells v P → HoldsClosure c v → ⊥

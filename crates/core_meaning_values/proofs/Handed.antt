@@ -1,5 +1,6 @@
 -- Why a value that a built-in function may give by an exact row holds no function that no argument holds.
 use Rattle.std.proofs.Common.{◌≡◌, ℕ, zero, suc, true, ◌||◌, Option, Some, None, inl, inr, sym, subst}
+use Rattle.std.proofs.lemmas.Option.{same_Some}
 use Rattle.type_kinds.specs.declared.atom.Atom.{Atom}
 use Rattle.type_lattice_model.specs.Parts.{value_at}
 use Rattle.type_lattice_model.specs.Values.{Value, Values, no_value, and_value, count}
@@ -14,12 +15,9 @@ use Rattle.bif_types.specs.Results.{is_division, Gives, MayByRow, BifMay, is_exa
 use Rattle.bif_types.specs.Table.{looked_up}
 use Rattle.core_meaning_values.specs.Functions.{HoldsFunction, HoldFunction}
 
-the_one : (w v : Value) → Some w ≡ Some v → w ≡ v
-the_one w v e = cc
-
 at_position : (es : Values) (n : ℕ) (v c : Value) → value_at es n ≡ Some v → HoldsFunction c v → HoldFunction c es
 at_position no_value n v c e i = absurd cc
-at_position (and_value w ws) zero v c e i = inl (subst (HoldsFunction c) (sym (the_one w v e)) i)
+at_position (and_value w ws) zero v c e i = inl (subst (HoldsFunction c) (sym (same_Some w v e)) i)
 at_position (and_value w ws) (suc n) v c e i = inr (at_position ws n v c e i)
 
 told : (v c : Value) (P : Type 0) → Tells v P → HoldsFunction c v → ⊥
