@@ -46,6 +46,12 @@ pub turn_pays : (old new : Slots) → Trailed old new → (b : Bool) → (b ≡ 
 turn_pays old new t true g h f = let p = trailed_pays old new t (λ e. omega (arith, e, g refl)) h f in omega (arith, p)
 turn_pays old new t false g h f = let p = t.paid h f in omega (arith, p)
 
+-- and where none is counted, nothing was lowered
+pub turn_still : (old new : Slots) → Trailed old new → (first before now : ℕ) (b : Bool) → (b ≡ false → length new.trail ≤ length old.trail) → now ≡ before + cond b 1 0 → first ≤ before → now ≡ first
+    → (before ≡ first) × (new.types ≡ old.types)
+turn_still old new t first before now true short e low same = absurd (omega (arith, e, low, same))
+turn_still old new t first before now false short e low same = (omega (arith, e, same), trailed_same old new t (omega (arith, short refl, trail_length old new t)))
+
 pub trailed_falls : (old new : Slots) → Falling rank → Trailed old new → (length new.trail ≡ length old.trail → ⊥) → ranks new.types < ranks old.types
 trailed_falls old new f t d = omega (arith, trailed_pays old new t d rank f)
 

@@ -1,5 +1,5 @@
 //! Solving with a count of turns that contracts alone see.
-ghost use Rattle.std.specs.Prelude.{◌≡◌, ◌+◌, ◌<◌, ◌≤◌, ℕ, cond, IfOk};
+ghost use Rattle.std.specs.Prelude.{◌≡◌, ◌+◌, ◌<◌, ◌≤◌, ℕ, List, true, cond, IfOk};
 ghost use Rattle.type_lattice.specs.Types.{Type4};
 ghost use Rattle.cons_tree.specs.Constraints.{all_of, constraint, constraints};
 ghost use Rattle.cons_tree.specs.Trails.{answer, summed, Falling, Trailed};
@@ -66,7 +66,8 @@ impl<L: Ledger> Steps<L> {
 
 /// As `solve_slots`, with a tick for each turn of the outermost list that lowers the array or leaves
 /// no environment. A turn solves one member. By every measure of types that falls, the ticks are at
-/// most one more than the sum over the array.
+/// most one more than the sum over the array. A list that is solved without a tick leaves the array as it
+/// was.
 pub fn count_slots<L: Ledger>(
     alloc: Global,
     c: &Constraint,
@@ -76,6 +77,7 @@ pub fn count_slots<L: Ledger>(
 ) -> Result<bool, Memory>
     ensures value { IfOk result (λ alive. solution (constraint c.now) slots.old.types ≡ answer alive slots.new.types) }
     ensures cost { IfOk result (λ _. (h : Type4 → ℕ) → Falling h → steps.new ≤ steps.old + (1 + summed h slots.old.types)) }
+    ensures still { IfOk result (λ alive. (members : List Constraint) → c.now ≡ Constraint.All members → steps.new ≡ steps.old → (alive ≡ true) × (slots.new.types ≡ slots.old.types)) }
 {
     match c {
         Constraint::Part(_) => solve_slots(alloc, c, slots, visits),
@@ -95,6 +97,7 @@ fn count_work<L: Ledger>(
 ) -> Result<bool, Memory>
     ensures value { IfOk result (λ alive. solution (all_of (constraints members.now)) slots.old.types ≡ answer alive slots.new.types) }
     ensures cost { IfOk result (λ _. (h : Type4 → ℕ) → Falling h → steps.new ≤ steps.old + (1 + summed h slots.old.types)) }
+    ensures still { IfOk result (λ alive. steps.new ≡ steps.old → (alive ≡ true) × (slots.new.types ≡ slots.old.types)) }
 {
     environment_laws();
     type_facts();

@@ -82,8 +82,8 @@ pub fn solve_noted(
 
 /// As `solve`, with a tick for each turn of the outermost list that lowers a type or leaves no
 /// environment. A turn solves one member. The ticks are at most one more than the sum of the heights of
-/// the beginning types, and so by every measure of types that falls. Turns inside alternatives and inner
-/// lists aren't counted.
+/// the beginning types, and so by every measure of types that falls; a list that is solved without a
+/// tick leaves the environment as it was. Turns inside alternatives and inner lists aren't counted.
 pub fn solve_counted<L: Ledger>(
     alloc: Global,
     c: &Constraint,
@@ -92,6 +92,7 @@ pub fn solve_counted<L: Ledger>(
 ) -> Result<Env, Memory>
     ensures value { IfOk result (λ e. e ≡ env_of (on_types (state_of begin) (solution (constraint c.now)))) }
     ensures cost { IfOk result (λ _. (h : Type4 → ℕ) → Falling h → steps.new ≤ steps.old + (1 + summed_over h (state_of begin))) }
+    ensures still { IfOk result (λ e. (members : List Constraint) → c.now ≡ Constraint.All members → steps.new ≡ steps.old → e ≡ env_of (state_of begin)) }
 {
     match entered(alloc, begin) {
         None => Ok(Env::Bottom),

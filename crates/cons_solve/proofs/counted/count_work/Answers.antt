@@ -1,9 +1,9 @@
 use Rattle.std.proofs.Common.{◌<◌, ◌-◌, false, length, take, drop, arith, sym, ap, ◌∙◌}
 use Rattle.std.specs.Prelude.{nat_lt}
-use Rattle.std.proofs.lemmas.Bool.{ltb-true}
+use Rattle.std.proofs.lemmas.Bool.{ltb-false, ltb-true}
 use Rattle.std.proofs.lemmas.List.{length-set}
 use Rattle.cons_tree.proofs.TrailLaws.{no_answer, an_answer}
-use Rattle.cons_solve.proofs.TurnTrails.{if_some, if_none, turn_pays}
+use Rattle.cons_solve.proofs.TurnTrails.{if_some, if_none, turn_pays, turn_still}
 use Rattle.cons_solve.proofs.WaitingLaws.{slice_told, turn_falls, rest_goes_on, rest_ends, member_moves, member_dies}
 use Rattle.cons_solve.proofs.counted.count_work.Goals as goal
 
@@ -57,4 +57,8 @@ turns-preserved g c =
       cost = λ h f.
           let pays = turn_pays c.turns.slots c.solve_slots.new.slots c.in_ok-alive.ensures.trailed (nat_lt c.len-checkpoint.result c.len.result) (λ e. omega (arith, ltb-true c.len-checkpoint.result c.len.result e, c.len-checkpoint.ensures, c.len.ensures)) h f in
           omega (arith, pays, inv.cost h f, c.tick_where.ensures);
+      since = omega (arith, inv.since, c.tick_where.ensures);
+      still = λ e.
+          let kept = turn_still c.turns.slots c.solve_slots.new.slots c.in_ok-alive.ensures.trailed _ _ _ (nat_lt c.len-checkpoint.result c.len.result) (λ s. omega (arith, ltb-false c.len-checkpoint.result c.len.result s, c.len-checkpoint.ensures, c.len.ensures)) c.tick_where.ensures inv.since e in
+          kept.1 ∙ inv.still kept.0;
     }

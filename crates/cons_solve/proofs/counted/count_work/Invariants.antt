@@ -14,6 +14,8 @@ invariant-turns g l = record {
   queued : Queued l.queue.flags (l.queue.soon ++ l.queue.later);
   rest : Rest l.queue.flags l.members l.slots.types;
   cost : (h : Type4 → ℕ) → Falling h → l.steps + summed h l.slots.types ≤ l.initial.steps + summed h l.initial.slots.types;
+  since : l.initial.steps ≤ l.steps;
+  still : l.steps ≡ l.initial.steps → l.slots.types ≡ l.initial.slots.types;
 }
 
 abbrev pub decreases-turns : goal.decreases-turns
