@@ -5,3 +5,4 @@ mod OneList
 mod Same
 mod Sorted
 mod Within
+mod WorkedList

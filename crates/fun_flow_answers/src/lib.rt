@@ -7,7 +7,7 @@ mod listed;
 mod printing;
 mod target;
 
-pub use laws::{nothing_is_left_out, one_list, positions_are_within, worked_lines};
+pub use laws::{nothing_is_left_out, one_list, positions_are_within, worked_list};
 pub use listed::ascending;
 pub use printing::call_lines;
 pub use target::{AppliedCall, Target, Targets};
