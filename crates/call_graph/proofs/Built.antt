@@ -61,7 +61,7 @@ or_assoc : (a b c : Bool) → ((a || b) || c) ≡ (a || (b || c))
 or_assoc true b c = refl
 or_assoc false b c = refl
 
-inserted_name : (ks : List Atom) (k h : Atom) → list_any (same_atom h) (insert_key same_atom ks k) ≡ (list_any (same_atom h) ks || same_atom h k)
+pub inserted_name : (ks : List Atom) (k h : Atom) → list_any (same_atom h) (insert_key same_atom ks k) ≡ (list_any (same_atom h) ks || same_atom h k)
 inserted_name ks k h = by (list_any (same_atom k) ks) refl
   where
     there : (b : Bool) → same_atom h k ≡ b → list_any (same_atom k) ks ≡ true → list_any (same_atom h) ks ≡ (list_any (same_atom h) ks || b)

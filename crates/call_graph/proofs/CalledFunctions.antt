@@ -43,14 +43,14 @@ among_callees table home (s ∷ ts) j t h c = elim (contains_cases s t ts h) [
 
 -- ---- one target
 
-listed_is : (o : Option ℕ) (j : ℕ) → Contains (listed o) j → o ≡ Some j
+pub listed_is : (o : Option ℕ) (j : ℕ) → Contains (listed o) j → o ≡ Some j
 listed_is None j h = absurd (contains_none j h)
 listed_is (Some k) j h = elim (contains_cases k j [] h) [
   | inl e ↦ ap Some e
   | inr c ↦ absurd (contains_none j c)
 ]
 
-reached_is : (r : Resolved) (j : ℕ) → Contains (reached_number r) j → r ≡ Function j
+pub reached_is : (r : Resolved) (j : ℕ) → Contains (reached_number r) j → r ≡ Function j
 reached_is BuiltIn j h = absurd (contains_none j h)
 reached_is NotPassed j h = absurd (contains_none j h)
 reached_is NotExported j h = absurd (contains_none j h)

@@ -10,3 +10,4 @@ mod Built
 mod CalledFunctions
 mod OutsideCalls
 mod GraphRounds
+mod Lasts

@@ -1,3 +1,4 @@
+pub mod Among
 pub mod Targets
 pub mod Calls
 pub mod Outside

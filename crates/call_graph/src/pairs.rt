@@ -109,7 +109,7 @@ fn add_module(
 }
 
 // The numbers of the functions that a body calls, and its outside calls.
-fn walk_body(walk: &mut CallWalk, body: &Expr) -> Result<(), Memory>
+pub(crate) fn walk_body(walk: &mut CallWalk, body: &Expr) -> Result<(), Memory>
     ensures { OnOk result (let found = targets walk.old.locals (tree body.now) in walk.new ≡ record walk.old { callees = callees walk.old.table walk.old.home found; outside = all_missed walk.old.table found }) }
 {
     walk.forget();

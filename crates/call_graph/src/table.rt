@@ -1,5 +1,5 @@
 //! The functions of modules that are analysed together, found by module and name.
-ghost use Rattle.std.specs.Prelude.{◌≡◌, ℕ, ◌+◌, ◌<◌, [], Some, length, map, IfOk, OnOk};
+ghost use Rattle.std.specs.Prelude.{◌≡◌, ℕ, ◌+◌, ◌<◌, [], Some, true, length, map, IfOk, OnOk};
 ghost use Rattle.indexmap.specs.IndexMap.{insert_entry};
 ghost use Rattle.indexmap.specs.IndexSet.{insert_key};
 ghost use Rattle.core_ast.specs.Tree.{all_defs, module_tree};
@@ -132,6 +132,19 @@ impl FunctionTable {
         }
         self.count += 1;
         Ok(())
+    }
+
+    /// Adds one function, which its module exports, behind those that are there.
+    pub(crate) fn add_exported(&mut self, home: &Atom, name: &FunName) -> Result<(), Memory>
+        ensures functions { OnOk result (self.new.functions.entries ≡ insert_entry same_key self.old.functions.entries (key_of home.now name.now) (record { number = self.old.count; exported = true })) }
+        ensures count { OnOk result (self.new.count ≡ self.old.count + 1) }
+        ensures modules { OnOk result (self.new.modules.keys ≡ insert_key same_atom self.old.modules.keys home.now) }
+    {
+        let module = home.copy(self.alloc)?;
+        if self.modules.insert(module).is_err() {
+            return Err(Memory);
+        }
+        self.add(home, name, true)
     }
 
     /// How many functions there are. Takes no memory.

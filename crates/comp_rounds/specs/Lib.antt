@@ -1,4 +1,5 @@
 pub mod Agreeing
+pub mod Calls
 pub mod Codes
 pub mod Definitions
 pub mod Members
@@ -6,4 +7,5 @@ pub mod Parts
 pub mod Rounds
 pub mod Signatures
 pub mod Takes
+pub mod Turns
 pub mod Works

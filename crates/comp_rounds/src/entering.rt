@@ -1,14 +1,17 @@
 //! What is known once functions have signatures or summaries.
-ghost use Rattle.std.specs.Prelude.{◌≡◌, IfOk, OnOk, map};
+ghost use Rattle.std.specs.Prelude.{◌≡◌, ◌↔◌, ℕ, IfOk, OnOk, Some, length, map, slice_get, false, true};
+ghost use Rattle.call_graph.specs.Among.{IsLast};
 ghost use Rattle.cons_tree.specs.Callees.{Takes, found};
+ghost use Rattle.comp_rounds.specs.Calls.{called_as};
 ghost use Rattle.comp_rounds.specs.Members.{function_of};
-ghost use Rattle.comp_rounds.specs.Rounds.{arity, callee_of, of_one, with_function, with_signatures, with_summaries};
+ghost use Rattle.comp_rounds.specs.Rounds.{Function, arity, callee_of, of_one, with_function, with_signatures, with_summaries};
 ghost use Rattle.comp_rounds.specs.Takes.{AllTake};
+ghost use Rattle.comp_rounds.specs.Turns.{AllWithin, AreEntered};
 
 use crate::members::Member;
 use cons_tree::{Callee, Sig, Summaries, Summary};
 use std::alloc::Global;
-use type_kinds::Memory;
+use type_kinds::{List, Memory};
 
 // What a member is to others with its summary.
 fn callee(member: &Member, summary: Summary) -> Callee
@@ -72,6 +75,51 @@ pub fn enter_summaries(
     for at in 0..count {
         let summary = summaries[at].copy(alloc)?;
         enter(known, &members[at], summary)?;
+    }
+    Ok(())
+}
+
+// A member with its signature is known from now on, if it is the last one of its name. If allocation fails `known` may hold
+// anything.
+fn enter_last(
+    alloc: Global,
+    known: &mut Summaries,
+    member: &Member,
+    sig: &Sig,
+    is_last: bool,
+) -> Result<(), Memory>
+    requires { Takes (of_one sig.now) (arity (function_of member.now)) }
+    ensures entered { OnOk result (is_last ≡ true → found known.new ≡ with_function (found known.old) (function_of member.now) (of_one sig.now)) }
+    ensures passed { OnOk result (is_last ≡ false → found known.new ≡ found known.old) }
+{
+    if !is_last {
+        return Ok(());
+    }
+    let summary = of_one(alloc, sig)?;
+    enter(known, member, summary)
+}
+
+/// The changed ones of these members, of which the last one of a name counts, are known with their signatures from now on.
+/// If allocation fails `known` may hold anything.
+pub fn enter_changed(
+    alloc: Global,
+    known: &mut Summaries,
+    members: &[Member],
+    signatures: &[Sig],
+    last: &List<bool>,
+    changed: &[u32],
+) -> Result<(), Memory>
+    requires take { AllTake (map function_of members.now) (map of_one signatures.now) }
+    requires last { length last.now ≡ length members.now }
+    requires lasts { let gs = map function_of members.now in (j : ℕ) (g : Function) → slice_get gs j ≡ Some g → (slice_get last.now j ≡ Some true) ↔ IsLast (map called_as gs) j g.home g.name }
+    requires within { AllWithin changed.now (length members.now) }
+    requires known { AreEntered (map function_of members.now) signatures.now (found known.old) changed.now }
+    ensures { OnOk result (found known.new ≡ with_signatures (found known.old) (map function_of members.now) signatures.now) }
+{
+    for number in changed {
+        let place = *number as usize;
+        let is_last = *last.at(place);
+        enter_last(alloc, known, &members[place], &signatures[place], is_last)?;
     }
     Ok(())
 }

@@ -1,6 +1,7 @@
 //! The signatures of functions that call one another: by rounds, from none upward.
 #![tactic(auto)]
 
+mod calls;
 mod components;
 mod constraints;
 mod entering;

@@ -1,17 +1,22 @@
 //! The rounds of a component, and its summaries.
-ghost use Rattle.std.specs.Prelude.{◌≡◌, IfOk, IsTrue, MatchOption, OnOk, map};
+ghost use Rattle.std.specs.Prelude.{◌≡◌, ◌<◌, ◌⊎◌, ℕ, Contains, IfOk, OnOk, Some, false, length, map, slice_get, slice_set, true};
 ghost use Rattle.cons_tree.specs.Callees.{found};
+ghost use Rattle.cons_tree.specs.declared.parts.Sig.{Sig};
 ghost use Rattle.cons_gen_rows.specs.Knowing.{knowledge};
 ghost use Rattle.cons_gen_rows.specs.Members.{is_member as in_members};
 ghost use Rattle.comp_rounds.specs.Members.{function_of};
-ghost use Rattle.comp_rounds.specs.Rounds.{after_rounds, all_next, arity, given, inferred, is_member, lenient_pass, next_signature, of_one, paired, strict_signatures, summaries, with_signatures, with_summaries};
-ghost use Rattle.comp_rounds.specs.Signatures.{all_below, nothing};
+ghost use Rattle.comp_rounds.specs.Rounds.{after_rounds, all_next, arity, inferred, is_member, lenient_pass, next_signature, of_one, paired, strict_pass, strict_signatures, summaries, with_signatures, with_summaries};
+ghost use Rattle.comp_rounds.specs.Calls.{AreCalls};
+ghost use Rattle.comp_rounds.specs.Signatures.{nothing};
 ghost use Rattle.comp_rounds.specs.Takes.{AllTake};
+ghost use Rattle.comp_rounds.specs.Turns.{AllWithin, AreSettled, AreTurned, DifferAt};
 
-use crate::entering::{enter_signatures, enter_summaries};
+use crate::calls::{all_numbers, callers_of, calls_of};
+use crate::entering::{enter_changed, enter_signatures, enter_summaries};
 use crate::inference::{Last, discard_last, infer};
 use crate::members::Member;
-use crate::signatures::{any_value, below, join, no_value, signatures_below};
+use crate::signatures::{any_value, below, join, no_value};
+use call_graph::{CallsAmong, discard_calls};
 use cons_gen_rows::{Members, Pass};
 use cons_solve::solution_laws;
 use cons_tree::{Sig, Summaries, Summary, type_facts};
@@ -65,39 +70,144 @@ fn next(alloc: Global, round: usize, old: &Sig, given: &Sig) -> Result<Sig, Memo
     Ok(any_value(alloc, old.args.len())?)
 }
 
-// All signatures after the round of this number.
-fn advance(alloc: Global, round: usize, old: &[Sig], given: &[Sig]) -> Result<List<Sig>, Memory>
-    ensures { IfOk result (λ sigs. sigs ≡ all_next round old.now given.now) }
+// Drops a signature.
+fn discard_signature(_sig: Sig) {}
+
+// The member at this place has its next signature; the answer is whether that is another.
+fn turn(
+    alloc: Global,
+    member: &Member,
+    known: &Summaries,
+    round: usize,
+    signatures: &mut List<Sig>,
+    at: usize,
+    last: &mut Option<Last>,
+) -> Result<bool, Memory>
+    requires { at < length signatures.old }
+    ensures next { OnOk result ((s : Sig) → slice_get signatures.old at ≡ Some s → signatures.new ≡ slice_set signatures.old at (next_signature round s (inferred (strict_pass (found known.now)) (function_of member.now)))) }
+    ensures same { IfOk result (λ turned. turned ≡ false → signatures.new ≡ signatures.old) }
 {
-    let mut signatures = List::new(alloc);
-    let count = old.len().min(given.len());
-    for at in 0..count {
-        let sig = next(alloc, round, &old[at], &given[at])?;
-        signatures.add(sig)?;
+    type_facts();
+    let given = infer(alloc, member, known, &Pass::Strict, last)?;
+    let old = signatures.at(at);
+    if below(&given, old) {
+        return Ok(false);
     }
-    Ok(signatures)
+    let sig = next(alloc, round, old, &given)?;
+    discard_signature(signatures.replace(at, sig));
+    Ok(true)
 }
 
-// One round: what the members' signatures are after it, or nothing where it changes none.
+// Adds a number, if it is asked for.
+fn note_if(numbers: &mut List<u32>, number: u32, wanted: bool) -> Result<(), Memory>
+    ensures kept { OnOk result ((i : ℕ) → Contains numbers.old i → Contains numbers.new i) }
+    ensures added { OnOk result (wanted ≡ true → Contains numbers.new number) }
+    ensures only { OnOk result ((i : ℕ) → Contains numbers.new i → Contains numbers.old i ⊎ (i ≡ number)) }
+{
+    if wanted {
+        return numbers.add(number);
+    }
+    Ok(())
+}
+
+// One round, which infers the members at places that are due: all signatures are what they are after it. The answer is
+// the places at which they changed.
 fn one_round(
     alloc: Global,
     members: &[Member],
-    known: &mut Summaries,
+    known: &Summaries,
     round: usize,
-    signatures: &[Sig],
+    signatures: &mut List<Sig>,
+    due: &[u32],
     last: &mut Option<Last>,
-) -> Result<Option<List<Sig>>, Memory>
-    requires { AllTake (map function_of members.now) (map of_one signatures.now) }
-    ensures known { OnOk result (found known.new ≡ with_signatures (found known.old) (map function_of members.now) signatures.now) }
-    ensures next { let gave = given (found known.old) (map function_of members.now) signatures.now in IfOk result (λ next. MatchOption next (IsTrue (all_below gave signatures.now)) (λ sigs. sigs ≡ all_next round signatures.now gave)) }
+) -> Result<List<u32>, Memory>
+    requires takes { AllTake (map function_of members.now) (map of_one signatures.old) }
+    requires within { AllWithin due.now (length members.now) }
+    ensures turned { OnOk result (AreTurned (strict_pass (found known.now)) round (map function_of members.now) signatures.old signatures.new due.now) }
+    ensures changed { IfOk result (λ changed. DifferAt changed signatures.old signatures.new) }
+    ensures within { IfOk result (λ changed. AllWithin changed (length members.now)) }
 {
-    enter_signatures(alloc, known, members, signatures)?;
-    let gave = infer_all(alloc, members, known, &Pass::Strict, last)?;
-    if signatures_below(gave.as_slice(), signatures) {
-        return Ok(None);
+    type_facts();
+    solution_laws();
+    let mut changed = List::new(alloc);
+    for number in due {
+        let at = *number as usize;
+        let turned = turn(alloc, &members[at], known, round, signatures, at, last)?;
+        note_if(&mut changed, *number, turned)?;
     }
-    let next = advance(alloc, round, signatures, gave.as_slice())?;
-    Ok(Some(next))
+    Ok(changed)
+}
+
+// One round, by which the members are known afterwards. The answer is the places of those that are due in the next one.
+fn next_round(
+    alloc: Global,
+    members: &[Member],
+    known: &mut Summaries,
+    calls: &CallsAmong,
+    round: usize,
+    signatures: &mut List<Sig>,
+    due: &[u32],
+    last: &mut Option<Last>,
+) -> Result<List<u32>, Memory>
+    requires calls { AreCalls (map function_of members.now) calls.now }
+    requires takes { AllTake (map function_of members.now) (map of_one signatures.old) }
+    requires known { found known.old ≡ with_signatures (found known.old) (map function_of members.now) signatures.old }
+    requires settled { AreSettled (found known.old) (map function_of members.now) signatures.old due.now }
+    requires within { AllWithin due.now (length members.now) }
+    ensures next { OnOk result (signatures.new ≡ all_next round signatures.old (map (inferred (strict_pass (found known.old))) (map function_of members.now))) }
+    ensures known { OnOk result (found known.new ≡ with_signatures (found known.old) (map function_of members.now) signatures.new) }
+    ensures settled { IfOk result (AreSettled (found known.new) (map function_of members.now) signatures.new) }
+    ensures within { IfOk result (λ due. AllWithin due (length members.now)) }
+{
+    type_facts();
+    solution_laws();
+    let changed = one_round(alloc, members, known, round, signatures, due, last)?;
+    enter_changed(
+        alloc,
+        known,
+        members,
+        signatures.as_slice(),
+        &calls.last,
+        changed.as_slice(),
+    )?;
+    let next = callers_of(alloc, &calls.callers, changed.as_slice())?;
+    Ok(next)
+}
+
+// The signatures are the strict ones, with which the members are known from now on.
+fn settle(
+    alloc: Global,
+    members: &[Member],
+    known: &mut Summaries,
+    calls: &CallsAmong,
+    signatures: &mut List<Sig>,
+    last: &mut Option<Last>,
+) -> Result<(), Memory>
+    requires calls { AreCalls (map function_of members.now) calls.now }
+    requires first { signatures.old ≡ after_rounds (found known.old) (map function_of members.now) 0 }
+    ensures value { OnOk result (signatures.new ≡ strict_signatures (found known.old) (map function_of members.now)) }
+    ensures known { OnOk result (found known.new ≡ with_signatures (found known.old) (map function_of members.now) signatures.new) }
+{
+    type_facts();
+    solution_laws();
+    enter_signatures(alloc, known, members, signatures.as_slice())?;
+    let mut due = all_numbers(alloc, members.len() as u32)?;
+    for round in 0..JOINED_ROUNDS + members.len() {
+        if due.is_empty() {
+            return Ok(());
+        }
+        due = next_round(
+            alloc,
+            members,
+            known,
+            calls,
+            round,
+            signatures,
+            due.as_slice(),
+            last,
+        )?;
+    }
+    Ok(())
 }
 
 // The strict signatures of the members, with which they are known from now on.
@@ -110,16 +220,11 @@ fn strict(
     ensures value { IfOk result (λ sigs. sigs ≡ strict_signatures (found known.old) (map function_of members.now)) }
     ensures known { IfOk result (λ sigs. found known.new ≡ with_signatures (found known.old) (map function_of members.now) sigs) }
 {
-    type_facts();
-    solution_laws();
     let mut signatures = first_signatures(alloc, members)?;
-    for round in 0..JOINED_ROUNDS + members.len() {
-        match one_round(alloc, members, known, round, signatures.as_slice(), last)? {
-            Some(next) => signatures = next,
-            None => return Ok(signatures),
-        }
-    }
-    enter_signatures(alloc, known, members, signatures.as_slice())?;
+    let calls = calls_of(alloc, members)?;
+    let settled = settle(alloc, members, known, &calls, &mut signatures, last);
+    discard_calls(calls);
+    settled?;
     Ok(signatures)
 }
 

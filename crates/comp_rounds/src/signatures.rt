@@ -1,7 +1,7 @@
 //! Signatures: joins and comparisons, and those of which all or nothing is known.
 ghost use Rattle.std.specs.Prelude.{◌≡◌, IfOk, replicate};
 ghost use Rattle.type_lattice.specs.Types.{any, none};
-ghost use Rattle.comp_rounds.specs.Signatures.{all_below, anything, are_below, is_below, join_of, joins, nothing, signature};
+ghost use Rattle.comp_rounds.specs.Signatures.{anything, are_below, is_below, join_of, joins, nothing, signature};
 
 use cons_tree::Sig;
 use std::alloc::Global;
@@ -97,19 +97,4 @@ pub fn below(left: &Sig, right: &Sig) -> bool
     ensures { result ≡ is_below left.now right.now }
 {
     left.result.leq(&right.result) && types_below(left.args.as_slice(), right.args.as_slice())
-}
-
-/// Whether there are as many signatures on both sides, each below the other side's. Takes no memory.
-pub fn signatures_below(left: &[Sig], right: &[Sig]) -> bool
-    ensures { result ≡ all_below left.now right.now }
-{
-    if left.len() != right.len() {
-        return false;
-    }
-    for at in 0..left.len() {
-        if !below(&left[at], &right[at]) {
-            return false;
-        }
-    }
-    true
 }

@@ -1,32 +1,19 @@
 -- What the summaries of a component rest on: of all that is known outside, only on what its functions call outside.
-use Rattle.std.proofs.Common.{◌≡◌, ℕ, zero, suc, Bool, true, false, cond, ◌||◌, List, [], ◌∷◌, length, map, replicate, ◌⊎◌, inl, inr, refl, sym, ap, ap₂, ◌∙◌, true≢false, arith}
+use Rattle.std.proofs.Common.{◌≡◌, ℕ, zero, suc, Bool, true, false, cond, ◌||◌, List, [], ◌∷◌, length, map, ◌⊎◌, inl, inr, refl, sym, ap, ap₂, ◌∙◌, true≢false, arith}
 use Rattle.std.proofs.Math.Nat.{suc_inj}
 use Rattle.type_kinds.specs.declared.atom.Atom.{Atom}
 use Rattle.core_ast.specs.declared.syntax.FunName.{FunName}
 use Rattle.core_ast.specs.Model as m
-use Rattle.core_scope.specs.Asks.{erlang, one_value}
+use Rattle.core_scope.specs.Asks.{erlang}
 use Rattle.core_scope.specs.Names.{same_atom}
 use Rattle.call_graph.specs.Targets.CallTarget.{defined, inner, remote}
 use Rattle.call_graph.specs.Targets.{CallTarget, targets}
-use Rattle.type_lattice.specs.Types.{any}
 use Rattle.cons_tree.specs.declared.parts.Callee.{Callee}
 use Rattle.cons_tree.specs.declared.parts.Sig.{Sig}
 use Rattle.cons_tree.specs.declared.parts.Summary.{Summary}
-use Rattle.cons_solve.specs.Environments.{solution}
-use Rattle.cons_gen.specs.Made.{definition_slots, parameter_scope}
-use Rattle.cons_gen_rows.specs.Words.{together}
-use Rattle.comp_rounds.specs.Rounds.{Callees, Function, arity, is_named, is_member, callee_of, with_function, with_summaries, with_signatures, of_one, solved, signature_in, inferred, lenient_pass, all_next, given, after_rounds, last_round, strict_signatures, lenient_signatures, paired, summaries}
-use Rattle.cons_gen_frame.specs.Agreement.{AreAlike, Agrees, EachAgrees, Agree}
-use Rattle.cons_gen_frame.proofs.Frames.{rows_frame}
-
--- ---- one function
-
-pub inferred_same : (lenient : Bool) (own : Atom → FunName → Bool) (c d : Callees) (g : Function) → Agree c d g.home (targets [] g.body)
-    → inferred (record { lenient = lenient; own = own; callee = c }) g ≡ inferred (record { lenient = lenient; own = own; callee = d }) g
-unfolding inferred solved
-inferred_same lenient own c d g h =
-    ap (λ rs. signature_in (arity g) (solution (together rs) (replicate (definition_slots g.parameters g.body) any)))
-    (rows_frame lenient own c d g.home (parameter_scope g.parameters) g.body h (length g.parameters) one_value)
+use Rattle.comp_rounds.specs.Rounds.{Callees, Function, is_named, is_member, callee_of, with_function, with_summaries, with_signatures, of_one, inferred, lenient_pass, all_next, given, after_rounds, last_round, strict_signatures, lenient_signatures, paired, summaries}
+use Rattle.cons_gen_frame.specs.Agreement.{AreAlike, Agrees, EachAgrees}
+use Rattle.comp_rounds.proofs.Framed.{inferred_same}
 
 -- ---- with the summaries of the component's functions
 
