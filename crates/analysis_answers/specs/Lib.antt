@@ -1,3 +1,6 @@
 pub mod Codes
 pub mod Lines
 pub mod Words
+pub mod ReadFiles
+pub mod FileRuns
+pub mod FileCauses

@@ -1,13 +1,18 @@
-//! What the programs over the analysis share: how a run ends, the lines of what isn't a report, and which words are files.
+//! What the programs over the analysis share: how a run ends, the lines of what isn't a report, which words are files, and the way from
+//! words to sources.
 #![tactic(auto)]
 
+mod files;
 mod lines;
+mod run_answer;
 mod run_status;
 mod words;
 
+pub use files::{FilesRead, read_files};
 pub use lines::{
     TOO_MANY, duplicate_line, duplicate_refusal, read_fault_line, refusal_line, replace_fault_line,
     table_fault_line, table_fault_number, too_many_line,
 };
+pub use run_answer::{RunAnswer, refuse_second};
 pub use run_status::RunStatus;
-pub use words::{MOST_FILES, are_files, is_file, texts_of};
+pub use words::{MOST_FILES, are_files, is_command, is_file, texts_of};

@@ -2,13 +2,23 @@
 ghost use Rattle.std.specs.Prelude.{◌≡◌, ◌↔◌, map, IfOk, IsTrue};
 ghost use Rattle.std.specs.String.{string_bytes};
 ghost use Rattle.analysis_sources.specs.Words.{texts};
-ghost use Rattle.analysis_answers.specs.Words.{AreFiles, IsFile};
+ghost use Rattle.analysis_answers.specs.Words.{AreFiles, IsCommand, IsFile};
 
 use std::alloc::Global;
 use type_kinds::{List, Memory};
 
 /// How many files the words may name.
 pub const MOST_FILES: usize = 1024;
+
+/// Whether the words name files, one at least.
+pub fn is_command(words: &[&str]) -> bool
+    ensures { IsTrue result ↔ IsCommand (texts words.now) }
+{
+    if words.is_empty() {
+        return false;
+    }
+    are_files(words)
+}
 
 /// Whether each word is a file's name.
 pub fn are_files(words: &[&str]) -> bool

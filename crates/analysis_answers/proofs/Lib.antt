@@ -1,0 +1,3 @@
+pub mod FileCauses
+mod FileExits
+mod FileRefusals
