@@ -1,0 +1,4 @@
+mod ListedLines
+mod AnswerExits
+mod Typings
+mod Sound

@@ -1,0 +1,4 @@
+pub mod Typed
+pub mod Listed
+pub mod Runs
+pub mod steps
