@@ -2,7 +2,7 @@
 #![tactic(auto)]
 
 mod calls;
-mod components;
+mod component;
 mod constraints;
 mod entering;
 mod equality;
@@ -14,7 +14,7 @@ mod rounds;
 mod signatures;
 mod work;
 
-pub use components::solve_component;
+pub use component::solve_component;
 pub use entering::enter_summaries;
 pub use laws::rounds_laws;
 pub use members::Member;

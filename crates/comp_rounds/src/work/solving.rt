@@ -6,7 +6,7 @@ ghost use Rattle.comp_rounds.specs.Parts.{written};
 ghost use Rattle.comp_rounds.specs.Works.{callees_of, no_part, parts_of};
 
 use super::CompWork;
-use crate::components::solve_component;
+use crate::component::solve_component;
 use crate::parts::{CompOut, CompPart};
 use summary_board::Work;
 use type_kinds::{List, Memory, Shared};

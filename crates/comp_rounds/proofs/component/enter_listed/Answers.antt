@@ -2,7 +2,7 @@ use Rattle.cons_tree.specs.Callees.{found}
 use Rattle.comp_rounds.specs.Parts.{with_listed}
 use Rattle.comp_rounds.proofs.Listing.{listed_more}
 use Rattle.comp_rounds.proofs.SameCallees.{set_callee}
-use Rattle.comp_rounds.proofs.components.enter_listed.Goals as goal
+use Rattle.comp_rounds.proofs.component.enter_listed.Goals as goal
 
 pub loop-at-preserved : goal.loop-at-preserved
 loop-at-preserved c =
