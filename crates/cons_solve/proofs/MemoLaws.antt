@@ -10,6 +10,7 @@ use Rattle.cons_tree.specs.declared.parts.Constraint.{Constraint}
 use Rattle.cons_solve.specs.Frames.{Free}
 use Rattle.cons_solve.specs.steps.Positions.{Has, here, Covers}
 use Rattle.cons_solve.specs.steps.Plans.{Outcome, Memo, blank, listing, choosing, layer, memo, memos, fallen, IsIndex, IsKept, Good, GoodEach, GoodAny}
+use Rattle.cons_solve.specs.declared.index.Naming.{Naming}
 use Rattle.cons_solve.specs.declared.plan.Plan.{Plan, out-Plan}
 use Rattle.cons_solve.specs.declared.plan.Plan.TheVariants as v
 use Rattle.cons_solve.specs.declared.plan.Plan.TheOpen.{Plan-F}
@@ -22,7 +23,7 @@ memo_stands x y is = fold_out-Plan Memo layer x ∙ ap (λ l. layer (map-Plan Pl
 memo_blank : memo v.Blank ≡ blank
 memo_blank = memo_stands v.Blank _ v.outs-Blank
 
-pub memo_all : (x : Plan) (ps : List Plan) (index : _) → x ≡ v.All ps index → memo x ≡ listing (memos ps) index.entries
+pub memo_all : (x : Plan) (ps : List Plan) (index : _) → x ≡ v.All ps index → memo x ≡ listing (memos ps) index.namings
 memo_all x ps index e = ap memo e ∙ memo_stands (v.All ps index) _ (v.outs-All ps index)
 
 pub memo_any : (x : Plan) (ps : List Plan) (ks : List Outcome) → x ≡ v.Any ps ks → memo x ≡ choosing (memos ps) ks
@@ -60,21 +61,21 @@ kept_as c (Some lows) G H xs f h = (h.0, h.1, f (fallen lows xs) h.2)
 
 -- ---- an index of the members
 
-index_from : (cs : List Constraint) (i : ℕ) (index : List (ℕ × List ℕ)) → ((j s : ℕ) → j < length cs → (Has (here index s) (i + j) → ⊥) → (x : Constraint) → Free s (constraint (get_or cs j x))) → IsIndex (constraints cs) i index
+index_from : (cs : List Constraint) (i : ℕ) (index : List Naming) → ((j s : ℕ) → j < length cs → (Has (here index s) (i + j) → ⊥) → (x : Constraint) → Free s (constraint (get_or cs j x))) → IsIndex (constraints cs) i index
 index_from [] i index h = tt
 index_from (c ∷ cs) i index h =
     (λ s n. h 0 s (omega arith) (λ has. n (subst (Has (here index s)) (omega arith) has)) c, index_from cs (suc i) index (λ j s l n x. h (suc j) s (omega (arith, l)) (λ has. n (subst (Has (here index s)) (omega arith) has)) x))
 
-pub is_index : (cs : List Constraint) (index : List (ℕ × List ℕ)) → Covers cs index → IsIndex (constraints cs) 0 index
+pub is_index : (cs : List Constraint) (index : List Naming) → Covers cs index → IsIndex (constraints cs) 0 index
 is_index cs index h = index_from cs 0 index (λ j s l n x. h j s l (λ has. n (subst (Has (here index s)) (omega arith) has)) x)
 
-covers_from : (cs : List Constraint) (i j s : ℕ) (index : List (ℕ × List ℕ)) → IsIndex (constraints cs) i index → j < length cs → (Has (here index s) (i + j) → ⊥) → (x : Constraint) → Free s (constraint (get_or cs j x))
+covers_from : (cs : List Constraint) (i j s : ℕ) (index : List Naming) → IsIndex (constraints cs) i index → j < length cs → (Has (here index s) (i + j) → ⊥) → (x : Constraint) → Free s (constraint (get_or cs j x))
 covers_from [] i j s index h l n x = absurd (omega (arith, l))
 covers_from (c ∷ cs) i zero s index h l n x = h.0 s (λ has. n (subst (Has (here index s)) (omega arith) has))
 covers_from (c ∷ cs) i (suc j) s index h l n x =
     covers_from cs (suc i) j s index h.1 (omega (arith, l)) (λ has. n (subst (Has (here index s)) (omega arith) has)) x
 
-pub covers : (cs : List Constraint) (index : List (ℕ × List ℕ)) → IsIndex (constraints cs) 0 index → Covers cs index
+pub covers : (cs : List Constraint) (index : List Naming) → IsIndex (constraints cs) 0 index → Covers cs index
 covers cs index h j s l n x = covers_from cs 0 j s index h l (λ has. n (subst (Has (here index s)) (omega arith) has)) x
 
 -- ---- a member of a list

@@ -1,12 +1,12 @@
 -- Members that wait: enqueuing them, and the queue.
-use Rattle.std.proofs.Common.{◌≡◌, ℕ, zero, suc, ◌+◌, ◌-◌, ◌<◌, ◌≤◌, Bool, true, false, List, [], ◌∷◌, ◌++◌, append_assoc, length, get_or, set, drop, Some, None, refl, sym, ap, ◌∙◌, subst, arith, inl, inr, ◌⊎◌, true≢false}
-use Rattle.std.specs.Prelude.{slice_get, nat_eq, unwrap_or}
-use Rattle.std.specs.Map.{lookup}
+use Rattle.std.proofs.Common.{◌≡◌, ℕ, zero, suc, ◌+◌, ◌-◌, ◌<◌, ◌≤◌, Bool, true, false, List, [], ◌∷◌, ◌++◌, append_assoc, length, get_or, set, map, drop, Some, refl, sym, ap, ◌∙◌, subst, arith, inl, inr, ◌⊎◌, true≢false}
+use Rattle.std.specs.Prelude.{slice_get}
 use Rattle.std.proofs.lemmas.Bool.{cases_eq}
 use Rattle.std.proofs.lemmas.Option.{get_or_from_slice_get}
 use Rattle.std.proofs.lemmas.List.{get_or-set_same, get_or-set_other}
 use Rattle.cons_tree.specs.declared.slots.TrailEntry.{TrailEntry}
-use Rattle.cons_solve.specs.steps.Positions.{Has, Once, here, Queued, Enqueued}
+use Rattle.cons_solve.specs.declared.index.Naming.{Naming}
+use Rattle.cons_solve.specs.steps.Positions.{Has, Once, here, Queued}
 
 -- ---- lists of members
 
@@ -136,23 +136,14 @@ pub read_flag : (f : List Bool) (m : ℕ) (b : Bool) → slice_get f m ≡ Some 
 read_flag f m b h e = get_or_from_slice_get f m b false h ∙ e
 
 -- while the members before a position were enqueued
-pub record Enqueuing (except : ℕ) (members : List ℕ) (flags new : List Bool) (i : ℕ) : Type 0 where
+pub record Enqueuing (except : ℕ) (woken : List Naming) (flags new : List Bool) (i : ℕ) : Type 0 where
   pub long : length new ≡ length flags
-  pub calm : (j : ℕ) → get_or new j true ≡ false → (get_or flags j true ≡ false) × ((j ≡ except → ⊥) → (Has (drop i members) j → ⊥) → Has members j → ⊥)
+  pub calm : (j : ℕ) → get_or new j true ≡ false → (get_or flags j true ≡ false) × ((j ≡ except → ⊥) → (Has (map (λ n. n.member) (drop i woken)) j → ⊥) → Has (map (λ n. n.member) woken) j → ⊥)
 
 -- ---- all that the entries of a trail enqueue
 
-pub here_none : (index : List (ℕ × List ℕ)) (s : ℕ) → None ≡ lookup (nat_eq s) index → here index s ≡ []
-here_none index s e = ap (λ o. unwrap_or o []) (sym e)
-
-pub here_some : (index : List (ℕ × List ℕ)) (s : ℕ) (ms : List ℕ) → Some ms ≡ lookup (nat_eq s) index → ms ≡ here index s
-here_some index s ms e = ap (λ o. unwrap_or o []) e
-
-pub enqueued_none : (except : ℕ) (ms : List ℕ) (f : List Bool) → ms ≡ [] → Enqueued except ms f f
-enqueued_none except ms f e = record { long = refl; calm = λ j off. (off, λ other has. subst (λ x. Has x j) e has) }
-
 -- while the entries before a position were told
-pub record Waking (except : ℕ) (index : List (ℕ × List ℕ)) (told : List TrailEntry) (flags new : List Bool) (i : ℕ) : Type 0 where
+pub record Waking (except : ℕ) (index : List Naming) (told : List TrailEntry) (flags new : List Bool) (i : ℕ) : Type 0 where
   pub long : length new ≡ length flags
   pub calm : (j : ℕ) → get_or new j true ≡ false → (get_or flags j true ≡ false) × ((j ≡ except → ⊥) → (k : ℕ) → k < i → (f : TrailEntry) → Has (here index (get_or told k f).slot) j → ⊥)
 

@@ -16,6 +16,7 @@ use Rattle.cons_solve.specs.Environments.{environments, ranks, solution}
 use Rattle.cons_solve.specs.Frames.{Free}
 use Rattle.cons_solve.specs.Solutions as W
 use Rattle.cons_solve.specs.steps.Passes.{passes}
+use Rattle.cons_solve.specs.declared.index.Naming.{Naming}
 use Rattle.cons_solve.specs.steps.Positions.{Covers, FreeAll, Woke}
 use Rattle.cons_solve.proofs.FrameLaws.{Frames, untouched}
 use Rattle.cons_solve.proofs.SolutionLaws as S
@@ -78,7 +79,7 @@ module _ (facts : TypeFacts) (frames : Frames) (laws : W.Laws environments) wher
       S.greatest_is environments laws c ys (Some ys) (S.own_solution environments laws (W.Solves environments c) ys (subst (W.Holds environments (W.Solves environments c)) h (S.is_greatest environments laws c xs).holds))
 
   -- after a turn with one member
-  pub rest_goes_on : (old mid new : List Bool) (ms : List Constraint) (index : List (ℕ × List ℕ)) (told : List TrailEntry) (s t : Slots) (checkpoint i : ℕ) (m : Constraint) → i < length ms → m ≡ get_or ms i m → solution (constraint m) s.types ≡ Some t.types → Trailed s t → checkpoint ≡ length s.trail → told ≡ drop checkpoint t.trail → Covers ms index → mid ≡ set old i false → Woke i index told mid new → Rest old ms s.types → Rest new ms t.types
+  pub rest_goes_on : (old mid new : List Bool) (ms : List Constraint) (index : List Naming) (told : List TrailEntry) (s t : Slots) (checkpoint i : ℕ) (m : Constraint) → i < length ms → m ≡ get_or ms i m → solution (constraint m) s.types ≡ Some t.types → Trailed s t → checkpoint ≡ length s.trail → told ≡ drop checkpoint t.trail → Covers ms index → mid ≡ set old i false → Woke i index told mid new → Rest old ms s.types → Rest new ms t.types
   rest_goes_on old mid new ms index told s t checkpoint i m lt is h trail marked same cover e woke r j l off x = elim (cases_eq j i) [
     | inl here_now ↦
         let member : m ≡ get_or ms j x = is ∙ get_or_default ms i m x lt ∙ ap (λ n. get_or ms n x) (sym here_now) in

@@ -1,134 +1,122 @@
-//! Which members of a list of constraints name a slot, found by hash.
-ghost use Rattle.std.specs.Prelude.{◌≡◌, ◌∷◌, [], ℕ, List, cond, nat_eq, unwrap_or, IfOk};
+//! Which members of a list of constraints name a slot, found by order.
+ghost use Rattle.std.specs.Prelude.{◌≡◌, ◌∷◌, ℕ, IfOk};
+ghost use Rattle.std.specs.List.Sorted.{IsNonDecreasingBy};
+ghost use Rattle.std.proofs.Props.{props};
 ghost use Rattle.cons_tree.specs.Constraints.{constraint, constraints};
 ghost use Rattle.cons_tree.specs.Frames.{IsNone, slots_of};
 ghost use Rattle.cons_solve.specs.Frames.{Free, FreeEach};
-ghost use Rattle.cons_solve.specs.steps.Positions.{here, Covers, Grown};
+ghost use Rattle.cons_solve.specs.steps.Positions.{Covers, Grown, named};
 
 use cons_tree::{Constraint, Part, Slot};
-use indexmap::IndexMap;
-use std::alloc::{AllocFailed, Global};
+use std::alloc::Global;
 use type_kinds::{List, Memory};
 
-// Drops what an index returned.
-fn discard_failed(_failed: AllocFailed<(Slot, List<usize>)>) {}
+/// A slot, and a member of the list that names it.
+#[derive(Clone, Copy)]
+pub struct Naming {
+    pub slot: Slot,
+    pub member: usize,
+}
 
-// Puts the members at a slot, and returns those that were there.
-fn set(
-    alloc: Global,
-    index: &mut IndexMap<Slot, List<usize>>,
-    slot: Slot,
-    members: List<usize>,
-) -> Result<List<usize>, Memory>
-    ensures new { IfOk result (λ _. (s : ℕ) → here index.new.entries s ≡ cond (nat_eq slot s) members (here index.old.entries s)) }
-    ensures old { IfOk result (λ before. before ≡ here index.old.entries slot) }
-{
-    match index.insert(slot, members) {
-        Ok(Some(before)) => Ok(before),
-        Ok(None) => Ok(List::new(alloc)),
-        Err(failed) => {
-            discard_failed(failed);
-            Err(Memory)
-        }
+/// Which members of a list name a slot: the namings, by rising slots. One may stand more than once.
+#[derive(Drop)]
+pub struct Index {
+    pub namings: List<Naming>,
+    ghost rising: { IsNonDecreasingBy (λ n. n.slot) namings } by { Prim.hlevel props },
+}
+
+impl Index {
+    /// The namings of a slot.
+    pub fn at(&self, slot: Slot) -> &[Naming]
+        ensures { result.now ≡ named self.now.namings slot }
+    {
+        let all = self.namings.as_slice();
+        let first = all.partition_point(|naming| naming.slot < slot);
+        let rest = &all[first..];
+        let count = rest.partition_point(|naming| naming.slot <= slot);
+        &rest[..count]
     }
 }
 
-// Drops members.
-fn discard(_members: List<usize>) {}
-
 // Enters a member at a slot.
-fn enter_at(
-    alloc: Global,
-    index: &mut IndexMap<Slot, List<usize>>,
-    slot: Slot,
-    at: usize,
-) -> Result<(), Memory>
-    ensures { IfOk result (λ _. Grown (λ s. slot ≡ s → ⊥) at index.old.entries index.new.entries) }
+fn enter_at(namings: &mut List<Naming>, slot: Slot, member: usize) -> Result<(), Memory>
+    ensures { IfOk result (λ _. Grown (λ s. slot ≡ s → ⊥) member namings.old namings.new) }
 {
-    let mut members = set(alloc, index, slot, List::new(alloc))?;
-    members.add(at)?;
-    discard(set(alloc, index, slot, members)?);
-    Ok(())
+    namings.add(Naming { slot, member })
 }
 
 // Enters a member at some slots.
 fn enter_slots(
-    alloc: Global,
-    index: &mut IndexMap<Slot, List<usize>>,
+    namings: &mut List<Naming>,
     first: Slot,
     others: &[Slot],
-    at: usize,
+    member: usize,
 ) -> Result<(), Memory>
-    ensures { IfOk result (λ _. Grown (λ s. IsNone s (first ∷ others.now)) at index.old.entries index.new.entries) }
+    ensures { IfOk result (λ _. Grown (λ s. IsNone s (first ∷ others.now)) member namings.old namings.new) }
 {
-    enter_at(alloc, index, first, at)?;
+    enter_at(namings, first, member)?;
     for slot in others {
-        enter_at(alloc, index, *slot, at)?;
+        enter_at(namings, *slot, member)?;
     }
     Ok(())
 }
 
 // Enters a member at each slot that a part of it names.
-fn enter_part(
-    alloc: Global,
-    index: &mut IndexMap<Slot, List<usize>>,
-    part: &Part,
-    at: usize,
-) -> Result<(), Memory>
-    ensures { IfOk result (λ _. Grown (λ s. IsNone s (slots_of part.now)) at index.old.entries index.new.entries) }
+fn enter_part(namings: &mut List<Naming>, part: &Part, member: usize) -> Result<(), Memory>
+    ensures { IfOk result (λ _. Grown (λ s. IsNone s (slots_of part.now)) member namings.old namings.new) }
 {
     match part {
-        Part::Bound(slot, _) => enter_slots(alloc, index, *slot, &[], at),
-        Part::Equal(slot, other) => enter_slots(alloc, index, *slot, &[*other], at),
-        Part::Tuple(tuple, slots) => enter_slots(alloc, index, *tuple, slots.as_slice(), at),
-        Part::Cons(list, head, tail) => enter_slots(alloc, index, *list, &[*head, *tail], at),
-        Part::Builtin(value, args, _, _) => enter_slots(alloc, index, *value, args.as_slice(), at),
-        Part::Call(value, args, _) => enter_slots(alloc, index, *value, args.as_slice(), at),
+        Part::Bound(slot, _) => enter_slots(namings, *slot, &[], member),
+        Part::Equal(slot, other) => enter_slots(namings, *slot, &[*other], member),
+        Part::Tuple(tuple, slots) => enter_slots(namings, *tuple, slots.as_slice(), member),
+        Part::Cons(list, head, tail) => enter_slots(namings, *list, &[*head, *tail], member),
+        Part::Builtin(value, args, _, _) => enter_slots(namings, *value, args.as_slice(), member),
+        Part::Call(value, args, _) => enter_slots(namings, *value, args.as_slice(), member),
     }
 }
 
 // Enters a member at each slot that it names.
 #[cycle(entering)]
-fn enter(
-    alloc: Global,
-    index: &mut IndexMap<Slot, List<usize>>,
-    c: &Constraint,
-    at: usize,
-) -> Result<(), Memory>
-    ensures { IfOk result (λ _. Grown (λ s. Free s (constraint c.now)) at index.old.entries index.new.entries) }
+fn enter(namings: &mut List<Naming>, c: &Constraint, member: usize) -> Result<(), Memory>
+    ensures { IfOk result (λ _. Grown (λ s. Free s (constraint c.now)) member namings.old namings.new) }
 {
     match c {
-        Constraint::Part(part) => enter_part(alloc, index, part, at),
-        Constraint::All(members) => enter_each(alloc, index, members.as_slice(), at),
-        Constraint::Any(members) => enter_each(alloc, index, members.as_slice(), at),
+        Constraint::Part(part) => enter_part(namings, part, member),
+        Constraint::All(inner) => enter_each(namings, inner.as_slice(), member),
+        Constraint::Any(inner) => enter_each(namings, inner.as_slice(), member),
     }
 }
 
 #[cycle(entering)]
-fn enter_each(
-    alloc: Global,
-    index: &mut IndexMap<Slot, List<usize>>,
-    members: &[Constraint],
-    at: usize,
-) -> Result<(), Memory>
-    ensures { IfOk result (λ _. Grown (λ s. FreeEach s (constraints members.now)) at index.old.entries index.new.entries) }
+fn enter_each(namings: &mut List<Naming>, inner: &[Constraint], member: usize) -> Result<(), Memory>
+    ensures { IfOk result (λ _. Grown (λ s. FreeEach s (constraints inner.now)) member namings.old namings.new) }
 {
-    for member in members {
-        enter(alloc, index, member, at)?;
+    for c in inner {
+        enter(namings, c, member)?;
     }
     Ok(())
 }
 
-/// For each slot, the members that name it. `Memory` comes if allocation fails.
-pub fn index_of(
-    alloc: Global,
-    members: &[Constraint],
-) -> Result<IndexMap<Slot, List<usize>>, Memory>
-    ensures { IfOk result (λ index. Covers members.now index.entries) }
+// The namings of all members, member by member.
+fn namings_of(alloc: Global, members: &[Constraint]) -> Result<List<Naming>, Memory>
+    ensures { IfOk result (λ namings. Covers members.now namings) }
 {
-    let mut index = IndexMap::new(alloc);
+    let mut namings = List::new(alloc);
     for at in 0..members.len() {
-        enter(alloc, &mut index, &members[at], at)?;
+        enter(&mut namings, &members[at], at)?;
     }
-    Ok(index)
+    Ok(namings)
+}
+
+/// For each slot, the members that name it. `Memory` comes if allocation fails.
+pub fn index_of(alloc: Global, members: &[Constraint]) -> Result<Index, Memory>
+    ensures { IfOk result (λ index. Covers members.now index.namings) }
+{
+    let mut namings = namings_of(alloc, members)?.into_vec();
+    match namings.sort_by_key(|naming| naming.slot) {
+        Ok(()) => Ok(Index {
+            namings: List::from_vec(namings),
+        }),
+        Err(_) => Err(Memory),
+    }
 }

@@ -10,9 +10,8 @@ ghost use Rattle.cons_solve.specs.steps.Plans.{Good, GoodAny, listing, memo, mem
 ghost use Rattle.type_lattice.specs.Types.{meet};
 
 use crate::alternatives::{discard, lowered, write};
-use crate::index::index_of;
+use crate::index::{Index, index_of};
 use cons_tree::{Constraint, Slot, Slots, TrailEntry, type_facts};
-use indexmap::IndexMap;
 use std::alloc::Global;
 use type_kinds::{List, Memory};
 use type_lattice::Ty;
@@ -23,7 +22,7 @@ pub enum Plan {
     /// Nothing is known yet. Of a part nothing ever is.
     Blank,
     /// Of a list: the plans of its members, and which of them name a slot.
-    All(List<Plan>, IndexMap<Slot, List<usize>>),
+    All(List<Plan>, Index),
     /// Of alternatives: their plans, and what the last solution of each lowered, or `None` where it
     /// has no solution.
     Any(List<Plan>, List<Option<List<TrailEntry>>>),
@@ -67,8 +66,8 @@ pub fn list_plan(
     alloc: Global,
     members: &[Constraint],
     plan: Plan,
-) -> Result<(List<Plan>, IndexMap<Slot, List<usize>>), Memory>
-    ensures { IfOk result (λ r. (xs : Types) → Good (all_of (constraints members.now)) (memo plan) xs → Good (all_of (constraints members.now)) (listing (memos r.0) r.1.entries) xs) }
+) -> Result<(List<Plan>, Index), Memory>
+    ensures { IfOk result (λ r. (xs : Types) → Good (all_of (constraints members.now)) (memo plan) xs → Good (all_of (constraints members.now)) (listing (memos r.0) r.1.namings) xs) }
 {
     match plan {
         Plan::All(plans, index) => Ok((plans, index)),

@@ -1,10 +1,10 @@
 //! Members of a list that wait to be solved: a flag for each, and those whose flag is up in two
 //! queues.
-ghost use Rattle.std.specs.Prelude.{◌≡◌, ◌<◌, ◌++◌, ◌∷◌, [], ℕ, true, false, IfOk, IfSome, IfNone, length, get_or, set};
+ghost use Rattle.std.specs.Prelude.{◌≡◌, ◌<◌, ◌++◌, ◌∷◌, [], ℕ, true, false, IfOk, IfSome, IfNone, length, get_or, map, set};
 ghost use Rattle.cons_solve.specs.steps.Positions.{here, Queued, Enqueued, Woke};
 
+use crate::index::{Index, Naming};
 use cons_tree::{Constraint, Slot, TrailEntry};
-use indexmap::IndexMap;
 use std::alloc::Global;
 use type_kinds::{List, Memory};
 
@@ -79,15 +79,15 @@ impl Queue {
         &mut self,
         members: &[Constraint],
         except: usize,
-        woken: &[usize],
+        woken: &[Naming],
     ) -> Result<(), Memory>
         requires long { length self.old.flags ≡ length members.now }
         requires queued { Queued self.old.flags (self.old.soon ++ self.old.later) }
-        ensures enqueued { IfOk result (λ _. Enqueued except woken.now self.old.flags self.new.flags) }
+        ensures enqueued { IfOk result (λ _. Enqueued except (map (λ n. n.member) woken.now) self.old.flags self.new.flags) }
         ensures queued { IfOk result (λ _. Queued self.new.flags (self.new.soon ++ self.new.later)) }
     {
-        for member in woken {
-            self.enqueue_one(members, except, *member)?;
+        for naming in woken {
+            self.enqueue_one(members, except, naming.member)?;
         }
         Ok(())
     }
@@ -97,18 +97,15 @@ impl Queue {
         &mut self,
         members: &[Constraint],
         except: usize,
-        index: &IndexMap<Slot, List<usize>>,
+        index: &Index,
         slot: Slot,
     ) -> Result<(), Memory>
         requires long { length self.old.flags ≡ length members.now }
         requires queued { Queued self.old.flags (self.old.soon ++ self.old.later) }
-        ensures enqueued { IfOk result (λ _. Enqueued except (here index.now.entries slot) self.old.flags self.new.flags) }
+        ensures enqueued { IfOk result (λ _. Enqueued except (here index.now.namings slot) self.old.flags self.new.flags) }
         ensures queued { IfOk result (λ _. Queued self.new.flags (self.new.soon ++ self.new.later)) }
     {
-        match index.get(&slot) {
-            None => Ok(()),
-            Some(woken) => self.enqueue(members, except, woken.as_slice()),
-        }
+        self.enqueue(members, except, index.at(slot))
     }
 
     /// Rouses the members at the slots of the entries, but for the one that lowered them.
@@ -116,12 +113,12 @@ impl Queue {
         &mut self,
         members: &[Constraint],
         except: usize,
-        index: &IndexMap<Slot, List<usize>>,
+        index: &Index,
         told: &[TrailEntry],
     ) -> Result<(), Memory>
         requires long { length self.old.flags ≡ length members.now }
         requires queued { Queued self.old.flags (self.old.soon ++ self.old.later) }
-        ensures woke { IfOk result (λ _. Woke except index.now.entries told.now self.old.flags self.new.flags) }
+        ensures woke { IfOk result (λ _. Woke except index.now.namings told.now self.old.flags self.new.flags) }
         ensures queued { IfOk result (λ _. Queued self.new.flags (self.new.soon ++ self.new.later)) }
         ensures quiet { IfOk result (λ _. told.now ≡ [] → self.new.flags ≡ self.old.flags) }
     {

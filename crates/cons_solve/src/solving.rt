@@ -8,11 +8,11 @@ ghost use Rattle.cons_solve.specs.steps.Positions.{Covers};
 ghost use Rattle.cons_solve.specs.steps.Plans.{Good, GoodEach, GoodAny, IsKept, memo, memos};
 
 use crate::alternatives::{apply_join, gather};
+use crate::index::Index;
 use crate::laws::environment_laws;
 use crate::plan::{Plan, choice_plan, discard_plan, list_plan, lower_kept, note, put, take_plan};
 use crate::queue::Queue;
-use cons_tree::{Constraint, Part, Slot, Slots, TrailEntry, frame_law, type_facts};
-use indexmap::IndexMap;
+use cons_tree::{Constraint, Part, Slots, TrailEntry, frame_law, type_facts};
 use std::alloc::Global;
 use type_kinds::{List, Memory};
 
@@ -99,12 +99,12 @@ fn settle(alloc: Global, part: &Part, slots: &mut Slots, visits: &mut u64) -> Re
 fn work(
     alloc: Global,
     members: &[Constraint],
-    index: &IndexMap<Slot, List<usize>>,
+    index: &Index,
     plans: &mut List<Plan>,
     slots: &mut Slots,
     visits: &mut u64,
 ) -> Result<bool, Memory>
-    requires covers { Covers members.now index.now.entries }
+    requires covers { Covers members.now index.now.namings }
     requires good { GoodEach (constraints members.now) (memos plans.old) slots.old.types }
     ensures value { IfOk result (λ alive. solution (all_of (constraints members.now)) slots.old.types ≡ answer alive slots.new.types) }
     ensures trailed { IfOk result (λ _. Trailed slots.old slots.new) }

@@ -9,6 +9,7 @@ use Rattle.cons_tree.specs.declared.slots.TrailEntry.{TrailEntry}
 use Rattle.cons_solve.specs.Environments.{Solves}
 use Rattle.cons_solve.specs.Frames.{Free}
 use Rattle.cons_solve.specs.steps.Positions.{Has, here}
+use Rattle.cons_solve.specs.declared.index.Naming.{Naming}
 use Rattle.cons_solve.specs.declared.plan.Plan.{Plan}
 use Rattle.cons_solve.specs.declared.plan.Plan.TheOpen.{Plan-F}
 use Rattle.cons_solve.specs.declared.plan.Plan.TheFolds.{fold-Plan}
@@ -17,11 +18,11 @@ use Rattle.cons_solve.specs.declared.plan.Plan.TheFolds.{fold-Plan}
 abbrev pub Outcome : Type 0
 Outcome = Option (List TrailEntry)
 
--- a plan, with an index as its entries
+-- a plan, with an index as its namings
 mutual
   pub data Memo : Type 0 where
     blank : Memo
-    listing : (ms : MemoList) (index : List (ℕ × List ℕ)) → Memo
+    listing : (ms : MemoList) (index : List Naming) → Memo
     choosing : (ms : MemoList) (ks : List Outcome) → Memo
 
   pub data MemoList : Type 0 where
@@ -34,7 +35,7 @@ collected (m ∷ ms) = and_memo m (collected ms)
 
 abbrev pub layer : Plan-F Memo → Memo
 layer Plan-F.Blank = blank
-layer (Plan-F.All ms index) = listing (collected ms) index.entries
+layer (Plan-F.All ms index) = listing (collected ms) index.namings
 layer (Plan-F.Any ms ks) = choosing (collected ms) ks
 
 unfoldable pub memo : Plan → Memo
@@ -71,7 +72,7 @@ fallen (f ∷ fs) xs = met (fallen fs xs) f
 -- ---- when a plan is right
 
 -- each member, counted from this number on, names only slots where the index has it
-abbrev pub IsIndex : ConsList Part → ℕ → List (ℕ × List ℕ) → Type 0
+abbrev pub IsIndex : ConsList Part → ℕ → List Naming → Type 0
 IsIndex no_cons i index = Unit {0}
 IsIndex (and_cons c cs) i index = ((s : ℕ) → (Has (here index s) i → ⊥) → Free s c) × IsIndex cs (suc i) index
 

@@ -53,7 +53,7 @@ turns-preserved g c =
       same = member_moves c.type_facts.ensures c.frame_law.ensures c.environment_laws.ensures.laws c.args.members.now at c.index-members-at.result c.turns.slots.types c.solve_slots.new.slots.types low c.index-members-at.is alive ∙ inv.same;
       long = c.in_ok-wake.ensures.woke.long ∙ ap length next.2 ∙ length-set old at false ∙ inv.long;
       queued = c.in_ok-wake.ensures.queued;
-      rest = rest_goes_on c.type_facts.ensures c.frame_law.ensures c.environment_laws.ensures.laws old mid c.wake.new.self.flags c.args.members.now c.in_ok-index.index.entries told c.turns.slots c.solve_slots.new.slots c.len-checkpoint.result at c.index-members-at.result low c.index-members-at.is alive c.in_ok-alive.ensures.trailed c.len-checkpoint.ensures (slice_told c.as_slice.result.now c.solve_slots.new.slots.trail c.len-checkpoint.result c.as_slice.ensures) c.in_ok-index.ensures next.2 c.in_ok-wake.ensures.woke inv.rest;
+      rest = rest_goes_on c.type_facts.ensures c.frame_law.ensures c.environment_laws.ensures.laws old mid c.wake.new.self.flags c.args.members.now c.in_ok-index.index.namings told c.turns.slots c.solve_slots.new.slots c.len-checkpoint.result at c.index-members-at.result low c.index-members-at.is alive c.in_ok-alive.ensures.trailed c.len-checkpoint.ensures (slice_told c.as_slice.result.now c.solve_slots.new.slots.trail c.len-checkpoint.result c.as_slice.ensures) c.in_ok-index.ensures next.2 c.in_ok-wake.ensures.woke inv.rest;
       cost = λ h f.
           let pays = turn_pays c.turns.slots c.solve_slots.new.slots c.in_ok-alive.ensures.trailed (nat_lt c.len-checkpoint.result c.len.result) (λ e. omega (arith, ltb-true c.len-checkpoint.result c.len.result e, c.len-checkpoint.ensures, c.len.ensures)) h f in
           omega (arith, pays, inv.cost h f, c.tick_where.ensures);

@@ -4,5 +4,5 @@ use Rattle.cons_solve.specs.Frames.{FreeEach}
 use Rattle.cons_solve.specs.steps.Positions.{Grown}
 use Rattle.cons_solve.proofs.index.+entering.Given as goal
 
-abbrev pub invariant-enter_each-loop-member : goal.invariant-enter_each-loop-member
-invariant-enter_each-loop-member l = Grown (λ s. FreeEach s (constraints (drop l.member-index l.members)) → FreeEach s (constraints l.members)) l.at l.initial.index.entries l.index.entries
+abbrev pub invariant-enter_each-loop-c : goal.invariant-enter_each-loop-c
+invariant-enter_each-loop-c l = Grown (λ s. FreeEach s (constraints (drop l.c-index l.inner)) → FreeEach s (constraints l.inner)) l.member l.initial.namings l.namings

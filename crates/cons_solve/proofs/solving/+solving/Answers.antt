@@ -38,8 +38,8 @@ solve_plan-work-requires t c =
     let its = c.in_ok-plans-in-All in
     let is = of_all c.args.c.now c.in-All.members ms c.in-All.is c.as_slice.ensures in
     let good = its.ensures xs (subst (λ k. Good k (memo c.args.plan) xs) is c.requires) in
-    let here = subst (λ l. Good (all_of (constraints l)) (listing (memos its.plans) its.index.entries) xs) (c.as_slice.ensures ∙ sym c.as_slice-in-All.ensures) good in
-    (omega (arith, c.decreases, ap weight (of_all c.args.c.now c.in-All.members ns c.in-All.is c.as_slice-in-All.ensures)), (covers ns its.index.entries here.0, here.1))
+    let here = subst (λ l. Good (all_of (constraints l)) (listing (memos its.plans) its.index.namings) xs) (c.as_slice.ensures ∙ sym c.as_slice-in-All.ensures) good in
+    (omega (arith, c.decreases, ap weight (of_all c.args.c.now c.in-All.members ns c.in-All.is c.as_slice-in-All.ensures)), (covers ns its.index.namings here.0, here.1))
 
 pub solve_plan-returns-in_ok-alive-in-All-clause-value : goal.solve_plan-returns-in_ok-alive-in-All-clause-value
 solve_plan-returns-in_ok-alive-in-All-clause-value t c =
@@ -55,8 +55,8 @@ solve_plan-returns-in_ok-alive-in-All-clause-good t c =
     let is = of_all c.args.c.now c.in-All.members ms c.in-All.is c.as_slice.ensures in
     let also = of_all c.args.c.now c.in-All.members ns c.in-All.is c.as_slice-in-All.ensures in
     let good = its.ensures xs (subst (λ k. Good k (memo c.args.plan) xs) is c.requires) in
-    let here = subst (λ l. Good (all_of (constraints l)) (listing (memos its.plans) its.index.entries) xs) (c.as_slice.ensures ∙ sym c.as_slice-in-All.ensures) good in
-    λ e. subst (λ m. Good (constraint c.args.c.now) m ys) (sym (memo_all _ c.work.new.plans its.index refl)) (subst (λ k. Good k (listing (memos c.work.new.plans) its.index.entries) ys) (sym also) (here.0, c.in_ok-alive-in-All.ensures.good e))
+    let here = subst (λ l. Good (all_of (constraints l)) (listing (memos its.plans) its.index.namings) xs) (c.as_slice.ensures ∙ sym c.as_slice-in-All.ensures) good in
+    λ e. subst (λ m. Good (constraint c.args.c.now) m ys) (sym (memo_all _ c.work.new.plans its.index refl)) (subst (λ k. Good k (listing (memos c.work.new.plans) its.index.namings) ys) (sym also) (here.0, c.in_ok-alive-in-All.ensures.good e))
 
 pub solve_plan-join_each-requires : goal.solve_plan-join_each-requires
 solve_plan-join_each-requires t c =
@@ -151,7 +151,7 @@ work-turns-preserved t c =
       trailed = trailed_then c.args.slots.now c.turns.slots c.solve_plan.new.slots inv.trailed its.ensures.trailed;
       long = c.in_ok-wake.ensures.woke.long ∙ ap length next.2 ∙ length-set old at false ∙ inv.long;
       queued = c.in_ok-wake.ensures.queued;
-      rest = rest_goes_on facts c.frame_law.ensures laws old mid c.wake.new.self.flags ms c.args.index.now.entries told c.turns.slots c.solve_plan.new.slots c.len-checkpoint.result at x low c.index-members-at.is alive its.ensures.trailed c.len-checkpoint.ensures (slice_told c.as_slice.result.now c.solve_plan.new.slots.trail c.len-checkpoint.result c.as_slice.ensures) c.requires.covers next.2 c.in_ok-wake.ensures.woke inv.rest;
+      rest = rest_goes_on facts c.frame_law.ensures laws old mid c.wake.new.self.flags ms c.args.index.now.namings told c.turns.slots c.solve_plan.new.slots c.len-checkpoint.result at x low c.index-members-at.is alive its.ensures.trailed c.len-checkpoint.ensures (slice_told c.as_slice.result.now c.solve_plan.new.slots.trail c.len-checkpoint.result c.as_slice.ensures) c.requires.covers next.2 c.in_ok-wake.ensures.woke inv.rest;
       good = each_again ms c.turns.plans c.take_plan-former.new.plans c.put.new.items at x v.Blank its.plan ys c.take_plan-former.ensures.left c.put.ensures (each_falls facts laws (constraints ms) (memos c.turns.plans) xs ys under inv.good) c.index-members-at.is (its.ensures.good c.if-not-alive.false);
     }
 

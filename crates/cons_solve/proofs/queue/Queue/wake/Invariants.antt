@@ -7,5 +7,5 @@ abbrev pub invariant-loop-former : goal.invariant-loop-former
 invariant-loop-former l = record {
   long : length l.self.flags ≡ length l.members;
   queued : Queued l.self.flags (l.self.soon ++ l.self.later);
-  waking : Waking l.except l.index.entries l.told l.initial.self.flags l.self.flags l.former-index;
+  waking : Waking l.except l.index.namings l.told l.initial.self.flags l.self.flags l.former-index;
 }

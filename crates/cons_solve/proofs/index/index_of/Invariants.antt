@@ -1,5 +1,0 @@
-use Rattle.cons_solve.proofs.IndexLaws.{Covering}
-use Rattle.cons_solve.proofs.index.index_of.Given as goal
-
-abbrev pub invariant-loop-at : goal.invariant-loop-at
-invariant-loop-at l = Covering l.members l.index.entries l.at
