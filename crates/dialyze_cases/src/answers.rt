@@ -1,4 +1,5 @@
 //! What a run answered, in words.
+use analysis_answers::RunStatus;
 use analysis_sources::{Device, Refusal};
 use dialyze_command::Status;
 use type_kinds::{Bytes, Memory};
@@ -13,6 +14,18 @@ pub fn append_answer(status: Status, out: &mut Bytes) -> Result<(), Memory> {
         Status::DeviceFault(device) => append_device(device, out),
         Status::Memory => out.append(b"-- no memory\n"),
         Status::Usage => out.append(b"-- usage\n"),
+    }
+}
+
+/// The same of a run of `typer`.
+pub fn append_run_answer(status: RunStatus, out: &mut Bytes) -> Result<(), Memory> {
+    match status {
+        RunStatus::Done => out.append(b"-- done\n"),
+        RunStatus::Refused(refusal) => append_refusal(refusal, out),
+        RunStatus::TableFault(number) => append_number(b"-- table fault ", u64::from(number), out),
+        RunStatus::DeviceFault(device) => append_device(device, out),
+        RunStatus::Memory => out.append(b"-- no memory\n"),
+        RunStatus::Usage => out.append(b"-- usage\n"),
     }
 }
 

@@ -9,13 +9,15 @@
 //! - `run WORDS` carries out the command that the words are, and gives its answer and what it wrote, with `..` behind a line that doesn't end;
 //! - `count WORDS` does too, and gives how many components were solved;
 //! - `run-failing PIECE WRITE WORDS` does what `run` does over an output that takes at most PIECE bytes at a time and fails at this write;
+//! - `typer WORDS` prints the typings of the files that the words name, and gives its answer and what it wrote, as `run` does;
+//! - `typer-failing PIECE WRITE WORDS` does so over an output as that of `run-failing`;
 //! - `failing READ REPLACE` empties the shelf, of which this read and this replace are to fail; the number 0 is for none;
 //! - `held NAME` gives the bytes that the shelf holds under the name, 32 a line, in hexadecimal digits;
 //! - `same NAME NAME` says whether the shelf holds the same bytes under both.
 use crate::held::{
     append_held, append_same, complement, put_bytes, put_front, put_lines, put_padded,
 };
-use crate::runs::{run, run_counted, run_failing};
+use crate::runs::{run, run_counted, run_failing, run_typer, run_typer_failing};
 use case_files::{Step, steps_of};
 use da_shelf::MemShelf;
 use std::alloc::Global;
@@ -61,6 +63,8 @@ fn play<R: Threads + Wait + Sync>(
         "run" => run(rt, alloc, step.rest, shelf, out),
         "count" => run_counted(rt, alloc, step.rest, shelf, out),
         "run-failing" => run_failing(rt, alloc, step.rest, shelf, out),
+        "typer" => run_typer(rt, alloc, step.rest, shelf, out),
+        "typer-failing" => run_typer_failing(rt, alloc, step.rest, shelf, out),
         _ => play_on_shelf(alloc, step, shelf, out),
     }
 }
