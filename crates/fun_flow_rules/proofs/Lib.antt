@@ -1,0 +1,9 @@
+mod Steps
+mod Rounds
+mod Forms
+mod ControlForms
+mod Loops
+mod Calls
+mod ModuleWalks
+mod PatternExits
+mod ExpressionExits
