@@ -135,7 +135,7 @@ only_long {most = most} {bytes = bytes} h = by (long_or_low h)
 
 -- ---- at most one file is the first whose module has the name of one before it
 
-earliest_of : {names : List Atom} {i j : ℕ} → FirstDuplicate names i j → StandsEarlier names j
+pub earliest_of : {names : List Atom} {i j : ℕ} → FirstDuplicate names i j → StandsEarlier names j
 earliest_of {i = i} h = (i, h.before, h.same)
 
 least_is_one : (P : ℕ → Type 0) (i j : ℕ) → P i → P j → ((k : ℕ) → k < i → P k → ⊥) → ((k : ℕ) → k < j → P k → ⊥) → i ≡ j

@@ -1,3 +1,3 @@
 pub mod FileCauses
 mod FileExits
-mod FileRefusals
+pub mod FileRefusals

@@ -4,13 +4,12 @@ use Rattle.std.proofs.Common.{length as list_length}
 use Rattle.std.specs.Prelude.{IfSome, slice_get}
 use Rattle.std.specs.FinMap.{get}
 use Rattle.std.specs.List.{list_all}
-use Rattle.std.proofs.lemmas.Bool.{cases_lt}
 use Rattle.std.proofs.lemmas.List.{length-map}
 use Rattle.type_kinds.specs.declared.atom.Atom.{Atom}
 use Rattle.core_ast.specs.Model as m
 use Rattle.core_scan.specs.declared.token.ScanFault.{ScanFault}
 use Rattle.core_scan.specs.declared.token.ScanFault.TheVariants as s
-use Rattle.core_scope.specs.Sets.{StandsEarlier, FirstDuplicate}
+use Rattle.core_scope.specs.Sets.{FirstDuplicate}
 use Rattle.core_parse_grammar.specs.declared.fault.ParseFault.{ParseFault}
 use Rattle.core_parse_grammar.specs.declared.fault.ParseFault.TheVariants as p
 use Rattle.core_scope.specs.declared.fault.ScopeRule.{ScopeRule}
@@ -38,6 +37,7 @@ use Rattle.dialyze_command.specs.Words.{IsMake, IsNoCommand}
 use Rattle.dialyze_command.specs.Outcome.{Checks, ChecksTooMany, Names, NamesTable, Spells, IsBegun, empty, named, Begins, IsFaultOf, ReadsAll, HaveOwnNames, module_names, IsDuplicate, Analyses, SaysWhether, says_no, says_yes, Outcome, usage, many, no_table, bad_table, faulty, duplicate_module, long_table, passed, made, Intended, IsAnswer}
 use Rattle.dialyze_command.specs.Causes.{Reads, by_check, by_make, NamesMissing, as_table, as_file, NamesBadTable, NamesSource, NamesTwice, NamesModules, NamesLongTable, IsAnalysed, is_clean, is_warned, is_long, Step, holding, length, tokens, grammar, scopes, step_of}
 use Rattle.dialyze_command.proofs.CheckExits.{outcome_of, summary_mark}
+use Rattle.analysis_answers.proofs.FileRefusals.{earliest_of, one_duplicate}
 use Rattle.dialyze_command.proofs.Numbers.{mark, mark_of, word_by, other_by, one_fault_of, one_word, one_table_fault}
 use Rattle.dialyze_command.proofs.MakeFiles.{never_missing}
 use Rattle.dialyze_command.proofs.WordExits.{one_check, one_command, one_make}
@@ -326,37 +326,16 @@ analysed_modules o (is_long word e long) = modules_of long.analyses
 
 -- ---- from the cause to the status
 
-order : (i j : ℕ) → (i < j) ⊎ ((j < i) ⊎ (i ≡ j))
-order i j = by (cases_lt i j) (cases_lt j i)
-  where
-    by : (i < j) ⊎ (j ≤ i) → (j < i) ⊎ (i ≤ j) → (i < j) ⊎ ((j < i) ⊎ (i ≡ j))
-    by (inl a) c = inl a
-    by (inr a) (inl c) = inr (inl c)
-    by (inr a) (inr c) = inr (inr (omega arith))
-
-earlier : {names : List Atom} {i j : ℕ} → FirstDuplicate names i j → StandsEarlier names j
-earlier {i = i} h = (i, h.before, h.same)
-
 -- one module is the first that has the name of one before it
 pub one_second : (names : List Atom) (i j k l : ℕ) → FirstDuplicate names i j → FirstDuplicate names k l → j ≡ l
-one_second names i j k l h g = by (order j l)
-  where
-    by : (j < l) ⊎ ((l < j) ⊎ (j ≡ l)) → j ≡ l
-    by (inl a) = absurd (g.least j a (earlier h))
-    by (inr (inl a)) = absurd (h.least l a (earlier g))
-    by (inr (inr a)) = a
+one_second names i j k l h g = (one_duplicate names i j k l h g).1
 
 pub one_first : (names : List Atom) (i j k : ℕ) → FirstDuplicate names i j → FirstDuplicate names k j → i ≡ k
-one_first names i j k h g = by (order i k)
-  where
-    by : (i < k) ⊎ ((k < i) ⊎ (i ≡ k)) → i ≡ k
-    by (inl a) = absurd (g.earliest i a h.same)
-    by (inr (inl a)) = absurd (h.earliest k a g.same)
-    by (inr (inr a)) = a
+one_first names i j k h g = (one_duplicate names i j k j h g).0
 
 pub own_or_duplicate : (xs : List m.Module) (i j : ℕ) → HaveOwnNames xs → FirstDuplicate (module_names xs) i j → ⊥
 own_or_duplicate xs i j own h =
-    own j (subst (λ n. j < n) (length-map xs (λ (x : m.Module). x.name)) h.within) (earlier h)
+    own j (subst (λ n. j < n) (length-map xs (λ (x : m.Module). x.name)) h.within) (earliest_of h)
 
 from_zero : (n : ℕ) → n ≡ 0 + n
 from_zero n = omega arith

@@ -7,47 +7,15 @@ use Rattle.analysis_sources.specs.declared.refusals.RefusalName.{RefusalName}
 use Rattle.analysis_sources.specs.declared.refusals.RefusalName.TheVariants as r
 use Rattle.analysis_sources.specs.declared.refusals.SourceFault.{SourceFault}
 use Rattle.analysis_sources.specs.Refusals.{refusal_number, missing}
+use Rattle.analysis_answers.proofs.FileRefusals.{by_number, tells}
 use Rattle.dialyze_command.specs.declared.status.Status.{Status}
 use Rattle.dialyze_command.specs.declared.status.Status.TheVariants.{Clean, Refused, Warnings, TableFault, DeviceFault, Memory, Usage}
 use Rattle.dialyze_command.specs.Lines.{refused, table_fault_number, faulty_table}
 
 -- ---- a refusal's status tells its name and its line
 
-abbrev pub name_of : ℕ → RefusalName
-name_of n =
-    if nat_eq n 1 then r.BadByte
-    else if nat_eq n 2 then r.OpenQuote
-    else if nat_eq n 3 then r.BadEscape
-    else if nat_eq n 4 then r.WideInteger
-    else if nat_eq n 5 then r.Syntax
-    else if nat_eq n 6 then r.TooDeep
-    else if nat_eq n 8 then r.Unbound
-    else if nat_eq n 9 then r.RepeatedVariable
-    else if nat_eq n 10 then r.UndefinedFunction
-    else if nat_eq n 11 then r.RepeatedFunction
-    else if nat_eq n 12 then r.BadExport
-    else if nat_eq n 13 then r.Degree
-    else if nat_eq n 25 then r.TooLong
-    else r.Missing
-
-pub named_by_number : (name : RefusalName) → name_of (refusal_number name) ≡ name
-named_by_number r.BadByte = refl
-named_by_number r.OpenQuote = refl
-named_by_number r.BadEscape = refl
-named_by_number r.WideInteger = refl
-named_by_number r.Syntax = refl
-named_by_number r.TooDeep = refl
-named_by_number r.Unbound = refl
-named_by_number r.RepeatedVariable = refl
-named_by_number r.UndefinedFunction = refl
-named_by_number r.RepeatedFunction = refl
-named_by_number r.BadExport = refl
-named_by_number r.Degree = refl
-named_by_number r.TooLong = refl
-named_by_number r.Missing = refl
-
 abbrev pub told_by : Status → SourceFault
-told_by (Refused refusal) = record { name = name_of refusal.number; line = refusal.line }
+told_by (Refused refusal) = record { name = by_number refusal.number; line = refusal.line }
 told_by _ = missing
 
 abbrev pub number_by : Status → ℕ
@@ -63,7 +31,7 @@ other_by (Refused refusal) = refusal.other
 other_by _ = 0
 
 pub told_by_refused : (w : ℕ) (f : SourceFault) → told_by (refused w f) ≡ f
-told_by_refused w f = λ i. record { name = named_by_number f.name i; line = f.line }
+told_by_refused w f = λ i. record { name = (tells f.name).known i; line = f.line }
 
 pub one_fault_of : (v w : ℕ) (f g : SourceFault) → refused v f ≡ refused w g → f ≡ g
 one_fault_of v w f g e = sym (told_by_refused v f) ∙ ap told_by e ∙ told_by_refused w g
