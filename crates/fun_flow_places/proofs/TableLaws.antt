@@ -197,7 +197,7 @@ module _ {A B : Type 0} (say : A → B) where
   pub listed_all : (now all : List B) (xs : List A) (i : ℕ) → length xs ≤ i → now ++ map say (drop i xs) ≡ all → now ≡ all
   listed_all now all xs i past h = sym (append-nil now) ∙ ap (λ l. now ++ map say l) (sym (drop_of_length-le xs past)) ∙ h
 
-outer_none : (o : Option ℕ) → or_outer o None ≡ o
+pub outer_none : (o : Option ℕ) → or_outer o None ≡ o
 outer_none None = refl
 outer_none (Some n) = refl
 

@@ -14,10 +14,10 @@ use Rattle.core_scope.specs.Sets.{StandsEarlier}
 use Rattle.core_scope.specs.declared.checked.Checked.{Checked}
 use Rattle.type_lattice_model.specs.Values.{Local}
 use Rattle.core_meaning.specs.Programs.{Program, function_named, locals_of, module_named}
-use Rattle.fun_flow_places.specs.Bindings.{or_outer, value_of}
+use Rattle.fun_flow_places.specs.Bindings.{value_of}
 use Rattle.fun_flow_places.specs.Naming.{AreRulesOf, module_names, name_of, place_named}
 use Rattle.fun_flow_places.specs.Tables.{IsTableOf, frame, label_of}
-use Rattle.fun_flow_places.proofs.TableLaws.{frame_value, map_both, module_at, name_of_is}
+use Rattle.fun_flow_places.proofs.TableLaws.{frame_value, map_both, module_at, name_of_is, outer_none}
 use Rattle.fun_flow_places.specs.declared.places.Rule.{Rule}
 use Rattle.fun_flow_rules.specs.declared.walk.RuleWalk.{RuleWalk}
 use Rattle.fun_flow_rules.specs.steps.Walking.{Adds, Going, Makes, Part, Sees, WalksModule, no_rules, opened_rules, place_in, with_rules}
@@ -71,10 +71,6 @@ begun w at fs = record w { home = at; functions = fs }
 abbrev pub without_functions : RuleWalk → List (FunName × ℕ) → RuleWalk
 without_functions w fs = record w { functions = fs }
 
-seen_alone : (o : Option ℕ) → or_outer o None ≡ o
-seen_alone None = refl
-seen_alone (Some n) = refl
-
 sees_module : (U : Program) (w : RuleWalk) (at : ℕ) (x : m.Module) → Distinct (module_names U) → IsTableOf U w.table → w.variables ≡ [] → name_of U at ≡ x.name → module_named U x.name ≡ Some x
     → Sees U x.name no_place (begun w at ([] ++ frame (locals_of x.defs)))
 sees_module U w at x apart table none named e =
@@ -83,7 +79,7 @@ sees_module U w at x apart table none named e =
       table = table;
       at_home = named;
       variables = λ y. ap (λ vs. place_named U (place_in vs y)) none;
-      functions = λ f. frame_value [] (locals_of x.defs) f ∙ seen_alone (label_of (function_named (locals_of x.defs) f)) ∙ ap (λ o. label_of (defined_in o f)) (sym e);
+      functions = λ f. frame_value [] (locals_of x.defs) f ∙ outer_none (label_of (function_named (locals_of x.defs) f)) ∙ ap (λ o. label_of (defined_in o f)) (sym e);
     }
 
 pub module_walked : (w0 w1 w2 w3 w4 : RuleWalk) (at : ℕ) (x : m.Module) → w1 ≡ begun w0 at (w0.functions ++ frame (locals_of x.defs)) → Makes w1 w2 (λ U home sc. opened_rules U home sc x.exports)
