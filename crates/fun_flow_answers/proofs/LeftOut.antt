@@ -17,7 +17,7 @@ use Rattle.fun_flow_sets.specs.Sets.{Holds, MayEnter}
 use Rattle.fun_flow_answers.specs.declared.target.AppliedCall.{AppliedCall}
 use Rattle.fun_flow_answers.specs.declared.target.Target.{Target}
 use Rattle.fun_flow_answers.specs.declared.target.Target.TheVariants.{Name}
-use Rattle.fun_flow_answers.specs.declared.target.Targets.{Targets}
+use Rattle.fun_flow_answers.specs.declared.target.ListedTargets.{ListedTargets}
 use Rattle.fun_flow_answers.specs.Answers.{AreCalls, AreTargets, any_function, only_these, IsCall, IsSaid, Says}
 use Rattle.fun_flow_answers.specs.Listed.{defined_with, function_target, target_in, target_of}
 use Rattle.fun_flow_answers.specs.Listed as listed
@@ -43,7 +43,7 @@ closure_listed U p home l n h =
     let found = found_module U there.0 home there.1 there.2 in
     (function_target (listed.position_of U home) found.0 l (defined_with (locals_of found.0.defs) l), ap (target_in (listed.position_of U home) l) found.1)
 
-said : (U : Program) (p : Place) (c : AppliedCall) (a : Targets) (x : Item) → c.targets ≡ a → AreTargets U (Holds U p) c.arity a → Holds U p x → Says U c x
+said : (U : Program) (p : Place) (c : AppliedCall) (a : ListedTargets) (x : Item) → c.targets ≡ a → AreTargets U (Holds U p) c.arity a → Holds U p x → Says U c x
 said U p c a anything is (any_function h) k = is
 said U p c a anything is (only_these ts never s d) k = absurd (never k)
 said U p c a (closure_at home l n) is (any_function h) k = inl is

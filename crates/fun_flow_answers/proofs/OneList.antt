@@ -14,8 +14,8 @@ use Rattle.fun_flow_sets.specs.Items.{Item, Place, applies}
 use Rattle.fun_flow_sets.specs.Rules.{IsAmong, IsRule, module_rules}
 use Rattle.fun_flow_sets.specs.Sets.{Holds}
 use Rattle.fun_flow_answers.specs.declared.target.AppliedCall.{AppliedCall}
-use Rattle.fun_flow_answers.specs.declared.target.Targets.{Targets}
-use Rattle.fun_flow_answers.specs.declared.target.Targets.TheVariants.{Only}
+use Rattle.fun_flow_answers.specs.declared.target.ListedTargets.{ListedTargets}
+use Rattle.fun_flow_answers.specs.declared.target.ListedTargets.TheVariants.{Only}
 use Rattle.fun_flow_answers.specs.Answers.{AreCalls, AreTargets, any_function, only_these, IsCall}
 use Rattle.fun_flow_answers.specs.Listed.{line_at}
 use Rattle.fun_flow_answers.specs.Order.{call_total, target_total}
@@ -31,7 +31,7 @@ accepted_at mods i x e = by (slice_get mods i) (sym (slice_get-map tree_of mods 
     by None f = absurd cc
     by (Some c) f = (c, same_Some (tree_of c) x f)
 
-one_targets : (U : Program) (Has : Item → Type 0) (n : ℕ) (a b : Targets) → AreTargets U Has n a → AreTargets U Has n b → a ≡ b
+one_targets : (U : Program) (Has : Item → Type 0) (n : ℕ) (a b : ListedTargets) → AreTargets U Has n a → AreTargets U Has n b → a ≡ b
 one_targets U Has n a b (any_function h) (any_function k) = refl
 one_targets U Has n a b (any_function h) (only_these us f t e) = absurd (f h)
 one_targets U Has n a b (only_these ts g s d) (any_function k) = absurd (g k)

@@ -14,7 +14,7 @@ use Rattle.fun_flow_sets.specs.Items.{Item, anything, closure_at, external_funct
 use Rattle.fun_flow_answers.specs.declared.target.AppliedCall.{AppliedCall}
 use Rattle.fun_flow_answers.specs.declared.target.Target.{Target}
 use Rattle.fun_flow_answers.specs.declared.target.Target.TheVariants.{Name}
-use Rattle.fun_flow_answers.specs.declared.target.Targets.{Targets}
+use Rattle.fun_flow_answers.specs.declared.target.ListedTargets.{ListedTargets}
 use Rattle.fun_flow_answers.specs.Answers.{AreCalls, AreTargets, any_function, only_these, IsCall}
 use Rattle.fun_flow_answers.specs.Lines.{AreTargetsWithin, IsCallWithin, IsTargetWithin}
 use Rattle.fun_flow_answers.specs.Listed.{defined_with, function_target, position_of, target_in, target_of}
@@ -42,7 +42,7 @@ target_within U (closure_at home l n) t e = by (module_named U home) refl e
         (function_within (length U) (position_of U home) l y (defined_with (locals_of y.defs) l) (position_within U home y is))
 target_within U (external_function home name n) t e = subst (IsTargetWithin (length U)) (same_Some (Name home (function_name name n)) t e) tt
 
-targets_within : (U : Program) (Has : Item → Type 0) (n : ℕ) (a : Targets) → AreTargets U Has n a → AreTargetsWithin (length U) a
+targets_within : (U : Program) (Has : Item → Type 0) (n : ℕ) (a : ListedTargets) → AreTargets U Has n a → AreTargetsWithin (length U) a
 targets_within U Has n a (any_function h) = tt
 targets_within U Has n a (only_these ts never s d) =
     All-weaker (Contains ts) (IsTargetWithin (length U)) (λ t h. let k = (d t).0 h in target_within U k.0 t k.3) ts (All-contains_itself ts)

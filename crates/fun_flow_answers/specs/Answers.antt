@@ -9,8 +9,8 @@ use Rattle.fun_flow_sets.specs.Rules.{IsRule}
 use Rattle.fun_flow_sets.specs.Sets.{Holds}
 use Rattle.fun_flow_answers.specs.declared.target.AppliedCall.{AppliedCall}
 use Rattle.fun_flow_answers.specs.declared.target.Target.{Target}
-use Rattle.fun_flow_answers.specs.declared.target.Targets.{Targets}
-use Rattle.fun_flow_answers.specs.declared.target.Targets.TheVariants.{Anything, Only}
+use Rattle.fun_flow_answers.specs.declared.target.ListedTargets.{ListedTargets}
+use Rattle.fun_flow_answers.specs.declared.target.ListedTargets.TheVariants.{Anything, Only}
 use Rattle.fun_flow_answers.specs.Listed.{arity_of, line_at, target_of}
 use Rattle.fun_flow_answers.specs.Order.{call_cmp, target_cmp}
 
@@ -20,7 +20,7 @@ IsListed U Has n t = (x : Item) × Has x × (arity_of x ≡ n) × (target_of U x
 
 -- What an application to n arguments may enter, where its operator's set has these items: anything, or the functions of the set with as
 -- many parameters, each once, in ascending order.
-pub data AreTargets (U : Program) (Has : Item → Type 0) (n : ℕ) : Targets → Type 0 where
+pub data AreTargets (U : Program) (Has : Item → Type 0) (n : ℕ) : ListedTargets → Type 0 where
   any_function : Has anything → AreTargets U Has n Anything
   only_these : (ts : List Target) → (Has anything → ⊥) → IsStrictlySortedBy target_cmp ts → ((t : Target) → Contains ts t ↔ IsListed U Has n t) → AreTargets U Has n (Only ts)
 

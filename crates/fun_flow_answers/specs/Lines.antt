@@ -8,8 +8,8 @@ use Rattle.warn_list.specs.Lines.{remote_text}
 use Rattle.fun_flow_answers.specs.declared.target.AppliedCall.{AppliedCall}
 use Rattle.fun_flow_answers.specs.declared.target.Target.{Target}
 use Rattle.fun_flow_answers.specs.declared.target.Target.TheVariants.{Fun, Name}
-use Rattle.fun_flow_answers.specs.declared.target.Targets.{Targets}
-use Rattle.fun_flow_answers.specs.declared.target.Targets.TheVariants.{Anything, Only}
+use Rattle.fun_flow_answers.specs.declared.target.ListedTargets.{ListedTargets}
+use Rattle.fun_flow_answers.specs.declared.target.ListedTargets.TheVariants.{Anything, Only}
 
 -- 'm':2, of the module at this position
 abbrev pub place_text : List Atom → (position line : ℕ) → List ℕ
@@ -23,7 +23,7 @@ abbrev pub only_text : List Atom → List Target → List ℕ
 only_text homes [] = codes "nothing"
 only_text homes (t ∷ ts) = target_text homes t ++ flat_map (λ u. codes ", " ++ target_text homes u) ts
 
-abbrev pub targets_text : List Atom → Targets → List ℕ
+abbrev pub targets_text : List Atom → ListedTargets → List ℕ
 targets_text homes Anything = codes "anything"
 targets_text homes (Only ts) = only_text homes ts
 
@@ -41,7 +41,7 @@ abbrev pub IsTargetWithin : ℕ → Target → Type 0
 IsTargetWithin n (Fun i l k) = i < n
 IsTargetWithin n (Name home f) = Unit {0}
 
-abbrev pub AreTargetsWithin : ℕ → Targets → Type 0
+abbrev pub AreTargetsWithin : ℕ → ListedTargets → Type 0
 AreTargetsWithin n Anything = Unit {0}
 AreTargetsWithin n (Only ts) = All (IsTargetWithin n) ts
 

@@ -2,7 +2,7 @@
 use Rattle.std.specs.Prelude.{List, [], ◌∷◌}
 use Rattle.fun_flow_answers.specs.declared.target.AppliedCall.{AppliedCall}
 use Rattle.fun_flow_answers.specs.declared.target.Target.TheVariants.{Fun}
-use Rattle.fun_flow_answers.specs.declared.target.Targets.TheVariants.{Anything, Only}
+use Rattle.fun_flow_answers.specs.declared.target.ListedTargets.TheVariants.{Anything, Only}
 
 abbrev pub first_call : AppliedCall
 first_call = record { «module» = 0; label = 6; line = 3; arity = 1; targets = Only (Fun 0 3 2 ∷ []) }

@@ -13,7 +13,7 @@ ghost use Rattle.fun_flow_sets.specs.Sets.{MayEnter};
 ghost use Rattle.fun_flow_sets.specs.Worked.{with_identity};
 ghost use Rattle.fun_flow_answers.specs.declared.target.AppliedCall.{AppliedCall as TheCall};
 ghost use Rattle.fun_flow_answers.specs.declared.target.Target.TheVariants.{Fun, Name};
-ghost use Rattle.fun_flow_answers.specs.declared.target.Targets.TheVariants.{Only};
+ghost use Rattle.fun_flow_answers.specs.declared.target.ListedTargets.TheVariants.{Only};
 ghost use Rattle.fun_flow_answers.specs.Answers.{AreCalls, IsSaid};
 ghost use Rattle.fun_flow_answers.specs.Lines.{IsCallWithin, call_lines};
 ghost use Rattle.fun_flow_answers.specs.Worked.{identity_calls};

@@ -10,4 +10,4 @@ mod target;
 pub use laws::{nothing_is_left_out, one_list, positions_are_within, worked_list};
 pub use listed::ascending;
 pub use printing::call_lines;
-pub use target::{AppliedCall, Target, Targets};
+pub use target::{AppliedCall, ListedTargets, Target};

@@ -5,7 +5,7 @@ ghost use Rattle.core_scope.specs.Checked.{module_of};
 ghost use Rattle.warn_list.specs.Lines.{remote_text};
 ghost use Rattle.fun_flow_answers.specs.Lines.{AreTargetsWithin, IsCallWithin, IsTargetWithin, call_line, call_lines, only_text, place_text, target_text, targets_text};
 
-use crate::target::{AppliedCall, Target, Targets};
+use crate::target::{AppliedCall, ListedTargets, Target};
 use core_ast::FunName;
 use core_scope::AsChecked;
 use std::alloc::Global;
@@ -58,15 +58,15 @@ fn append_place<S: AsChecked>(
 // Appends what an application may enter.
 fn append_targets<S: AsChecked>(
     mods: &[S],
-    targets: &Targets,
+    targets: &ListedTargets,
     out: &mut Bytes,
 ) -> Result<(), Memory>
     requires within { AreTargetsWithin (length mods.now) targets.now }
     ensures { OnOk result (out.new ≡ out.old ++ targets_text (map (λ s. (module_of (S.stands_for s)).name) mods.now) targets.now) }
 {
     match targets {
-        Targets::Anything => out.append(b"anything"),
-        Targets::Only(targets) => append_only(mods, targets.as_slice(), out),
+        ListedTargets::Anything => out.append(b"anything"),
+        ListedTargets::Only(targets) => append_only(mods, targets.as_slice(), out),
     }
 }
 

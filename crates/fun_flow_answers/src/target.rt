@@ -19,7 +19,7 @@ pub enum Target {
 
 /// What an application may enter.
 #[derive(Debug, Drop)]
-pub enum Targets {
+pub enum ListedTargets {
     /// Any function: nothing is known of what is applied.
     Anything,
     /// These, each once, in ascending order.
@@ -33,7 +33,7 @@ pub struct AppliedCall {
     pub label: u32,
     pub line: u32,
     pub arity: u32,
-    pub targets: Targets,
+    pub targets: ListedTargets,
 }
 
 impl PartialEq for Target {

@@ -2,12 +2,12 @@
 use Rattle.std.specs.Prelude.{◌↔◌, ℕ, zero, suc, ◌+◌, List, [], ◌∷◌, length, map, replicate}
 use Rattle.type_kinds.specs.declared.atom.Atom.{Atom}
 use Rattle.core_meaning.specs.Programs.{Program}
-use Rattle.fun_flow_places.specs.declared.places.Place.{Place}
-use Rattle.fun_flow_places.specs.declared.places.Place.TheVariants.{Nowhere, Anywhere, Part, Parameter, Returned}
+use Rattle.fun_flow_places.specs.declared.places.FlowPlace.{FlowPlace}
+use Rattle.fun_flow_places.specs.declared.places.FlowPlace.TheVariants.{Nowhere, Anywhere, Part, Parameter, Returned}
 use Rattle.fun_flow_places.specs.declared.places.Item.{Item}
 use Rattle.fun_flow_places.specs.declared.places.Item.TheVariants.{Anything, Closure, External}
-use Rattle.fun_flow_places.specs.declared.places.Rule.{Rule}
-use Rattle.fun_flow_places.specs.declared.places.Rule.TheVariants.{Holds, Flows, Applies}
+use Rattle.fun_flow_places.specs.declared.places.FlowRule.{FlowRule}
+use Rattle.fun_flow_places.specs.declared.places.FlowRule.TheVariants.{Holds, Flows, Applies}
 use Rattle.fun_flow_sets.specs.Items as s
 use Rattle.fun_flow_sets.specs.Rules.{IsAmong, IsRule}
 
@@ -33,7 +33,7 @@ name_of U h = name_at (bytes_of (module_names U)) (module_names U) h
 
 -- ---- values of the code
 
-abbrev pub place_named : Program → Place → s.Place
+abbrev pub place_named : Program → FlowPlace → s.Place
 place_named U Nowhere = s.nowhere
 place_named U Anywhere = s.anywhere
 place_named U (Part h label n) = s.part (name_of U h) label n
@@ -45,11 +45,11 @@ item_named U Anything = s.anything
 item_named U (Closure h label arity) = s.closure_at (name_of U h) label arity
 item_named U (External home f) = s.external_function home f.name f.arity
 
-abbrev pub rule_named : Program → Rule → s.Rule
+abbrev pub rule_named : Program → FlowRule → s.Rule
 rule_named U (Holds p x) = s.holds (place_named U p) (item_named U x)
 rule_named U (Flows p q) = s.flows (place_named U p) (place_named U q)
 rule_named U (Applies p n h label) = s.applies (place_named U p) n (name_of U h) label
 
 -- These are exactly the rules that the text of a program makes.
-abbrev pub AreRulesOf : Program → List Rule → Type 0
+abbrev pub AreRulesOf : Program → List FlowRule → Type 0
 AreRulesOf U rs = (r : s.Rule) → IsAmong (map (rule_named U) rs) r ↔ IsRule U r

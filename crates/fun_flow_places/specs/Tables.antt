@@ -7,8 +7,8 @@ use Rattle.type_lattice_model.specs.Values.{Local}
 use Rattle.core_meaning.specs.Programs.{Program, locals_of, function_named, built_in, exported, hidden, outside, found}
 use Rattle.fun_flow_sets.specs.Items.{defined_at}
 use Rattle.fun_flow_places.specs.declared.table.ModuleTable.{ModuleTable}
-use Rattle.fun_flow_places.specs.declared.table.Resolved.{Resolved}
-use Rattle.fun_flow_places.specs.declared.table.Resolved.TheVariants.{BuiltIn, Outside, Hidden, Exported}
+use Rattle.fun_flow_places.specs.declared.table.FoundFunction.{FoundFunction}
+use Rattle.fun_flow_places.specs.declared.table.FoundFunction.TheVariants.{BuiltIn, Outside, Hidden, Exported}
 use Rattle.fun_flow_places.specs.Naming.{module_names, name_of}
 
 -- ---- functions by their names
@@ -34,7 +34,7 @@ pub record IsTableOf (U : Program) (table : ModuleTable) : Type 0 where
   pub exports : table.exports ≡ map exports_of U
 
 -- What a call by a module and a name finds is this, with the position of the module and the label of the function.
-abbrev pub Finds : Program → Atom → FunName → Resolved → Type 0
+abbrev pub Finds : Program → Atom → FunName → FoundFunction → Type 0
 Finds U x f BuiltIn = found U x f ≡ built_in
 Finds U x f Outside = found U x f ≡ outside
 Finds U x f Hidden = found U x f ≡ hidden

@@ -7,5 +7,7 @@ mod places;
 mod table;
 
 pub use bindings::Bindings;
-pub use places::{Item, Place, Rule};
-pub use table::{Functions, ModuleTable, Resolved, define_all, define_module, module_table};
+pub use places::{FlowPlace, FlowRule, Item};
+pub use table::{
+    FoundFunction, FunctionLabels, ModuleTable, define_all, define_module, module_table,
+};

@@ -3,7 +3,7 @@ use type_kinds::Atom;
 
 /// Where values are. A module is named by its position in the list of modules.
 #[derive(Clone, Copy, Debug, PartialEq, Eq, Hash)]
-pub enum Place {
+pub enum FlowPlace {
     /// No functions stand here.
     Nowhere,
     /// Any values may stand here.
@@ -29,12 +29,12 @@ pub enum Item {
 
 /// A rule of a text.
 #[derive(Drop)]
-pub enum Rule {
+pub enum FlowRule {
     /// The place holds the item.
-    Holds(Place, Item),
+    Holds(FlowPlace, Item),
     /// What the first place holds the second one holds.
-    Flows(Place, Place),
+    Flows(FlowPlace, FlowPlace),
     /// What stands at the place is applied to so many arguments, by the application at a label of a module:
     /// operator, number of arguments, module and label.
-    Applies(Place, usize, usize, u32),
+    Applies(FlowPlace, usize, usize, u32),
 }

@@ -14,11 +14,11 @@ use std::alloc::Global;
 use type_kinds::{Atom, List, Memory, Shared};
 
 /// The functions that are seen, each with the label of its definition.
-pub type Functions = Bindings<FunName, u32>;
+pub type FunctionLabels = Bindings<FunName, u32>;
 
 /// What a call by a module's name and a function's finds.
 #[derive(Clone, Copy, Debug)]
-pub enum Resolved {
+pub enum FoundFunction {
     /// A function of the module `erlang`, whatever module of that name was passed.
     BuiltIn,
     /// A function of a module that wasn't passed.
@@ -38,7 +38,7 @@ pub struct ModuleTable {
 }
 
 /// Names the definitions of a module, the first of them innermost. `Memory` if allocation fails.
-pub fn define_module(functions: &mut Functions, defs: &[Shared<FunDef>]) -> Result<(), Memory>
+pub fn define_module(functions: &mut FunctionLabels, defs: &[Shared<FunDef>]) -> Result<(), Memory>
     ensures { OnOk result (functions.new ≡ functions.old ++ frame (locals_of (all_defs defs.now))) }
 {
     for passed in 0..defs.len() {
@@ -49,7 +49,7 @@ pub fn define_module(functions: &mut Functions, defs: &[Shared<FunDef>]) -> Resu
 }
 
 /// Names the definitions of a `letrec`, the first of them innermost. `Memory` if allocation fails.
-pub fn define_all(functions: &mut Functions, defs: &[FunDef]) -> Result<(), Memory>
+pub fn define_all(functions: &mut FunctionLabels, defs: &[FunDef]) -> Result<(), Memory>
     ensures { OnOk result (functions.new ≡ functions.old ++ frame (locals_of (all_defs defs.now))) }
 {
     for passed in 0..defs.len() {
@@ -100,21 +100,21 @@ impl ModuleTable {
     }
 
     /// What a call by a module's name and a function's finds, among modules with distinct names. Takes no memory.
-    pub fn resolve(&self, home: &Atom, name: &FunName) -> Resolved
+    pub fn resolve(&self, home: &Atom, name: &FunName) -> FoundFunction
         ensures { (U : Program) → Distinct (module_names U) → IsTableOf U self.now → Finds U home.now name.now result }
     {
         if is_text(home, b"erlang") {
-            return Resolved::BuiltIn;
+            return FoundFunction::BuiltIn;
         }
         let Some(position) = self.names.place_of(home) else {
-            return Resolved::Outside;
+            return FoundFunction::Outside;
         };
         let Some(exports) = self.exports.get(position) else {
-            return Resolved::Outside;
+            return FoundFunction::Outside;
         };
         match exports.get(name) {
-            Some(label) => Resolved::Exported(position, label),
-            None => Resolved::Hidden,
+            Some(label) => FoundFunction::Exported(position, label),
+            None => FoundFunction::Hidden,
         }
     }
 }

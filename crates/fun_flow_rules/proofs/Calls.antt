@@ -13,11 +13,11 @@ use Rattle.type_lattice_model.specs.Values.{Local}
 use Rattle.core_meaning.specs.Programs.{Program, Found, built_in, exported, hidden, outside, found}
 use Rattle.fun_flow_places.specs.Naming.{name_of, place_named}
 use Rattle.fun_flow_places.specs.Tables.{Finds, label_of}
-use Rattle.fun_flow_places.specs.declared.places.Place.{Place}
-use Rattle.fun_flow_places.specs.declared.places.Place.TheVariants as p
-use Rattle.fun_flow_places.specs.declared.places.Rule.TheVariants.{Applies}
-use Rattle.fun_flow_places.specs.declared.table.Resolved.{Resolved}
-use Rattle.fun_flow_places.specs.declared.table.Resolved.TheVariants as hit
+use Rattle.fun_flow_places.specs.declared.places.FlowPlace.{FlowPlace}
+use Rattle.fun_flow_places.specs.declared.places.FlowPlace.TheVariants as p
+use Rattle.fun_flow_places.specs.declared.places.FlowRule.TheVariants.{Applies}
+use Rattle.fun_flow_places.specs.declared.table.FoundFunction.{FoundFunction}
+use Rattle.fun_flow_places.specs.declared.table.FoundFunction.TheVariants as hit
 use Rattle.fun_flow_rules.specs.declared.walk.RuleWalk.{RuleWalk}
 use Rattle.fun_flow_rules.specs.steps.Walking.{Gives, GivesOne, Makes, Sees, no_rules, with_rules}
 use Rattle.fun_flow_rules.proofs.Steps.{makes_as, makes_before, makes_none, makes_one, makes_then, sees_back}
@@ -67,7 +67,7 @@ module _ (w0 w1 : RuleWalk) (i j : Mark) (f : FunName) (ts : m.Trees) where
         let is : label ≡ d.label = cc in
         ap (λ l. into_parameters home l 0 ps) is ∙ ap (λ b. if b then into_parameters home d.label 0 ps else []) (sym (eq-eqb f.arity (how_many ts) same))
 
-    pub named_makes : (w2 : RuleWalk) (ps : List Place) → Makes w0 w1 (λ U home sc. rules_of_all U home sc ts) → Gives w0 ps (λ U home sc. places_of_all U home sc ts)
+    pub named_makes : (w2 : RuleWalk) (ps : List FlowPlace) → Makes w0 w1 (λ U home sc. rules_of_all U home sc ts) → Gives w0 ps (λ U home sc. places_of_all U home sc ts)
         → Makes w1 w2 (λ U home sc. into_parameters home label 0 (map (place_named U) ps))
         → Makes w0 w2 (λ U home sc. rules U home sc one_value (m.apply i (m.local j f) ts))
     named_makes w2 ps one given two =
@@ -84,7 +84,7 @@ module _ (w0 w1 : RuleWalk) (i j : Mark) (f : FunName) (ts : m.Trees) where
 
 -- ---- applications of values
 
-pub value_makes : (w0 w1 w2 w3 : RuleWalk) (i : Mark) (t : m.Tree) (ts : m.Trees) (n : ℕ) (place : Place) → local_name t ≡ None → n ≡ how_many ts → Makes w0 w1 (λ U home sc. rules U home sc one_value t)
+pub value_makes : (w0 w1 w2 w3 : RuleWalk) (i : Mark) (t : m.Tree) (ts : m.Trees) (n : ℕ) (place : FlowPlace) → local_name t ≡ None → n ≡ how_many ts → Makes w0 w1 (λ U home sc. rules U home sc one_value t)
     → GivesOne w0 place (λ U home sc. first (places U home sc one_value t))
     → w2 ≡ with_rules w1 (w1.rules ++ Applies place n w1.home i.label ∷ []) → Makes w2 w3 (λ U home sc. rules_of_all U home sc ts) → Makes w0 w3 (λ U home sc. rules U home sc one_value (m.apply i t ts))
 value_makes w0 w1 w2 w3 i t ts n place value count one given applied two =
@@ -101,7 +101,7 @@ value_place U home sc i t ts value = ap (λ o. application_place U home sc i.lab
 
 -- ---- calls
 
-pub call_makes : (w0 w1 w2 w3 w4 : RuleWalk) (i : Mark) (t u : m.Tree) (ts : m.Trees) (n : ℕ) (ps : List Place) → n ≡ how_many ts → Makes w0 w1 (λ U home sc. rules U home sc one_value t)
+pub call_makes : (w0 w1 w2 w3 w4 : RuleWalk) (i : Mark) (t u : m.Tree) (ts : m.Trees) (n : ℕ) (ps : List FlowPlace) → n ≡ how_many ts → Makes w0 w1 (λ U home sc. rules U home sc one_value t)
     → Makes w1 w2 (λ U home sc. rules U home sc one_value u) → Makes w2 w3 (λ U home sc. rules_of_all U home sc ts)
     → Gives w2 ps (λ U home sc. places_of_all U home sc ts) → Makes w3 w4 (λ U home sc. call_rules U home i.label (literal_atom t) (literal_atom u) n (map (place_named U) ps))
     → Makes w0 w4 (λ U home sc. rules U home sc one_value (m.call i t u ts))
@@ -118,15 +118,15 @@ call_makes w0 w1 w2 w3 w4 i t u ts n ps count one two three given four =
 
 -- ---- what literal names find
 
-module _ (w0 : RuleWalk) (label : ℕ) (x : Atom) (f : FunName) (ps : List Place) where
+module _ (w0 : RuleWalk) (label : ℕ) (x : Atom) (f : FunName) (ps : List FlowPlace) where
   abbrev FoundRules : RuleWalk → Type 0
   FoundRules w1 = Makes w0 w1 (λ U home sc. found_rules home label (found U x f) f (map (place_named U) ps))
 
-  abbrev FoundPlace : Place → Type 0
+  abbrev FoundPlace : FlowPlace → Type 0
   FoundPlace q = GivesOne w0 q (λ U home sc. found_place U home label (found U x f) x f)
 
   -- what is found by the table
-  abbrev HasFound : Resolved → Type 0
+  abbrev HasFound : FoundFunction → Type 0
   HasFound r = (U : Program) (home : Atom) (sc : Scope) → Sees U home sc w0 → Finds U x f r
 
   no_found : (k : Found) → ((U : Program) (home : Atom) (sc : Scope) → Sees U home sc w0 → found U x f ≡ k) → ((home : Atom) (qs : List s.Place) → [] ≡ found_rules home label k f qs) → FoundRules w0
@@ -139,7 +139,7 @@ module _ (w0 : RuleWalk) (label : ℕ) (x : Atom) (f : FunName) (ps : List Place
     λ U home sc k. ap (λ b. if b then s.part home label 0 else s.anywhere) (sym other) ∙ ap (λ z. found_place U home label z x f) (sym (h U home sc k)),
   )
 
-  pub handed_on : (w1 : RuleWalk) (place : Place) → has_function handing_on f ≡ true → HasFound hit.BuiltIn → place ≡ p.Part w0.home label 0 → Makes w0 w1 (λ U home sc. all_into (map (place_named U) ps) (place_named U place))
+  pub handed_on : (w1 : RuleWalk) (place : FlowPlace) → has_function handing_on f ≡ true → HasFound hit.BuiltIn → place ≡ p.Part w0.home label 0 → Makes w0 w1 (λ U home sc. all_into (map (place_named U) ps) (place_named U place))
       → FoundRules w1 × FoundPlace place
   handed_on w1 place on h at one = (
     makes_as w0 w1 (λ U home sc. all_into (map (place_named U) ps) (place_named U place)) (λ U home sc. found_rules home label (found U x f) f (map (place_named U) ps)) one
@@ -172,7 +172,7 @@ module _ (w0 : RuleWalk) (label : ℕ) (x : Atom) (f : FunName) (ps : List Place
 
 -- ---- calls whose names are computed
 
-module _ (w : RuleWalk) (label n : ℕ) (ps : List Place) where
+module _ (w : RuleWalk) (label n : ℕ) (ps : List FlowPlace) where
   pub computed_home : (x y : Option Atom) → x ≡ None → Makes w w (λ U home sc. call_rules U home label x y n (map (place_named U) ps)) × GivesOne w p.Anywhere (λ U home sc. call_place U home label x y n)
   computed_home x y e = (
     makes_as w w no_rules (λ U home sc. call_rules U home label x y n (map (place_named U) ps)) (makes_none w) (λ U home sc h. ap (λ o. call_rules U home label o y n (map (place_named U) ps)) (sym e)),
@@ -187,7 +187,7 @@ module _ (w : RuleWalk) (label n : ℕ) (ps : List Place) where
   )
 
 -- a call by literal names is what these find
-pub named_call : (w0 w1 : RuleWalk) (label n : ℕ) (ps : List Place) (a b : Atom) (x y : Option Atom) (f : FunName) (q : Place) → x ≡ Some a → y ≡ Some b → f ≡ function_name b n
+pub named_call : (w0 w1 : RuleWalk) (label n : ℕ) (ps : List FlowPlace) (a b : Atom) (x y : Option Atom) (f : FunName) (q : FlowPlace) → x ≡ Some a → y ≡ Some b → f ≡ function_name b n
     → Makes w0 w1 (λ U home sc. found_rules home label (found U a f) f (map (place_named U) ps)) × GivesOne w0 q (λ U home sc. found_place U home label (found U a f) a f)
     → Makes w0 w1 (λ U home sc. call_rules U home label x y n (map (place_named U) ps)) × GivesOne w0 q (λ U home sc. call_place U home label x y n)
 named_call w0 w1 label n ps a b x y f q e d is h = (

@@ -26,7 +26,7 @@ use Rattle.fun_flow_places.specs.Bindings.{or_outer}
 use Rattle.fun_flow_places.specs.Naming.{place_named}
 use Rattle.fun_flow_places.specs.Tables.{frame, label_of}
 use Rattle.fun_flow_places.proofs.TableLaws.{frame_value}
-use Rattle.fun_flow_places.specs.declared.places.Place.{Place}
+use Rattle.fun_flow_places.specs.declared.places.FlowPlace.{FlowPlace}
 use Rattle.fun_flow_rules.specs.declared.walk.RuleWalk.{RuleWalk}
 use Rattle.fun_flow_rules.specs.steps.Walking.{Adds, Binding, Binds, Entering, Gives, Going, Makes, Part, PlacesOf, Sees, body_rules, clause_rules, joined_rules, no_rules, with_rules, with_variables}
 use Rattle.fun_flow_rules.proofs.Steps.{binds_as, binds_leave, binds_then, entering_ends, entering_on, going_ends, going_on, makes_as, makes_before, makes_binds, makes_then, sees_back, sees_on}
@@ -36,7 +36,7 @@ use Rattle.fun_flow_sets.specs.Rules.{after_steps, passed_to, places, rules, rul
 use Rattle.fun_flow_sets.specs.Scopes.{Scope, in_frame, local_definition, or_else, with_heads, with_places}
 
 -- an expression whose values are those of a form
-pub joined_step : (w0 w1 w2 : RuleWalk) (label : ℕ) (k : Ask) (t : m.Tree) (ps : List Place) → Makes w0 w1 (λ U home sc. rules U home sc k t) → Gives w0 ps (λ U home sc. places U home sc k t)
+pub joined_step : (w0 w1 w2 : RuleWalk) (label : ℕ) (k : Ask) (t : m.Tree) (ps : List FlowPlace) → Makes w0 w1 (λ U home sc. rules U home sc k t) → Gives w0 ps (λ U home sc. places U home sc k t)
     → Makes w1 w2 (λ U home sc. passed_to U home label k (map (place_named U) ps)) → Makes w0 w2 (λ U home sc. joined_rules U home sc label k t)
 joined_step w0 w1 w2 label k t ps one given two =
     makes_before w0 w1 w2 (λ U home sc. rules U home sc k t) (λ U home sc. passed_to U home label k (places U home sc k t)) one
@@ -44,7 +44,7 @@ joined_step w0 w1 w2 label k t ps one given two =
     (λ U home sc h. ap (passed_to U home label k) (given U home sc (sees_back U home sc w0 w1 one.rest h))))
 
 -- it sees variables of its own
-pub under_step : (w0 w1 w2 w3 : RuleWalk) (around label : ℕ) (k : Ask) (xs : List VarName) (ps : List Place) (t : m.Tree) → around ≡ length w0.variables → Binds w0 w1 no_rules (λ U home sc. with_places xs (map (place_named U) ps) sc)
+pub under_step : (w0 w1 w2 w3 : RuleWalk) (around label : ℕ) (k : Ask) (xs : List VarName) (ps : List FlowPlace) (t : m.Tree) → around ≡ length w0.variables → Binds w0 w1 no_rules (λ U home sc. with_places xs (map (place_named U) ps) sc)
     → Makes w1 w2 (λ U home sc. joined_rules U home sc label k t)
     → w3 ≡ with_variables w2 (take around w2.variables) → Makes w0 w3 (λ U home sc. joined_rules U home (with_places xs (map (place_named U) ps) sc) label k t)
 under_step w0 w1 w2 w3 around label k xs ps t at bound one left =
@@ -54,7 +54,7 @@ under_step w0 w1 w2 w3 around label k xs ps t at bound one left =
 
 -- ---- chains
 
-pub let_step : (w0 w1 w2 : RuleWalk) (i : Mark) (xs : List VarName) (e : Expr) (n : ℕ) (ps : List Place) → n ≡ length xs → Makes w0 w1 (λ U home sc. rules U home sc (Exactly n) (tree e))
+pub let_step : (w0 w1 w2 : RuleWalk) (i : Mark) (xs : List VarName) (e : Expr) (n : ℕ) (ps : List FlowPlace) → n ≡ length xs → Makes w0 w1 (λ U home sc. rules U home sc (Exactly n) (tree e))
     → Gives w0 ps (λ U home sc. places U home sc (Exactly n) (tree e)) → Binds w1 w2 no_rules (λ U home sc. with_places xs (map (place_named U) ps) sc)
     → Binds w0 w2 (λ U home sc. rules_of_steps U home sc (all_steps (Let i xs e ∷ []))) (λ U home sc. after_steps U home sc (all_steps (Let i xs e ∷ [])))
 let_step w0 w1 w2 i xs e n ps count one given bound =
@@ -72,7 +72,7 @@ do_step w0 w1 i e one =
     (λ U home sc h. sym (append-nil (rules U home sc AnyNumber (tree e)))) (λ U home sc h. refl)
 
 -- steps whose parts were read
-pub let_told : (w0 w1 w2 : RuleWalk) (x : StepOf Expr) (i : Mark) (xs ys : List VarName) (e : Expr) (n : ℕ) (ps qs : List Place) → x ≡ Let i xs e → ys ≡ xs → n ≡ length xs → qs ≡ ps
+pub let_told : (w0 w1 w2 : RuleWalk) (x : StepOf Expr) (i : Mark) (xs ys : List VarName) (e : Expr) (n : ℕ) (ps qs : List FlowPlace) → x ≡ Let i xs e → ys ≡ xs → n ≡ length xs → qs ≡ ps
     → Makes w0 w1 (λ U home sc. rules U home sc (Exactly n) (tree e)) → Gives w0 ps (λ U home sc. places U home sc (Exactly n) (tree e))
     → Binds w1 w2 no_rules (λ U home sc. with_places ys (map (place_named U) qs) sc) → Binds w0 w2 (λ U home sc. rules_of_steps U home sc (all_steps (x ∷ []))) (λ U home sc. after_steps U home sc (all_steps (x ∷ [])))
 let_told w0 w1 w2 x i xs ys e n ps qs is vars count values one given two =
@@ -111,12 +111,12 @@ chain_makes w0 w1 w2 w3 around k ss t at bound one left =
     (binds_then w0 w1 w2 (λ U home sc. rules_of_steps U home sc ss) (λ U home sc. rules U home sc k t) (λ U home sc. after_steps U home sc ss) (λ U home sc. sc) bound (makes_binds w1 w2 (λ U home sc. rules U home sc k t) one)) at left
 
 -- what is given inside of bindings
-pub gives_inside : (w0 w1 : RuleWalk) (f : Part) (x : Binding) (ps : List Place) (g : PlacesOf) → Binds w0 w1 f x → Gives w1 ps g → Gives w0 ps (λ U home sc. g U home (x U home sc))
+pub gives_inside : (w0 w1 : RuleWalk) (f : Part) (x : Binding) (ps : List FlowPlace) (g : PlacesOf) → Binds w0 w1 f x → Gives w1 ps g → Gives w0 ps (λ U home sc. g U home (x U home sc))
 gives_inside w0 w1 f x ps g h given U home sc s = given U home (x U home sc) (h.sees U home sc s)
 
 -- ---- clauses
 
-pub clause_step : (w0 w1 w2 w3 w4 : RuleWalk) (around label : ℕ) (k : Ask) (ps : List Place) (c : ClauseParts) → around ≡ length w0.variables
+pub clause_step : (w0 w1 w2 w3 w4 : RuleWalk) (around label : ℕ) (k : Ask) (ps : List FlowPlace) (c : ClauseParts) → around ≡ length w0.variables
     → Binds w0 w1 (λ U home sc. rules_of_heads U home sc (map (place_named U) ps) c.patterns) (λ U home sc. with_heads (map (place_named U) ps) c.patterns sc) → Makes w1 w2 (λ U home sc. rules U home sc one_value c.guard)
     → Makes w2 w3 (λ U home sc. joined_rules U home sc label k c.body) → w4 ≡ with_variables w3 (take around w3.variables)
     → Makes w0 w4 (λ U home sc. clause_rules U home sc k label (map (place_named U) ps) c)
@@ -127,7 +127,7 @@ clause_step w0 w1 w2 w3 w4 around label k ps c at bound one two left =
     (makes_binds w1 w3 (λ U home sc. rules U home sc one_value c.guard ++ joined_rules U home sc label k c.body)
     (makes_then w1 w2 w3 (λ U home sc. rules U home sc one_value c.guard) (λ U home sc. joined_rules U home sc label k c.body) one two))) at left
 
-pub clause_told : (w0 w1 w2 w3 w4 : RuleWalk) (around label : ℕ) (k : Ask) (qs : List Place) (c : Clause) (ps : List Pattern) → around ≡ length w0.variables → ps ≡ (out-Clause c).patterns
+pub clause_told : (w0 w1 w2 w3 w4 : RuleWalk) (around label : ℕ) (k : Ask) (qs : List FlowPlace) (c : Clause) (ps : List Pattern) → around ≡ length w0.variables → ps ≡ (out-Clause c).patterns
     → Binds w0 w1 (λ U home sc. rules_of_heads U home sc (map (place_named U) qs) (all_patterns ps)) (λ U home sc. with_heads (map (place_named U) qs) (all_patterns ps) sc)
     → Makes w1 w2 (λ U home sc. rules U home sc one_value (tree (out-Clause c).guard)) → Makes w2 w3 (λ U home sc. joined_rules U home sc label k (tree (out-Clause c).body))
     → w4 ≡ with_variables w3 (take around w3.variables) → Makes w0 w4 (λ U home sc. clause_rules U home sc k label (map (place_named U) qs) (clause_parts c))
@@ -137,7 +137,7 @@ clause_told w0 w1 w2 w3 w4 around label k qs c ps at is bound one two left =
     (clause_step w0 w1 w2 w3 w4 around label k qs (record { mark = y.mark; patterns = all_patterns y.patterns; guard = tree y.guard; body = tree y.body }) at
     (subst (λ l. Binds w0 w1 (λ U home sc. rules_of_heads U home sc (map (place_named U) qs) (all_patterns l)) (λ U home sc. with_heads (map (place_named U) qs) (all_patterns l) sc)) is bound) one two left)
 
-pub clauses_round : (old now new : RuleWalk) (label : ℕ) (k : Ask) (ps : List Place) (cs : List Clause) (i : ℕ) (c : Clause) (all : Part) → i < length cs → c ≡ get_or cs i c
+pub clauses_round : (old now new : RuleWalk) (label : ℕ) (k : Ask) (ps : List FlowPlace) (cs : List Clause) (i : ℕ) (c : Clause) (all : Part) → i < length cs → c ≡ get_or cs i c
     → Makes now new (λ U home sc. clause_rules U home sc k label (map (place_named U) ps) (clause_parts c))
     → Going old now (λ U home sc. rules_of_clauses U home sc k label (map (place_named U) ps) (all_clauses (drop i cs))) all
     → Going old new (λ U home sc. rules_of_clauses U home sc k label (map (place_named U) ps) (all_clauses (drop (i + 1) cs))) all
@@ -154,7 +154,7 @@ clauses_round old now new label k ps cs i c all within is step before =
     ∙ ap (λ l. rules_of_heads U home sc qs x.patterns ++ l) (sym (append_assoc (rules U home inner one_value x.guard) (joined_rules U home inner label k x.body) left))
     ∙ sym (append_assoc (rules_of_heads U home sc qs x.patterns) (rules U home inner one_value x.guard ++ joined_rules U home inner label k x.body) left))
 
-pub case_makes : (w0 w1 w2 : RuleWalk) (i : Mark) (k : Ask) (n : ℕ) (t : m.Tree) (cs : m.Clauses) (ps : List Place) → n ≡ width cs → Makes w0 w1 (λ U home sc. rules U home sc (Exactly n) t)
+pub case_makes : (w0 w1 w2 : RuleWalk) (i : Mark) (k : Ask) (n : ℕ) (t : m.Tree) (cs : m.Clauses) (ps : List FlowPlace) → n ≡ width cs → Makes w0 w1 (λ U home sc. rules U home sc (Exactly n) t)
     → Gives w0 ps (λ U home sc. places U home sc (Exactly n) t) → Makes w1 w2 (λ U home sc. rules_of_clauses U home sc k i.label (map (place_named U) ps) cs)
     → Makes w0 w2 (λ U home sc. rules U home sc k (m.case i t cs))
 case_makes w0 w1 w2 i k n t cs ps count one given two =
@@ -170,7 +170,7 @@ receive_makes w0 w1 w2 w3 i k cs t u one two three =
     makes_then w0 w1 w3 (λ U home sc. rules_of_clauses U home sc k i.label [] cs) (λ U home sc. rules U home sc one_value t ++ joined_rules U home sc i.label k u) one
     (makes_then w1 w2 w3 (λ U home sc. rules U home sc one_value t) (λ U home sc. joined_rules U home sc i.label k u) two three)
 
-pub try_makes : (w0 w1 w2 w3 : RuleWalk) (i : Mark) (k : Ask) (n : ℕ) (t : m.Tree) (xs : List VarName) (u : m.Tree) (ys : List VarName) (w : m.Tree) (ps : List Place) → n ≡ length xs
+pub try_makes : (w0 w1 w2 w3 : RuleWalk) (i : Mark) (k : Ask) (n : ℕ) (t : m.Tree) (xs : List VarName) (u : m.Tree) (ys : List VarName) (w : m.Tree) (ps : List FlowPlace) → n ≡ length xs
     → Makes w0 w1 (λ U home sc. rules U home sc (Exactly n) t) → Gives w0 ps (λ U home sc. places U home sc (Exactly n) t)
     → Makes w1 w2 (λ U home sc. joined_rules U home (with_places xs (map (place_named U) ps) sc) i.label k u) → Makes w2 w3 (λ U home sc. joined_rules U home (with_places ys [] sc) i.label k w)
     → Makes w0 w3 (λ U home sc. rules U home sc k (m.try i t xs u ys w))
@@ -237,7 +237,7 @@ module _ (w0 w1 w2 w3 w4 : RuleWalk) (around : ℕ) (ds : m.Defs) (at : around �
             (subst (λ l. Adds U l w3.rules (rules_of_definitions U home (in_frame (locals_of ds) sc) ds ++ rules U home (in_frame (locals_of ds) sc) k t)) before made) r;
       }
 
-  pub letrec_gives : (k : Ask) (t : m.Tree) (ps : List Place) → Makes w1 w2 (λ U home sc. rules_of_definitions U home sc ds) → Gives w2 ps (λ U home sc. places U home sc k t)
+  pub letrec_gives : (k : Ask) (t : m.Tree) (ps : List FlowPlace) → Makes w1 w2 (λ U home sc. rules_of_definitions U home sc ds) → Gives w2 ps (λ U home sc. places U home sc k t)
       → Gives w0 ps (λ U home sc. places U home (in_frame (locals_of ds) sc) k t)
   letrec_gives k t ps one given U home sc s = given U home (in_frame (locals_of ds) sc) (sees_on U home (in_frame (locals_of ds) sc) w1 w2 one.rest (sees_in U home sc s))
 
@@ -249,7 +249,7 @@ steps_end old now ss i all whole past h =
     entering_ends old now (λ U home sc. rules_of_steps U home sc (all_steps (drop i ss))) all (λ U home sc. after_steps U home sc (all_steps (drop i ss))) whole h
     (λ U home sc. ap (λ l. rules_of_steps U home sc (all_steps l)) (drop_of_length-le ss past)) (λ U home sc. ap (λ l. after_steps U home sc (all_steps l)) (drop_of_length-le ss past))
 
-pub clauses_end : (old now : RuleWalk) (label : ℕ) (k : Ask) (ps : List Place) (cs : List Clause) (i : ℕ) (all : Part) → length cs ≤ i
+pub clauses_end : (old now : RuleWalk) (label : ℕ) (k : Ask) (ps : List FlowPlace) (cs : List Clause) (i : ℕ) (all : Part) → length cs ≤ i
     → Going old now (λ U home sc. rules_of_clauses U home sc k label (map (place_named U) ps) (all_clauses (drop i cs))) all → Makes old now all
 clauses_end old now label k ps cs i all past h =
     going_ends old now (λ U home sc. rules_of_clauses U home sc k label (map (place_named U) ps) (all_clauses (drop i cs))) all h

@@ -22,14 +22,14 @@ use Rattle.core_ast.proofs.Forms.{values_tree, chain_tree, case_tree, letrec_tre
 use Rattle.core_scope.specs.Asks.{one_value}
 use Rattle.core_scope.specs.declared.ask.Ask.{Ask}
 use Rattle.fun_flow_places.specs.Naming.{place_named}
-use Rattle.fun_flow_places.specs.declared.places.Place.{Place}
-use Rattle.fun_flow_places.specs.declared.places.Place.TheVariants as p
+use Rattle.fun_flow_places.specs.declared.places.FlowPlace.{FlowPlace}
+use Rattle.fun_flow_places.specs.declared.places.FlowPlace.TheVariants as p
 use Rattle.fun_flow_rules.specs.declared.walk.RuleWalk.{RuleWalk}
 use Rattle.fun_flow_rules.specs.steps.Walking.{Gives, Makes, Walks}
 use Rattle.fun_flow_rules.proofs.Steps.{makes_none}
 use Rattle.fun_flow_sets.specs.Rules.{places_of_all, rules_of_all}
 
-module _ (r : Result (List Place) Memory) (w0 w1 : RuleWalk) (k : Ask) (e : Expr) where
+module _ (r : Result (List FlowPlace) Memory) (w0 w1 : RuleWalk) (k : Ask) (e : Expr) where
   -- an expression with this tree
   as_tree : (t : m.Tree) → tree e ≡ t → Walks w0 w1 k t r → Walks w0 w1 k (tree e) r
   as_tree t is = subst (λ z. Walks w0 w1 k z r) (sym is)
@@ -91,7 +91,7 @@ module _ (r : Result (List Place) Memory) (w0 w1 : RuleWalk) (k : Ask) (e : Expr
   pub values_exit : (xs : List Expr) → e.form ≡ f.Values xs → IfOk r (λ ps. Makes w0 w1 (λ U home sc. rules_of_all U home sc (all_trees xs)) × Gives w0 ps (λ U home sc. places_of_all U home sc (all_trees xs))) → Walks w0 w1 k (tree e) r
   values_exit xs is h = as_tree (m.values e.mark (all_trees xs)) (values_tree e xs is) h
 
-pub literal_exit : (r : Result (List Place) Memory) (w : RuleWalk) (k : Ask) (e : Expr) (x : Literal) → e.form ≡ f.Lit x → IfOk r (λ ps. ps ≡ p.Nowhere ∷ []) → Walks w w k (tree e) r
+pub literal_exit : (r : Result (List FlowPlace) Memory) (w : RuleWalk) (k : Ask) (e : Expr) (x : Literal) → e.form ≡ f.Lit x → IfOk r (λ ps. ps ≡ p.Nowhere ∷ []) → Walks w w k (tree e) r
 literal_exit r w k e x is h = as_tree r w w k e (m.literal e.mark x) (literal_tree e x is) (IfOk-weaker r _ _ (λ ps is. (makes_none w, λ U home sc s. ap (map (place_named U)) is)) h)
 
 pub ruleset expression_exits = (

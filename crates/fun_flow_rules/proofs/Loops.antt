@@ -16,8 +16,8 @@ use Rattle.core_ast.proofs.Trees.{pair-is, pat_pair-is, pat_segment-is, segment-
 use Rattle.core_meaning.specs.Programs.{Program}
 use Rattle.core_scope.specs.Asks.{one_value}
 use Rattle.fun_flow_places.specs.Naming.{place_named}
-use Rattle.fun_flow_places.specs.declared.places.Place.{Place}
-use Rattle.fun_flow_places.specs.declared.places.Place.TheVariants.{Anywhere}
+use Rattle.fun_flow_places.specs.declared.places.FlowPlace.{FlowPlace}
+use Rattle.fun_flow_places.specs.declared.places.FlowPlace.TheVariants.{Anywhere}
 use Rattle.fun_flow_rules.specs.declared.walk.RuleWalk.{RuleWalk}
 use Rattle.fun_flow_rules.specs.steps.Walking.{Binding, Binds, Entering, Gives, GivesOne, Going, Makes, Part, PatternBinds, Sees, with_rules}
 use Rattle.fun_flow_rules.proofs.Steps.{binds_then, entering_ends, entering_on, going_ends, going_on, makes_binds, makes_then, sees_on}
@@ -35,7 +35,7 @@ trees_round old now new es i e all within is step before =
     (λ U home sc. ap (rules_of_all U home sc) (all_trees-next es i e within ∙ ap (λ x. m.and_tree (tree x) (all_trees (drop (i + 1) es))) (sym is)))
 
 -- the places so far, and those that follow
-pub places_round : (old now : RuleWalk) (es : List Expr) (i : ℕ) (e : Expr) (ps qs : List Place) (p : Place) → i < length es → e ≡ get_or es i e → now ≡ with_rules old now.rules
+pub places_round : (old now : RuleWalk) (es : List Expr) (i : ℕ) (e : Expr) (ps qs : List FlowPlace) (p : FlowPlace) → i < length es → e ≡ get_or es i e → now ≡ with_rules old now.rules
     → GivesOne now p (λ U home sc. first (places U home sc one_value (tree e))) → qs ≡ ps ++ p ∷ []
     → ((U : Program) (home : Atom) (sc : Scope) → Sees U home sc old → map (place_named U) ps ++ places_of_all U home sc (all_trees (drop i es)) ≡ places_of_all U home sc (all_trees es))
     → (U : Program) (home : Atom) (sc : Scope) → Sees U home sc old → map (place_named U) qs ++ places_of_all U home sc (all_trees (drop (i + 1) es)) ≡ places_of_all U home sc (all_trees es)
@@ -56,7 +56,7 @@ pairs_round old now mid new ps i x all within is one two before =
     (λ U home sc. ap (rules_of_pairs U home sc) (all_pairs-next ps i x within ∙ ap (λ z. let y = pair_parts z in m.and_pair y.exact y.key y.value rest) (sym is) ∙ ap (λ y. m.and_pair y.exact y.key y.value rest) (pair-is x))
     ∙ sym (append_assoc (rules U home sc one_value (tree x.key)) (rules U home sc one_value (tree x.value)) (rules_of_pairs U home sc rest)))
 
-pub pair_places_round : (old now mid : RuleWalk) (es : List MapPair) (i : ℕ) (x : MapPair) (ps qs rs : List Place) (p q : Place) → i < length es → x ≡ get_or es i x → now ≡ with_rules old now.rules → mid ≡ with_rules now mid.rules
+pub pair_places_round : (old now mid : RuleWalk) (es : List MapPair) (i : ℕ) (x : MapPair) (ps qs rs : List FlowPlace) (p q : FlowPlace) → i < length es → x ≡ get_or es i x → now ≡ with_rules old now.rules → mid ≡ with_rules now mid.rules
     → GivesOne now p (λ U home sc. first (places U home sc one_value (tree x.key)))
     → GivesOne mid q (λ U home sc. first (places U home sc one_value (tree x.value))) → qs ≡ ps ++ p ∷ [] → rs ≡ qs ++ q ∷ []
     → ((U : Program) (home : Atom) (sc : Scope) → Sees U home sc old → map (place_named U) ps ++ places_of_pairs U home sc (all_pairs (drop i es)) ≡ places_of_pairs U home sc (all_pairs es))
@@ -87,7 +87,7 @@ segments_round old now mid new ss i x args all within is one args_are two before
 
 -- ---- patterns
 
-pub patterns_round : (old now new : RuleWalk) (place : Place) (ps : List Pattern) (i : ℕ) (x : Pattern) (all : Part) (whole : Binding) → i < length ps → x ≡ get_or ps i x → PatternBinds now new place (pattern_tree x)
+pub patterns_round : (old now new : RuleWalk) (place : FlowPlace) (ps : List Pattern) (i : ℕ) (x : Pattern) (all : Part) (whole : Binding) → i < length ps → x ≡ get_or ps i x → PatternBinds now new place (pattern_tree x)
     → Entering old now (λ U home sc. rules_of_patterns U home sc (place_named U place) (all_patterns (drop i ps))) all (λ U home sc. with_patterns (place_named U place) (all_patterns (drop i ps)) sc) whole
     → Entering old new (λ U home sc. rules_of_patterns U home sc (place_named U place) (all_patterns (drop (i + 1) ps))) all (λ U home sc. with_patterns (place_named U place) (all_patterns (drop (i + 1) ps)) sc) whole
 patterns_round old now new place ps i x all whole within is step before =
@@ -98,7 +98,7 @@ patterns_round old now new place ps i x all whole within is step before =
     (λ U home sc. with_patterns (place_named U place) (all_patterns (drop i ps)) sc) (λ U home sc. with_pattern (place_named U place) (pattern_tree x) sc) (λ U home sc. with_patterns (place_named U place) rest sc) whole before step
     (λ U home sc. ap (rules_of_patterns U home sc (place_named U place)) next) (λ U home sc. ap (λ l. with_patterns (place_named U place) l sc) next)
 
-pub pat_pairs_round : (old now mid new : RuleWalk) (place : Place) (ps : List PatPair) (i : ℕ) (x : PatPair) (all : Part) (whole : Binding) → i < length ps → x ≡ get_or ps i x
+pub pat_pairs_round : (old now mid new : RuleWalk) (place : FlowPlace) (ps : List PatPair) (i : ℕ) (x : PatPair) (all : Part) (whole : Binding) → i < length ps → x ≡ get_or ps i x
     → Makes now mid (λ U home sc. rules U home sc one_value (tree x.key)) → PatternBinds mid new place (pattern_tree x.value)
     → Entering old now (λ U home sc. rules_of_pat_pairs U home sc (place_named U place) (all_pat_pairs (drop i ps))) all (λ U home sc. with_pat_pairs (place_named U place) (all_pat_pairs (drop i ps)) sc) whole
     → Entering old new (λ U home sc. rules_of_pat_pairs U home sc (place_named U place) (all_pat_pairs (drop (i + 1) ps))) all (λ U home sc. with_pat_pairs (place_named U place) (all_pat_pairs (drop (i + 1) ps)) sc) whole
@@ -135,7 +135,7 @@ pat_segments_round old now mid new ss i x args all whole within is one args_are 
     (rules_of_pat_segments U home (with_pattern s.anywhere value sc) rest)))
     (λ U home sc. ap (λ l. with_pat_segments l sc) next)
 
-pub heads_round : (old now new : RuleWalk) (qs : List Place) (place : Place) (ps : List Pattern) (i : ℕ) (x : Pattern) (all : Part) (whole : Binding) → i < length ps → x ≡ get_or ps i x
+pub heads_round : (old now new : RuleWalk) (qs : List FlowPlace) (place : FlowPlace) (ps : List Pattern) (i : ℕ) (x : Pattern) (all : Part) (whole : Binding) → i < length ps → x ≡ get_or ps i x
     → ((U : Program) → place_named U place ≡ first (map (place_named U) (drop i qs))) → PatternBinds now new place (pattern_tree x)
     → Entering old now (λ U home sc. rules_of_heads U home sc (map (place_named U) (drop i qs)) (all_patterns (drop i ps))) all (λ U home sc. with_heads (map (place_named U) (drop i qs)) (all_patterns (drop i ps)) sc) whole
     → Entering old new (λ U home sc. rules_of_heads U home sc (map (place_named U) (drop (i + 1) qs)) (all_patterns (drop (i + 1) ps))) all
@@ -158,27 +158,27 @@ heads_round old now new qs place ps i x all whole within is at step before =
 pub trees_end : (old now : RuleWalk) (es : List Expr) (i : ℕ) (all : Part) → length es ≤ i → Going old now (λ U home sc. rules_of_all U home sc (all_trees (drop i es))) all → Makes old now all
 trees_end old now es i all past h = going_ends old now (λ U home sc. rules_of_all U home sc (all_trees (drop i es))) all h (λ U home sc. ap (λ l. rules_of_all U home sc (all_trees l)) (drop_of_length-le es past))
 
-pub places_end : (old : RuleWalk) (es : List Expr) (i : ℕ) (ps : List Place) → length es ≤ i → ((U : Program) (home : Atom) (sc : Scope) → Sees U home sc old → map (place_named U) ps ++ places_of_all U home sc (all_trees (drop i es))
+pub places_end : (old : RuleWalk) (es : List Expr) (i : ℕ) (ps : List FlowPlace) → length es ≤ i → ((U : Program) (home : Atom) (sc : Scope) → Sees U home sc old → map (place_named U) ps ++ places_of_all U home sc (all_trees (drop i es))
     ≡ places_of_all U home sc (all_trees es)) → Gives old ps (λ U home sc. places_of_all U home sc (all_trees es))
 places_end old es i ps past before U home sc h = sym (append-nil (map (place_named U) ps)) ∙ ap (λ l. map (place_named U) ps ++ places_of_all U home sc (all_trees l)) (sym (drop_of_length-le es past)) ∙ before U home sc h
 
 pub pairs_end : (old now : RuleWalk) (ps : List MapPair) (i : ℕ) (all : Part) → length ps ≤ i → Going old now (λ U home sc. rules_of_pairs U home sc (all_pairs (drop i ps))) all → Makes old now all
 pairs_end old now ps i all past h = going_ends old now (λ U home sc. rules_of_pairs U home sc (all_pairs (drop i ps))) all h (λ U home sc. ap (λ l. rules_of_pairs U home sc (all_pairs l)) (drop_of_length-le ps past))
 
-pub pair_places_end : (old : RuleWalk) (es : List MapPair) (i : ℕ) (ps : List Place) → length es ≤ i → ((U : Program) (home : Atom) (sc : Scope) → Sees U home sc old → map (place_named U) ps ++ places_of_pairs U home sc (all_pairs
+pub pair_places_end : (old : RuleWalk) (es : List MapPair) (i : ℕ) (ps : List FlowPlace) → length es ≤ i → ((U : Program) (home : Atom) (sc : Scope) → Sees U home sc old → map (place_named U) ps ++ places_of_pairs U home sc (all_pairs
     (drop i es)) ≡ places_of_pairs U home sc (all_pairs es)) → Gives old ps (λ U home sc. places_of_pairs U home sc (all_pairs es))
 pair_places_end old es i ps past before U home sc h = sym (append-nil (map (place_named U) ps)) ∙ ap (λ l. map (place_named U) ps ++ places_of_pairs U home sc (all_pairs l)) (sym (drop_of_length-le es past)) ∙ before U home sc h
 
 pub segments_end : (old now : RuleWalk) (ss : List Segment) (i : ℕ) (all : Part) → length ss ≤ i → Going old now (λ U home sc. rules_of_segments U home sc (all_segments (drop i ss))) all → Makes old now all
 segments_end old now ss i all past h = going_ends old now (λ U home sc. rules_of_segments U home sc (all_segments (drop i ss))) all h (λ U home sc. ap (λ l. rules_of_segments U home sc (all_segments l)) (drop_of_length-le ss past))
 
-pub patterns_end : (old now : RuleWalk) (place : Place) (ps : List Pattern) (i : ℕ) (all : Part) (whole : Binding) → length ps ≤ i
+pub patterns_end : (old now : RuleWalk) (place : FlowPlace) (ps : List Pattern) (i : ℕ) (all : Part) (whole : Binding) → length ps ≤ i
     → Entering old now (λ U home sc. rules_of_patterns U home sc (place_named U place) (all_patterns (drop i ps))) all (λ U home sc. with_patterns (place_named U place) (all_patterns (drop i ps)) sc) whole → Binds old now all whole
 patterns_end old now place ps i all whole past h =
     entering_ends old now (λ U home sc. rules_of_patterns U home sc (place_named U place) (all_patterns (drop i ps))) all (λ U home sc. with_patterns (place_named U place) (all_patterns (drop i ps)) sc) whole h
     (λ U home sc. ap (λ l. rules_of_patterns U home sc (place_named U place) (all_patterns l)) (drop_of_length-le ps past)) (λ U home sc. ap (λ l. with_patterns (place_named U place) (all_patterns l) sc) (drop_of_length-le ps past))
 
-pub pat_pairs_end : (old now : RuleWalk) (place : Place) (ps : List PatPair) (i : ℕ) (all : Part) (whole : Binding) → length ps ≤ i
+pub pat_pairs_end : (old now : RuleWalk) (place : FlowPlace) (ps : List PatPair) (i : ℕ) (all : Part) (whole : Binding) → length ps ≤ i
     → Entering old now (λ U home sc. rules_of_pat_pairs U home sc (place_named U place) (all_pat_pairs (drop i ps))) all (λ U home sc. with_pat_pairs (place_named U place) (all_pat_pairs (drop i ps)) sc) whole → Binds old now all whole
 pat_pairs_end old now place ps i all whole past h =
     entering_ends old now (λ U home sc. rules_of_pat_pairs U home sc (place_named U place) (all_pat_pairs (drop i ps))) all (λ U home sc. with_pat_pairs (place_named U place) (all_pat_pairs (drop i ps)) sc) whole h
@@ -190,7 +190,7 @@ pat_segments_end old now ss i all whole past h =
     entering_ends old now (λ U home sc. rules_of_pat_segments U home sc (all_pat_segments (drop i ss))) all (λ U home sc. with_pat_segments (all_pat_segments (drop i ss)) sc) whole h
     (λ U home sc. ap (λ l. rules_of_pat_segments U home sc (all_pat_segments l)) (drop_of_length-le ss past)) (λ U home sc. ap (λ l. with_pat_segments (all_pat_segments l) sc) (drop_of_length-le ss past))
 
-pub heads_end : (old now : RuleWalk) (qs : List Place) (ps : List Pattern) (i : ℕ) (all : Part) (whole : Binding) → length ps ≤ i
+pub heads_end : (old now : RuleWalk) (qs : List FlowPlace) (ps : List Pattern) (i : ℕ) (all : Part) (whole : Binding) → length ps ≤ i
     → Entering old now (λ U home sc. rules_of_heads U home sc (map (place_named U) (drop i qs)) (all_patterns (drop i ps))) all (λ U home sc. with_heads (map (place_named U) (drop i qs)) (all_patterns (drop i ps)) sc) whole
     → Binds old now all whole
 heads_end old now qs ps i all whole past h =

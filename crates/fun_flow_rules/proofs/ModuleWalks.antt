@@ -18,7 +18,7 @@ use Rattle.fun_flow_places.specs.Bindings.{value_of}
 use Rattle.fun_flow_places.specs.Naming.{AreRulesOf, module_names, name_of, place_named}
 use Rattle.fun_flow_places.specs.Tables.{IsTableOf, frame, label_of}
 use Rattle.fun_flow_places.proofs.TableLaws.{frame_value, map_both, module_at, name_of_is, outer_none}
-use Rattle.fun_flow_places.specs.declared.places.Rule.{Rule}
+use Rattle.fun_flow_places.specs.declared.places.FlowRule.{FlowRule}
 use Rattle.fun_flow_rules.specs.declared.walk.RuleWalk.{RuleWalk}
 use Rattle.fun_flow_rules.specs.steps.Walking.{Adds, Going, Makes, Part, Sees, WalksModule, no_rules, opened_rules, place_in, with_rules}
 use Rattle.fun_flow_rules.proofs.Steps.{adds_none, adds_then, going_ends, going_on, makes_as, makes_none, makes_then}
@@ -106,7 +106,7 @@ pub record Passing (U : Program) (now : RuleWalk) (left : Program) : Type 0 wher
   pub table : IsTableOf U now.table
   pub variables : now.variables ≡ []
   pub functions : now.functions ≡ []
-  pub then : (rs : List Rule) → Adds U now.rules rs (rules_of_modules U left) → Adds U [] rs (rules_of_modules U U)
+  pub then : (rs : List FlowRule) → Adds U now.rules rs (rules_of_modules U left) → Adds U [] rs (rules_of_modules U U)
 
 pub passing_begins : (U : Program) (w : RuleWalk) → IsTableOf U w.table → w.variables ≡ [] → w.functions ≡ [] → w.rules ≡ [] → Passing U w U
 passing_begins U w table variables functions none = record { table = table; variables = variables; functions = functions; then = λ rs h. subst (λ l. Adds U l rs (rules_of_modules U U)) none h }
@@ -145,5 +145,5 @@ module _ {S : Type 0} (sf : S → Checked) (mods : List S) where
       (module_at program_of i (f x) apart at)
       (subst (WalksModule now new i) same step) (subst (Passing program_of now) (ap (map f) (drop_more mods i x within ∙ ap (λ z. z ∷ drop (i + 1) mods) (sym is))) before)
 
-  pub passing_all : (w : RuleWalk) (i : ℕ) (rules : List Rule) → length mods ≤ i → rules ≡ w.rules → Passing program_of w (map (λ s. tree_of (sf s)) (drop i mods)) → AreRulesOf program_of rules
+  pub passing_all : (w : RuleWalk) (i : ℕ) (rules : List FlowRule) → length mods ≤ i → rules ≡ w.rules → Passing program_of w (map (λ s. tree_of (sf s)) (drop i mods)) → AreRulesOf program_of rules
   passing_all w i rules past is h = subst (AreRulesOf program_of) (sym is) (passing_ends program_of w (subst (Passing program_of w) (ap (map (λ s. tree_of (sf s))) (drop_of_length-le mods past)) h))

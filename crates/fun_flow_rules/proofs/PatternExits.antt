@@ -14,14 +14,14 @@ use Rattle.core_ast.specs.Model as m
 use Rattle.core_ast.specs.Tree.{all_pat_pairs, all_pat_segments, all_patterns, pattern_tree}
 use Rattle.core_ast.proofs.Forms.{alias_pattern, binary_of_pattern, binds_pattern, equals_pattern, list_of_pattern, map_of_pattern, tuple_of_pattern}
 use Rattle.fun_flow_places.specs.Naming.{place_named}
-use Rattle.fun_flow_places.specs.declared.places.Place.{Place}
+use Rattle.fun_flow_places.specs.declared.places.FlowPlace.{FlowPlace}
 use Rattle.fun_flow_rules.specs.declared.walk.RuleWalk.{RuleWalk}
 use Rattle.fun_flow_rules.specs.steps.Walking.{Binds, PatternBinds, no_rules}
 use Rattle.fun_flow_rules.proofs.Steps.{binds_none, binds_then}
 use Rattle.fun_flow_sets.specs.Rules.{rules_of_pat_pairs, rules_of_pat_segments, rules_of_pattern, rules_of_patterns}
 use Rattle.fun_flow_sets.specs.Scopes.{with_pat_pairs, with_pat_segments, with_pattern, with_patterns, with_place}
 
-module _ (w0 : RuleWalk) (e : Pattern) (q : Place) where
+module _ (w0 : RuleWalk) (e : Pattern) (q : FlowPlace) where
   pub equals_exit : (x : Literal) → e.form ≡ p.Lit x → PatternBinds w0 w0 q (pattern_tree e)
   equals_exit x is = subst (PatternBinds w0 w0 q) (sym (equals_pattern e x is)) (binds_none w0)
 

@@ -5,8 +5,8 @@ use Rattle.std.proofs.lemmas.List.{append_assoc, append-nil, map-append}
 use Rattle.type_kinds.specs.declared.atom.Atom.{Atom}
 use Rattle.core_meaning.specs.Programs.{Program}
 use Rattle.fun_flow_places.specs.Naming.{rule_named}
-use Rattle.fun_flow_places.specs.declared.places.Place.{Place}
-use Rattle.fun_flow_places.specs.declared.places.Rule.{Rule}
+use Rattle.fun_flow_places.specs.declared.places.FlowPlace.{FlowPlace}
+use Rattle.fun_flow_places.specs.declared.places.FlowRule.{FlowRule}
 use Rattle.fun_flow_rules.specs.declared.walk.RuleWalk.{RuleWalk}
 use Rattle.fun_flow_rules.specs.steps.Walking.{Adds, Binding, Binds, Entering, Gives, GivesOne, Going, Makes, Part, PlacesOf, Sees, no_rules, with_rules, with_variables}
 use Rattle.fun_flow_sets.specs.Items as s
@@ -21,23 +21,23 @@ among_either [] ys r h = inr h
 among_either (x ∷ xs) ys r (inl e) = inl (inl e)
 among_either (x ∷ xs) ys r (inr h) = elim (among_either xs ys r h) [ inl k ↦ inl (inr k) | inr k ↦ inr k ]
 
-pub adds_none : (U : Program) (rs : List Rule) → Adds U rs rs []
+pub adds_none : (U : Program) (rs : List FlowRule) → Adds U rs rs []
 adds_none U rs r = (λ h. inl h, λ h. elim h [ inl k ↦ k | inr k ↦ absurd k ])
 
-pub adds_one : (U : Program) (old : List Rule) (r : Rule) → Adds U old (old ++ r ∷ []) (rule_named U r ∷ [])
+pub adds_one : (U : Program) (old : List FlowRule) (r : FlowRule) → Adds U old (old ++ r ∷ []) (rule_named U r ∷ [])
 adds_one U old r q =
     let e : map (rule_named U) (old ++ r ∷ []) ≡ map (rule_named U) old ++ rule_named U r ∷ [] = map-append (rule_named U) old (r ∷ []) in (
       λ h. among_either (map (rule_named U) old) (rule_named U r ∷ []) q (subst (λ l. IsAmong l q) e h),
       λ h. subst (λ l. IsAmong l q) (sym e) (elim h [ inl k ↦ among_left (map (rule_named U) old) (rule_named U r ∷ []) q k | inr k ↦ among_right (map (rule_named U) old) (rule_named U r ∷ []) q k ]),
     )
 
-pub adds_then : (U : Program) (a b c : List Rule) (xs ys : List s.Rule) → Adds U a b xs → Adds U b c ys → Adds U a c (xs ++ ys)
+pub adds_then : (U : Program) (a b c : List FlowRule) (xs ys : List s.Rule) → Adds U a b xs → Adds U b c ys → Adds U a c (xs ++ ys)
 adds_then U a b c xs ys f g r = (
   λ h. elim ((g r).0 h) [ inl k ↦ (elim ((f r).0 k) [ inl j ↦ inl j | inr j ↦ inr (among_left xs ys r j) ]) | inr k ↦ inr (among_right xs ys r k) ],
   λ h. elim h [ inl k ↦ (g r).1 (inl ((f r).1 (inl k))) | inr k ↦ (elim (among_either xs ys r k) [ inl j ↦ (g r).1 (inl ((f r).1 (inr j))) | inr j ↦ (g r).1 (inr j) ]) ],
 )
 
-pub adds_before : (U : Program) (a b c : List Rule) (xs ys : List s.Rule) → Adds U a b xs → Adds U b c ys → Adds U a c (ys ++ xs)
+pub adds_before : (U : Program) (a b c : List FlowRule) (xs ys : List s.Rule) → Adds U a b xs → Adds U b c ys → Adds U a c (ys ++ xs)
 adds_before U a b c xs ys f g r = (
   λ h. elim ((g r).0 h) [ inl k ↦ (elim ((f r).0 k) [ inl j ↦ inl j | inr j ↦ inr (among_right ys xs r j) ]) | inr k ↦ inr (among_left ys xs r k) ],
   λ h. elim h [ inl k ↦ (g r).1 (inl ((f r).1 (inl k))) | inr k ↦ (elim (among_either ys xs r k) [ inl j ↦ (g r).1 (inr j) | inr j ↦ (g r).1 (inl ((f r).1 (inr j))) ]) ],
@@ -45,7 +45,7 @@ adds_before U a b c xs ys f g r = (
 
 -- ---- what is seen
 
-sees_with : (U : Program) (home : Atom) (sc : Scope) (w : RuleWalk) (rs : List Rule) → Sees U home sc w → Sees U home sc (with_rules w rs)
+sees_with : (U : Program) (home : Atom) (sc : Scope) (w : RuleWalk) (rs : List FlowRule) → Sees U home sc w → Sees U home sc (with_rules w rs)
 sees_with U home sc w rs h = record { apart = h.apart; table = h.table; at_home = h.at_home; variables = h.variables; functions = h.functions }
 
 pub sees_on : (U : Program) (home : Atom) (sc : Scope) (old new : RuleWalk) → new ≡ with_rules old new.rules → Sees U home sc old → Sees U home sc new
@@ -59,7 +59,7 @@ sees_back U home sc old new e h = sees_with U home sc (with_rules old new.rules)
 pub makes_none : (w : RuleWalk) → Makes w w no_rules
 makes_none w = record { rest = refl; adds = λ U home sc h. adds_none U w.rules }
 
-pub makes_one : (old new : RuleWalk) (r : Rule) (to : Program → Atom → Scope → s.Rule) → new ≡ with_rules old (old.rules ++ r ∷ []) → ((U : Program) (home : Atom) (sc : Scope) → Sees U home sc old → rule_named U r ≡ to U home sc)
+pub makes_one : (old new : RuleWalk) (r : FlowRule) (to : Program → Atom → Scope → s.Rule) → new ≡ with_rules old (old.rules ++ r ∷ []) → ((U : Program) (home : Atom) (sc : Scope) → Sees U home sc old → rule_named U r ≡ to U home sc)
     → Makes old new (λ U home sc. to U home sc ∷ [])
 makes_one old new r to e f =
     let rules_are : new.rules ≡ old.rules ++ r ∷ [] = ap (λ w. w.rules) e in
@@ -81,10 +81,10 @@ pub makes_before : (a b c : RuleWalk) (f g : Part) → Makes a b f → Makes b c
 makes_before a b c f g x y = record { rest = rest_then a b c x.rest y.rest; adds = λ U home sc h. adds_before U a.rules b.rules c.rules (f U home sc) (g U home sc) (x.adds U home sc h) (y.adds U home sc (sees_on U home sc a b x.rest h)) }
 
 -- places that were given before are still those
-pub gives_on : (old new : RuleWalk) (ps : List Place) (f : PlacesOf) → new ≡ with_rules old new.rules → Gives old ps f → Gives new ps f
+pub gives_on : (old new : RuleWalk) (ps : List FlowPlace) (f : PlacesOf) → new ≡ with_rules old new.rules → Gives old ps f → Gives new ps f
 gives_on old new ps f e g U home sc h = g U home sc (sees_back U home sc old new e h)
 
-pub gives_one_on : (old new : RuleWalk) (p : Place) (f : Program → Atom → Scope → s.Place) → new ≡ with_rules old new.rules → GivesOne old p f → GivesOne new p f
+pub gives_one_on : (old new : RuleWalk) (p : FlowPlace) (f : Program → Atom → Scope → s.Place) → new ≡ with_rules old new.rules → GivesOne old p f → GivesOne new p f
 gives_one_on old new p f e g U home sc h = g U home sc (sees_back U home sc old new e h)
 
 -- ---- steps that bind variables

@@ -15,7 +15,7 @@ use crate::expressions::{walk_all, walk_one};
 use crate::walk::RuleWalk;
 use core_ast::{Expr, FunName, Mark};
 use core_scope::is_text;
-use fun_flow_places::{Place, Resolved};
+use fun_flow_places::{FlowPlace, FoundFunction};
 use type_kinds::{Atom, List, Memory};
 
 /// An application.
@@ -25,7 +25,7 @@ pub fn walk_apply(
     mark: Mark,
     operator: &Expr,
     args: &[Expr],
-) -> Result<List<Place>, Memory>
+) -> Result<List<FlowPlace>, Memory>
     ensures { Walks walk.old walk.new one_value (m.apply mark (tree operator.now) (all_trees args.now)) result }
 {
     match operator.local_name() {
@@ -40,19 +40,19 @@ fn walk_apply_name(
     walk: &mut RuleWalk,
     name: &FunName,
     args: &[Expr],
-) -> Result<List<Place>, Memory>
+) -> Result<List<FlowPlace>, Memory>
     ensures { (i j : Mark) → Walks walk.old walk.new one_value (m.apply i (m.local j name.now) (all_trees args.now)) result }
 {
     let places = walk_all(walk, args)?;
     if name.arity as usize != args.len() {
-        return walk.one(Place::Nowhere);
+        return walk.one(FlowPlace::Nowhere);
     }
     match walk.functions.get(name) {
         Some(label) => {
             walk.flow_to_parameters(label, places.as_slice())?;
-            walk.one(Place::Returned(walk.home, label))
+            walk.one(FlowPlace::Returned(walk.home, label))
         }
-        None => walk.one(Place::Nowhere),
+        None => walk.one(FlowPlace::Nowhere),
     }
 }
 
@@ -63,7 +63,7 @@ fn walk_apply_value(
     mark: Mark,
     operator: &Expr,
     args: &[Expr],
-) -> Result<List<Place>, Memory>
+) -> Result<List<FlowPlace>, Memory>
     requires { local_name (tree operator.now) ≡ None }
     ensures { Walks walk.old walk.new one_value (m.apply mark (tree operator.now) (all_trees args.now)) result }
 {
@@ -81,7 +81,7 @@ pub fn walk_call(
     home: &Expr,
     name: &Expr,
     args: &[Expr],
-) -> Result<List<Place>, Memory>
+) -> Result<List<FlowPlace>, Memory>
     ensures { Walks walk.old walk.new one_value (m.call mark (tree home.now) (tree name.now) (all_trees args.now)) result }
 {
     walk_one(walk, home)?;
@@ -99,15 +99,15 @@ fn walk_called(
     home: &Expr,
     name: &Expr,
     count: usize,
-    args: &[Place],
-) -> Result<Place, Memory>
+    args: &[FlowPlace],
+) -> Result<FlowPlace, Memory>
     ensures { IfOk result (λ place. Makes walk.old walk.new (λ U own sc. call_rules U own label (literal_atom (tree home.now)) (literal_atom (tree name.now)) count (map (place_named U) args.now)) × GivesOne walk.old place (λ U own sc. call_place U own label (literal_atom (tree home.now)) (literal_atom (tree name.now)) count)) }
 {
     let Some(home) = home.atom() else {
-        return Ok(Place::Anywhere);
+        return Ok(FlowPlace::Anywhere);
     };
     let Some(name) = name.atom() else {
-        return Ok(Place::Anywhere);
+        return Ok(FlowPlace::Anywhere);
     };
     let Ok(arity) = u32::try_from(count) else {
         return Err(Memory);
@@ -125,22 +125,22 @@ fn walk_found(
     label: u32,
     home: &Atom,
     name: &FunName,
-    args: &[Place],
-) -> Result<Place, Memory>
+    args: &[FlowPlace],
+) -> Result<FlowPlace, Memory>
     ensures { IfOk result (λ place. Makes walk.old walk.new (λ U own sc. found_rules own label (found U home.now name.now) name.now (map (place_named U) args.now)) × GivesOne walk.old place (λ U own sc. found_place U own label (found U home.now name.now) home.now name.now)) }
 {
     match walk.table.resolve(home, name) {
-        Resolved::BuiltIn => {
+        FoundFunction::BuiltIn => {
             if hands_on(name) {
                 let place = walk.part(label);
                 walk.flow_all(args, place)?;
                 return Ok(place);
             }
-            Ok(Place::Anywhere)
+            Ok(FlowPlace::Anywhere)
         }
-        Resolved::Exported(home, Some(label)) => Ok(Place::Returned(home, label)),
-        Resolved::Exported(_, None) => Ok(Place::Nowhere),
-        Resolved::Hidden | Resolved::Outside => Ok(Place::Anywhere),
+        FoundFunction::Exported(home, Some(label)) => Ok(FlowPlace::Returned(home, label)),
+        FoundFunction::Exported(_, None) => Ok(FlowPlace::Nowhere),
+        FoundFunction::Hidden | FoundFunction::Outside => Ok(FlowPlace::Anywhere),
     }
 }
 

@@ -13,7 +13,7 @@ use crate::patterns::walk_heads;
 use crate::walk::RuleWalk;
 use core_ast::{Clause, Expr, FunDef, Mark, Step, StepOf, TryParts, VarName};
 use core_scope::{Ask, width};
-use fun_flow_places::{Place, define_all};
+use fun_flow_places::{FlowPlace, define_all};
 use type_kinds::{List, Memory};
 
 /// A chain, whose variables end with it.
@@ -23,7 +23,7 @@ pub fn walk_chain(
     ask: Ask,
     steps: &[Step],
     last: &Expr,
-) -> Result<List<Place>, Memory>
+) -> Result<List<FlowPlace>, Memory>
     ensures { (i : Mark) → Walks walk.old walk.new ask (m.chain i (all_steps steps.now) (tree last.now)) result }
 {
     let around = walk.variables.len();
@@ -69,7 +69,7 @@ pub fn walk_case(
     ask: Ask,
     argument: &Expr,
     clauses: &[Clause],
-) -> Result<List<Place>, Memory>
+) -> Result<List<FlowPlace>, Memory>
     ensures { Walks walk.old walk.new ask (m.case mark (tree argument.now) (all_clauses clauses.now)) result }
 {
     let values = walk_expression(walk, Ask::Exactly(width(clauses)), argument)?;
@@ -84,7 +84,7 @@ pub fn walk_letrec(
     ask: Ask,
     defs: &[FunDef],
     body: &Expr,
-) -> Result<List<Place>, Memory>
+) -> Result<List<FlowPlace>, Memory>
     ensures { (i : Mark) → Walks walk.old walk.new ask (m.letrec i (all_defs defs.now) (tree body.now)) result }
 {
     let around = walk.functions.len();
@@ -126,7 +126,7 @@ fn walk_clauses(
     walk: &mut RuleWalk,
     label: u32,
     ask: Ask,
-    values: &[Place],
+    values: &[FlowPlace],
     clauses: &[Clause],
 ) -> Result<(), Memory>
     ensures { OnOk result (Makes walk.old walk.new (λ U home sc. rules_of_clauses U home sc ask label (map (place_named U) values.now) (all_clauses clauses.now))) }
@@ -143,7 +143,7 @@ fn walk_clause(
     walk: &mut RuleWalk,
     label: u32,
     ask: Ask,
-    values: &[Place],
+    values: &[FlowPlace],
     clause: &Clause,
 ) -> Result<(), Memory>
     ensures { OnOk result (Makes walk.old walk.new (λ U home sc. clause_rules U home sc ask label (map (place_named U) values.now) (clause_parts clause.now))) }
@@ -164,7 +164,7 @@ fn walk_under(
     label: u32,
     ask: Ask,
     vars: &[VarName],
-    places: &[Place],
+    places: &[FlowPlace],
     expr: &Expr,
 ) -> Result<(), Memory>
     ensures { OnOk result (Makes walk.old walk.new (λ U home sc. joined_rules U home (with_places vars.now (map (place_named U) places.now) sc) label ask (tree expr.now))) }
@@ -183,7 +183,7 @@ pub fn walk_try(
     mark: Mark,
     ask: Ask,
     parts: &TryParts,
-) -> Result<List<Place>, Memory>
+) -> Result<List<FlowPlace>, Memory>
     ensures { Walks walk.old walk.new ask (m.try mark (tree parts.now.arg) parts.now.vars (tree parts.now.body) parts.now.catch_vars (tree parts.now.handler)) result }
 {
     let vars = parts.vars.as_slice();
@@ -216,7 +216,7 @@ pub fn walk_receive(
     clauses: &[Clause],
     timeout: &Expr,
     action: &Expr,
-) -> Result<List<Place>, Memory>
+) -> Result<List<FlowPlace>, Memory>
     ensures { Walks walk.old walk.new ask (m.receive mark (all_clauses clauses.now) (tree timeout.now) (tree action.now)) result }
 {
     walk_clauses(walk, mark.label, ask, &[], clauses)?;

@@ -14,13 +14,17 @@ use crate::control::{walk_case, walk_chain, walk_letrec, walk_receive, walk_try}
 use crate::walk::{RuleWalk, first};
 use core_ast::{Expr, Form, Fun, FunName, MapPair, Mark, Segment, VarName};
 use core_scope::Ask;
-use fun_flow_places::{Item, Place};
+use fun_flow_places::{FlowPlace, Item};
 use type_kinds::{Atom, List, Memory};
 
 /// An expression that is asked for some values: makes its rules, and gives the places of its values.
 #[cycle(rules)]
 #[tactic(auto, using(crate::proofs::ExpressionExits::expression_exits))]
-pub fn walk_expression(walk: &mut RuleWalk, ask: Ask, expr: &Expr) -> Result<List<Place>, Memory>
+pub fn walk_expression(
+    walk: &mut RuleWalk,
+    ask: Ask,
+    expr: &Expr,
+) -> Result<List<FlowPlace>, Memory>
     ensures { Walks walk.old walk.new ask (tree expr.now) result }
 {
     let mark = expr.mark;
@@ -28,7 +32,7 @@ pub fn walk_expression(walk: &mut RuleWalk, ask: Ask, expr: &Expr) -> Result<Lis
         Form::Var(name) => walk_variable(walk, name),
         Form::Local(name) => walk_name(walk, mark, name),
         Form::External(home, name) => walk_external(walk, mark, home, name),
-        Form::Lit(_) => walk.one(Place::Nowhere),
+        Form::Lit(_) => walk.one(FlowPlace::Nowhere),
         Form::Fun(fun) => walk_fun(walk, mark, fun),
         Form::Listed(items, tail) => walk_listed(walk, mark, items.as_slice(), tail.get()),
         Form::Tuple(items) => walk_tuple(walk, mark, items.as_slice()),
@@ -63,7 +67,7 @@ pub fn walk_expression(walk: &mut RuleWalk, ask: Ask, expr: &Expr) -> Result<Lis
 
 /// An expression that is asked for one value, and the place of that.
 #[cycle(rules)]
-pub fn walk_one(walk: &mut RuleWalk, expr: &Expr) -> Result<Place, Memory>
+pub fn walk_one(walk: &mut RuleWalk, expr: &Expr) -> Result<FlowPlace, Memory>
     ensures { IfOk result (λ place. Makes walk.old walk.new (λ U home sc. rules U home sc one_value (tree expr.now)) × GivesOne walk.old place (λ U home sc. first (places U home sc one_value (tree expr.now)))) }
 {
     let places = walk_expression(walk, Ask::Exactly(1), expr)?;
@@ -72,7 +76,7 @@ pub fn walk_one(walk: &mut RuleWalk, expr: &Expr) -> Result<Place, Memory>
 
 /// Expressions that are asked for one value each, and the places of those.
 #[cycle(rules)]
-pub fn walk_all(walk: &mut RuleWalk, exprs: &[Expr]) -> Result<List<Place>, Memory>
+pub fn walk_all(walk: &mut RuleWalk, exprs: &[Expr]) -> Result<List<FlowPlace>, Memory>
     ensures { IfOk result (λ places. Makes walk.old walk.new (λ U home sc. rules_of_all U home sc (all_trees exprs.now)) × Gives walk.old places (λ U home sc. places_of_all U home sc (all_trees exprs.now))) }
 {
     let mut places = List::new(walk.alloc);
@@ -84,14 +88,14 @@ pub fn walk_all(walk: &mut RuleWalk, exprs: &[Expr]) -> Result<List<Place>, Memo
 }
 
 // A variable.
-fn walk_variable(walk: &mut RuleWalk, name: &Atom) -> Result<List<Place>, Memory>
+fn walk_variable(walk: &mut RuleWalk, name: &Atom) -> Result<List<FlowPlace>, Memory>
     ensures { (i : Mark) → Walks walk.old walk.new one_value (m.variable i name.now) result }
 {
     walk.one(walk.place_of(name))
 }
 
 // A name as a value.
-fn walk_name(walk: &mut RuleWalk, mark: Mark, name: &FunName) -> Result<List<Place>, Memory>
+fn walk_name(walk: &mut RuleWalk, mark: Mark, name: &FunName) -> Result<List<FlowPlace>, Memory>
     ensures { Walks walk.old walk.new one_value (m.local mark name.now) result }
 {
     let place = walk.part(mark.label);
@@ -110,7 +114,7 @@ fn walk_external(
     mark: Mark,
     home: &Atom,
     name: &FunName,
-) -> Result<List<Place>, Memory>
+) -> Result<List<FlowPlace>, Memory>
     ensures { Walks walk.old walk.new one_value (m.external mark home.now name.now) result }
 {
     let place = walk.part(mark.label);
@@ -133,14 +137,14 @@ pub fn walk_body(
     let around = walk.variables.len();
     walk.bind_parameters(label, params)?;
     let place = walk_one(walk, body)?;
-    walk.flow(place, Place::Returned(walk.home, label))?;
+    walk.flow(place, FlowPlace::Returned(walk.home, label))?;
     walk.variables.leave(around);
     Ok(())
 }
 
 // A fun.
 #[cycle(rules)]
-fn walk_fun(walk: &mut RuleWalk, mark: Mark, fun: &Fun) -> Result<List<Place>, Memory>
+fn walk_fun(walk: &mut RuleWalk, mark: Mark, fun: &Fun) -> Result<List<FlowPlace>, Memory>
     ensures { Walks walk.old walk.new one_value (m.function mark fun.now.params (tree fun.now.body)) result }
 {
     let place = walk.part(mark.label);
@@ -159,7 +163,7 @@ fn walk_listed(
     mark: Mark,
     items: &[Expr],
     tail: &Expr,
-) -> Result<List<Place>, Memory>
+) -> Result<List<FlowPlace>, Memory>
     ensures { Walks walk.old walk.new one_value (m.listed mark (all_trees items.now) (tree tail.now)) result }
 {
     let place = walk.part(mark.label);
@@ -172,7 +176,7 @@ fn walk_listed(
 
 // A tuple.
 #[cycle(rules)]
-fn walk_tuple(walk: &mut RuleWalk, mark: Mark, items: &[Expr]) -> Result<List<Place>, Memory>
+fn walk_tuple(walk: &mut RuleWalk, mark: Mark, items: &[Expr]) -> Result<List<FlowPlace>, Memory>
     ensures { Walks walk.old walk.new one_value (m.tuple mark (all_trees items.now)) result }
 {
     let place = walk.part(mark.label);
@@ -183,7 +187,7 @@ fn walk_tuple(walk: &mut RuleWalk, mark: Mark, items: &[Expr]) -> Result<List<Pl
 
 // The pairs of a map, and the places of the keys and the values.
 #[cycle(rules)]
-fn walk_pairs(walk: &mut RuleWalk, pairs: &[MapPair]) -> Result<List<Place>, Memory>
+fn walk_pairs(walk: &mut RuleWalk, pairs: &[MapPair]) -> Result<List<FlowPlace>, Memory>
     ensures { IfOk result (λ places. Makes walk.old walk.new (λ U home sc. rules_of_pairs U home sc (all_pairs pairs.now)) × Gives walk.old places (λ U home sc. places_of_pairs U home sc (all_pairs pairs.now))) }
 {
     let mut places = List::new(walk.alloc);
@@ -198,7 +202,11 @@ fn walk_pairs(walk: &mut RuleWalk, pairs: &[MapPair]) -> Result<List<Place>, Mem
 
 // A map of pairs alone.
 #[cycle(rules)]
-fn walk_new_map(walk: &mut RuleWalk, mark: Mark, pairs: &[MapPair]) -> Result<List<Place>, Memory>
+fn walk_new_map(
+    walk: &mut RuleWalk,
+    mark: Mark,
+    pairs: &[MapPair],
+) -> Result<List<FlowPlace>, Memory>
     ensures { Walks walk.old walk.new one_value (m.new_map mark (all_pairs pairs.now)) result }
 {
     let place = walk.part(mark.label);
@@ -214,7 +222,7 @@ fn walk_updated_map(
     mark: Mark,
     pairs: &[MapPair],
     map: &Expr,
-) -> Result<List<Place>, Memory>
+) -> Result<List<FlowPlace>, Memory>
     ensures { Walks walk.old walk.new one_value (m.updated_map mark (all_pairs pairs.now) (tree map.now)) result }
 {
     let place = walk.part(mark.label);
@@ -227,19 +235,19 @@ fn walk_updated_map(
 
 // A binary, which has no functions.
 #[cycle(rules)]
-fn walk_binary(walk: &mut RuleWalk, segments: &[Segment]) -> Result<List<Place>, Memory>
+fn walk_binary(walk: &mut RuleWalk, segments: &[Segment]) -> Result<List<FlowPlace>, Memory>
     ensures { (i : Mark) → Walks walk.old walk.new one_value (m.binary i (all_segments segments.now)) result }
 {
     for segment in segments {
         walk_one(walk, &segment.value)?;
         walk_all(walk, segment.args.as_slice())?;
     }
-    walk.one(Place::Nowhere)
+    walk.one(FlowPlace::Nowhere)
 }
 
 // A primop, of whose values nothing is known.
 #[cycle(rules)]
-fn walk_primop(walk: &mut RuleWalk, args: &[Expr]) -> Result<List<Place>, Memory>
+fn walk_primop(walk: &mut RuleWalk, args: &[Expr]) -> Result<List<FlowPlace>, Memory>
     ensures { (i : Mark) (x : Atom) → Walks walk.old walk.new one_value (m.primop i x (all_trees args.now)) result }
 {
     walk_all(walk, args)?;
@@ -248,9 +256,9 @@ fn walk_primop(walk: &mut RuleWalk, args: &[Expr]) -> Result<List<Place>, Memory
 
 // A `catch`, of whose value nothing is known.
 #[cycle(rules)]
-fn walk_catch(walk: &mut RuleWalk, inside: &Expr) -> Result<List<Place>, Memory>
+fn walk_catch(walk: &mut RuleWalk, inside: &Expr) -> Result<List<FlowPlace>, Memory>
     ensures { (i : Mark) → Walks walk.old walk.new one_value (m.catch i (tree inside.now)) result }
 {
     walk_one(walk, inside)?;
-    walk.one(Place::Anywhere)
+    walk.one(FlowPlace::Anywhere)
 }

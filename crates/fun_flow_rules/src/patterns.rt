@@ -10,13 +10,13 @@ ghost use Rattle.fun_flow_rules.specs.steps.Walking.{Binds, PatternBinds};
 use crate::expressions::{walk_all, walk_one};
 use crate::walk::{RuleWalk, place_at};
 use core_ast::{PatForm, PatPair, PatSegment, Pattern};
-use fun_flow_places::Place;
+use fun_flow_places::FlowPlace;
 use type_kinds::Memory;
 
 // A pattern of a value at a place.
 #[cycle(rules)]
 #[tactic(auto, using(crate::proofs::PatternExits::pattern_exits))]
-fn walk_pattern(walk: &mut RuleWalk, place: Place, pattern: &Pattern) -> Result<(), Memory>
+fn walk_pattern(walk: &mut RuleWalk, place: FlowPlace, pattern: &Pattern) -> Result<(), Memory>
     ensures { OnOk result (PatternBinds walk.old walk.new place (pattern_tree pattern.now)) }
 {
     match &pattern.form {
@@ -38,7 +38,7 @@ fn walk_pattern(walk: &mut RuleWalk, place: Place, pattern: &Pattern) -> Result<
 
 // Patterns of parts of one value.
 #[cycle(rules)]
-fn walk_patterns(walk: &mut RuleWalk, place: Place, patterns: &[Pattern]) -> Result<(), Memory>
+fn walk_patterns(walk: &mut RuleWalk, place: FlowPlace, patterns: &[Pattern]) -> Result<(), Memory>
     ensures { OnOk result (Binds walk.old walk.new (λ U home sc. rules_of_patterns U home sc (place_named U place) (all_patterns patterns.now)) (λ U home sc. with_patterns (place_named U place) (all_patterns patterns.now) sc)) }
 {
     for pattern in patterns {
@@ -49,7 +49,11 @@ fn walk_patterns(walk: &mut RuleWalk, place: Place, patterns: &[Pattern]) -> Res
 
 // The pairs of a map pattern.
 #[cycle(rules)]
-fn walk_pattern_pairs(walk: &mut RuleWalk, place: Place, pairs: &[PatPair]) -> Result<(), Memory>
+fn walk_pattern_pairs(
+    walk: &mut RuleWalk,
+    place: FlowPlace,
+    pairs: &[PatPair],
+) -> Result<(), Memory>
     ensures { OnOk result (Binds walk.old walk.new (λ U home sc. rules_of_pat_pairs U home sc (place_named U place) (all_pat_pairs pairs.now)) (λ U home sc. with_pat_pairs (place_named U place) (all_pat_pairs pairs.now) sc)) }
 {
     for pair in pairs {
@@ -65,7 +69,7 @@ fn walk_pattern_segments(walk: &mut RuleWalk, segments: &[PatSegment]) -> Result
     ensures { OnOk result (Binds walk.old walk.new (λ U home sc. rules_of_pat_segments U home sc (all_pat_segments segments.now)) (λ U home sc. with_pat_segments (all_pat_segments segments.now) sc)) }
 {
     for segment in segments {
-        walk_pattern(walk, Place::Anywhere, &segment.value)?;
+        walk_pattern(walk, FlowPlace::Anywhere, &segment.value)?;
         walk_all(walk, segment.args.as_slice())?;
     }
     Ok(())
@@ -73,7 +77,11 @@ fn walk_pattern_segments(walk: &mut RuleWalk, segments: &[PatSegment]) -> Result
 
 /// The patterns of a clause, of values at these places, one after another.
 #[cycle(rules)]
-pub fn walk_heads(walk: &mut RuleWalk, places: &[Place], patterns: &[Pattern]) -> Result<(), Memory>
+pub fn walk_heads(
+    walk: &mut RuleWalk,
+    places: &[FlowPlace],
+    patterns: &[Pattern],
+) -> Result<(), Memory>
     ensures { OnOk result (Binds walk.old walk.new (λ U home sc. rules_of_heads U home sc (map (place_named U) places.now) (all_patterns patterns.now)) (λ U home sc. with_heads (map (place_named U) places.now) (all_patterns patterns.now) sc)) }
 {
     for position in 0..patterns.len() {

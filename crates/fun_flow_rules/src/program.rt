@@ -12,13 +12,13 @@ use crate::expressions::walk_body;
 use crate::walk::RuleWalk;
 use core_ast::{FunDef, FunName, Module};
 use core_scope::AsChecked;
-use fun_flow_places::{Rule, define_module, module_table};
+use fun_flow_places::{FlowRule, define_module, module_table};
 use std::alloc::Global;
 use type_kinds::{List, Memory, Shared};
 
 /// The rules that the text of modules with distinct names makes: each of them, and no others. Their order isn't
 /// promised. `Memory` if allocation fails, or a call of literal names has 2^32 arguments or more.
-pub fn program_rules<S: AsChecked>(alloc: Global, mods: &[S]) -> Result<List<Rule>, Memory>
+pub fn program_rules<S: AsChecked>(alloc: Global, mods: &[S]) -> Result<List<FlowRule>, Memory>
     requires distinct { (j : ℕ) → j < length mods.now → StandsEarlier (map (λ s. (module_of (S.stands_for s)).name) mods.now) j → ⊥ }
     ensures { IfOk result (λ rules. AreRulesOf (map (λ s. tree_of (S.stands_for s)) mods.now) rules) }
 {

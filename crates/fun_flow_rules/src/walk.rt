@@ -2,15 +2,15 @@
 ghost use Rattle.std.specs.Prelude.{◌≡◌, [], ◌∷◌, ◌++◌, drop, map, IfOk, OnOk};
 ghost use Rattle.core_meaning.specs.Programs.{Program};
 ghost use Rattle.fun_flow_places.specs.Naming.{place_named};
-ghost use Rattle.fun_flow_places.specs.declared.places.Place.TheVariants as place;
-ghost use Rattle.fun_flow_places.specs.declared.places.Rule.TheVariants as rule;
+ghost use Rattle.fun_flow_places.specs.declared.places.FlowPlace.TheVariants as place;
+ghost use Rattle.fun_flow_places.specs.declared.places.FlowRule.TheVariants as rule;
 ghost use Rattle.fun_flow_sets.specs.Rules.{all_into, in_function, into_parameters, kept, opens, parts, passed_to};
 ghost use Rattle.fun_flow_sets.specs.Scopes.{first, with_place, with_places};
 ghost use Rattle.fun_flow_rules.specs.steps.Walking.{Binds, Gives, Makes, no_rules, place_in, with_rules};
 
 use core_ast::VarName;
 use core_scope::{Ask, is_text};
-use fun_flow_places::{Bindings, Functions, Item, ModuleTable, Place, Rule};
+use fun_flow_places::{Bindings, FlowPlace, FlowRule, FunctionLabels, Item, ModuleTable};
 use std::alloc::Global;
 use type_kinds::{Atom, List, Memory};
 
@@ -21,28 +21,28 @@ pub struct RuleWalk {
     pub alloc: Global,
     pub table: ModuleTable,
     pub home: usize,
-    pub variables: Bindings<Atom, Place>,
-    pub functions: Functions,
-    pub rules: List<Rule>,
+    pub variables: Bindings<Atom, FlowPlace>,
+    pub functions: FunctionLabels,
+    pub rules: List<FlowRule>,
 }
 
 /// The first of places; where there is none, any value may stand.
-pub fn first(places: &[Place]) -> Place
+pub fn first(places: &[FlowPlace]) -> FlowPlace
     ensures { (U : Program) → place_named U result ≡ first (map (place_named U) places.now) }
 {
     match places.first() {
         Some(place) => *place,
-        None => Place::Anywhere,
+        None => FlowPlace::Anywhere,
     }
 }
 
 /// The place at a position; where there is none, any value may stand.
-pub fn place_at(places: &[Place], position: usize) -> Place
+pub fn place_at(places: &[FlowPlace], position: usize) -> FlowPlace
     ensures { (U : Program) → place_named U result ≡ first (map (place_named U) (drop position places.now)) }
 {
     match places.get(position) {
         Some(place) => *place,
-        None => Place::Anywhere,
+        None => FlowPlace::Anywhere,
     }
 }
 
@@ -75,7 +75,7 @@ impl RuleWalk {
     }
 
     /// Takes the rules out.
-    pub fn take_rules(&mut self) -> List<Rule>
+    pub fn take_rules(&mut self) -> List<FlowRule>
         ensures rules { result ≡ self.old.rules }
         ensures rest { self.new ≡ with_rules self.old [] }
     {
@@ -83,25 +83,25 @@ impl RuleWalk {
     }
 
     /// The place of the expression at a label.
-    pub fn part(&self, label: u32) -> Place
+    pub fn part(&self, label: u32) -> FlowPlace
         ensures { result ≡ place.Part self.now.home label 0 }
     {
-        Place::Part(self.home, label, 0)
+        FlowPlace::Part(self.home, label, 0)
     }
 
     /// The places of the values of the expression at a label.
-    pub fn parts(&self, label: u32, ask: Ask) -> Result<List<Place>, Memory>
+    pub fn parts(&self, label: u32, ask: Ask) -> Result<List<FlowPlace>, Memory>
         ensures { IfOk result (λ places. Gives self.now places (λ U home sc. parts home label 0 (kept ask))) }
     {
         let mut places = List::new(self.alloc);
         for number in 0..kept(ask) {
-            places.add(Place::Part(self.home, label, number))?;
+            places.add(FlowPlace::Part(self.home, label, number))?;
         }
         Ok(places)
     }
 
     /// One place.
-    pub fn one(&self, place: Place) -> Result<List<Place>, Memory>
+    pub fn one(&self, place: FlowPlace) -> Result<List<FlowPlace>, Memory>
         ensures { IfOk result (λ places. places ≡ place ∷ []) }
     {
         let mut places = List::new(self.alloc);
@@ -110,41 +110,41 @@ impl RuleWalk {
     }
 
     /// Where the values of a variable are.
-    pub fn place_of(&self, name: &Atom) -> Place
+    pub fn place_of(&self, name: &Atom) -> FlowPlace
         ensures { result ≡ place_in self.now.variables name.now }
     {
         match self.variables.get(name) {
             Some(place) => place,
-            None => Place::Nowhere,
+            None => FlowPlace::Nowhere,
         }
     }
 
     // ---- rules
 
     /// The place holds the item.
-    pub fn hold(&mut self, place: Place, item: Item) -> Result<(), Memory>
+    pub fn hold(&mut self, place: FlowPlace, item: Item) -> Result<(), Memory>
         ensures { OnOk result (self.new ≡ with_rules self.old (self.old.rules ++ rule.Holds place item ∷ [])) }
     {
-        self.rules.add(Rule::Holds(place, item))
+        self.rules.add(FlowRule::Holds(place, item))
     }
 
     /// What the first place holds the second one holds.
-    pub fn flow(&mut self, from: Place, to: Place) -> Result<(), Memory>
+    pub fn flow(&mut self, from: FlowPlace, to: FlowPlace) -> Result<(), Memory>
         ensures { OnOk result (self.new ≡ with_rules self.old (self.old.rules ++ rule.Flows from to ∷ [])) }
     {
-        self.rules.add(Rule::Flows(from, to))
+        self.rules.add(FlowRule::Flows(from, to))
     }
 
     /// What stands at the place is applied to so many arguments, by the application at a label.
-    pub fn apply(&mut self, operator: Place, count: usize, label: u32) -> Result<(), Memory>
+    pub fn apply(&mut self, operator: FlowPlace, count: usize, label: u32) -> Result<(), Memory>
         ensures { OnOk result (self.new ≡ with_rules self.old (self.old.rules ++ rule.Applies operator count self.old.home label ∷ [])) }
     {
         self.rules
-            .add(Rule::Applies(operator, count, self.home, label))
+            .add(FlowRule::Applies(operator, count, self.home, label))
     }
 
     /// What each of the places holds the last one holds.
-    pub fn flow_all(&mut self, from: &[Place], to: Place) -> Result<(), Memory>
+    pub fn flow_all(&mut self, from: &[FlowPlace], to: FlowPlace) -> Result<(), Memory>
         ensures { OnOk result (Makes self.old self.new (λ U home sc. all_into (map (place_named U) from.now) (place_named U to))) }
     {
         for place in from {
@@ -154,23 +154,23 @@ impl RuleWalk {
     }
 
     /// Each flows to the parameter of its number of the function at a label.
-    pub fn flow_to_parameters(&mut self, label: u32, from: &[Place]) -> Result<(), Memory>
+    pub fn flow_to_parameters(&mut self, label: u32, from: &[FlowPlace]) -> Result<(), Memory>
         ensures { OnOk result (Makes self.old self.new (λ U home sc. into_parameters home label 0 (map (place_named U) from.now))) }
     {
         for number in 0..from.len() {
-            self.flow(from[number], Place::Parameter(self.home, label, number))?;
+            self.flow(from[number], FlowPlace::Parameter(self.home, label, number))?;
         }
         Ok(())
     }
 
     /// Each flows to the value of its number of the form at a label, of which some are asked.
-    pub fn pass_on(&mut self, label: u32, ask: Ask, from: &[Place]) -> Result<(), Memory>
+    pub fn pass_on(&mut self, label: u32, ask: Ask, from: &[FlowPlace]) -> Result<(), Memory>
         ensures { OnOk result (Makes self.old self.new (λ U home sc. passed_to U home label ask (map (place_named U) from.now))) }
     {
         for number in 0..kept(ask) {
             self.flow(
                 place_at(from, number),
-                Place::Part(self.home, label, number),
+                FlowPlace::Part(self.home, label, number),
             )?;
         }
         Ok(())
@@ -181,7 +181,10 @@ impl RuleWalk {
         ensures { OnOk result (Makes self.old self.new (λ U home sc. opens home label 0 count)) }
     {
         for number in 0..count {
-            self.hold(Place::Parameter(self.home, label, number), Item::Anything)?;
+            self.hold(
+                FlowPlace::Parameter(self.home, label, number),
+                Item::Anything,
+            )?;
         }
         Ok(())
     }
@@ -189,7 +192,7 @@ impl RuleWalk {
     // ---- what is seen
 
     /// The variable stands for the values at a place. `_` binds nothing.
-    pub fn bind(&mut self, name: &Atom, place: Place) -> Result<(), Memory>
+    pub fn bind(&mut self, name: &Atom, place: FlowPlace) -> Result<(), Memory>
         ensures { OnOk result (Binds self.old self.new no_rules (λ U home sc. with_place name.now (place_named U place) sc)) }
     {
         if is_text(name, b"_") {
@@ -199,7 +202,7 @@ impl RuleWalk {
     }
 
     /// The variables stand for the values at these places, one after another.
-    pub fn bind_all(&mut self, vars: &[VarName], places: &[Place]) -> Result<(), Memory>
+    pub fn bind_all(&mut self, vars: &[VarName], places: &[FlowPlace]) -> Result<(), Memory>
         ensures { OnOk result (Binds self.old self.new no_rules (λ U home sc. with_places vars.now (map (place_named U) places.now) sc)) }
     {
         for position in 0..vars.len() {
@@ -213,7 +216,7 @@ impl RuleWalk {
         ensures { OnOk result (Binds self.old self.new no_rules (λ U home sc. in_function U home label vars.now sc)) }
     {
         for number in 0..vars.len() {
-            let place = Place::Parameter(self.home, label, number);
+            let place = FlowPlace::Parameter(self.home, label, number);
             self.bind(&vars[number].name, place)?;
         }
         Ok(())

@@ -9,7 +9,7 @@ use Rattle.core_ast.proofs.Items.{how_many-length}
 use Rattle.core_ast.specs.Tree.{all_clauses, all_defs, all_pairs, all_segments, all_steps, all_trees, tree}
 use Rattle.core_scope.specs.Asks.{one_value}
 use Rattle.fun_flow_places.specs.Naming.{place_named}
-use Rattle.fun_flow_places.specs.declared.places.Place.TheVariants as p
+use Rattle.fun_flow_places.specs.declared.places.FlowPlace.TheVariants as p
 use Rattle.fun_flow_rules.specs.steps.Walking.{Walks, with_variables}
 use Rattle.fun_flow_rules.proofs.Calls.{call_makes, named_makes, named_place, undefined_makes, undefined_place, value_makes, value_place, wrong_makes, wrong_place}
 use Rattle.fun_flow_rules.proofs.ControlForms.{case_makes, chain_makes, clause_told, clauses_end, clauses_round, definition_told, definitions_end, definitions_round, do_told, gives_inside}

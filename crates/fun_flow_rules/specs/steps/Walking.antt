@@ -13,20 +13,20 @@ use Rattle.core_meaning.specs.Programs.{Program, module_named}
 use Rattle.fun_flow_places.specs.Bindings.{value_of}
 use Rattle.fun_flow_places.specs.Naming.{module_names, name_of, place_named, rule_named}
 use Rattle.fun_flow_places.specs.Tables.{IsTableOf, label_of}
-use Rattle.fun_flow_places.specs.declared.places.Place.{Place}
-use Rattle.fun_flow_places.specs.declared.places.Place.TheVariants.{Nowhere}
-use Rattle.fun_flow_places.specs.declared.places.Rule.{Rule}
+use Rattle.fun_flow_places.specs.declared.places.FlowPlace.{FlowPlace}
+use Rattle.fun_flow_places.specs.declared.places.FlowPlace.TheVariants.{Nowhere}
+use Rattle.fun_flow_places.specs.declared.places.FlowRule.{FlowRule}
 use Rattle.fun_flow_rules.specs.declared.walk.RuleWalk.{RuleWalk}
 use Rattle.fun_flow_sets.specs.Items as s
 use Rattle.fun_flow_sets.specs.Rules.{IsAmong, in_function, module_rules, opens_definition, passed_to, places, rules, rules_of_heads, rules_of_pattern}
 use Rattle.fun_flow_sets.specs.Scopes.{Scope, definition_of, first, place_of, with_heads, with_pattern}
 
-abbrev pub or_nowhere : Option Place → Place
+abbrev pub or_nowhere : Option FlowPlace → FlowPlace
 or_nowhere None = Nowhere
 or_nowhere (Some p) = p
 
 -- where the values of a variable are
-abbrev pub place_in : List (Atom × Place) → Atom → Place
+abbrev pub place_in : List (Atom × FlowPlace) → Atom → FlowPlace
 place_in bs x = or_nowhere (value_of same_atom bs x)
 
 -- The walk stands in a module of the program, and in this scope.
@@ -40,7 +40,7 @@ pub record Sees (U : Program) (home : Atom) (sc : Scope) (w : RuleWalk) : Type 0
 -- ---- rules
 
 -- The second rules are the first and those of a text, in whatever order.
-abbrev pub Adds : Program → List Rule → List Rule → List s.Rule → Type 0
+abbrev pub Adds : Program → List FlowRule → List FlowRule → List s.Rule → Type 0
 Adds U old new rs = (r : s.Rule) → IsAmong (map (rule_named U) new) r ↔ (IsAmong (map (rule_named U) old) r ⊎ IsAmong rs r)
 
 -- the rules of a part of a text, and its places, by the scope in which it stands
@@ -56,10 +56,10 @@ Binding = Program → Atom → Scope → Scope
 abbrev pub no_rules : Part
 no_rules U home sc = []
 
-abbrev pub with_rules : RuleWalk → List Rule → RuleWalk
+abbrev pub with_rules : RuleWalk → List FlowRule → RuleWalk
 with_rules w rs = record w { rules = rs }
 
-abbrev pub with_variables : RuleWalk → List (Atom × Place) → RuleWalk
+abbrev pub with_variables : RuleWalk → List (Atom × FlowPlace) → RuleWalk
 with_variables w vs = record w { variables = vs }
 
 -- The walk made the rules of a part, and sees what it saw.
@@ -70,24 +70,24 @@ pub record Makes (old new : RuleWalk) (part : Part) : Type 0 where
 -- The walk made the rules of a part, and sees its variables inside of what it saw.
 pub record Binds (old new : RuleWalk) (part : Part) (bind : Binding) : Type 0 where
   pub rest : new ≡ record old { rules = new.rules; variables = new.variables }
-  pub inner : List (Atom × Place)
+  pub inner : List (Atom × FlowPlace)
   pub outer : new.variables ≡ old.variables ++ inner
   pub adds : (U : Program) (home : Atom) (sc : Scope) → Sees U home sc old → Adds U old.rules new.rules (part U home sc)
   pub sees : (U : Program) (home : Atom) (sc : Scope) → Sees U home sc old → Sees U home (bind U home sc) new
 
 -- So of a pattern of the values at a place.
-abbrev pub PatternBinds : RuleWalk → RuleWalk → Place → m.Pattern → Type 0
+abbrev pub PatternBinds : RuleWalk → RuleWalk → FlowPlace → m.Pattern → Type 0
 PatternBinds old new p t = Binds old new (λ U home sc. rules_of_pattern U home sc (place_named U p) t) (λ U home sc. with_pattern (place_named U p) t sc)
 
 -- These are the places of a part.
-abbrev pub Gives : RuleWalk → List Place → PlacesOf → Type 0
+abbrev pub Gives : RuleWalk → List FlowPlace → PlacesOf → Type 0
 Gives old ps f = (U : Program) (home : Atom) (sc : Scope) → Sees U home sc old → map (place_named U) ps ≡ f U home sc
 
-abbrev pub GivesOne : RuleWalk → Place → (Program → Atom → Scope → s.Place) → Type 0
+abbrev pub GivesOne : RuleWalk → FlowPlace → (Program → Atom → Scope → s.Place) → Type 0
 GivesOne old p f = (U : Program) (home : Atom) (sc : Scope) → Sees U home sc old → place_named U p ≡ f U home sc
 
 -- The walk made the rules of an expression, and gives its places.
-abbrev pub Walks : RuleWalk → RuleWalk → Ask → m.Tree → Result (List Place) Memory → Type 0
+abbrev pub Walks : RuleWalk → RuleWalk → Ask → m.Tree → Result (List FlowPlace) Memory → Type 0
 Walks old new k t answer = IfOk answer (λ ps. Makes old new (λ U home sc. rules U home sc k t) × Gives old ps (λ U home sc. places U home sc k t))
 
 -- ---- parts of forms
@@ -132,17 +132,17 @@ pub record WalksModule (old new : RuleWalk) (at : ℕ) (x : m.Module) : Type 0 w
 -- What is left to walk completes the whole.
 pub record Going (old now : RuleWalk) (left all : Part) : Type 0 where
   pub rest : now ≡ with_rules old now.rules
-  pub then : (U : Program) (home : Atom) (sc : Scope) → Sees U home sc old → (rs : List Rule) → Adds U now.rules rs (left U home sc) → Adds U old.rules rs (all U home sc)
+  pub then : (U : Program) (home : Atom) (sc : Scope) → Sees U home sc old → (rs : List FlowRule) → Adds U now.rules rs (left U home sc) → Adds U old.rules rs (all U home sc)
 
 pub record GoingIn (U : Program) (home : Atom) (sc : Scope) (old now : RuleWalk) (left all : Part) (bind whole : Binding) : Type 0 where
   pub scope : Scope
   pub sees : Sees U home scope now
   pub binds : bind U home scope ≡ whole U home sc
-  pub then : (rs : List Rule) → Adds U now.rules rs (left U home scope) → Adds U old.rules rs (all U home sc)
+  pub then : (rs : List FlowRule) → Adds U now.rules rs (left U home scope) → Adds U old.rules rs (all U home sc)
 
 -- The same where what was walked is seen by what is left.
 pub record Entering (old now : RuleWalk) (left all : Part) (bind whole : Binding) : Type 0 where
   pub rest : now ≡ record old { rules = now.rules; variables = now.variables }
-  pub inner : List (Atom × Place)
+  pub inner : List (Atom × FlowPlace)
   pub outer : now.variables ≡ old.variables ++ inner
   pub going : (U : Program) (home : Atom) (sc : Scope) → Sees U home sc old → GoingIn U home sc old now left all bind whole

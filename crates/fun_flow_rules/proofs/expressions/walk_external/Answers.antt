@@ -2,7 +2,7 @@ use Rattle.std.proofs.Common.{◌∙◌, ◌++◌, ◌∷◌, [], ap, refl}
 use Rattle.core_ast.specs.Model as m
 use Rattle.core_scope.specs.Asks.{one_value}
 use Rattle.fun_flow_places.specs.declared.places.Item.TheVariants.{External}
-use Rattle.fun_flow_places.specs.declared.places.Rule.TheVariants.{Holds}
+use Rattle.fun_flow_places.specs.declared.places.FlowRule.TheVariants.{Holds}
 use Rattle.fun_flow_rules.specs.steps.Walking.{with_rules}
 use Rattle.fun_flow_rules.proofs.Forms.{external_makes, one_exit, part_named}
 use Rattle.fun_flow_sets.specs.Items as s

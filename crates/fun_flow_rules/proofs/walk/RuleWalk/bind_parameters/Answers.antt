@@ -1,7 +1,7 @@
 use Rattle.std.proofs.Common.{arith, subst, sym}
 use Rattle.fun_flow_rules.proofs.Rounds.{function_begins, function_ends, function_round}
 use Rattle.fun_flow_places.specs.Naming.{place_named}
-use Rattle.fun_flow_places.specs.declared.places.Place.TheVariants.{Parameter}
+use Rattle.fun_flow_places.specs.declared.places.FlowPlace.TheVariants.{Parameter}
 use Rattle.fun_flow_rules.specs.steps.Walking.{Binds, no_rules}
 use Rattle.fun_flow_sets.specs.Scopes.{with_place}
 use Rattle.fun_flow_rules.proofs.walk.RuleWalk.bind_parameters.Goals as goal
