@@ -66,6 +66,22 @@ module _ (lexed_once : (place : Place) (bytes : List ℕ) (ts us : List Token) �
   never_both a (not_parsed h) = spelled_or_refused h a.scanned a.spelled
   never_both a (not_accepted h) = breaks_or_none h a
 
+  -- ---- tokens that spell a module
+
+  pub no_other : {most : ℕ} {bytes : List ℕ} {ts : List Token} {x y : m.Module} → Scanned most bytes ts → SpellsTo depth_limit ts x → IsSource most bytes y → y ≡ x
+  no_other {x = x} s h k = sym (k.spelled.alone x (subst (λ z. SpellsModule z x) (same_tokens s k.scanned) (depth_limit, h)))
+
+  pub no_fault : {most : ℕ} {bytes : List ℕ} {ts : List Token} {x : m.Module} {fault : SourceFault} → Scanned most bytes ts → SpellsTo depth_limit ts x → module_breaks x ≡ [] → IsAtFault most bytes fault → ⊥
+  no_fault s h sound (too_long k) = not_long k s
+  no_fault s h sound (not_scanned k) = scanned_or_not k s
+  no_fault {bytes = bytes} {x = x} s h sound (not_parsed k) =
+      named_parse k.named (module_is_no_fault k.tokens x (subst (λ z. SpellsTo depth_limit z x) (same_tokens s k.scanned) h) (past start bytes) k.cause k.refused)
+  no_fault {x = x} s h sound (not_accepted k) =
+      let same : x ≡ k.spelled = k.is.alone x (subst (λ z. SpellsModule z x) (same_tokens s k.scanned) (depth_limit, h)) in
+      nothing_in k.cause (module_breaks k.spelled) (ap module_breaks (sym same) ∙ sound) k.first.broken
+
+  -- ---- faults
+
   pub one_fault : {most : ℕ} {bytes : List ℕ} {f g : SourceFault} → IsAtFault most bytes f → IsAtFault most bytes g → f ≡ g
   one_fault (too_long h) (too_long k) = h.1 ∙ sym k.1
   one_fault (too_long h) (not_scanned k) = absurd (long_or_scanned h k)

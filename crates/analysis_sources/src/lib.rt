@@ -7,7 +7,7 @@ mod reading;
 mod refusals;
 mod source;
 
-pub use laws::{one_reading, one_reading_of_files};
+pub use laws::{one_reading, one_reading_of_files, spelled_module_is_read};
 pub use reading::{ReadFault, discard_sources, read_sources, sources_of};
 pub use refusals::{Device, MISSING, Refusal, RefusalName, SourceFault};
 pub use source::{LONGEST_SOURCE, MOST_BYTES, SourceError, accepted, room_after};

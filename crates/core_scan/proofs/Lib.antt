@@ -8,4 +8,5 @@ mod OnceLemmas
 mod ShapeLemmas
 mod PassLemmas
 mod TokenSorts
+pub mod Pieces
 mod AnswerLemmas

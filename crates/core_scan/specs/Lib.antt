@@ -4,4 +4,5 @@ pub mod Sorts
 pub mod Escapes
 pub mod Spells
 pub mod Lexed
+pub mod Pieces
 pub mod steps

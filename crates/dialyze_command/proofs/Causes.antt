@@ -32,7 +32,7 @@ use Rattle.dialyze_command.specs.declared.status.Status.{Status}
 use Rattle.dialyze_command.specs.declared.words.Command.{Command}
 use Rattle.dialyze_command.specs.Lines.{refused, duplicate, faulty_table}
 use Rattle.dialyze_command.specs.Lines.{too_long as too_long_fault}
-use Rattle.dialyze_command.specs.Making.{IsSummary, text_refused, names_one, counted, file_names, generated_files}
+use Rattle.dialyze_command.specs.Making.{IsSummary, file_names, generated_files}
 use Rattle.dialyze_command.specs.Words.{IsMake, IsNoCommand}
 use Rattle.dialyze_command.specs.Outcome.{Checks, ChecksTooMany, Names, NamesTable, Spells, IsBegun, empty, named, Begins, IsFaultOf, ReadsAll, HaveOwnNames, module_names, IsDuplicate, Analyses, SaysWhether, says_no, says_yes, Outcome, usage, many, no_table, bad_table, faulty, duplicate_module, long_table, passed, made, Intended, IsAnswer}
 use Rattle.dialyze_command.specs.Causes.{Reads, by_check, by_make, NamesMissing, as_table, as_file, NamesBadTable, NamesSource, NamesTwice, NamesModules, NamesLongTable, IsAnalysed, is_clean, is_warned, is_long, Step, holding, length, tokens, grammar, scopes, step_of}
@@ -199,22 +199,7 @@ refused_of_outcome {words} word fault (long_table command reports new at name a 
     (record { command = command; reports = reports; new = new; analyses = d; name = name; out = subst (λ w. Names words command.out w name) (one_word at word too_long_fault fault is) names; long = long })
 refused_of_outcome word fault (passed command reports new (says_no a b) c d f) e = let k = is_other word fault (sym a ∙ e) in absurd (omega (arith, k.2))
 refused_of_outcome word fault (passed command reports new (says_yes a b) c d f) e = let k = is_other word fault (sym a ∙ e) in absurd (omega (arith, k.2))
-refused_of_outcome {words} {held} {status} word fault (made count asks is c) e = by is
-  where
-    by : {output : List ℕ} → IsSummary count status output → RefusedAs words held word fault
-    by (text_refused at other a b h) =
-        let same = sym a ∙ e in
-        file_refused (record {
-          from = generated_files count;
-          start = 0;
-          files = file_names count;
-          reads = by_make count asks refl refl refl;
-          at = at;
-          place = omega (arith, one_word at word other fault same);
-          refused_so = subst (RefusedAt (Some (generated_files count)) (file_names count) at) (one_fault_of at word other fault same) h;
-        })
-    by (names_one first second a b h) = absurd ((is_other word fault (sym a ∙ e)).0 refl)
-    by (counted sources reports new a b d f i g) = let k = is_other word fault (sym a ∙ e) in absurd (omega (arith, k.2))
+refused_of_outcome word fault (made count asks is c) e = let k = is_other word fault (sym is.status_so ∙ e) in absurd (omega (arith, k.2))
 
 missing_not_faulty : {told : Option Files} {files : List (List ℕ)} {at : ℕ} → RefusedAt told files at missing → IsMissingAt told files at
 missing_not_faulty (not_held e h) = h
@@ -278,24 +263,7 @@ duplicate_of_outcome {held = held} word other (duplicate_module command files fi
 duplicate_of_outcome word other (long_table command reports new at name a b c d names long) e = let k : 25 ≡ 14 = ap mark (sym a ∙ e) in absurd (omega (arith, k))
 duplicate_of_outcome word other (passed command reports new (says_no a b) c d f) e = let k : 100 ≡ 14 = ap mark (sym a ∙ e) in absurd (omega (arith, k))
 duplicate_of_outcome word other (passed command reports new (says_yes a b) c d f) e = let k : 101 ≡ 14 = ap mark (sym a ∙ e) in absurd (omega (arith, k))
-duplicate_of_outcome {words} {held} {status} word other (made count asks is c) e = by is
-  where
-    by : {output : List ℕ} → IsSummary count status output → NamesTwice words held word other
-    by (text_refused at fault a b h) = absurd ((mark_of fault.name).1 (ap mark (sym a ∙ e)))
-    by (names_one first second a b h) =
-        let same = sym a ∙ e in
-        record {
-          from = generated_files count;
-          start = 0;
-          files = file_names count;
-          reads = by_make count asks refl refl refl;
-          first = first;
-          second = second;
-          place = let k : second ≡ word = ap word_by same in omega (arith, k);
-          other_place = let k : first ≡ other = ap other_by same in omega (arith, k);
-          duplicate_module = h;
-        }
-    by (counted sources reports new a b d f i g) = let k : 101 ≡ 14 = ap mark (sym a ∙ e) in absurd (omega (arith, k))
+duplicate_of_outcome word other (made count asks is c) e = let k : 101 ≡ 14 = ap mark (sym is.status_so ∙ e) in absurd (omega (arith, k))
 
 modules_of : {words : List (List ℕ)} {held : Files} {command : Command} {reports : List (List ℕ)} {new : Table} → Analyses words (Some held) command reports new → NamesModules words held
 modules_of {held = held} {command = command} h =
@@ -311,13 +279,8 @@ modules_of_outcome (faulty command files at file fault a b c d f g) h k = absurd
 modules_of_outcome (duplicate_module command files first second file other a b c d f g i) h k = absurd (omega (arith, h, ap mark a))
 modules_of_outcome (long_table command reports new at name a b c d names long) h k = absurd (omega (arith, h, ap mark a))
 modules_of_outcome (passed command reports new says c d f) h k = modules_of d
-modules_of_outcome {words} {held} {status} (made count asks is c) h k = by is
-  where
-    by : {output : List ℕ} → IsSummary count status output → NamesModules words held
-    by (text_refused at fault a b g) = absurd (omega (arith, h, ap mark a, (mark_of fault.name).0))
-    by (names_one first second a b g) = absurd (omega (arith, h, ap mark a))
-    by (counted sources reports new a b d f i g) =
-        record { from = generated_files count; start = 0; files = file_names count; reads = by_make count asks refl refl refl; sources = sources; read = d; names = f }
+modules_of_outcome (made count asks is c) h k =
+    record { from = generated_files count; start = 0; files = file_names count; reads = by_make count asks refl refl refl; sources = is.sources; read = is.read; names = is.names }
 
 analysed_modules : {words : List (List ℕ)} {held : Files} {status : Status} {output : List ℕ} {after : Option Files} → Outcome words (Some held) status output after → IsAnalysed words held status → NamesModules words held
 analysed_modules o (is_clean e) = modules_of_outcome o (omega (arith, ap mark e)) (omega (arith, ap mark e))
@@ -383,9 +346,7 @@ module _ (one_list : (held : Files) (files : List (List ℕ)) (xs ys : List Sour
 
   -- the same of a make, whose number is one
   make_level : {words : List (List ℕ)} {held : Files} {count : ℕ} {status : Status} {output : List ℕ} → IsSummary count status output → Level words held (generated_files count) 0 (file_names count) status
-  make_level (text_refused at fault a b h) = refused_level at fault (a ∙ ap (λ n. refused n fault) (from_zero at)) h
-  make_level (names_one first second a b h) = twice_level first second (a ∙ ap (λ n. duplicate n first) (from_zero second) ∙ ap (duplicate (0 + second)) (from_zero first)) h
-  make_level (counted sources reports new a b d f i g) = read_level sources d f (is_warned a)
+  make_level h = read_level h.sources h.read h.names (is_warned h.status_so)
 
   level : {words files : List (List ℕ)} {held from : Files} {start : ℕ} {status : Status} {output : List ℕ} {after : Option Files} → Outcome words (Some held) status output after
       → Reads words held from start files → Level words held from start files status

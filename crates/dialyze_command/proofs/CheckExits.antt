@@ -9,13 +9,12 @@ use Rattle.dialyze_command.specs.declared.status.Status.TheVariants.{Clean, Devi
 use Rattle.dialyze_command.specs.declared.words.Command.{Command}
 use Rattle.dialyze_command.specs.Lines.{too_long, too_many}
 use Rattle.analysis_sources.specs.Refusals.{missing}
-use Rattle.dialyze_command.specs.Making.{IsSummary, text_refused, names_one, counted, PutsFirst}
+use Rattle.dialyze_command.specs.Making.{IsSummary, PutsFirst}
 use Rattle.dialyze_command.specs.Words.{AsksForCheck, IsMake, IsNoCommand, IsNoMake}
-use Rattle.dialyze_command.proofs.MakeFiles.{refused_number, duplicate_number}
 use Rattle.dialyze_command.proofs.Numbers.{mark, mark_of, not_other, table_number}
 use Rattle.dialyze_command.proofs.Places.{start_late, plt_before, out_before}
 use Rattle.dialyze_command.proofs.WordExits.{one_check, one_command}
-use Rattle.dialyze_command.specs.Outcome.{Checks, ChecksTooMany, NamesTable, SaysWhether, says_no, says_yes, Outcome, usage, many, no_table, bad_table, faulty, duplicate_module, long_table, passed, made, IsUnread, of_table, of_file, IsUnreplaced, of_new_table, of_generated, Intended, answered, unread, unreplaced, Answers, FailsToRead, FailsToReplace, FailsToWrite, IsAnswer, IsPassed, IsPossible, StoresNothing, of_word, of_many, of_two, of_number, of_numbers}
+use Rattle.dialyze_command.specs.Outcome.{Checks, ChecksTooMany, NamesTable, SaysWhether, says_no, says_yes, Outcome, usage, many, no_table, bad_table, faulty, duplicate_module, long_table, passed, made, IsUnread, of_table, of_file, IsUnreplaced, of_new_table, of_generated, Intended, answered, unread, unreplaced, Answers, FailsToRead, FailsToReplace, FailsToWrite, IsAnswer, IsPassed, IsPossible, StoresNothing, of_word, of_many, of_two}
 use Rattle.dialyze_command.specs.Laws.{Passed}
 
 says_answer : {status : Status} {output : List ℕ} → SaysWhether status output → IsAnswer status
@@ -23,9 +22,7 @@ says_answer (says_no a b) = subst IsAnswer (sym a) tt
 says_answer (says_yes a b) = subst IsAnswer (sym a) tt
 
 summary_answer : {n : ℕ} {status : Status} {output : List ℕ} → IsSummary n status output → IsAnswer status
-summary_answer (text_refused at fault a b c) = subst IsAnswer (sym a) tt
-summary_answer (names_one first second a b c) = subst IsAnswer (sym a) tt
-summary_answer (counted sources reports new a b c d f g) = subst IsAnswer (sym a) tt
+summary_answer h = subst IsAnswer (sym h.status_so) tt
 
 -- every outcome is an answer
 answers : {words : List (List ℕ)} {told after : Option Files} {status : Status} {output : List ℕ} → Outcome words told status output after → IsAnswer status
@@ -97,12 +94,8 @@ few_files h k = let few = k.few in let e = ap length (one_check h.check k.check)
 
 -- a make is answered by no status of a table, of too many files or of no command
 pub summary_mark : {n : ℕ} {status : Status} {output : List ℕ} → IsSummary n status output → (mark status ≡ 24) ⊎ (102 ≤ mark status) → ⊥
-summary_mark (text_refused at fault a b c) (inl e) = (mark_of fault.name).2 (sym (ap mark a) ∙ e)
-summary_mark (text_refused at fault a b c) (inr e) = absurd (omega (arith, e, ap mark a, (mark_of fault.name).0))
-summary_mark (names_one first second a b c) (inl e) = absurd (omega (arith, e, ap mark a))
-summary_mark (names_one first second a b c) (inr e) = absurd (omega (arith, e, ap mark a))
-summary_mark (counted sources reports new a b c d f g) (inl e) = absurd (omega (arith, e, ap mark a))
-summary_mark (counted sources reports new a b c d f g) (inr e) = absurd (omega (arith, e, ap mark a))
+summary_mark h (inl e) = absurd (omega (arith, e, ap mark h.status_so))
+summary_mark h (inr e) = absurd (omega (arith, e, ap mark h.status_so))
 
 usage_to : {words : List (List ℕ)} {told after : Option Files} {status : Status} {output : List ℕ} → Outcome words told status output after → status ≡ Usage → IsNoCommand words
 usage_to (usage a b c d) e = d
@@ -206,11 +199,8 @@ says_possible words (says_yes a b) = subst (IsPossible words) (sym a) tt
 table_late : {words : List (List ℕ)} {word : ℕ} {name : List ℕ} → NamesTable words word name → 1 ≤ word
 table_late {word = word} h = (plt_before h.checks.check word h.plt.given).0
 
--- a generated file that is refused is one of those
-summary_possible : {words : List (List ℕ)} {count : ℕ} {status : Status} {output : List ℕ} → IsMake words count → IsSummary count status output → IsPossible words status
-summary_possible {words} {count} asks (text_refused at fault a b c) = subst (IsPossible words) (sym a) (of_number count at fault asks (refused_number count at fault c) refl)
-summary_possible {words} {count} asks (names_one first second a b c) = subst (IsPossible words) (sym a) (of_numbers count second first asks c.is.before (duplicate_number count first second c) refl)
-summary_possible {words} asks (counted sources reports new a b c d f g) = subst (IsPossible words) (sym a) tt
+summary_possible : (words : List (List ℕ)) {count : ℕ} {status : Status} {output : List ℕ} → IsSummary count status output → IsPossible words status
+summary_possible words h = subst (IsPossible words) (sym h.status_so) tt
 
 possible_outcome : {words : List (List ℕ)} {told after : Option Files} {status : Status} {output : List ℕ} → Outcome words told status output after → IsPossible words status
 possible_outcome {words} (usage a b c d) = subst (IsPossible words) (sym a) tt
@@ -222,7 +212,7 @@ possible_outcome {words} (duplicate_module command files first second file other
     subst (IsPossible words) (sym a) (of_two (command.start + second) (command.start + first) (omega (arith, start_late d.checks.check)) (omega (arith, h.is.before)) refl)
 possible_outcome {words} (long_table command reports new at name a b c d names long) = subst (IsPossible words) (sym a) (of_word at too_long (out_before d.begins.checks.check at names.given).0 refl)
 possible_outcome {words} (passed command reports new says c d f) = says_possible words says
-possible_outcome {words} (made count asks is c) = summary_possible asks is
+possible_outcome {words} (made count asks is c) = summary_possible words is
 
 unread_late : {words : List (List ℕ)} {told : Option Files} {word : ℕ} {name : List ℕ} → IsUnread words told word name → 1 ≤ word
 unread_late (of_table h) = table_late h
@@ -239,6 +229,24 @@ possible {words} (unreplaced word name a b d rose) = subst (IsPossible words) (s
 
 pub possible_it : (words : List (List ℕ)) (told after : Option Files) (rb rn n k : ℕ) (status : Status) (output : List ℕ) → Intended words told rb rn n k status output after → IsPossible words status
 possible_it words told after rb rn n k status output h = possible h
+
+-- ---- a make
+
+make_outcome : {words : List (List ℕ)} {told after : Option Files} {status : Status} {output : List ℕ} {count : ℕ} → Outcome words told status output after → IsMake words count → status ≡ Warnings
+make_outcome {count = count} (usage a b c d) asks = absurd (d (inr (count, asks)))
+make_outcome (many a b c d) asks = absurd (one_command d.check asks)
+make_outcome (no_table at name a b c names lacks) asks = absurd (one_command names.checks.check asks)
+make_outcome (bad_table at name bytes fault a b c names holds is) asks = absurd (one_command names.checks.check asks)
+make_outcome (faulty command files at file fault a b c d f g) asks = absurd (one_command d.checks.check asks)
+make_outcome (duplicate_module command files first second file other a b c d f g h) asks = absurd (one_command d.checks.check asks)
+make_outcome (long_table command reports new at name a b c d names long) asks = absurd (one_command d.begins.checks.check asks)
+make_outcome (passed command reports new says c d f) asks = absurd (one_command d.begins.checks.check asks)
+make_outcome (made count asks is c) also = is.status_so
+
+pub makes_it : (words : List (List ℕ)) (told after : Option Files) (rb rn n k : ℕ) (status : Status) (output : List ℕ) → Intended words told rb rn n k status output after → IsAnswer status → (count : ℕ) → IsMake words count → status ≡ Warnings
+makes_it words told after rb rn n k status output (answered o) a count asks = make_outcome o asks
+makes_it words told after rb rn n k status output (unread word name b c d f rose) a count asks = absurd (subst IsAnswer b a)
+makes_it words told after rb rn n k status output (unreplaced word name b c f rose) a count asks = absurd (subst IsAnswer b a)
 
 -- ---- what stays
 

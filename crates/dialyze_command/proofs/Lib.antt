@@ -9,6 +9,7 @@ mod SameCommand
 mod Places
 mod MakeExits
 mod MakeFiles
+mod GeneratedTexts
 mod PlanExits
 mod PrintedNumbers
 mod StoreExits

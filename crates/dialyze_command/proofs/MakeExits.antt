@@ -5,6 +5,7 @@ use Rattle.std.specs.List.{concat}
 use Rattle.std.proofs.lemmas.List.{length-map}
 use Rattle.type_kinds.specs.declared.memory.Memory.{Memory}
 use Rattle.call_graph.specs.Calls.{functions_of}
+use Rattle.core_ast.specs.Model as m
 use Rattle.core_make.specs.Modules.{module_text, generated}
 use Rattle.core_scope.specs.Checked.{module_of, tree_of}
 use Rattle.core_scope.specs.Sets.{StandsEarlier}
@@ -18,16 +19,14 @@ use Rattle.sound_laws_kept.specs.Solving.{IsWritten}
 use Rattle.sound_laws_kept.proofs.Names.{accepted_sources}
 use Rattle.analysis.specs.declared.analysing.Fault.TheVariants.{Set}
 use Rattle.analysis.specs.Reports.{IsSetFault}
-use Rattle.analysis_sources.specs.declared.refusals.SourceFault.{SourceFault}
 use Rattle.analysis_sources.specs.Reading.{AreHeld, AreRead, TextFails}
-use Rattle.analysis_sources.specs.declared.reading.ReadFault.TheVariants as read
-use Rattle.analysis_sources.specs.Refusals.{refusal_line}
+use Rattle.analysis_sources.specs.declared.reading.ReadFault.{ReadFault}
 use Rattle.dialyze_command.specs.declared.answer.Answer.{Answer}
 use Rattle.dialyze_command.specs.declared.status.Status.TheVariants.{Warnings}
-use Rattle.dialyze_command.specs.Lines.{refused, duplicate, duplicate_line}
-use Rattle.dialyze_command.specs.Making.{file_name, file_names, generated_files, with_first, line_count, summary_line, IsSummary, text_refused, names_one, counted, PutsFirst}
+use Rattle.dialyze_command.specs.Making.{file_name, file_names, generated_files, with_first, line_count, summary_line, IsSummary, PutsFirst}
 use Rattle.dialyze_command.specs.Outcome.{Intended, answered, unreplaced, made, of_generated}
 use Rattle.dialyze_command.specs.Words.{IsMake}
+use Rattle.dialyze_command.specs.ReadFiles.{HaveOwnNames}
 use Rattle.dialyze_command.specs.steps.Plans.{first_of, second_of}
 use Rattle.dialyze_command.specs.steps.Puts as p
 use Rattle.dialyze_command.proofs.MakeFiles.{generated_held, made_length}
@@ -54,7 +53,7 @@ put_fails n k early before now told mid after text answer h front is low u = (
 
 module _ (n : ℕ) (small : n < 2 ^ 64) (texts : List (List ℕ)) (is : texts ≡ generated n) (sources : List HandedIn)
     (read_so : (told : Option Files) (files : List (List ℕ)) → AreHeld told files texts → (after : ℕ) × AreRead told 0 files (sources_so sources) after) where
-  all_read : (after : ℕ) × AreRead (Some (generated_files n)) 0 (file_names n) (sources_so sources) after
+  pub all_read : (after : ℕ) × AreRead (Some (generated_files n)) 0 (file_names n) (sources_so sources) after
   all_read = read_so (Some (generated_files n)) (file_names n) (subst (AreHeld (Some (generated_files n)) (file_names n)) (sym is) (generated_held n small))
 
   many : length (sources_so sources) ≡ n
@@ -65,23 +64,23 @@ module _ (n : ℕ) (small : n < 2 ^ 64) (texts : List (List ℕ)) (is : texts �
 
   pub summed_it : (r : Result Answer Memory) → IfOk r (λ a. p.IsCounted (sources_so sources) a.status a.output) → IfOk r (λ a. IsSummary n a.status a.output)
   summed_it (Err e) h = tt
-  summed_it (Ok a) (p.same_names first second s o h) =
-      names_one first second s o (record { sources = sources_so sources; read = record { after = all_read.0; read = all_read.1 }; is = h })
-  summed_it (Ok a) (p.lines reports new s o own written) =
-      counted (sources_so sources) reports new s (o ∙ ap (λ k. summary_line k (length (functions_of (trees (sources_so sources)))) (line_count (concat reports))) many)
-      (record { after = all_read.0; read = all_read.1 }) own (accepted_sources sources) written
+  summed_it (Ok a) h =
+      record {
+        sources = sources_so sources;
+        reports = h.reports;
+        new = h.new;
+        status_so = h.status_so;
+        output_so = h.output_so ∙ ap (λ k. summary_line k (length (functions_of (trees (sources_so sources)))) (line_count (concat h.reports))) many;
+        read = record { after = all_read.0; read = all_read.1 };
+        names = h.names;
+        accepted = accepted_sources sources;
+        written = h.written;
+      }
 
-pub refused_it : (n number v : ℕ) (fault f : SourceFault) (texts : List (List ℕ)) (r : Result Answer Memory) → n < 2 ^ 64 → texts ≡ generated n
-    → ((told : Option Files) (files : List (List ℕ)) → AreHeld told files texts → TextFails told files (read.Refused number fault)) → v ≡ number → f ≡ fault
-    → IfOk r (λ a. a.status ≡ refused v f) → IfOk r (λ a. a.output ≡ refusal_line (file_name v) f) → IfOk r (λ a. IsSummary n a.status a.output)
-refused_it n number v fault f texts (Err e) small is fails at same s o = tt
-refused_it n number v fault f texts (Ok a) small is fails at same s o =
-    text_refused number fault (s ∙ ap₂ refused at same) (o ∙ ap₂ (λ k g. refusal_line (file_name k) g) at same)
-    (fails (Some (generated_files n)) (file_names n) (subst (AreHeld (Some (generated_files n)) (file_names n)) (sym is) (generated_held n small)))
-
-pub never_fails : (n word : ℕ) (texts : List (List ℕ)) → n < 2 ^ 64 → texts ≡ generated n
-    → ((told : Option Files) (files : List (List ℕ)) → AreHeld told files texts → TextFails told files (read.Failed word)) → ⊥
-never_fails n word texts small is fails =
+-- what a fault says of the texts, it says of their files
+pub fails_there : (n : ℕ) (fault : ReadFault) (texts : List (List ℕ)) → n < 2 ^ 64 → texts ≡ generated n
+    → ((told : Option Files) (files : List (List ℕ)) → AreHeld told files texts → TextFails told files fault) → TextFails (Some (generated_files n)) (file_names n) fault
+fails_there n fault texts small is fails =
     fails (Some (generated_files n)) (file_names n) (subst (AreHeld (Some (generated_files n)) (file_names n)) (sym is) (generated_held n small))
 
 -- ---- what the analysis says of the modules
@@ -96,15 +95,20 @@ pub counted_it : (sources : List HandedIn) (table new : Table) (reports : List (
     → IfOk r (λ a. p.IsCounted (sources_so sources) a.status a.output)
 counted_it sources table new reports modules functions (Err e) none is own written count s o = tt
 counted_it sources table new reports modules functions (Ok a) none is own written count s o =
-    p.lines reports (entries_so new) s
-    (o ∙ ap₂ (λ k f. summary_line k f (line_count (concat reports))) (is ∙ sym (length-map sources source_so)) (count ∙ ap (λ ts. length (functions_of ts)) (trees_same sources)))
-    (own_names sources own) (subst (λ T. IsWritten T (sources_so sources) reports (entries_so new)) (ap (map entry_so) none) written)
+    record {
+      reports = reports;
+      new = entries_so new;
+      status_so = s;
+      output_so = o ∙ ap₂ (λ k f. summary_line k f (line_count (concat reports))) (is ∙ sym (length-map sources source_so)) (count ∙ ap (λ ts. length (functions_of ts)) (trees_same sources));
+      names = own_names sources own;
+      written = subst (λ T. IsWritten T (sources_so sources) reports (entries_so new)) (ap (map entry_so) none) written;
+    }
 
-pub twins_it : (sources : List HandedIn) (fault : SetFault) (first second : ℕ) (r : Result Answer Memory) → IsSetFault (map (λ (s : HandedIn). (module_of s.checked).name) sources) (Set fault)
-    → first ≡ first_of fault → second ≡ second_of fault → IfOk r (λ a. a.status ≡ duplicate second first) → IfOk r (λ a. a.output ≡ duplicate_line (file_name second) (file_name first))
-    → IfOk r (λ a. p.IsCounted (sources_so sources) a.status a.output)
-twins_it sources fault first second (Err e) h f g s o = tt
-twins_it sources fault first second (Ok a) h f g s o = p.same_names first second s o (set_told sources fault first second h f g)
+-- no two have one name
+pub never_twins : (sources : List HandedIn) (fault : SetFault) → HaveOwnNames (trees (sources_so sources)) → IsSetFault (map (λ (s : HandedIn). (module_of s.checked).name) sources) (Set fault) → ⊥
+never_twins sources fault own h =
+    let told = set_told sources fault (first_of fault) (second_of fault) h refl refl in
+    own (second_of fault) (omega (arith, told.within, length-map (trees (sources_so sources)) (λ (x : m.Module). x.name))) (first_of fault, told.before, told.same)
 
 -- ---- all are put
 

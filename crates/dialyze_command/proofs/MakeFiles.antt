@@ -8,18 +8,17 @@ use Rattle.std.specs.List.{range_with_len}
 use Rattle.std.specs.Ordering.{eq_by_cmp, nat_cmp}
 use Rattle.std.proofs.lemmas.Bool.{cases_lt, false_from_ne_true}
 use Rattle.std.proofs.lemmas.Cmp.{nat_list_cmp_total}
-use Rattle.std.proofs.lemmas.List.{append_cancel_right, length-map}
+use Rattle.std.proofs.lemmas.List.{append_cancel_right}
 use Rattle.std.proofs.lemmas.List.FromFn.{length-map-range_with_len, get_or-map-range_with_len}
 use Rattle.std.proofs.lemmas.Option.{slice_get_within, slice_get-get_or}
 use Rattle.core_ast.specs.Model as m
 use Rattle.core_make.specs.Modules.{module_text, generated}
 use Rattle.da_shelf.specs.Told.{Files, replaced}
-use Rattle.table_keep.specs.Model.{Source, trees}
+use Rattle.table_keep.specs.Model.{Source}
 use Rattle.analysis_sources.proofs.FilesRead.{read_length}
-use Rattle.analysis_sources.specs.declared.refusals.SourceFault.{SourceFault}
-use Rattle.analysis_sources.specs.Reading.{AreHeld, IsMissingAt, RefusedAt, not_held, at_fault}
+use Rattle.analysis_sources.specs.Reading.{AreHeld, IsMissingAt}
 use Rattle.dialyze_command.specs.Making.{file_name, file_names, files_with, generated_files, with_first}
-use Rattle.dialyze_command.specs.ReadFiles.{IsDuplicate, ReadsAll}
+use Rattle.dialyze_command.specs.ReadFiles.{ReadsAll}
 use Rattle.dialyze_command.proofs.PrintedNumbers.{decimal_once}
 
 -- ---- names
@@ -28,7 +27,7 @@ abbrev behind : List ℕ → List ℕ
 behind [] = []
 behind (b ∷ bs) = bs
 
-file_name_once : (i j : ℕ) → i < 2 ^ 64 → j < 2 ^ 64 → file_name i ≡ file_name j → i ≡ j
+pub file_name_once : (i j : ℕ) → i < 2 ^ 64 → j < 2 ^ 64 → file_name i ≡ file_name j → i ≡ j
 file_name_once i j few also e = decimal_once i j few also (append_cancel_right (decimal i) (decimal j) (codes ".core") (ap behind e))
 
 same_name : (q : List ℕ) → eq_by_cmp (slice_cmp nat_cmp) q q ≡ true
@@ -39,7 +38,7 @@ other_name q k h = sym (texts_ties q k) ∙ false_from_ne_true (pointwise nat_eq
 
 -- ---- what is held
 
-held_file : (n k i : ℕ) → k < 2 ^ 64 → i < k → get (files_with n k empty) (file_name i) ≡ Some (module_text n i)
+pub held_file : (n k i : ℕ) → k < 2 ^ 64 → i < k → get (files_with n k empty) (file_name i) ≡ Some (module_text n i)
 held_file n zero i few h = absurd (omega (arith, h))
 held_file n (suc k) i few h = by (λ below. held_file n k i (omega (arith, few)) below) (cases_lt i k)
   where
@@ -76,26 +75,18 @@ file_at n at h =
     slice_get-get_or (file_names n) at [] (omega (arith, h, length-map-range_with_len file_name 0 n))
     ∙ ap Some (get_or-map-range_with_len file_name 0 n at at [] h (omega arith))
 
-number_within : (n at : ℕ) (file : List ℕ) → slice_get (file_names n) at ≡ Some file → at < n
+pub number_within : (n at : ℕ) (file : List ℕ) → slice_get (file_names n) at ≡ Some file → at < n
 number_within n at file there = omega (arith, slice_get_within (file_names n) at file there, length-map-range_with_len file_name 0 n)
-
-pub refused_number : (n at : ℕ) (fault : SourceFault) → RefusedAt (Some (generated_files n)) (file_names n) at fault → at < n
-refused_number n at fault (not_held e h) = number_within n at h.file h.reached.there
-refused_number n at fault (at_fault h) = number_within n at h.file h.reached.there
 
 -- as many sources as files
 pub made_length : (n : ℕ) (sources : List Source) → ReadsAll (Some (generated_files n)) (file_names n) sources → length sources ≡ n
 made_length n sources h =
     sym (read_length (Some (generated_files n)) 0 (file_names n) sources h.after h.read) ∙ length-map-range_with_len file_name 0 n
 
-pub duplicate_number : (n first second : ℕ) → IsDuplicate (Some (generated_files n)) (file_names n) first second → second < n
-duplicate_number n first second h =
-    omega (arith, h.is.within, length-map (trees h.sources) (λ (x : m.Module). x.name), length-map h.sources (λ (s : Source). s.tree), made_length n h.sources h.read)
-
 some_not_none : (x : List ℕ) (o : Option (List ℕ)) → o ≡ Some x → o ≡ None → ⊥
 some_not_none x o e f = let k = sym e ∙ f in absurd cc
 
-some_same : {x y : List ℕ} → Some x ≡ Some y → x ≡ y
+pub some_same : {x y : List ℕ} → Some x ≡ Some y → x ≡ y
 some_same e = cc
 
 -- each generated file is held

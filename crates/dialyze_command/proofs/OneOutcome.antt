@@ -23,7 +23,7 @@ use Rattle.dialyze_command.specs.declared.status.Status.{Status}
 use Rattle.dialyze_command.specs.declared.status.Status.TheVariants.{Usage}
 use Rattle.dialyze_command.specs.declared.words.Command.{Command}
 use Rattle.dialyze_command.specs.Lines.{usage_line, refused, too_long, too_many, too_many_line, duplicate, duplicate_line, faulty_table, table_fault_line}
-use Rattle.dialyze_command.specs.Making.{file_name, file_names, generated_files, with_first, line_count, summary_line, IsSummary, text_refused, names_one, counted}
+use Rattle.dialyze_command.specs.Making.{with_first, line_count, summary_line, IsSummary}
 use Rattle.dialyze_command.specs.OneOutcome.{BeginsFitly, OneOutcomeLaw}
 use Rattle.dialyze_command.specs.Outcome.{ChecksTooMany, Names, NamesTable, IsBegun, empty, named, Begins, IsFaultOf, ReadsAll, HaveOwnNames, module_names, IsDuplicate, Analyses, Stores, nowhere, under}
 use Rattle.dialyze_command.specs.Outcome.{SaysWhether, says_no, says_yes, Outcome, usage, many, no_table, bad_table, faulty, duplicate_module, long_table, passed, made}
@@ -127,23 +127,11 @@ module _ (one_list : (held : Files) (files : List (List ℕ)) (xs ys : List Sour
   nothing_used M h e u at = none_some at
 
   one_summary : {n : ℕ} {status other : Status} {output that : List ℕ} → IsSummary n status output → IsSummary n other that → (status ≡ other) × (output ≡ that)
-  one_summary {n} (text_refused at fault a b h) (text_refused at2 fault2 c d k) =
-      let same = one_refusal (generated_files n) (file_names n) at at2 fault fault2 h k in
-      (a ∙ ap₂ refused same.0 same.1 ∙ sym c, b ∙ ap₂ (λ i f. refusal_line (file_name i) f) same.0 same.1 ∙ sym d)
-  one_summary (text_refused at fault a b h) (names_one first second c d k) = absurd (refused_twice h k)
-  one_summary (text_refused at fault a b h) (counted sources reports new c d f g i k) = absurd (refused_read h f)
-  one_summary (names_one first second a b h) (text_refused at fault c d k) = absurd (refused_twice k h)
-  one_summary (names_one first second a b h) (names_one first2 second2 c d k) =
-      let same = one_duplicate h k in
-      (a ∙ ap₂ (λ i j. duplicate j i) same.0 same.1 ∙ sym c, b ∙ ap₂ (λ i j. duplicate_line (file_name j) (file_name i)) same.0 same.1 ∙ sym d)
-  one_summary (names_one first second a b h) (counted sources reports new c d f g i k) = absurd (twice_read h f g)
-  one_summary (counted sources reports new a b c d f g) (text_refused at fault h i k) = absurd (refused_read k c)
-  one_summary (counted sources reports new a b c d f g) (names_one first second h i k) = absurd (twice_read k c d)
-  one_summary {n} (counted sources reports new a b c d f g) (counted sources2 reports2 new2 h i j k l m) =
-      let same : sources ≡ sources2 = read_once c j in
-      let written : IsWritten [] sources reports2 new2 = subst (λ M. IsWritten [] M reports2 new2) (sym same) m in
-      let one = one_analysis [] sources reports reports2 new new2 (are_sources sources f d) (nothing_used sources) g written in
-      (a ∙ sym h, b ∙ ap₂ (λ M rs. summary_line n (list_length (functions_of (trees M))) (line_count (concat rs))) same one.0 ∙ sym i)
+  one_summary {n} h k =
+      let same : h.sources ≡ k.sources = read_once h.read k.read in
+      let written : IsWritten [] h.sources k.reports k.new = subst (λ M. IsWritten [] M k.reports k.new) (sym same) k.written in
+      let one = one_analysis [] h.sources h.reports k.reports h.new k.new (are_sources h.sources h.accepted h.names) (nothing_used h.sources) h.written written in
+      (h.status_so ∙ sym k.status_so, h.output_so ∙ ap₂ (λ M rs. summary_line n (list_length (functions_of (trees M))) (line_count (concat rs))) same one.0 ∙ sym k.output_so)
 
   -- ---- a check whose table is read
 

@@ -9,13 +9,10 @@ use Rattle.da_shelf.specs.Told.{Files}
 use Rattle.table_keep.specs.Model.{Source, Entry, trees}
 use Rattle.sound_laws.specs.Accepted.{AreAccepted}
 use Rattle.sound_laws_kept.specs.Solving.{IsWritten}
-use Rattle.analysis_sources.specs.declared.refusals.SourceFault.{SourceFault}
-use Rattle.analysis_sources.specs.Reading.{RefusedAt}
-use Rattle.analysis_sources.specs.Refusals.{line, refusal_line}
+use Rattle.analysis_sources.specs.Refusals.{line}
 use Rattle.dialyze_command.specs.declared.status.Status.{Status}
 use Rattle.dialyze_command.specs.declared.status.Status.TheVariants.{Warnings}
-use Rattle.dialyze_command.specs.Lines.{refused, duplicate, duplicate_line}
-use Rattle.dialyze_command.specs.ReadFiles.{ReadsAll, HaveOwnNames, IsDuplicate}
+use Rattle.dialyze_command.specs.ReadFiles.{ReadsAll, HaveOwnNames}
 
 -- ---- the files
 
@@ -55,14 +52,15 @@ abbrev pub summary_line : (modules functions lines : ℕ) → List ℕ
 summary_line modules functions lines = line (codes "modules " ++ decimal modules ++ codes " functions " ++ decimal functions ++ codes " lines " ++ decimal lines)
 
 -- What is answered of n generated modules: what a check of their files answers, without a table, where they are held and nothing else
--- is; but in place of the report a line says how many modules, functions and lines of the report there are. A file stands for its
--- number.
-pub data IsSummary (n : ℕ) (status : Status) (output : List ℕ) : Type 0 where
-  text_refused : (at : ℕ) (fault : SourceFault) → status ≡ refused at fault → output ≡ refusal_line (file_name at) fault
-      → RefusedAt (Some (generated_files n)) (file_names n) at fault → IsSummary n status output
-  names_one : (first second : ℕ) → status ≡ duplicate second first → output ≡ duplicate_line (file_name second) (file_name first)
-      → IsDuplicate (Some (generated_files n)) (file_names n) first second → IsSummary n status output
-  counted : (sources : List Source) (reports : List (List ℕ)) (new : List Entry) → status ≡ Warnings
-      → output ≡ summary_line n (length (functions_of (trees sources))) (line_count (concat reports))
-      → ReadsAll (Some (generated_files n)) (file_names n) sources → HaveOwnNames (trees sources) → AreAccepted (trees sources)
-      → IsWritten [] sources reports new → IsSummary n status output
+-- is; but in place of the report a line says how many modules, functions and lines of the report there are. Each file is the source of an
+-- accepted module, with a name of its own.
+pub record IsSummary (n : ℕ) (status : Status) (output : List ℕ) : Type 0 where
+  pub sources : List Source
+  pub reports : List (List ℕ)
+  pub new : List Entry
+  pub status_so : status ≡ Warnings
+  pub output_so : output ≡ summary_line n (length (functions_of (trees sources))) (line_count (concat reports))
+  pub read : ReadsAll (Some (generated_files n)) (file_names n) sources
+  pub names : HaveOwnNames (trees sources)
+  pub accepted : AreAccepted (trees sources)
+  pub written : IsWritten [] sources reports new

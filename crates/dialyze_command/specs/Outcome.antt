@@ -221,13 +221,11 @@ pub record Answers (words : List (List ℕ)) (held : Files) (after : Option File
   pub outcome : Outcome words (Some held) status output after
   pub written : written_now ≡ appended written_before output
 
--- The status of a refusal: of a check by positions among the words, and of a make by numbers of generated files.
+-- The status of a refusal, by positions among the words.
 pub data IsRefusal (words : List (List ℕ)) (status : Status) : Type 0 where
   of_word : (word : ℕ) (fault : SourceFault) → 1 ≤ word → status ≡ refused word fault → IsRefusal words status
   of_many : status ≡ too_many → IsRefusal words status
   of_two : (word other : ℕ) → 1 ≤ other → other < word → status ≡ duplicate word other → IsRefusal words status
-  of_number : (count number : ℕ) (fault : SourceFault) → IsMake words count → number < count → status ≡ refused number fault → IsRefusal words status
-  of_numbers : (count number other : ℕ) → IsMake words count → other < number → number < count → status ≡ duplicate number other → IsRefusal words status
 
 -- The statuses that a run on these words may have.
 abbrev pub IsPossible : (words : List (List ℕ)) → Status → Type 0

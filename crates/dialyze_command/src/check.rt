@@ -58,9 +58,7 @@ use type_kinds::Memory;
 /// analyses them together by one worker and without a table, and writes a line that says how many modules, functions and lines of
 /// reports there are. What is analysed are the texts that were put; they aren't read back.
 ///
-/// - `Warnings`: the line was written.
-/// - `Refused`: a generated text is refused by one of the rules above; `word` and `other` are numbers of generated files. There is no
-///   proof that each generated text is an accepted module, and tests show none that isn't.
+/// - `Warnings`: the line was written. Each generated text is that of an accepted module, so there is no refusal.
 /// - `DeviceFault`: where the shelf didn't take the file of number p, those of lower numbers are held.
 /// - `Memory`: the first of the files may be held.
 #[tactic(auto, using(crate::proofs::CheckExits::check_exits))]
@@ -93,6 +91,7 @@ pub fn dialyze<R: Threads + Wait + Sync, F: Shelf, K: Sink, G: Gate + Sync>(
     ensures not_accepted { IsAnswer result → IfSome (F.held shelf.old) (λ held. (word : ℕ) (fault : SourceFault) → step_of fault.name ≡ scopes → (result ≡ refused word fault) ↔ NamesSource (texts words.now) held word (λ most bytes. IsNotAccepted most bytes fault)) }
     ensures duplicate { IsAnswer result → IfSome (F.held shelf.old) (λ held. (word other : ℕ) → (result ≡ duplicate word other) ↔ NamesTwice (texts words.now) held word other) }
     ensures checked { IsAnswer result → IfSome (F.held shelf.old) (λ held. IsAnalysed (texts words.now) held result ↔ NamesModules (texts words.now) held) }
+    ensures makes { IsAnswer result → (count : ℕ) → IsMake (texts words.now) count → result ≡ Status.Warnings }
     ensures read { (word : ℕ) → result ≡ Status.DeviceFault (Device.Read word) → FailsToRead (texts words.now) (F.held shelf.old) word (F.read_faults shelf.old) (F.read_faults shelf.new) (K.written out.old) (K.written out.new) }
     ensures replace { (word : ℕ) → result ≡ Status.DeviceFault (Device.Replace word) → FailsToReplace (texts words.now) (F.held shelf.old) (F.held shelf.new) word (F.replace_faults shelf.old) (F.replace_faults shelf.new) (K.written out.old) (K.written out.new) }
     ensures write { result ≡ Status.DeviceFault Device.Write → FailsToWrite (texts words.now) (F.held shelf.old) (F.held shelf.new) (F.read_faults shelf.old) (F.read_faults shelf.new) (F.replace_faults shelf.old) (F.replace_faults shelf.new) (K.faults out.old) (K.faults out.new) (K.written out.old) (K.written out.new) }

@@ -3,21 +3,19 @@ ghost use Rattle.std.specs.Prelude.{◌≡◌, ◌≤◌, ◌<◌, length, IfOk,
 ghost use Rattle.std.specs.List.{concat};
 ghost use Rattle.std.specs.String.{string_bytes};
 ghost use Rattle.core_make.specs.Modules.{generated};
-ghost use Rattle.table_keep.specs.Model.{sources_so};
-ghost use Rattle.analysis_sources.specs.Refusals.{refusal_line};
-ghost use Rattle.dialyze_command.specs.Lines.{duplicate, duplicate_line, refused};
+ghost use Rattle.table_keep.specs.Model.{sources_so, trees};
 ghost use Rattle.dialyze_command.specs.Making.{file_name, line_count, summary_line, IsSummary, PutsFirst};
+ghost use Rattle.dialyze_command.specs.ReadFiles.{HaveOwnNames};
 ghost use Rattle.dialyze_command.specs.Words.{most_modules};
 ghost use Rattle.dialyze_command.specs.steps.Puts.{IsCounted, IsMadeAs, IsPut, IsPutOne};
 
-use crate::answer::{Answer, duplicate, refuse, reported};
-use crate::plan::{first_of, second_of};
+use crate::answer::{Answer, reported};
 use crate::status::Status;
 use analysis::{Analysis, Fault, analyse};
 use analysis_answers::replace_fault_line;
-use analysis_sources::{Device, ReadFault, SourceFault, discard_sources, sources_of};
+use analysis_sources::{Device, ReadFault, discard_sources, sources_of, spelled_module_is_read};
 use core_make::make;
-use core_scope::SetFault;
+use core_make_laws::generated_is_accepted;
 use da_shelf::{Gate, Shelf, ShelfFault};
 use std::alloc::Global;
 use std::sync::Wait;
@@ -120,53 +118,38 @@ fn summed<R: Threads + Wait + Sync, G: Gate + Sync>(
     requires texts { texts.now ≡ generated count }
     ensures { IfOk result (λ a. IsSummary count a.status a.output) }
 {
+    generated_is_accepted();
+    spelled_module_is_read();
     match sources_of(alloc, texts) {
         Ok(sources) => {
             let answer = judge(rt, alloc, sources.as_slice(), gate);
             discard_sources(sources);
             answer
         }
-        Err(ReadFault::Refused(number, fault)) => refuse_text(alloc, number, fault),
+        // each text is that of an accepted module, and no shelf is read
+        Err(ReadFault::Refused(_, _)) => unreachable!(),
         Err(ReadFault::Failed(_)) => unreachable!(),
         Err(ReadFault::Memory) => Err(Memory),
     }
 }
 
-// The answer to the text of this number, which is refused.
-fn refuse_text(alloc: Global, number: u32, fault: SourceFault) -> Result<Answer, Memory>
-    ensures status { IfOk result (λ a. a.status ≡ refused number fault) }
-    ensures output { IfOk result (λ a. a.output ≡ refusal_line (file_name number) fault) }
-{
-    let name = name_of(alloc, number)?;
-    refuse(alloc, name.as_str(), number, fault)
-}
-
-// What is to be answered of the sources that generated texts are.
+// What is to be answered of the sources that generated texts are, whose modules have names of their own.
 fn judge<R: Threads + Wait + Sync, G: Gate + Sync>(
     rt: &R,
     alloc: Global,
     sources: &[Source],
     gate: &G,
 ) -> Result<Answer, Memory>
-    requires { length sources.now ≤ most_modules }
+    requires few { length sources.now ≤ most_modules }
+    requires names { HaveOwnNames (trees (sources_so sources.now)) }
     ensures { IfOk result (λ a. IsCounted (sources_so sources.now) a.status a.output) }
 {
     let table = Table::empty(alloc);
     match analyse(rt, alloc, sources, &table, 1, gate) {
         Ok(analysis) => summary(alloc, sources.len() as u32, &analysis),
-        Err(Fault::Set(fault)) => refuse_twin(alloc, first_of(fault), second_of(fault)),
+        Err(Fault::Set(_)) => unreachable!(),
         Err(Fault::Memory) => Err(Memory),
     }
-}
-
-// The answer to the texts of two numbers whose modules have the same name.
-fn refuse_twin(alloc: Global, first: u32, second: u32) -> Result<Answer, Memory>
-    ensures status { IfOk result (λ a. a.status ≡ duplicate second first) }
-    ensures output { IfOk result (λ a. a.output ≡ duplicate_line (file_name second) (file_name first)) }
-{
-    let name = name_of(alloc, second)?;
-    let other = name_of(alloc, first)?;
-    duplicate(alloc, name.as_str(), second, other.as_str(), first)
 }
 
 // The answer to an analysis of so many modules: how many functions they have, and how many lines the reports on them.

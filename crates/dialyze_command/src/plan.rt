@@ -183,7 +183,7 @@ fn judged<R: Threads + Wait + Sync, G: Gate + Sync>(
 }
 
 /// The position of the first of two modules with the same name.
-pub fn first_of(fault: SetFault) -> u32
+fn first_of(fault: SetFault) -> u32
     ensures { result ≡ first_of fault }
 {
     match fault {
@@ -192,7 +192,7 @@ pub fn first_of(fault: SetFault) -> u32
 }
 
 /// The position of the second of them.
-pub fn second_of(fault: SetFault) -> u32
+fn second_of(fault: SetFault) -> u32
     ensures { result ≡ second_of fault }
 {
     match fault {

@@ -3,7 +3,6 @@ use Rattle.std.specs.Prelude.{◌≡◌, ℕ, ◌<◌, List, [], length, Option,
 use Rattle.std.specs.List.{concat}
 use Rattle.call_graph.specs.Calls.{functions_of}
 use Rattle.core_make.specs.Modules.{module_text}
-use Rattle.core_scope.specs.Sets.{FirstDuplicate}
 use Rattle.da_shelf.specs.Counts.{Rose}
 use Rattle.da_shelf.specs.Told.{Files, replaced, IsOldOrNew}
 use Rattle.table_keep.specs.Model.{Source, Entry, trees}
@@ -12,9 +11,9 @@ use Rattle.analysis_sources.specs.declared.refusals.Device.TheVariants.{Replace}
 use Rattle.dialyze_command.specs.declared.answer.Answer.{Answer}
 use Rattle.dialyze_command.specs.declared.status.Status.{Status}
 use Rattle.dialyze_command.specs.declared.status.Status.TheVariants.{DeviceFault, Warnings}
-use Rattle.dialyze_command.specs.Lines.{duplicate, duplicate_line, replace_fault_line}
+use Rattle.dialyze_command.specs.Lines.{replace_fault_line}
 use Rattle.dialyze_command.specs.Making.{file_name, with_first, line_count, summary_line, IsSummary}
-use Rattle.dialyze_command.specs.ReadFiles.{HaveOwnNames, module_names}
+use Rattle.dialyze_command.specs.ReadFiles.{HaveOwnNames}
 
 -- What is answered where the shelf doesn't take the file of this number, and has counted it: it holds what it held under the name, or
 -- the text, whole.
@@ -42,9 +41,10 @@ pub data IsMadeAs (n : ℕ) (told after : Option Files) (replaces replaces_now :
       → IsMadeAs n told after replaces replaces_now answer
 
 -- What is answered of the sources that generated texts are.
-pub data IsCounted (M : List Source) (status : Status) (output : List ℕ) : Type 0 where
-  same_names : (first second : ℕ) → status ≡ duplicate second first → output ≡ duplicate_line (file_name second) (file_name first)
-      → FirstDuplicate (module_names (trees M)) first second → IsCounted M status output
-  lines : (reports : List (List ℕ)) (new : List Entry) → status ≡ Warnings
-      → output ≡ summary_line (length M) (length (functions_of (trees M))) (line_count (concat reports))
-      → HaveOwnNames (trees M) → IsWritten [] M reports new → IsCounted M status output
+pub record IsCounted (M : List Source) (status : Status) (output : List ℕ) : Type 0 where
+  pub reports : List (List ℕ)
+  pub new : List Entry
+  pub status_so : status ≡ Warnings
+  pub output_so : output ≡ summary_line (length M) (length (functions_of (trees M))) (line_count (concat reports))
+  pub names : HaveOwnNames (trees M)
+  pub written : IsWritten [] M reports new

@@ -1,0 +1,3 @@
+mod Reading
+mod Texts
+mod Generated
