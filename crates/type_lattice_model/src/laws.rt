@@ -37,20 +37,30 @@ pub fn cut_laws()
 pub fn tuple_laws()
     ensures normal { (d : ℕ) (es : List (TypeAt d)) → AreNormal (NormalAt d) es → NormalAt d (tuple_at d es) }
     ensures above { (d : ℕ) (es : List (TypeAt d)) → AreNormal (NormalAt d) es → (vs : Values) → HasEach (HasAt d) vs es → HasAt d (tuple vs) (tuple_at d es) }
-    ensures least { (d : ℕ) (es : List (TypeAt d)) → AreNormal (NormalAt d) es → (u : TypeAt d) → NormalAt d u → ((vs : Values) → HasEach (HasAt d) vs es → HasAt d (tuple vs) u) → BelowBy (HasAt d) (tuple_at d es) u }
+    ensures least { (d : ℕ) (es : List (TypeAt d)) → AreNormal (NormalAt d) es → (u : TypeAt d) → NormalAt d u
+        → ((vs : Values) → HasEach (HasAt d) vs es → HasAt d (tuple vs) u) → BelowBy (HasAt d) (tuple_at d es) u }
     ensures only { (d : ℕ) (es : List (TypeAt (suc d))) (v : Value) → HasAt (suc d) v (tuple_at (suc d) es) → (vs : Values) × (v ≡ tuple vs) }
-    ensures exact { (d : ℕ) (es : List (TypeAt (suc d))) → AreNormal (NormalAt (suc d)) es → nat_lt (length es) (MAX_ELEMENTS + 1) ≡ true → (vs : Values) → HasAt (suc d) (tuple vs) (tuple_at (suc d) es) ↔ HasEach (HasAt d) vs (map (cut (suc d) d) es) }
-    ensures project { (d : ℕ) (t : TypeAt (suc d)) → NormalAt (suc d) t → (n : ℕ) (vs : Values) → HasAt (suc d) (tuple vs) t → count vs ≡ n → (i : ℕ) (v : Value) → value_at vs (i - 1) ≡ Some v → HasAt (suc d) v (project_at d t n i) }
-    ensures project_least { (d : ℕ) (t : TypeAt (suc d)) → NormalAt (suc d) t → (n i : ℕ) → n ≤ MAX_ELEMENTS → 1 ≤ i → i ≤ n → (u : TypeAt (suc d)) → NormalAt (suc d) u → ((vs : Values) (v : Value) → HasAt (suc d) (tuple vs) t → count vs ≡ n → value_at vs (i - 1) ≡ Some v → HasAt (suc d) v u) → BelowBy (HasAt (suc d)) (project_at d t n i) u }
+    ensures exact { (d : ℕ) (es : List (TypeAt (suc d))) → AreNormal (NormalAt (suc d)) es → nat_lt (length es) (MAX_ELEMENTS + 1) ≡ true
+        → (vs : Values) → HasAt (suc d) (tuple vs) (tuple_at (suc d) es) ↔ HasEach (HasAt d) vs (map (cut (suc d) d) es) }
+    ensures project { (d : ℕ) (t : TypeAt (suc d)) → NormalAt (suc d) t → (n : ℕ) (vs : Values) → HasAt (suc d) (tuple vs) t → count vs ≡ n
+        → (i : ℕ) (v : Value) → value_at vs (i - 1) ≡ Some v → HasAt (suc d) v (project_at d t n i) }
+    ensures project_least { (d : ℕ) (t : TypeAt (suc d)) → NormalAt (suc d) t → (n i : ℕ) → n ≤ MAX_ELEMENTS → 1 ≤ i → i ≤ n → (u : TypeAt (suc d))
+        → NormalAt (suc d) u → ((vs : Values) (v : Value) → HasAt (suc d) (tuple vs) t → count vs ≡ n → value_at vs (i - 1) ≡ Some v
+        → HasAt (suc d) v u) → BelowBy (HasAt (suc d)) (project_at d t n i) u }
 {}
 
 /// The join of the elements at the positions in a set, over all sizes: it has what stands there, and where
 /// the set has a position it is the least type that does. The first element is at position 1.
 pub fn element_laws()
     ensures normal { (d : ℕ) (t : TypeAt (suc d)) → NormalAt (suc d) t → (s : Numbers) → NormalAt (suc d) (elements_at d t s) }
-    ensures above { (d : ℕ) (t : TypeAt (suc d)) → NormalAt (suc d) t → (s : Numbers) (vs : Values) → HasAt (suc d) (tuple vs) t → (i : ℕ) (v : Value) → value_at vs i ≡ Some v → numbers.has s (pos (suc i)) ≡ true → HasAt (suc d) v (elements_at d t s) }
-    ensures least { (d : ℕ) (t : TypeAt (suc d)) → NormalAt (suc d) t → (s : Numbers) (p : ℕ) → numbers.has s (pos (suc p)) ≡ true → (u : TypeAt (suc d)) → NormalAt (suc d) u → ((vs : Values) → HasAt (suc d) (tuple vs) t → (i : ℕ) (v : Value) → value_at vs i ≡ Some v → numbers.has s (pos (suc i)) ≡ true → HasAt (suc d) v u) → BelowBy (HasAt (suc d)) (elements_at d t s) u }
-    ensures more { (d : ℕ) (t w : TypeAt (suc d)) → NormalAt (suc d) t → NormalAt (suc d) w → BelowBy (HasAt (suc d)) t w → (s q : Numbers) → numbers.Below s q → BelowBy (HasAt (suc d)) (elements_at d t s) (elements_at d w q) }
+    ensures above { (d : ℕ) (t : TypeAt (suc d)) → NormalAt (suc d) t → (s : Numbers) (vs : Values) → HasAt (suc d) (tuple vs) t → (i : ℕ) (v : Value)
+        → value_at vs i ≡ Some v → numbers.has s (pos (suc i)) ≡ true → HasAt (suc d) v (elements_at d t s) }
+    ensures least { (d : ℕ) (t : TypeAt (suc d)) → NormalAt (suc d) t → (s : Numbers) (p : ℕ) → numbers.has s (pos (suc p)) ≡ true
+        → (u : TypeAt (suc d)) → NormalAt (suc d) u
+        → ((vs : Values) → HasAt (suc d) (tuple vs) t → (i : ℕ) (v : Value) → value_at vs i ≡ Some v → numbers.has s (pos (suc i)) ≡ true
+        → HasAt (suc d) v u) → BelowBy (HasAt (suc d)) (elements_at d t s) u }
+    ensures more { (d : ℕ) (t w : TypeAt (suc d)) → NormalAt (suc d) t → NormalAt (suc d) w → BelowBy (HasAt (suc d)) t w → (s q : Numbers)
+        → numbers.Below s q → BelowBy (HasAt (suc d)) (elements_at d t s) (elements_at d w q) }
 {}
 
 /// The type of the lists of a head and a tail has them and nothing but conses. Where its ends are proper
@@ -60,18 +70,26 @@ pub fn element_laws()
 /// type's tails, and these are the least types of which that is true.
 pub fn list_laws()
     ensures normal { (d : ℕ) (h t : TypeAt (suc d)) (proper : Bool) → NormalAt (suc d) h → NormalAt (suc d) t → NormalAt (suc d) (cons_at d h t proper) }
-    ensures above { (d : ℕ) (h t : TypeAt (suc d)) (proper : Bool) → NormalAt (suc d) h → NormalAt (suc d) t → (x y : Value) → HasAt (suc d) x h → HasAt (suc d) y t → HasAt (suc d) (cons x y) (cons_at d h t proper) }
-    ensures least { (d : ℕ) (h t : TypeAt (suc d)) → NormalAt (suc d) h → NormalAt (suc d) t → (u : TypeAt (suc d)) → NormalAt (suc d) u → ((x y : Value) → HasAt (suc d) x h → HasAt (suc d) y t → HasAt (suc d) (cons x y) u) → BelowBy (HasAt (suc d)) (cons_at d h t true) u }
-    ensures only { (d : ℕ) (h t : TypeAt (suc d)) (proper : Bool) (v : Value) → HasAt (suc d) v (cons_at d h t proper) → (x : Value) × ((y : Value) × (v ≡ cons x y)) }
-    ensures proper { (d : ℕ) (h t : TypeAt (suc d)) → NormalAt (suc d) t → ((v : Value) → HasAt (suc d) v t → end_of v ≡ nil) → (v : Value) → HasAt (suc d) v (cons_at d h t true) → end_of v ≡ nil }
-    ensures free { (d : ℕ) (h t : TypeAt (suc d)) → NormalAt (suc d) h → NormalAt (suc d) t → (x y : Value) → HasAt (suc d) (cons x y) (cons_at d h t false) ↔ HasAll (HasAt (suc d)) (and_value x (heads y)) (elem_at d (cons_at d h t true)) }
+    ensures above { (d : ℕ) (h t : TypeAt (suc d)) (proper : Bool) → NormalAt (suc d) h → NormalAt (suc d) t → (x y : Value) → HasAt (suc d) x h
+        → HasAt (suc d) y t → HasAt (suc d) (cons x y) (cons_at d h t proper) }
+    ensures least { (d : ℕ) (h t : TypeAt (suc d)) → NormalAt (suc d) h → NormalAt (suc d) t → (u : TypeAt (suc d)) → NormalAt (suc d) u
+        → ((x y : Value) → HasAt (suc d) x h → HasAt (suc d) y t → HasAt (suc d) (cons x y) u) → BelowBy (HasAt (suc d)) (cons_at d h t true) u }
+    ensures only { (d : ℕ) (h t : TypeAt (suc d)) (proper : Bool) (v : Value) → HasAt (suc d) v (cons_at d h t proper)
+        → (x : Value) × ((y : Value) × (v ≡ cons x y)) }
+    ensures proper { (d : ℕ) (h t : TypeAt (suc d)) → NormalAt (suc d) t → ((v : Value) → HasAt (suc d) v t → end_of v ≡ nil) → (v : Value)
+        → HasAt (suc d) v (cons_at d h t true) → end_of v ≡ nil }
+    ensures free { (d : ℕ) (h t : TypeAt (suc d)) → NormalAt (suc d) h → NormalAt (suc d) t → (x y : Value)
+        → HasAt (suc d) (cons x y) (cons_at d h t false) ↔ HasAll (HasAt (suc d)) (and_value x (heads y)) (elem_at d (cons_at d h t true)) }
     ensures lists { (d : ℕ) (t : TypeAt (suc d)) → is_list (ops d) t ≡ true → (v : Value) → HasAt (suc d) v t → end_of v ≡ nil }
     ensures are_lists { (d : ℕ) (t : TypeAt (suc d)) → NormalAt (suc d) t → ((v : Value) → HasAt (suc d) v t → end_of v ≡ nil) → is_list (ops d) t ≡ true }
     ensures elem { (d : ℕ) (s : TypeAt (suc d)) → NormalAt (suc d) s → (h t : Value) → HasAt (suc d) (cons h t) s → HasAt (suc d) h (elem_at d s) }
     ensures tail { (d : ℕ) (s : TypeAt (suc d)) (h t : Value) → HasAt (suc d) (cons h t) s → HasAt (suc d) t (tail_at d s) }
-    ensures both { (d : ℕ) (s : TypeAt (suc d)) → NormalAt (suc d) s → (x y : Value) → HasAt (suc d) x (elem_at d s) → HasAt (suc d) y (tail_at d s) → HasAt (suc d) (cons x y) s }
-    ensures elem_least { (d : ℕ) (s : TypeAt (suc d)) → NormalAt (suc d) s → (u : TypeAt (suc d)) → ((x y : Value) → HasAt (suc d) (cons x y) s → HasAt (suc d) x u) → BelowBy (HasAt (suc d)) (elem_at d s) u }
-    ensures tail_least { (d : ℕ) (s : TypeAt (suc d)) → NormalAt (suc d) s → (u : TypeAt (suc d)) → ((x y : Value) → HasAt (suc d) (cons x y) s → HasAt (suc d) y u) → BelowBy (HasAt (suc d)) (tail_at d s) u }
+    ensures both { (d : ℕ) (s : TypeAt (suc d)) → NormalAt (suc d) s → (x y : Value) → HasAt (suc d) x (elem_at d s) → HasAt (suc d) y (tail_at d s)
+        → HasAt (suc d) (cons x y) s }
+    ensures elem_least { (d : ℕ) (s : TypeAt (suc d)) → NormalAt (suc d) s → (u : TypeAt (suc d))
+        → ((x y : Value) → HasAt (suc d) (cons x y) s → HasAt (suc d) x u) → BelowBy (HasAt (suc d)) (elem_at d s) u }
+    ensures tail_least { (d : ℕ) (s : TypeAt (suc d)) → NormalAt (suc d) s → (u : TypeAt (suc d))
+        → ((x y : Value) → HasAt (suc d) (cons x y) s → HasAt (suc d) y u) → BelowBy (HasAt (suc d)) (tail_at d s) u }
 {}
 
 /// A smaller type has a lower rank, so from a type one can't go down more often than its rank says,
@@ -90,9 +108,11 @@ pub fn rank_laws()
 #[tactic(auto, using(crate::proofs::Spellings::spelled_once, crate::proofs::CanonicalLaws::same_maps, crate::proofs::CanonicalLaws::one_value, crate::proofs::CanonicalLaws::put_ascends, crate::proofs::CanonicalLaws::put_parts, crate::proofs::CanonicalLaws::put_holds, crate::proofs::CanonicalLaws::canonical_below))]
 pub fn value_laws()
     ensures spelled { (v w : Value) → spelled v ≡ spelled w → v ≡ w }
-    ensures maps { (ps qs : ValuePairs) → IsCanonical (map_value ps) → IsCanonical (map_value qs) → PairsBelow ps qs → PairsBelow qs ps → map_value ps ≡ map_value qs }
+    ensures maps { (ps qs : ValuePairs) → IsCanonical (map_value ps) → IsCanonical (map_value qs) → PairsBelow ps qs → PairsBelow qs ps
+        → map_value ps ≡ map_value qs }
     ensures keys { (ps : ValuePairs) → IsCanonical (map_value ps) → (k v w : Value) → HoldsPair ps k v → HoldsPair ps k w → v ≡ w }
     ensures put { (k v : Value) (ps : ValuePairs) → IsCanonical k → IsCanonical v → IsCanonical (map_value ps) → IsCanonical (map_value (put_pair k v ps)) }
-    ensures put_holds { (k v : Value) (ps : ValuePairs) → IsCanonical (map_value ps) → (x y : Value) → HoldsPair (put_pair k v ps) x y ↔ (((x ≡ k) × (y ≡ v)) ⊎ ((x ≡ k → ⊥) × HoldsPair ps x y)) }
+    ensures put_holds { (k v : Value) (ps : ValuePairs) → IsCanonical (map_value ps) → (x y : Value)
+        → HoldsPair (put_pair k v ps) x y ↔ (((x ≡ k) × (y ≡ v)) ⊎ ((x ≡ k → ⊥) × HoldsPair ps x y)) }
     ensures below { (d : ℕ) (s t : TypeAt d) → ((v : Value) → IsCanonical v → HasAt d v s → HasAt d v t) → BelowBy (HasAt d) s t }
 {}
