@@ -10,4 +10,5 @@ mod Worked
 mod WorkedForms
 mod WorkedFunctions
 mod WorkedPatterns
+pub mod FunctionLaws
 pub mod LabelLaws

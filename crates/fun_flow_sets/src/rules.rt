@@ -12,8 +12,15 @@ ghost use Rattle.fun_flow_sets.specs.Items.{Place, anywhere, anything, nowhere};
 ghost use Rattle.fun_flow_sets.specs.Rules.{places};
 ghost use Rattle.fun_flow_sets.specs.Scopes.{Scope, first, place_of, with_pattern, with_patterns, with_place, with_places};
 ghost use Rattle.fun_flow_sets.specs.Sets.{Holds};
-ghost use Rattle.fun_flow_sets.specs.CallRules.{ApplicationsGive, ArgumentsFlow, BuiltInCallsGiveAnything, CallsHandOn, ComputedCallsGiveAnything, ComputedNamesGiveAnything, ExportedCallsGive, HiddenCallsGiveAnything, OperatorsAreListed, OperatorsEnter, OutsideCallsGiveAnything, UnknownOperatorsGiveAnything, WrongNumbersGiveNothing};
-ghost use Rattle.fun_flow_sets.specs.ValueRules.{AliasPatternsBind, BinaryPatternsBind, CapturedKeepPlaces, CasesHaveClauses, ChainsPassOn, DosDrop, ExportedParametersAreOpen, ExternalsHaveThemselves, FunBodiesAreResults, FunParametersAreOpen, FunsHaveThemselves, LetrecBodiesAreResults, LetrecsPassOn, LetsBind, ListPatternsBind, ListsHaveElements, ListsHaveRests, MapPatternsBind, MapsHavePairs, ModuleBodiesAreResults, NamedParametersAreOpen, NamesHaveThemselves, ReceivesHaveActions, ReceivesHaveClauses, TriesHaveBodies, TriesHaveHandlers, TuplesHaveElements, UpdatesHaveMaps, UpdatesHavePairs, ValueListsPassOn};
+ghost use Rattle.fun_flow_sets.specs.CallRules.{ApplicationsGive, ArgumentsFlow, BuiltInCallsGiveAnything, CallsHandOn, ComputedCallsGiveAnything};
+ghost use Rattle.fun_flow_sets.specs.CallRules.{ComputedNamesGiveAnything, ExportedCallsGive, HiddenCallsGiveAnything, OperatorsAreListed, OperatorsEnter};
+ghost use Rattle.fun_flow_sets.specs.CallRules.{OutsideCallsGiveAnything, UnknownOperatorsGiveAnything, WrongNumbersGiveNothing};
+ghost use Rattle.fun_flow_sets.specs.ValueRules.{AliasPatternsBind, BinaryPatternsBind, CapturedKeepPlaces, CasesHaveClauses, ChainsPassOn, DosDrop};
+ghost use Rattle.fun_flow_sets.specs.ValueRules.{ExportedParametersAreOpen, ExternalsHaveThemselves, FunBodiesAreResults, FunParametersAreOpen};
+ghost use Rattle.fun_flow_sets.specs.ValueRules.{FunsHaveThemselves, LetrecBodiesAreResults, LetrecsPassOn, LetsBind, ListPatternsBind, ListsHaveElements};
+ghost use Rattle.fun_flow_sets.specs.ValueRules.{ListsHaveRests, MapPatternsBind, MapsHavePairs, ModuleBodiesAreResults, NamedParametersAreOpen};
+ghost use Rattle.fun_flow_sets.specs.ValueRules.{NamesHaveThemselves, ReceivesHaveActions, ReceivesHaveClauses, TriesHaveBodies, TriesHaveHandlers};
+ghost use Rattle.fun_flow_sets.specs.ValueRules.{TuplesHaveElements, UpdatesHaveMaps, UpdatesHavePairs, ValueListsPassOn};
 
 /// A fun, a name and an external function as values have themselves.
 pub fn functions_have_themselves()

@@ -41,6 +41,8 @@ pub fn applications_are_in_order()
 /// Pairs and edges with which nothing is left to do, and that were recorded with a reason, are exactly the
 /// sets.
 pub fn at_end()
-    ensures sound { (U : Program) (pair : Place → Item → Bool) (edge : Place → Place → Bool) → IsAtEnd U pair edge → IsJustified U pair edge → (p : Place) (x : Item) → pair p x ≡ true → Holds U p x }
-    ensures complete { (U : Program) (pair : Place → Item → Bool) (edge : Place → Place → Bool) → IsAtEnd U pair edge → IsJustified U pair edge → (p : Place) (x : Item) → Holds U p x → pair p x ≡ true }
+    ensures sound { (U : Program) (pair : Place → Item → Bool) (edge : Place → Place → Bool) → IsAtEnd U pair edge → IsJustified U pair edge
+        → (p : Place) (x : Item) → pair p x ≡ true → Holds U p x }
+    ensures complete { (U : Program) (pair : Place → Item → Bool) (edge : Place → Place → Bool) → IsAtEnd U pair edge → IsJustified U pair edge
+        → (p : Place) (x : Item) → Holds U p x → pair p x ≡ true }
 {}

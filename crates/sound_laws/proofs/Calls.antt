@@ -1,5 +1,5 @@
 -- What calls and applications give satisfies what they add to the rows.
-use Rattle.std.proofs.Common.{◌≡◌, ℕ, suc, ◌&&◌, Bool, true, false, if◌then◌else◌, List, [], ◌∷◌, length, Option, Some, None, nat_eq, refl, sym, ap, ◌∙◌, subst, eqb-true, eq-eqb}
+use Rattle.std.proofs.Common.{◌≡◌, ℕ, suc, Bool, true, false, if◌then◌else◌, List, [], ◌∷◌, length, Option, Some, None, refl, sym, ap, ◌∙◌, subst, eq-eqb}
 use Rattle.std.proofs.lemmas.Option.{same_Some}
 use Rattle.type_kinds.proofs.Truths.{second}
 use Rattle.type_kinds.specs.declared.atom.Atom.{Atom}
@@ -22,6 +22,7 @@ use Rattle.bif_types.specs.Results.{BifMay}
 use Rattle.bif_types.specs.Table.{looked_up}
 use Rattle.core_meaning.specs.Programs.{Program, module_named, function_named, closure_of, locals_of, top_of_module, top_function, exported, hidden, built_in, outside, Found, found_in}
 use Rattle.core_meaning.specs.Environments.{or_outer, local_function, function_of}
+use Rattle.core_meaning.proofs.FunctionLaws.{named_arity}
 use Rattle.core_meaning.specs.Meaning.{Outcome, gives, gave, Trace, Enter, enter_gives, Called, call_built_in, call_enters, call_outside, Apply, apply_closure, apply_external, apply_foreign}
 use Rattle.cons_gen_rows.specs.Words.{bound}
 use Rattle.cons_gen_rows.specs.Passes.{Knowledge, signature, by_summary, by_names, by_name, built_in_rows, with_result, called_rows, applied_rows}
@@ -31,14 +32,6 @@ use Rattle.sound_laws.specs.Satisfied.{SatRows}
 use Rattle.sound_laws.proofs.Parts.{back_bears}
 
 -- ---- the arity of a function that is found by its name
-
-named_arity : (ds : List Local) (f : FunName) (d : Local) → function_named ds f ≡ Some d → d.arity ≡ f.arity
-named_arity [] f d h = absurd cc
-named_arity (x ∷ ds) f d h = by (same_atom x.name f.name && nat_eq x.arity f.arity) refl (named_arity ds f d) h
-  where
-    by : (c : Bool) → (same_atom x.name f.name && nat_eq x.arity f.arity) ≡ c → (function_named ds f ≡ Some d → d.arity ≡ f.arity) → (if c then Some x else function_named ds f) ≡ Some d → d.arity ≡ f.arity
-    by true e more q = subst (λ z. z.arity ≡ f.arity) (same_Some _ _ q) (eqb-true x.arity f.arity (second (same_atom x.name f.name) (nat_eq x.arity f.arity) e))
-    by false e more q = more q
 
 closure_arity : (home : Atom) (env : Env) (ds : List Local) (f : FunName) (c : Value) → closure_of home env (function_named ds f) ≡ Some c → HasArity c f.arity
 closure_arity home env ds f c h = by (function_named ds f) refl h
@@ -101,25 +94,29 @@ module _ (F : Facts) (P : Knowledge) (U : Program) (W : Value → Type 0) (hones
   gave_bears (enter_gives {home = home} {label = label} {arity = arity} {env = env} {vs = vs} {v = v} {tr = tr} a e n x) g = (back_bears P U tr (gave (closure home label arity env) vs v ∷ []) g.1).0
 
   -- a function that its module defines under a name gave what lies within its summary
-  pub within : {c : Value} {vs : Values} {v : Value} {tr : Trace} (home : Atom) (f : FunName) → top_function U home f ≡ Some c → Enter U W E c vs (gives (and_value v no_value)) tr → AllBearOut P U tr → (s : Summary) → P.own home f ≡ false → summary_of (P.callee home f) ≡ Some s → Within (signature P s) vs v
+  pub within : {c : Value} {vs : Values} {v : Value} {tr : Trace} (home : Atom) (f : FunName) → top_function U home f ≡ Some c → Enter U W E c vs (gives (and_value v no_value)) tr → AllBearOut P U tr
+      → (s : Summary) → P.own home f ≡ false → summary_of (P.callee home f) ≡ Some s → Within (signature P s) vs v
   within home f top x g s own known = gave_bears x g home f s top own known
 
   -- ---- rows of calls
 
-  by_summary_holds : (home : Atom) (f : FunName) (summary : Summary) (s : ℕ) (ss : List ℕ) (b : Assignment) (vs : Values) (v : Value) → (P.own home f ≡ false → Within (signature P summary) vs v) → values_of b ss ≡ vs → b s ≡ v → SatRows (by_summary P home f summary s ss) b
+  by_summary_holds : (home : Atom) (f : FunName) (summary : Summary) (s : ℕ) (ss : List ℕ) (b : Assignment) (vs : Values) (v : Value) → (P.own home f ≡ false → Within (signature P summary) vs v)
+      → values_of b ss ≡ vs → b s ≡ v → SatRows (by_summary P home f summary s ss) b
   by_summary_holds home f summary s ss b vs v h e i = by (P.own home f) h
     where
       by : (c : Bool) → (c ≡ false → Within (signature P summary) vs v) → SatRows (if c then [] else (only (Call s ss (signature P summary)) ∷ [])) b
       by true k = tt
       by false k = ((subst (λ z. HasTypes z (signature P summary).args) (sym e) (k refl).0, subst (λ z. HasType z (signature P summary).result) (sym i) (k refl).1), tt)
 
-  by_name_holds : (home : Atom) (f : FunName) (c : Callee) (s : ℕ) (ss : List ℕ) (b : Assignment) (vs : Values) (v : Value) → ((summary : Summary) → P.own home f ≡ false → summary_of c ≡ Some summary → Within (signature P summary) vs v) → values_of b ss ≡ vs → b s ≡ v → SatRows (by_name P home f c s ss) b
+  by_name_holds : (home : Atom) (f : FunName) (c : Callee) (s : ℕ) (ss : List ℕ) (b : Assignment) (vs : Values) (v : Value)
+      → ((summary : Summary) → P.own home f ≡ false → summary_of c ≡ Some summary → Within (signature P summary) vs v) → values_of b ss ≡ vs → b s ≡ v → SatRows (by_name P home f c s ss) b
   by_name_holds home f (Known summary) s ss b vs v h e i = by_summary_holds home f summary s ss b vs v (λ own. h summary own refl) e i
   by_name_holds home f (of_module summary) s ss b vs v h e i = by_summary_holds home f summary s ss b vs v (λ own. h summary own refl) e i
   by_name_holds home f Undefined s ss b vs v h e i = tt
   by_name_holds home f Unknown s ss b vs v h e i = tt
 
-  by_names_holds : (home : Atom) (f : FunName) (c : Callee) (s : ℕ) (ss : List ℕ) (b : Assignment) (vs : Values) (v : Value) → Allows exported c → ((summary : Summary) → P.own home f ≡ false → summary_of c ≡ Some summary → Within (signature P summary) vs v) → values_of b ss ≡ vs → b s ≡ v → SatRows (by_names P home f c s ss) b
+  by_names_holds : (home : Atom) (f : FunName) (c : Callee) (s : ℕ) (ss : List ℕ) (b : Assignment) (vs : Values) (v : Value) → Allows exported c
+      → ((summary : Summary) → P.own home f ≡ false → summary_of c ≡ Some summary → Within (signature P summary) vs v) → values_of b ss ≡ vs → b s ≡ v → SatRows (by_names P home f c s ss) b
   by_names_holds home f (Known summary) s ss b vs v allowed h e i = by_summary_holds home f summary s ss b vs v (λ own. h summary own refl) e i
   by_names_holds home f (of_module summary) s ss b vs v allowed h e i = absurd allowed
   by_names_holds home f Undefined s ss b vs v allowed h e i = absurd allowed
@@ -135,7 +132,8 @@ module _ (F : Facts) (P : Knowledge) (U : Program) (W : Value → Type 0) (hones
   values_count b [] = refl
   values_count b (s ∷ ss) = ap suc (values_count b ss)
 
-  built_in_holds : (name : Atom) (o : Option Bif) (s : ℕ) (ss : List ℕ) (b : Assignment) (vs : Values) (v : Value) → looked_up name (count vs) ≡ o → BifMay name vs v → values_of b ss ≡ vs → b s ≡ v → SatRows (built_in_rows P o (s ∷ []) ss) b
+  built_in_holds : (name : Atom) (o : Option Bif) (s : ℕ) (ss : List ℕ) (b : Assignment) (vs : Values) (v : Value) → looked_up name (count vs) ≡ o → BifMay name vs v → values_of b ss ≡ vs → b s ≡ v
+      → SatRows (built_in_rows P o (s ∷ []) ss) b
   built_in_holds name None s ss b vs v known may e i = tt
   built_in_holds name (Some bif) s ss b vs v known may e i =
       let many : length ss ≡ count vs = sym (values_count b ss) ∙ ap count e in
@@ -156,7 +154,8 @@ module _ (F : Facts) (P : Knowledge) (U : Program) (W : Value → Type 0) (hones
   not_erlang x true other y h = absurd (other h)
   not_erlang x false other y h = refl
 
-  pub called_holds : {home name : Atom} {vs : Values} {v : Value} {tr : Trace} (s : ℕ) (ss : List ℕ) (b : Assignment) → Called U W E home name vs (gives (and_value v no_value)) tr → AllBearOut P U tr → values_of b ss ≡ vs → b s ≡ v → SatRows (called_rows P home name (count vs) (s ∷ []) ss) b
+  pub called_holds : {home name : Atom} {vs : Values} {v : Value} {tr : Trace} (s : ℕ) (ss : List ℕ) (b : Assignment) → Called U W E home name vs (gives (and_value v no_value)) tr → AllBearOut P U tr
+      → values_of b ss ≡ vs → b s ≡ v → SatRows (called_rows P home name (count vs) (s ∷ []) ss) b
   called_holds {home} {name} {vs} {v} s ss b (call_built_in found_is may w) g e i =
       let f = function_name name (count vs) in
       subst
@@ -177,7 +176,9 @@ module _ (F : Facts) (P : Knowledge) (U : Program) (W : Value → Type 0) (hones
       (outside_adds_nothing home f (P.callee home f) s ss b (subst (λ z. Allows z (P.callee home f)) found_is (honest home f)))
 
   -- the application of a name, by the functions of `letrec`s around
-  pub applied_holds : {c : Value} {vs : Values} {v : Value} {tr : Trace} (home : Atom) (env : Env) (locals : List FunName) (f : FunName) (n s : ℕ) (ss : List ℕ) (b : Assignment) → (has_function locals f ≡ false → local_function home env f ≡ None) → f.arity ≡ n → function_of U home env f ≡ Some c → Enter U W E c vs (gives (and_value v no_value)) tr → AllBearOut P U tr → values_of b ss ≡ vs → b s ≡ v → SatRows (applied_rows P home locals f n s ss) b
+  pub applied_holds : {c : Value} {vs : Values} {v : Value} {tr : Trace} (home : Atom) (env : Env) (locals : List FunName) (f : FunName) (n s : ℕ) (ss : List ℕ) (b : Assignment)
+      → (has_function locals f ≡ false → local_function home env f ≡ None) → f.arity ≡ n → function_of U home env f ≡ Some c → Enter U W E c vs (gives (and_value v no_value)) tr → AllBearOut P U tr
+      → values_of b ss ≡ vs → b s ≡ v → SatRows (applied_rows P home locals f n s ss) b
   applied_holds {c} {vs} {v} home env locals f n s ss b inner arity is x g e i =
       subst
       (λ q. SatRows (if q then (if has_function locals f then [] else by_name P home f (P.callee home f) s ss) else bound s none) b)
