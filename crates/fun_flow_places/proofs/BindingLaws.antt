@@ -6,12 +6,6 @@ use Rattle.std.proofs.lemmas.Bool.{false_from_ne_true, or_parts}
 use Rattle.type_kinds.proofs.Truths.{or_first}
 use Rattle.fun_flow_places.specs.Bindings.{or_outer, value_of}
 
-pub zip_length : {X Y : Type 0} (xs : List X) (ys : List Y) → length xs ≡ length ys → length (zip xs ys) ≡ length ys
-zip_length [] [] same = refl
-zip_length [] (y ∷ ys) same = absurd (omega arith)
-zip_length (x ∷ xs) [] same = absurd (omega arith)
-zip_length (x ∷ xs) (y ∷ ys) same = ap suc (zip_length xs ys (omega arith))
-
 pub zip_more : {X Y : Type 0} (xs : List X) (ys : List Y) (x : X) (y : Y) → length xs ≡ length ys → zip (xs ++ x ∷ []) (ys ++ y ∷ []) ≡ zip xs ys ++ (x, y) ∷ []
 zip_more [] [] x y same = refl
 zip_more [] (w ∷ ys) x y same = absurd (omega arith)
@@ -52,7 +46,8 @@ module _ {T V : Type 0} (eq : T → T → Bool) where
       let rest = at_position p xs vs x (omega arith) there innermost in
       (rest.0, (rest.1.0, ap (λ o. or_outer o (if eq x y then Some v else None)) rest.1.1))
 
-  pub found_value : (p : ℕ) (xs : List T) (vs : List V) (bs : List (T × V)) (x : T) (o : Option V) → zip xs vs ≡ bs → length xs ≡ length vs → list_any (eq x) (drop p xs) ≡ true → list_any (eq x) (drop (p + 1) xs) ≡ false → o ≡ slice_get vs p → o ≡ value_of eq bs x
+  pub found_value : (p : ℕ) (xs : List T) (vs : List V) (bs : List (T × V)) (x : T) (o : Option V) → zip xs vs ≡ bs → length xs ≡ length vs → list_any (eq x) (drop p xs) ≡ true
+      → list_any (eq x) (drop (p + 1) xs) ≡ false → o ≡ slice_get vs p → o ≡ value_of eq bs x
   found_value p xs vs bs x o view same there innermost got =
       let at = at_position p xs vs x same there (ap (λ n. list_any (eq x) (drop n xs)) (let e : suc p ≡ p + 1 = omega arith in e) ∙ innermost) in
       got ∙ at.1.0 ∙ sym at.1.1 ∙ ap (λ l. value_of eq l x) view

@@ -39,9 +39,6 @@ name_at_is n (y ∷ xs) (suc h) x e = name_at_is n xs h x e
 pub name_of_is : (U : Program) (h : ℕ) (x : Atom) → slice_get (module_names U) h ≡ Some x → name_of U h ≡ x
 name_of_is U h x e = name_at_is (bytes_of (module_names U)) (module_names U) h x e
 
-atom_itself : (x : Atom) → same_atom x x ≡ true
-atom_itself x = (bytes_decides x x).1 refl
-
 -- the last name that is this one stands where it is found
 last_name : (p : ℕ) (xs : List Atom) (x : Atom) → list_any (same_atom x) (drop p xs) ≡ true → list_any (same_atom x) (drop (suc p) xs) ≡ false → slice_get xs p ≡ Some x
 last_name zero [] x there innermost = absurd cc
@@ -63,7 +60,7 @@ pub module_at : (U : Program) (p : ℕ) (q : m.Module) → Distinct (module_name
 module_at [] p q apart e = absurd cc
 module_at (r ∷ U) zero q apart e =
     let same : r ≡ q = cc in
-    ap (λ b. if b then Some r else module_named U q.name) (ap (λ z. same_atom z.name q.name) same ∙ atom_itself q.name) ∙ ap Some same
+    ap (λ b. if b then Some r else module_named U q.name) (ap (λ z. same_atom z.name q.name) same ∙ (bytes_decides q.name q.name).1 refl) ∙ ap Some same
 module_at (r ∷ U) (suc p) q apart e =
     ap (λ b. if b then Some r else module_named U q.name) (not_same r.name q.name (λ is. apart.0 (subst (Contains (module_names U)) (sym is) (name_among U p q e)))) ∙ module_at U p q apart.1 e
 
@@ -201,7 +198,8 @@ pub outer_none : (o : Option ℕ) → or_outer o None ≡ o
 outer_none None = refl
 outer_none (Some n) = refl
 
-pub exported_round : (functions : List (FunName × ℕ)) (ds : m.Defs) (now new all : List (FunName × Option ℕ)) (fs : List FunName) (i : ℕ) (f : FunName) (label : Option ℕ) → functions ≡ [] ++ frame (locals_of ds) → i < length fs → f ≡ get_or fs i f → label ≡ value_of same_function functions f → new ≡ now ++ (f, label) ∷ []
+pub exported_round : (functions : List (FunName × ℕ)) (ds : m.Defs) (now new all : List (FunName × Option ℕ)) (fs : List FunName) (i : ℕ) (f : FunName) (label : Option ℕ)
+    → functions ≡ [] ++ frame (locals_of ds) → i < length fs → f ≡ get_or fs i f → label ≡ value_of same_function functions f → new ≡ now ++ (f, label) ∷ []
     → now ++ map (λ k. (k, label_of (function_named (locals_of ds) k))) (drop i fs) ≡ all → new ++ map (λ k. (k, label_of (function_named (locals_of ds) k))) (drop (i + 1) fs) ≡ all
 exported_round functions ds now new all fs i f label seen within is found pushed before =
     let same : label ≡ label_of (function_named (locals_of ds) f) = found ∙ ap (λ l. value_of same_function l f) seen ∙ frame_value [] (locals_of ds) f ∙ outer_none (label_of (function_named (locals_of ds) f)) in
