@@ -2,7 +2,5 @@
 #![tactic(auto)]
 
 mod modules;
-#[cfg(test)]
-mod tests;
 
 pub use modules::{MOST_MODULES, make};
