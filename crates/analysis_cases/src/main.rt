@@ -3,6 +3,7 @@
 #![tactic(auto)]
 
 mod alike;
+mod lines;
 mod openings;
 mod play;
 mod solved;

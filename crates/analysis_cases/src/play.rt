@@ -7,8 +7,11 @@
 //! - `body BODY` gives the typing of a function of one parameter, `X`, with this body;
 //! - `alike NAMES` solves these files' modules on one thread without a board, and says whether 1, 2 and 64 workers give the same; and
 //!   what each gives for the names below, each of which is a module and a function of one parameter;
-//! - `opening NAME TYPE` gives the solution of the constraints of this file's functions below a type that their parameter begins with.
+//! - `opening NAME TYPE` gives the solution of the constraints of this file's functions below a type that their parameter begins with;
+//! - `lines` says of each line below, with its end, whether it is read as a typing that has it as its line;
+//! - `line` says so of the lines below together, the last of them without its end.
 use crate::alike::alike;
+use crate::lines::{each_line, line};
 use crate::openings::openings;
 use crate::solved::typings;
 use case_files::{Step, steps_of};
@@ -67,6 +70,8 @@ fn play<R: Threads + Wait + Sync>(
         "body" => body(rt, alloc, step.rest, shelf, out),
         "alike" => alike(rt, alloc, step.rest, step.lines, shelf, out),
         "opening" => openings(alloc, step.rest, shelf, out),
+        "lines" => each_line(alloc, step.lines, out),
+        "line" => line(alloc, step.lines.as_bytes(), out),
         _ => out.append(b"no such step\n"),
     }
 }

@@ -4,8 +4,6 @@
 mod laws;
 mod printing;
 mod reading;
-#[cfg(test)]
-mod tests;
 mod typing;
 
 pub use laws::typing_lines_once;
