@@ -60,7 +60,7 @@ module _ (Src : List Source) (T : List Entry) (S V : Groups) (R : Results) (is :
   abbrev K : Standing
   K = finally R [] Src S
 
-  entry_by : (h : Atom) → entry_of T h ≡ made_of (source_of Src h) (group_of V h) K (R h)
+  pub entry_by : (h : Atom) → entry_of T h ≡ made_of (source_of Src h) (group_of V h) K (R h)
   unfolding new_entry
   entry_by h =
       entries h

@@ -1,13 +1,14 @@
 mod Again
 mod Calls
 pub mod Folds
-mod Entries
+pub mod Entries
 mod Found
 mod FromScratch
 pub mod Graphs
 mod Groupwise
 mod Linking
 mod Mixed
+mod OfWhole
 mod OneAnalysis
 pub mod Names
 pub mod NothingWritten

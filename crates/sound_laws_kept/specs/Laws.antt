@@ -8,12 +8,13 @@ use Rattle.cons_tree.specs.declared.parts.Callee.{Callee}
 use Rattle.comp_rounds.specs.Rounds.{Callees}
 use Rattle.module_flow.specs.Flow.{findings}
 use Rattle.sound_laws_rounds.specs.Whole.{IsWhole}
+use Rattle.analysis_summaries.specs.Whole.{IsWholeOf}
 use Rattle.warn_list.specs.Lines.{AreLines}
 use Rattle.table_keep.specs.Model.{Source, Entry, trees, source_of, is_in, entry_of}
 use Rattle.table_keep.specs.Groups.{Groups, IsGroups, has}
 use Rattle.table_keep.specs.Kept.{Standing, Results, is_candidate, calls_of, is_old, stands, kept}
 use Rattle.sound_laws_kept.specs.Written.{with_kept}
-use Rattle.sound_laws_kept.specs.Solving.{IsSolved, IsWritten, AreSources}
+use Rattle.sound_laws_kept.specs.Solving.{IsResult, IsSolved, IsWritten, AreSources}
 use Rattle.sound_laws_kept.specs.Waves.{wave_from, to_solve, IsWave}
 
 -- Two texts of one module have different digests: that SHA-256 tells apart the texts that are handed in and those of the table.
@@ -65,6 +66,12 @@ abbrev pub RestsLaw : Type 0
 RestsLaw = (R Q : Results) (T : List Entry) (M : List Source) (g : Groups) → IsGroups (is_candidate T M) (calls_of T M) g
     → (n : ℕ) → ((h : Atom) → is_in M h ≡ true → g.number h < n → R h ≡ Q h)
     → (h : Atom) (f : FunName) → stands R T M g n h f ≡ stands Q T M g n h f
+
+-- What the analysis from the empty table gives of each module is given by what is known of all functions, where the modules are analysed
+-- together.
+abbrev pub WholeLaw : Type 0
+WholeLaw = (M : List Source) (reports : List (List ℕ)) (new : List Entry) (known : Callees) → AreSources M → (w : IsWritten [] M reports new) → IsWholeOf (trees M) known
+    → (s : Source) → Contains M s → IsResult known s.tree (w.known s.tree.name)
 
 -- What is reported is found by what is known of the functions of a whole program: of what is handed in and of the kept sources, where the
 -- table is that of some sources. So nothing that is reported is false of a run of that program.

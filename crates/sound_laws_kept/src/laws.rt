@@ -1,8 +1,10 @@
 //! The laws, as functions that do nothing: who calls one has its clauses.
-ghost use Rattle.sound_laws_kept.specs.Laws.{AgainLaw, EntriesUseCalledLaw, FoundLaw, KeptLaw, OneAnalysisLaw, OneTableLaw, RestsLaw, WaveLaw};
+ghost use Rattle.sound_laws_kept.specs.Laws.{AgainLaw, EntriesUseCalledLaw, FoundLaw, KeptLaw, OneAnalysisLaw, OneTableLaw, RestsLaw, WaveLaw, WholeLaw};
 
 use module_flow_frame::findings_rest_on_calls;
-use sound_laws_outside::{known_is_carried, known_of_parts, one_is_known};
+use sound_laws_outside::{
+    known_is_carried, known_of_parts, known_rests_on_calls, one_is_known, solved_is_known,
+};
 use warn_list::one_text;
 
 /// With the table of some sources, the reports and the new table are those of an analysis from scratch of what is handed
@@ -39,6 +41,20 @@ pub fn reports_are_found()
     known_of_parts();
     one_is_known();
     one_text();
+}
+
+/// What an analysis from the empty table gives of each module is given by what is known of the functions of all modules,
+/// where these are analysed together.
+pub fn results_are_of_whole()
+    ensures { WholeLaw }
+{
+    findings_rest_on_calls();
+    known_is_carried();
+    known_of_parts();
+    known_rests_on_calls();
+    one_is_known();
+    one_text();
+    solved_is_known();
 }
 
 /// There is one analysis of sources with a table whose entries use functions of modules that their texts call.

@@ -6,5 +6,5 @@ mod laws;
 
 pub use laws::{
     entries_use_called, kept_is_from_scratch, one_analysis, one_table, reports_are_found,
-    stands_rests, table_is_of_sources, waves_are_groups,
+    results_are_of_whole, stands_rests, table_is_of_sources, waves_are_groups,
 };

@@ -2,6 +2,6 @@ mod Carrying
 mod Folding
 mod Following
 pub mod Members
-mod One
+pub mod One
 pub mod Orderless
 mod Parts

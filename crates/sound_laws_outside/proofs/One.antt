@@ -24,7 +24,7 @@ module _ (xs : List m.Module) (outside known : Callees) (a : IsKnownOver outside
   falls _ _ (by_call f g l) = a.down f g l.target l.calling l.called l.stands l.goes
   falls _ _ (by_calls f m g l rest) = omega (arith, a.down f m l.target l.calling l.called l.stands l.goes, falls m g rest)
 
-  one_number : (f g : Function) → Together (all_functions xs) f g → a.number f.home f.name ≡ a.number g.home g.name
+  pub one_number : (f g : Function) → Together (all_functions xs) f g → a.number f.home f.name ≡ a.number g.home g.name
   one_number f g (inl e) = ap (λ (z : Function). a.number z.home z.name) e
   one_number f g (inr both) = omega (arith, falls f g both.0, falls g f both.1)
 

@@ -1,3 +1,3 @@
 pub mod Callees
 mod Closed
-mod Inferred
+pub mod Inferred
