@@ -1,0 +1,10 @@
+mod Certified
+mod Closed
+mod Complete
+mod Examples
+mod Firsts
+mod Listing
+mod Named
+mod Passes
+mod Solved
+mod Typings
