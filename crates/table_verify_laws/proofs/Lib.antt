@@ -1,8 +1,10 @@
 mod Certified
 mod Closed
+mod Compared
 mod Complete
 mod Examples
 mod Firsts
+mod Fronts
 mod Listing
 mod Named
 mod Passes

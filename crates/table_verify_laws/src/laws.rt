@@ -1,5 +1,7 @@
 //! The laws, as functions that do nothing: who calls one has its clauses.
+ghost use Rattle.table_verify_laws.specs.Counted.{CountedLaw};
 ghost use Rattle.table_verify_laws.specs.Laws.{ClosedLaw, CompleteLaw, OneCertificateLaw, OneFirstLaw, SoundLaw};
+ghost use Rattle.table_verify_laws.specs.Lined.{OtherNamesLaw, SameNamesLaw};
 
 use analysis_summaries::one_known;
 use comp_rounds::rounds_laws;
@@ -49,4 +51,19 @@ pub fn one_certificate()
 /// One rule at most is the first that is broken, at one module.
 pub fn one_first_rule()
     ensures { OneFirstLaw }
+{}
+
+/// Whether entries list the functions of a module is told by how many the certificate's lists, that each is one of the module's, and by a
+/// walk through those that are exported: where the functions of the certificate's entry rise.
+pub fn counting_tells()
+    ensures { CountedLaw }
+{
+    call_laws();
+}
+
+/// Whether all modules are in table, certificate and sources is told by their names side by side, which rise: where they are one list, all
+/// are (`same`); and where they are alike up to a position, the least name there is the first to break a rule (`other`).
+pub fn names_tell()
+    ensures same { SameNamesLaw }
+    ensures other { OtherNamesLaw }
 {}

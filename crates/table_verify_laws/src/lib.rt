@@ -4,4 +4,7 @@
 
 mod laws;
 
-pub use laws::{one_certificate, one_first_rule, rules_are_complete, rules_are_sound, rules_close};
+pub use laws::{
+    counting_tells, names_tell, one_certificate, one_first_rule, rules_are_complete,
+    rules_are_sound, rules_close,
+};
