@@ -32,7 +32,7 @@ use Rattle.sound_laws_kept.proofs.Trees.{source_stands, home_of_sources}
 use Rattle.table_verify_laws.specs.Certificates.{AreListed, ListsAll, EachListsAll, IsCertificate}
 use Rattle.table_verify_laws.specs.Closed.{IsClosedAt}
 use Rattle.table_verify_laws.specs.Listed.{defined, summary_among, callee_by, callee_listed, known_by}
-use Rattle.table_verify_laws.specs.Rules.{Rule, same_modules, same_source, same_functions, closed, IsNamed, in_table, in_certificate, in_sources, IsEverywhere, ListsFunctions, Keeps, KeepsRules}
+use Rattle.table_verify_laws.specs.Rules.{TableRule, same_modules, same_source, same_functions, closed, IsSomewhere, in_table, in_certificate, in_sources, IsEverywhere, ListsFunctions, Keeps, KeepsRules}
 use Rattle.table_verify_laws.proofs.Listing.{ExportsLaw, defined_has}
 use Rattle.table_verify_laws.proofs.Named.{tree_of, module_of_source, named_defined}
 
@@ -152,7 +152,7 @@ module _ (exports : ExportsLaw) (T C : List Entry) (M : List Source) (are : AreS
         source_there = e;
       }
 
-  keeps_modules : (h : Atom) → IsNamed T C M h → IsEverywhere T C M h
+  keeps_modules : (h : Atom) → IsSomewhere T C M h → IsEverywhere T C M h
   keeps_modules h (in_table e at) = let from = from_source M reports T w h e at in everywhere h from.source from.there
   keeps_modules h (in_certificate c at) =
       let b = beside is.known M is.table C is.lists h c at in
@@ -266,7 +266,7 @@ module _ (exports : ExportsLaw) (T C : List Entry) (M : List Source) (are : AreS
           ∙ ap (callee_listed (has_function x.source.tree.exports f)) (certified_so h x f)
           ∙ listed_callee h x f
 
-  keeps : (r : Rule) (h : Atom) → Keeps T C M r h
+  keeps : (r : TableRule) (h : Atom) → Keeps T C M r h
   keeps same_modules h = keeps_modules h
   keeps same_source h = digests h
   keeps same_functions h = functions_listed h

@@ -13,13 +13,13 @@ use Rattle.cons_tree.specs.declared.parts.Summary.{Summary}
 use Rattle.sound_laws_kept.proofs.Names.{none_some}
 use Rattle.table_keep.specs.Model.{Source, Entry}
 use Rattle.table_verify_laws.specs.Listed.{defined, known_by}
-use Rattle.table_verify_laws.specs.Rules.{same_modules, same_source, same_functions, closed, IsNamed, in_table, in_certificate, in_sources, IsEverywhere, Breaks, KeepsRules}
+use Rattle.table_verify_laws.specs.Rules.{same_modules, same_source, same_functions, closed, IsSomewhere, in_table, in_certificate, in_sources, IsEverywhere, Breaks, KeepsRules}
 
 -- of no modules every rule is kept
 nothing_breaks : KeepsRules [] [] []
 nothing_breaks same_modules h = elsewhere h
   where
-    elsewhere : (h : Atom) → IsNamed [] [] [] h → IsEverywhere [] [] [] h
+    elsewhere : (h : Atom) → IsSomewhere [] [] [] h → IsEverywhere [] [] [] h
     elsewhere h (in_table e at) = none_some at
     elsewhere h (in_certificate e at) = none_some at
     elsewhere h (in_sources s at) = none_some at

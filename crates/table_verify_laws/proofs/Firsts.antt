@@ -7,7 +7,7 @@ use Rattle.type_kinds.specs.declared.atom.Atom.{Atom}
 use Rattle.type_kinds_sets.specs.Names.{name_cmp}
 use Rattle.type_kinds_sets.proofs.NameLaws.{name_total, name_same}
 use Rattle.table_file.specs.Order.{is_name_before}
-use Rattle.table_verify_laws.specs.Rules.{Rule, same_modules, same_source, same_functions, closed, rule_number, IsFirstBroken}
+use Rattle.table_verify_laws.specs.Rules.{TableRule, same_modules, same_source, same_functions, closed, rule_number, IsFirstBroken}
 use Rattle.table_verify_laws.specs.Laws.{OneFirstLaw}
 
 -- of two names that don't stand before one another there is one
@@ -20,7 +20,7 @@ one_name h k a b = by (name_cmp h k) refl
     by Greater e = absurd (true≢false (sym (ap is_lt (name_total.antisymm k h ∙ ap ordering_reverse e)) ∙ b))
 
 -- rules differ in their numbers
-same_rule : (r q : Rule) → rule_number r ≡ rule_number q → r ≡ q
+same_rule : (r q : TableRule) → rule_number r ≡ rule_number q → r ≡ q
 same_rule same_modules same_modules e = refl
 same_rule same_source same_source e = refl
 same_rule same_functions same_functions e = refl

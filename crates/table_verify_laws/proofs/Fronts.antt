@@ -15,7 +15,7 @@ use Rattle.table_file.specs.Order.{rises, is_name_before}
 use Rattle.table_keep.specs.Model.{Source, Entry, source_of, is_there, is_in, entry_of}
 use Rattle.sound_laws_kept.proofs.Graphs.{below_all, rises_behind}
 use Rattle.sound_laws_kept.proofs.Names.{itself, name_is, none_some, there_is}
-use Rattle.table_verify_laws.specs.Rules.{Rule, same_modules, same_source, same_functions, closed, rule_number, IsNamed, in_table, in_certificate, in_sources, IsEverywhere, Breaks, IsFirstBroken}
+use Rattle.table_verify_laws.specs.Rules.{TableRule, same_modules, same_source, same_functions, closed, rule_number, IsSomewhere, in_table, in_certificate, in_sources, IsEverywhere, Breaks, IsFirstBroken}
 use Rattle.table_verify_laws.specs.Lined.{entry_names, first_name, IsLeastFirst, AreModuleNames, SameNamesLaw, OtherNamesLaw}
 
 -- ---- lists that rise
@@ -91,7 +91,7 @@ module _ (T C : List Entry) (M : List Source) where
       record { entry = e.0; certified = c.0; source = s.0; entry_there = e.1; certified_there = c.1; source_there = s.1 }
 
   -- a name that is there is one of the three lists
-  named_cases : (h : Atom) → IsNamed T C M h → Contains (entry_names T) h ⊎ (Contains (entry_names C) h ⊎ (is_in M h ≡ true))
+  named_cases : (h : Atom) → IsSomewhere T C M h → Contains (entry_names T) h ⊎ (Contains (entry_names C) h ⊎ (is_in M h ≡ true))
   named_cases h (in_table e at) = inl (there_entry T h e at)
   named_cases h (in_certificate e at) = inr (inl (there_entry C h e at))
   named_cases h (in_sources s at) = inr (inr (ap is_there at))
@@ -160,7 +160,7 @@ module _ (T C : List Entry) (M : List Source) (front ts qs ms : List Atom) (h : 
       everywhere T C M k (subst (λ hs. Contains hs k) (sym t) (Contains-append_left front ts k has)) (subst (λ hs. Contains hs k) (sym c) (Contains-append_left front qs k has))
       ((are.exactly k).1 (Contains-append_left front ms k has))
 
-  lesser_keeps : (k : Atom) → is_name_before k h ≡ true → IsNamed T C M k → IsEverywhere T C M k
+  lesser_keeps : (k : Atom) → is_name_before k h ≡ true → IsSomewhere T C M k → IsEverywhere T C M k
   lesser_keeps k less named = by (named_cases T C M k named)
     where
       by : Contains (entry_names T) k ⊎ (Contains (entry_names C) k ⊎ (is_in M k ≡ true)) → IsEverywhere T C M k
@@ -175,10 +175,10 @@ module _ (T C : List Entry) (M : List Source) (front ts qs ms : List Atom) (h : 
       by true e = absurd (breaks (lesser_keeps k e))
       by false e = refl
 
-  is_named : IsNamed T C M h
+  is_named : IsSomewhere T C M h
   is_named = by is.first_of_one
     where
-      by : (first_name ts ≡ Some h) ⊎ ((first_name qs ≡ Some h) ⊎ (first_name ms ≡ Some h)) → IsNamed T C M h
+      by : (first_name ts ≡ Some h) ⊎ ((first_name qs ≡ Some h) ⊎ (first_name ms ≡ Some h)) → IsSomewhere T C M h
       by (inl e) =
           let there = entry_there T h (subst (λ hs. Contains hs h) (sym t) (Contains-append_right front ts h (first_there ts h e))) in
           in_table there.0 there.1
@@ -189,7 +189,7 @@ module _ (T C : List Entry) (M : List Source) (front ts qs ms : List Atom) (h : 
           let there = there_is (source_of M h) ((are.exactly h).1 (Contains-append_right front ms h (first_there ms h e))) in
           in_sources there.0 there.1
 
-  none_earlier : (q : Rule) → rule_number q < rule_number same_modules → ⊥
+  none_earlier : (q : TableRule) → rule_number q < rule_number same_modules → ⊥
   none_earlier same_modules less = omega (arith, less)
   none_earlier same_source less = omega (arith, less)
   none_earlier same_functions less = omega (arith, less)

@@ -14,7 +14,7 @@ use Rattle.sound_laws_kept.specs.Solving.{AreSources, IsWritten}
 use Rattle.table_keep.specs.Model.{Source, Entry, trees, entry_of}
 use Rattle.table_verify_laws.specs.Certificates.{IsCertificate}
 use Rattle.table_verify_laws.specs.Listed.{known_by}
-use Rattle.table_verify_laws.specs.Rules.{IsFirstBroken, KeepsRules, Rule}
+use Rattle.table_verify_laws.specs.Rules.{IsFirstBroken, KeepsRules, TableRule}
 
 -- The arguments and the value of each call of the function are of the signature, in every run of every stage with any fuel. Here `c` is
 -- the closure of the function, `vs` is what it was entered with, and `v` what it gave.
@@ -50,4 +50,4 @@ OneCertificateLaw = (M : List Source) (C D : List Entry) → AreSources M → Is
 
 -- Of a table, a certificate and sources one rule at most is the first that is broken, at one module.
 abbrev pub OneFirstLaw : Type 0
-OneFirstLaw = (T C : List Entry) (M : List Source) (r q : Rule) (h k : Atom) → IsFirstBroken T C M r h → IsFirstBroken T C M q k → (r ≡ q) × (h ≡ k)
+OneFirstLaw = (T C : List Entry) (M : List Source) (r q : TableRule) (h k : Atom) → IsFirstBroken T C M r h → IsFirstBroken T C M q k → (r ≡ q) × (h ≡ k)
