@@ -22,7 +22,8 @@ use fun_flow_sets::{applications_are_in_order, worked_modules};
 
 /// Accepted modules with names of their own have at most one list of applications.
 pub fn one_list()
-    ensures { (mods : List Checked) → Distinct (map (λ (x : m.Module). x.name) (map tree_of mods)) → (cs ds : List TheCall) → AreCalls (map tree_of mods) cs → AreCalls (map tree_of mods) ds → cs ≡ ds }
+    ensures { (mods : List Checked) → Distinct (map (λ (x : m.Module). x.name) (map tree_of mods)) → (cs ds : List TheCall)
+        → AreCalls (map tree_of mods) cs → AreCalls (map tree_of mods) ds → cs ≡ ds }
 {
     applications_are_in_order();
 }
@@ -34,7 +35,9 @@ pub fn positions_are_within()
 
 /// What an application of accepted modules with names of their own may enter, the list says of it.
 pub fn nothing_is_left_out()
-    ensures { (mods : List Checked) → Distinct (map (λ (x : m.Module). x.name) (map tree_of mods)) → (cs : List TheCall) → AreCalls (map tree_of mods) cs → (home : Atom) (label : ℕ) (x : Item) → MayEnter (map tree_of mods) home label x → IsSaid (map tree_of mods) cs home label x }
+    ensures { (mods : List Checked) → Distinct (map (λ (x : m.Module). x.name) (map tree_of mods)) → (cs : List TheCall)
+        → AreCalls (map tree_of mods) cs → (home : Atom) (label : ℕ) (x : Item) → MayEnter (map tree_of mods) home label x
+        → IsSaid (map tree_of mods) cs home label x }
 {
     applications_are_in_order();
 }
@@ -44,8 +47,14 @@ pub fn nothing_is_left_out()
 /// one that may enter nothing (`more_lines`).
 pub fn worked_list()
     ensures list { AreCalls with_identity identity_calls }
-    ensures lines { call_lines (codes "q" ∷ []) identity_calls ≡ codes "'q':3: apply of a value with 1 arguments may enter fun 'q':2" ++ 10 ∷ codes "'q':3: apply of a value with 1 arguments may enter anything" ++ 10 ∷ [] }
-    ensures more_lines { call_lines (codes "q" ∷ []) (record { «module» = 0; label = 6; line = 3; arity = 1; targets = Only (Fun 0 3 2 ∷ Name (codes "q") (function_name (codes "f") 1) ∷ []) } ∷ record { «module» = 0; label = 6; line = 3; arity = 1; targets = Only [] } ∷ []) ≡ codes "'q':3: apply of a value with 1 arguments may enter fun 'q':2, 'q':'f'/1" ++ 10 ∷ codes "'q':3: apply of a value with 1 arguments may enter nothing" ++ 10 ∷ [] }
+    ensures lines { call_lines (codes "q" ∷ []) identity_calls
+        ≡ codes "'q':3: apply of a value with 1 arguments may enter fun 'q':2"
+        ++ 10 ∷ codes "'q':3: apply of a value with 1 arguments may enter anything" ++ 10 ∷ [] }
+    ensures more_lines { call_lines (codes "q" ∷ [])
+        (record { «module» = 0; label = 6; line = 3; arity = 1; targets = Only (Fun 0 3 2 ∷ Name (codes "q") (function_name (codes "f") 1) ∷ []) }
+        ∷ record { «module» = 0; label = 6; line = 3; arity = 1; targets = Only [] } ∷ [])
+        ≡ codes "'q':3: apply of a value with 1 arguments may enter fun 'q':2, 'q':'f'/1"
+        ++ 10 ∷ codes "'q':3: apply of a value with 1 arguments may enter nothing" ++ 10 ∷ [] }
 {
     worked_modules();
 }

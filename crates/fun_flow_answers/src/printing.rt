@@ -3,7 +3,8 @@ ghost use Rattle.std.specs.Prelude.{◌≡◌, ◌++◌, ◌<◌, length, map, I
 ghost use Rattle.std.specs.List.{All};
 ghost use Rattle.core_scope.specs.Checked.{module_of};
 ghost use Rattle.warn_list.specs.Lines.{remote_text};
-ghost use Rattle.fun_flow_answers.specs.Lines.{AreTargetsWithin, IsCallWithin, IsTargetWithin, call_line, call_lines, only_text, place_text, target_text, targets_text};
+ghost use Rattle.fun_flow_answers.specs.Lines.{AreTargetsWithin, IsCallWithin, IsTargetWithin, call_line, call_lines, only_text, place_text, target_text};
+ghost use Rattle.fun_flow_answers.specs.Lines.{targets_text};
 
 use crate::target::{AppliedCall, ListedTargets, Target};
 use core_ast::FunName;
