@@ -1,7 +1,6 @@
 -- The forms of expressions: the rules that their steps make together, and their places.
-use Rattle.std.proofs.Common.{◌≡◌, ℕ, Bool, true, false, ◌&&◌, if◌then◌else◌, List, [], ◌∷◌, ◌++◌, length, map, take, Option, Some, None, Result, IfOk, nat_eq, eqb-true, refl, sym, ap, ◌∙◌}
+use Rattle.std.proofs.Common.{◌≡◌, ℕ, List, [], ◌∷◌, ◌++◌, length, map, take, Option, Some, None, Result, IfOk, refl, sym, ap, ◌∙◌}
 use Rattle.std.proofs.lemmas.Result.{IfOk-weaker}
-use Rattle.std.proofs.lemmas.Bool.{and_parts}
 use Rattle.type_kinds.specs.declared.atom.Atom.{Atom}
 use Rattle.type_kinds.specs.declared.memory.Memory.{Memory}
 use Rattle.core_ast.specs.declared.syntax.FunName.{FunName}
@@ -9,9 +8,9 @@ use Rattle.core_ast.specs.declared.syntax.Mark.{Mark}
 use Rattle.core_ast.specs.declared.syntax.VarName.{VarName}
 use Rattle.core_ast.specs.Model as m
 use Rattle.core_scope.specs.Asks.{one_value}
-use Rattle.core_scope.specs.Names.{same_atom}
 use Rattle.core_scope.specs.declared.ask.Ask.{Ask}
 use Rattle.type_lattice_model.specs.Values.{Local}
+use Rattle.core_meaning.proofs.FunctionLaws.{named_arity}
 use Rattle.core_meaning.specs.Programs.{Program, function_named, locals_of}
 use Rattle.fun_flow_places.specs.Naming.{item_named, place_named}
 use Rattle.fun_flow_places.specs.Tables.{label_of}
@@ -67,17 +66,6 @@ module _ (r : Result (List FlowPlace) Memory) (w0 w1 : RuleWalk) (k : Ask) (t : 
   parts_exit label ask h same = IfOk-weaker r _ _ (λ ps g. (h, λ U home sc s. g U home sc (sees_on U home sc w0 w1 h.rest s) ∙ same U home sc))
 
 -- ---- names
-
-named_arity : (ds : List Local) (f : FunName) (d : Local) → function_named ds f ≡ Some d → d.arity ≡ f.arity
-named_arity [] f d e = absurd cc
-named_arity (c ∷ ds) f d e = by (same_atom c.name f.name && nat_eq c.arity f.arity) refl (named_arity ds f d)
-  where
-    by : (b : Bool) → (same_atom c.name f.name && nat_eq c.arity f.arity) ≡ b → (function_named ds f ≡ Some d → d.arity ≡ f.arity) → d.arity ≡ f.arity
-    by true h later =
-        let found : Some c ≡ Some d = sym (ap (λ z. if z then Some c else function_named ds f) h) ∙ e in
-        let same : c ≡ d = cc in
-        sym (ap (λ z. z.arity) same) ∙ eqb-true c.arity f.arity (and_parts (same_atom c.name f.name) (nat_eq c.arity f.arity) h).1
-    by false h later = later (sym (ap (λ z. if z then Some c else function_named ds f) h) ∙ e)
 
 -- all definitions with a name have its arity
 abbrev HaveArity : FunName → Option Local → Type 0

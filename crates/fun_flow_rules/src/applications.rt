@@ -101,7 +101,9 @@ fn walk_called(
     count: usize,
     args: &[FlowPlace],
 ) -> Result<FlowPlace, Memory>
-    ensures { IfOk result (λ place. Makes walk.old walk.new (λ U own sc. call_rules U own label (literal_atom (tree home.now)) (literal_atom (tree name.now)) count (map (place_named U) args.now)) × GivesOne walk.old place (λ U own sc. call_place U own label (literal_atom (tree home.now)) (literal_atom (tree name.now)) count)) }
+    ensures { IfOk result (λ place. Makes walk.old walk.new
+        (λ U own sc. call_rules U own label (literal_atom (tree home.now)) (literal_atom (tree name.now)) count (map (place_named U) args.now))
+        × GivesOne walk.old place (λ U own sc. call_place U own label (literal_atom (tree home.now)) (literal_atom (tree name.now)) count)) }
 {
     let Some(home) = home.atom() else {
         return Ok(FlowPlace::Anywhere);
@@ -127,7 +129,9 @@ fn walk_found(
     name: &FunName,
     args: &[FlowPlace],
 ) -> Result<FlowPlace, Memory>
-    ensures { IfOk result (λ place. Makes walk.old walk.new (λ U own sc. found_rules own label (found U home.now name.now) name.now (map (place_named U) args.now)) × GivesOne walk.old place (λ U own sc. found_place U own label (found U home.now name.now) home.now name.now)) }
+    ensures { IfOk result (λ place. Makes walk.old walk.new
+        (λ U own sc. found_rules own label (found U home.now name.now) name.now (map (place_named U) args.now))
+        × GivesOne walk.old place (λ U own sc. found_place U own label (found U home.now name.now) home.now name.now)) }
 {
     match walk.table.resolve(home, name) {
         FoundFunction::BuiltIn => {

@@ -36,7 +36,8 @@ pub fn walk_chain(
 // The steps of a chain, whose variables stay bound.
 #[cycle(rules)]
 fn walk_steps(walk: &mut RuleWalk, steps: &[Step]) -> Result<(), Memory>
-    ensures { OnOk result (Binds walk.old walk.new (λ U home sc. rules_of_steps U home sc (all_steps steps.now)) (λ U home sc. after_steps U home sc (all_steps steps.now))) }
+    ensures { OnOk result (Binds walk.old walk.new (λ U home sc. rules_of_steps U home sc (all_steps steps.now))
+        (λ U home sc. after_steps U home sc (all_steps steps.now))) }
 {
     for step in steps {
         walk_step(walk, step)?;
@@ -47,7 +48,8 @@ fn walk_steps(walk: &mut RuleWalk, steps: &[Step]) -> Result<(), Memory>
 // One step.
 #[cycle(rules)]
 fn walk_step(walk: &mut RuleWalk, step: &Step) -> Result<(), Memory>
-    ensures { OnOk result (Binds walk.old walk.new (λ U home sc. rules_of_steps U home sc (all_steps (step.now ∷ []))) (λ U home sc. after_steps U home sc (all_steps (step.now ∷ [])))) }
+    ensures { OnOk result (Binds walk.old walk.new (λ U home sc. rules_of_steps U home sc (all_steps (step.now ∷ [])))
+        (λ U home sc. after_steps U home sc (all_steps (step.now ∷ [])))) }
 {
     match step {
         StepOf::Let(_, vars, expr) => {
@@ -129,7 +131,8 @@ fn walk_clauses(
     values: &[FlowPlace],
     clauses: &[Clause],
 ) -> Result<(), Memory>
-    ensures { OnOk result (Makes walk.old walk.new (λ U home sc. rules_of_clauses U home sc ask label (map (place_named U) values.now) (all_clauses clauses.now))) }
+    ensures { OnOk result (Makes walk.old walk.new (λ U home sc. rules_of_clauses U home sc ask label (map (place_named U) values.now)
+        (all_clauses clauses.now))) }
 {
     for clause in clauses {
         walk_clause(walk, label, ask, values, clause)?;
@@ -167,7 +170,8 @@ fn walk_under(
     places: &[FlowPlace],
     expr: &Expr,
 ) -> Result<(), Memory>
-    ensures { OnOk result (Makes walk.old walk.new (λ U home sc. joined_rules U home (with_places vars.now (map (place_named U) places.now) sc) label ask (tree expr.now))) }
+    ensures { OnOk result (Makes walk.old walk.new (λ U home sc. joined_rules U home (with_places vars.now (map (place_named U) places.now) sc) label
+        ask (tree expr.now))) }
 {
     let around = walk.variables.len();
     walk.bind_all(vars, places)?;
@@ -184,7 +188,8 @@ pub fn walk_try(
     ask: Ask,
     parts: &TryParts,
 ) -> Result<List<FlowPlace>, Memory>
-    ensures { Walks walk.old walk.new ask (m.try mark (tree parts.now.arg) parts.now.vars (tree parts.now.body) parts.now.catch_vars (tree parts.now.handler)) result }
+    ensures { Walks walk.old walk.new ask (m.try mark (tree parts.now.arg) parts.now.vars (tree parts.now.body) parts.now.catch_vars
+        (tree parts.now.handler)) result }
 {
     let vars = parts.vars.as_slice();
     let places = walk_expression(walk, Ask::Exactly(vars.len()), parts.arg.get())?;

@@ -68,7 +68,8 @@ pub fn walk_expression(
 /// An expression that is asked for one value, and the place of that.
 #[cycle(rules)]
 pub fn walk_one(walk: &mut RuleWalk, expr: &Expr) -> Result<FlowPlace, Memory>
-    ensures { IfOk result (λ place. Makes walk.old walk.new (λ U home sc. rules U home sc one_value (tree expr.now)) × GivesOne walk.old place (λ U home sc. first (places U home sc one_value (tree expr.now)))) }
+    ensures { IfOk result (λ place. Makes walk.old walk.new (λ U home sc. rules U home sc one_value (tree expr.now))
+        × GivesOne walk.old place (λ U home sc. first (places U home sc one_value (tree expr.now)))) }
 {
     let places = walk_expression(walk, Ask::Exactly(1), expr)?;
     Ok(first(places.as_slice()))
@@ -77,7 +78,8 @@ pub fn walk_one(walk: &mut RuleWalk, expr: &Expr) -> Result<FlowPlace, Memory>
 /// Expressions that are asked for one value each, and the places of those.
 #[cycle(rules)]
 pub fn walk_all(walk: &mut RuleWalk, exprs: &[Expr]) -> Result<List<FlowPlace>, Memory>
-    ensures { IfOk result (λ places. Makes walk.old walk.new (λ U home sc. rules_of_all U home sc (all_trees exprs.now)) × Gives walk.old places (λ U home sc. places_of_all U home sc (all_trees exprs.now))) }
+    ensures { IfOk result (λ places. Makes walk.old walk.new (λ U home sc. rules_of_all U home sc (all_trees exprs.now))
+        × Gives walk.old places (λ U home sc. places_of_all U home sc (all_trees exprs.now))) }
 {
     let mut places = List::new(walk.alloc);
     for expr in exprs {
@@ -188,7 +190,8 @@ fn walk_tuple(walk: &mut RuleWalk, mark: Mark, items: &[Expr]) -> Result<List<Fl
 // The pairs of a map, and the places of the keys and the values.
 #[cycle(rules)]
 fn walk_pairs(walk: &mut RuleWalk, pairs: &[MapPair]) -> Result<List<FlowPlace>, Memory>
-    ensures { IfOk result (λ places. Makes walk.old walk.new (λ U home sc. rules_of_pairs U home sc (all_pairs pairs.now)) × Gives walk.old places (λ U home sc. places_of_pairs U home sc (all_pairs pairs.now))) }
+    ensures { IfOk result (λ places. Makes walk.old walk.new (λ U home sc. rules_of_pairs U home sc (all_pairs pairs.now))
+        × Gives walk.old places (λ U home sc. places_of_pairs U home sc (all_pairs pairs.now))) }
 {
     let mut places = List::new(walk.alloc);
     for pair in pairs {

@@ -39,7 +39,8 @@ fn walk_pattern(walk: &mut RuleWalk, place: FlowPlace, pattern: &Pattern) -> Res
 // Patterns of parts of one value.
 #[cycle(rules)]
 fn walk_patterns(walk: &mut RuleWalk, place: FlowPlace, patterns: &[Pattern]) -> Result<(), Memory>
-    ensures { OnOk result (Binds walk.old walk.new (λ U home sc. rules_of_patterns U home sc (place_named U place) (all_patterns patterns.now)) (λ U home sc. with_patterns (place_named U place) (all_patterns patterns.now) sc)) }
+    ensures { OnOk result (Binds walk.old walk.new (λ U home sc. rules_of_patterns U home sc (place_named U place) (all_patterns patterns.now))
+        (λ U home sc. with_patterns (place_named U place) (all_patterns patterns.now) sc)) }
 {
     for pattern in patterns {
         walk_pattern(walk, place, pattern)?;
@@ -54,7 +55,8 @@ fn walk_pattern_pairs(
     place: FlowPlace,
     pairs: &[PatPair],
 ) -> Result<(), Memory>
-    ensures { OnOk result (Binds walk.old walk.new (λ U home sc. rules_of_pat_pairs U home sc (place_named U place) (all_pat_pairs pairs.now)) (λ U home sc. with_pat_pairs (place_named U place) (all_pat_pairs pairs.now) sc)) }
+    ensures { OnOk result (Binds walk.old walk.new (λ U home sc. rules_of_pat_pairs U home sc (place_named U place) (all_pat_pairs pairs.now))
+        (λ U home sc. with_pat_pairs (place_named U place) (all_pat_pairs pairs.now) sc)) }
 {
     for pair in pairs {
         walk_one(walk, &pair.key)?;
@@ -66,7 +68,8 @@ fn walk_pattern_pairs(
 // The segments of a binary pattern, whose variables may stand for anything.
 #[cycle(rules)]
 fn walk_pattern_segments(walk: &mut RuleWalk, segments: &[PatSegment]) -> Result<(), Memory>
-    ensures { OnOk result (Binds walk.old walk.new (λ U home sc. rules_of_pat_segments U home sc (all_pat_segments segments.now)) (λ U home sc. with_pat_segments (all_pat_segments segments.now) sc)) }
+    ensures { OnOk result (Binds walk.old walk.new (λ U home sc. rules_of_pat_segments U home sc (all_pat_segments segments.now))
+        (λ U home sc. with_pat_segments (all_pat_segments segments.now) sc)) }
 {
     for segment in segments {
         walk_pattern(walk, FlowPlace::Anywhere, &segment.value)?;
@@ -82,7 +85,8 @@ pub fn walk_heads(
     places: &[FlowPlace],
     patterns: &[Pattern],
 ) -> Result<(), Memory>
-    ensures { OnOk result (Binds walk.old walk.new (λ U home sc. rules_of_heads U home sc (map (place_named U) places.now) (all_patterns patterns.now)) (λ U home sc. with_heads (map (place_named U) places.now) (all_patterns patterns.now) sc)) }
+    ensures { OnOk result (Binds walk.old walk.new (λ U home sc. rules_of_heads U home sc (map (place_named U) places.now)
+        (all_patterns patterns.now)) (λ U home sc. with_heads (map (place_named U) places.now) (all_patterns patterns.now) sc)) }
 {
     for position in 0..patterns.len() {
         let pattern = &patterns[position];
