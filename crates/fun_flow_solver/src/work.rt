@@ -99,7 +99,8 @@ pub fn link(
     requires from { from < length sets.old }
     requires to { to < length sets.old }
     requires edge_count { length out.old ≡ length sets.old }
-    ensures keeps { (P : Problem) → ((x : ℕ) → Holds P from x → Holds P to x) → OnOk result (Keeps P sets.old out.old queue.old.items sets.new out.new queue.new.items) }
+    ensures keeps { (P : Problem) → ((x : ℕ) → Holds P from x → Holds P to x)
+        → OnOk result (Keeps P sets.old out.old queue.old.items sets.new out.new queue.new.items) }
     ensures added { OnOk result (Leads out.new from to) }
 {
     let _count = sets.count();
@@ -148,7 +149,8 @@ pub fn apply_all(
     requires edge_count { length out.old ≡ length sets.old }
     requires held_there { Holds problem.now place item }
     ensures keeps { OnOk result (Keeps problem.now sets.old out.old queue.old.items sets.new out.new queue.new.items) }
-    ensures applied { OnOk result ((c : Application) → Contains problem.now.applications.items c → c.operator ≡ place → IsApplied problem.now sets.new out.new c item) }
+    ensures applied { OnOk result ((c : Application) → Contains problem.now.applications.items c → c.operator ≡ place
+        → IsApplied problem.now sets.new out.new c item) }
 {
     for number in applications_at.targets(place) {
         let application = problem.applications[*number as usize];
