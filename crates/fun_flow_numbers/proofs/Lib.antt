@@ -1,0 +1,7 @@
+mod Agreement
+mod Bounds
+mod Growth
+mod Looking
+pub mod Names
+mod Numbers
+mod Simulation
