@@ -1,14 +1,15 @@
-mod ChoiceLaws
+pub mod ChoiceLaws
 mod FrameLaws
 mod IndexLaws
 mod KeepLaws
-mod LowLaws
-mod MemberLaws
+pub mod LowLaws
+pub mod MemberLaws
+pub mod MemberTurns
 mod MemoLaws
-mod OrderLaws
-mod PlanLaws
+pub mod OrderLaws
+pub mod PlanLaws
 mod QueueLaws
-mod SolutionLaws
-mod TurnLaws
-mod TurnTrails
+pub mod SolutionLaws
+pub mod TurnLaws
+pub mod TurnTrails
 mod WaitingLaws

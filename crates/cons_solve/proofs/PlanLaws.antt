@@ -118,7 +118,7 @@ module _ (facts : TypeFacts) (laws : W.Laws environments) where
 
   -- ---- what is kept, further down
 
-  kept_falls : (c : Cons Part) (k : Outcome) (G : Types → Type 0) (xs ys : Types) → ((us ws : Types) → AreBelow ws us → G us → G ws) → AreBelow ys xs → IsKept c k G xs → IsKept c k G ys
+  pub kept_falls : (c : Cons Part) (k : Outcome) (G : Types → Type 0) (xs ys : Types) → ((us ws : Types) → AreBelow ws us → G us → G ws) → AreBelow ys xs → IsKept c k G xs → IsKept c k G ys
   kept_falls c None G xs ys g h k = λ zs b q. k zs (are_through zs ys xs b h) q
   kept_falls c (Some lows) G xs ys g h k =
       (subst (λ n. Within n lows) (sym (are_long ys xs h)) k.0, λ zs b q. k.1 zs (are_through zs ys xs b h) q, g (fallen lows xs) (fallen lows ys) (fallen_grows facts lows ys xs h) k.2)
@@ -154,15 +154,19 @@ module _ (facts : TypeFacts) (laws : W.Laws environments) where
       S.solved_on environments laws c xs (fallen lows xs) (fallen_below facts lows xs) (λ zs b q. fallen_above facts lows xs zs b (k.1 zs b q))
 
   -- what a solution lowered is kept, and that there is none
-  pub kept_after : (c : Cons Part) (m : Memo) (fs : List TrailEntry) (begin xs : Types) (alive : Bool) (k : Outcome) → solution c begin ≡ answer alive xs → laid fs xs ≡ begin → Within (length xs) fs → length begin ≡ length xs → (alive ≡ true → Good c m xs) → k ≡ cond alive (Some (map (now_of xs) fs)) None → IsKept c k (Good c m) begin
-  kept_after c m fs begin xs true k h e w l g is =
-      subst (λ o. IsKept c o (Good c m) begin) (sym is) (
+  pub kept_new : (c : Cons Part) (G : Types → Type 0) (fs : List TrailEntry) (begin xs : Types) (alive : Bool) (k : Outcome) → ((us ws : Types) → AreBelow ws us → G us → G ws) → solution c begin ≡ answer alive xs → laid fs xs ≡ begin → Within (length xs) fs → length begin ≡ length xs → (alive ≡ true → G xs) → k ≡ cond alive (Some (map (now_of xs) fs)) None → IsKept c k G begin
+  kept_new c G fs begin xs true k f h e w l g is =
+      subst (λ o. IsKept c o G begin) (sym is) (
         now_within (length begin) fs xs (subst (λ n. Within n fs) (sym l) w),
         λ zs b q. now_under fs xs zs (S.stays_under environments laws c begin (Some xs) h zs b q),
-        good_falls c m xs (fallen (map (now_of xs) fs) begin) (now_fallen fs xs begin e w l) (g refl),
+        f xs (fallen (map (now_of xs) fs) begin) (now_fallen fs xs begin e w l) (g refl),
       )
-  kept_after c m fs begin xs false k h e w l g is =
-      subst (λ o. IsKept c o (Good c m) begin) (sym is) (λ zs b q. S.stays_under environments laws c begin None h zs b q)
+  kept_new c G fs begin xs false k f h e w l g is =
+      subst (λ o. IsKept c o G begin) (sym is) (λ zs b q. S.stays_under environments laws c begin None h zs b q)
+
+  pub kept_after : (c : Cons Part) (m : Memo) (fs : List TrailEntry) (begin xs : Types) (alive : Bool) (k : Outcome) → solution c begin ≡ answer alive xs → laid fs xs ≡ begin → Within (length xs) fs → length begin ≡ length xs → (alive ≡ true → Good c m xs) → k ≡ cond alive (Some (map (now_of xs) fs)) None → IsKept c k (Good c m) begin
+  kept_after c m fs begin xs alive k h e w l g is =
+      kept_new c (Good c m) fs begin xs alive k (λ us ws b q. good_falls c m us ws b q) h e w l g is
 
 -- Bottom adds nothing to what was found
 pub joined_none : (s : W.State environments) → W.joined environments s None ≡ s

@@ -1,5 +1,5 @@
 -- Which members of a list wait: a member that doesn't is solved, and when none waits the list is.
-use Rattle.std.proofs.Common.{◌≡◌, ℕ, zero, suc, ◌+◌, ◌-◌, ◌*◌, ◌<◌, ◌≤◌, Bool, true, false, List, [], ◌∷◌, length, get_or, set, take, drop, Some, None, refl, sym, ap, ◌∙◌, subst, arith, inl, inr, true≢false}
+use Rattle.std.proofs.Common.{◌≡◌, ℕ, zero, suc, ◌+◌, ◌-◌, ◌*◌, ◌<◌, ◌≤◌, Bool, true, false, List, [], ◌∷◌, length, get_or, set, take, drop, Some, sym, ap, ◌∙◌, subst, arith, inl, inr, true≢false}
 use Rattle.std.proofs.Math.Nat.{mul-le-mul_left}
 use Rattle.std.proofs.lemmas.Bool.{cases_eq}
 use Rattle.std.proofs.lemmas.List.{take_rest, get_or_default, get_or-set_other}
@@ -15,10 +15,10 @@ use Rattle.cons_tree.specs.declared.slots.Slots.{Slots}
 use Rattle.cons_solve.specs.Environments.{environments, ranks, solution}
 use Rattle.cons_solve.specs.Frames.{Free}
 use Rattle.cons_solve.specs.Solutions as W
-use Rattle.cons_solve.specs.steps.Passes.{passes}
 use Rattle.cons_solve.specs.declared.index.Naming.{Naming}
 use Rattle.cons_solve.specs.steps.Positions.{Covers, FreeAll, Woke}
 use Rattle.cons_solve.proofs.FrameLaws.{Frames, untouched}
+use Rattle.cons_solve.proofs.MemberTurns.{members_stay}
 use Rattle.cons_solve.proofs.SolutionLaws as S
 use Rattle.cons_solve.proofs.TurnTrails.{told_is, told_back, empty_list, trail_length, trailed_falls}
 
@@ -93,31 +93,6 @@ module _ (facts : TypeFacts) (frames : Frames) (laws : W.Laws environments) wher
         untouched facts frames laws c told s.types t.types back free (r j l before x)
   ]
 
-  each_at : (ms : List Constraint) (i : ℕ) (m : Constraint) (y : Types) → i < length ms → W.SolvesEach environments (constraints ms) y → W.Solves environments (constraint (get_or ms i m)) y
-  each_at [] i m y l h = absurd (omega (arith, l))
-  each_at (c ∷ ms) zero m y l h = h.0
-  each_at (c ∷ ms) (suc i) m y l h = each_at ms i m y (omega (arith, l)) h.1
-
-  member_solved : (ms : List Constraint) (i : ℕ) (m : Constraint) → i < length ms → m ≡ get_or ms i m → (y : Types) → W.SolvesEach environments (constraints ms) y → W.Solves environments (constraint m) y
-  member_solved ms i m l is y q = subst (λ c. W.Solves environments (constraint c) y) (sym is) (each_at ms i m y l q)
-
-  pub member_moves : (ms : List Constraint) (i : ℕ) (m : Constraint) (xs ys : Types) → i < length ms → m ≡ get_or ms i m → solution (constraint m) xs ≡ Some ys → solution (all_of (constraints ms)) ys ≡ solution (all_of (constraints ms)) xs
-  member_moves ms i m xs ys l is h =
-      let all = all_of (constraints ms) in
-      let best = S.is_greatest environments laws (constraint m) xs in
-      sym (S.greatest_is environments laws all xs (solution all ys) (S.moved environments laws (W.Solves environments all) xs ys (solution all ys) (subst (λ r. W.Under environments r (Some xs)) h best.below) (λ y b q. subst (W.Under environments (Some y)) h (best.above y b (member_solved ms i m l is y q))) (S.is_greatest environments laws all ys)))
-
-  pub member_dies : (ms : List Constraint) (i : ℕ) (m : Constraint) (xs : Types) → i < length ms → m ≡ get_or ms i m → solution (constraint m) xs ≡ None → solution (all_of (constraints ms)) xs ≡ None
-  member_dies ms i m xs l is h =
-      let all = all_of (constraints ms) in
-      let best = S.is_greatest environments laws (constraint m) xs in
-      S.greatest_is environments laws all xs None (S.no_solution environments laws (W.Solves environments all) xs (λ y b q. subst (W.Under environments (Some y)) h (best.above y b (member_solved ms i m l is y q))))
-
-  passes_all : (ms : List Constraint) (xs : Types) → ((j : ℕ) → j < length ms → (x : Constraint) → solution (constraint (get_or ms j x)) xs ≡ Some xs) → passes environments (constraints ms) xs ≡ Some xs
-  passes_all [] xs h = refl
-  passes_all (m ∷ ms) xs h =
-      ap (λ r. W.on_some r (passes environments (constraints ms))) (h 0 (omega arith) m) ∙ passes_all ms xs (λ j l x. h (suc j) (omega (arith, l)) x)
-
   pub rest_ends : (ws : List Bool) (ms : List Constraint) (xs : Types) → length ws ≡ length ms → ((j : ℕ) → j < length ws → get_or ws j true ≡ false) → Rest ws ms xs → solution (all_of (constraints ms)) xs ≡ Some xs
   rest_ends ws ms xs long none r =
-      S.all_stays environments laws (constraints ms) xs (passes_all ms xs (λ j l x. r j l (none j (omega (arith, l, long))) x))
+      members_stay laws ms xs (λ j l x. r j l (none j (omega (arith, l, long))) x)

@@ -4,7 +4,8 @@ use Rattle.std.proofs.lemmas.Bool.{ltb-false, ltb-true}
 use Rattle.std.proofs.lemmas.List.{length-set}
 use Rattle.cons_tree.proofs.TrailLaws.{no_answer, an_answer}
 use Rattle.cons_solve.proofs.TurnTrails.{if_some, if_none, turn_pays, turn_still}
-use Rattle.cons_solve.proofs.WaitingLaws.{slice_told, turn_falls, rest_goes_on, rest_ends, member_moves, member_dies}
+use Rattle.cons_solve.proofs.MemberTurns.{member_moves, member_dies}
+use Rattle.cons_solve.proofs.WaitingLaws.{slice_told, turn_falls, rest_goes_on, rest_ends}
 use Rattle.cons_solve.proofs.counted.count_work.Goals as goal
 
 pub returns-in_default-clause-value : goal.returns-in_default-clause-value
@@ -18,7 +19,7 @@ returns-then-not-alive-clause-value g c =
     let inv = c.turns.invariant in
     let next = if_some c.in_ok-at.field-0 c.in-Some.at _ c.in-Some.is c.in_ok-at.ensures.some in
     let low : c.in-Some.at < length c.args.members.now = omega (arith, next.0, inv.long) in
-    sym inv.same ∙ member_dies c.type_facts.ensures c.frame_law.ensures c.environment_laws.ensures.laws c.args.members.now c.in-Some.at c.index-members-at.result c.turns.slots.types low c.index-members-at.is (no_answer c.in_ok-alive.alive _ c.solve_slots.new.slots.types c.if-not-alive.true c.in_ok-alive.ensures.value)
+    sym inv.same ∙ member_dies c.environment_laws.ensures.laws c.args.members.now c.in-Some.at c.index-members-at.result c.turns.slots.types low c.index-members-at.is (no_answer c.in_ok-alive.alive _ c.solve_slots.new.slots.types c.if-not-alive.true c.in_ok-alive.ensures.value)
 
 pub wake-requires : goal.wake-requires
 wake-requires g c =
@@ -50,7 +51,7 @@ turns-preserved g c =
     let alive = an_answer c.in_ok-alive.alive _ c.solve_slots.new.slots.types c.if-not-alive.false c.in_ok-alive.ensures.value in
     let told = take (length c.as_slice.result.now - c.len-checkpoint.result) (drop c.len-checkpoint.result c.as_slice.result.now) in
     record {
-      same = member_moves c.type_facts.ensures c.frame_law.ensures c.environment_laws.ensures.laws c.args.members.now at c.index-members-at.result c.turns.slots.types c.solve_slots.new.slots.types low c.index-members-at.is alive ∙ inv.same;
+      same = member_moves c.environment_laws.ensures.laws c.args.members.now at c.index-members-at.result c.turns.slots.types c.solve_slots.new.slots.types low c.index-members-at.is alive ∙ inv.same;
       long = c.in_ok-wake.ensures.woke.long ∙ ap length next.2 ∙ length-set old at false ∙ inv.long;
       queued = c.in_ok-wake.ensures.queued;
       rest = rest_goes_on c.type_facts.ensures c.frame_law.ensures c.environment_laws.ensures.laws old mid c.wake.new.self.flags c.args.members.now c.in_ok-index.index.namings told c.turns.slots c.solve_slots.new.slots c.len-checkpoint.result at c.index-members-at.result low c.index-members-at.is alive c.in_ok-alive.ensures.trailed c.len-checkpoint.ensures (slice_told c.as_slice.result.now c.solve_slots.new.slots.trail c.len-checkpoint.result c.as_slice.ensures) c.in_ok-index.ensures next.2 c.in_ok-wake.ensures.woke inv.rest;

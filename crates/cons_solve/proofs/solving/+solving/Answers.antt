@@ -12,12 +12,13 @@ use Rattle.cons_solve.specs.steps.Plans.{listing, choosing, memo, memos, Good, G
 use Rattle.cons_solve.specs.declared.plan.Plan.TheVariants as v
 use Rattle.cons_tree.proofs.TrailLaws.{no_answer, an_answer, trailed_then, trailed_length}
 use Rattle.cons_solve.proofs.ChoiceLaws.{between_as, same_types, same_trail, laid_below}
+use Rattle.cons_solve.proofs.MemberTurns.{member_moves, member_dies}
 use Rattle.cons_solve.proofs.MemberLaws.{of_part, of_all, of_any, weight, lighter_member, union_goes_on}
 use Rattle.cons_solve.proofs.MemoLaws.{memo_all, memo_any, covers, each_at, each_again, any_long, any_here, any_again, none_again}
 use Rattle.cons_solve.proofs.PlanLaws.{each_falls, any_falls, kept_dead, kept_solves, kept_after, joined_none}
 use Rattle.cons_solve.proofs.TurnTrails.{if_some, if_none, told_back, told_within, told_front}
 use Rattle.cons_solve.proofs.TurnLaws.{any_is, merged_unions, answer_below}
-use Rattle.cons_solve.proofs.WaitingLaws.{slice_told, turn_falls, rest_goes_on, rest_ends, member_moves, member_dies}
+use Rattle.cons_solve.proofs.WaitingLaws.{slice_told, turn_falls, rest_goes_on, rest_ends}
 use Rattle.cons_solve.proofs.solving.+solving.Goals as goal
 use Rattle.cons_solve.proofs.solving.+solving.Goals.{join_each-in-None, join_each-in-Some+in_ok-alive-in-Some+in_ok-note-in-Some+in_ok-best-in-Some}
 
@@ -103,7 +104,7 @@ work-returns-then-not-alive-clause-value t c =
     let inv = c.turns.invariant in
     let next = if_some c.in_ok-at.field-0 c.in-Some.at _ c.in-Some.is c.in_ok-at.ensures.some in
     let low : c.in-Some.at < length c.args.members.now = omega (arith, next.0, inv.long) in
-    sym inv.same ∙ member_dies c.type_facts.ensures c.frame_law.ensures c.environment_laws.ensures.laws c.args.members.now c.in-Some.at c.index-members-at.result c.turns.slots.types low c.index-members-at.is (no_answer c.in_ok-alive.alive _ c.solve_plan.new.slots.types c.if-not-alive.true c.in_ok-alive.ensures.value)
+    sym inv.same ∙ member_dies c.environment_laws.ensures.laws c.args.members.now c.in-Some.at c.index-members-at.result c.turns.slots.types low c.index-members-at.is (no_answer c.in_ok-alive.alive _ c.solve_plan.new.slots.types c.if-not-alive.true c.in_ok-alive.ensures.value)
 
 pub work-returns-then-not-alive-clause-trailed : goal.work-returns-then-not-alive-clause-trailed
 work-returns-then-not-alive-clause-trailed t c =
@@ -147,7 +148,7 @@ work-turns-preserved t c =
     let under = answer_below laws (constraint x) xs ys its.alive its.ensures.value c.if-not-alive.false in
     let told = take (length c.as_slice.result.now - c.len-checkpoint.result) (drop c.len-checkpoint.result c.as_slice.result.now) in
     record {
-      same = member_moves facts c.frame_law.ensures laws ms at x xs ys low c.index-members-at.is alive ∙ inv.same;
+      same = member_moves laws ms at x xs ys low c.index-members-at.is alive ∙ inv.same;
       trailed = trailed_then c.args.slots.now c.turns.slots c.solve_plan.new.slots inv.trailed its.ensures.trailed;
       long = c.in_ok-wake.ensures.woke.long ∙ ap length next.2 ∙ length-set old at false ∙ inv.long;
       queued = c.in_ok-wake.ensures.queued;

@@ -1,0 +1,137 @@
+//! The join of the solutions of alternatives, on the slots that the first of them lowered: a slot that one of them leaves alone keeps its
+//! type in the join.
+ghost use Rattle.std.specs.Prelude.{◌≡◌, ◌<◌, ◌≤◌, IfOk, IsTrue, drop, length, map, set};
+ghost use Rattle.type_lattice.specs.Types.{AreBelow, Below};
+ghost use Rattle.cons_tree.specs.Environments.{type_at};
+ghost use Rattle.cons_tree.specs.Trails.{answer, laid, Trailed, Within};
+ghost use Rattle.cons_solve.specs.Environments.{environments};
+ghost use Rattle.cons_solve.specs.Solutions.{joined};
+ghost use Rattle.cons_solve.specs.steps.Alternatives.{best_of, now_of, raised_by, Kept, KeptLows};
+
+use cons_tree::{Slot, Slots, TrailEntry, type_facts};
+use std::alloc::Global;
+use type_kinds::{List, Memory};
+use type_lattice::{Ty, type_laws};
+
+// Drops a type.
+fn discard(_ty: Ty) {}
+
+// Drops an entry, or entries.
+fn discard_entry(_entry: TrailEntry) {}
+
+fn discard_entries(_entries: List<TrailEntry>) {}
+
+/// The slots that these entries tell of, with their types now. `Memory` if allocation fails.
+pub fn lowered(
+    alloc: Global,
+    slots: &Slots,
+    told: &[TrailEntry],
+) -> Result<List<TrailEntry>, Memory>
+    ensures { IfOk result (λ lows. lows ≡ map (now_of slots.now.types) told.now) }
+{
+    let mut lows = List::new(alloc);
+    for former in told {
+        let ty = slots.at(former.slot).copy()?;
+        lows.add(TrailEntry {
+            slot: former.slot,
+            ty,
+        })?;
+    }
+    Ok(lows)
+}
+
+// The same slots, with the joins of their types and those in the array.
+fn raised(alloc: Global, slots: &Slots, best: &[TrailEntry]) -> Result<List<TrailEntry>, Memory>
+    ensures { IfOk result (λ higher. higher ≡ map (raised_by slots.now.types) best.now) }
+{
+    let mut higher = List::new(alloc);
+    for low in best {
+        let ty = low.ty.join(alloc, slots.at(low.slot))?;
+        higher.add(TrailEntry { slot: low.slot, ty })?;
+    }
+    Ok(higher)
+}
+
+/// Takes the solution that an alternative left in the array, if there is one, into the join of those before it, of which there may be
+/// none. The trail from the checkpoint on tells what the array was before. `Memory` if allocation fails.
+pub fn gather(
+    alloc: Global,
+    alive: bool,
+    best: Option<List<TrailEntry>>,
+    slots: &Slots,
+    checkpoint: usize,
+) -> Result<Option<List<TrailEntry>>, Memory>
+    requires checkpoint { checkpoint ≤ length slots.now.trail }
+    requires within { Within (length slots.now.types) (drop checkpoint slots.now.trail) }
+    requires below { IsTrue alive → AreBelow slots.now.types (laid (drop checkpoint slots.now.trail) slots.now.types) }
+    requires kept { Kept best (laid (drop checkpoint slots.now.trail) slots.now.types) }
+    ensures kept { IfOk result (λ new. Kept new (laid (drop checkpoint slots.now.trail) slots.now.types)) }
+    ensures value { let begin = laid (drop checkpoint slots.now.trail) slots.now.types in IfOk result (λ new. joined environments (best_of best begin) (answer alive slots.now.types) ≡ best_of new begin) }
+{
+    type_facts();
+    if !alive {
+        return Ok(best);
+    }
+    match best {
+        None => {
+            let first = lowered(alloc, slots, &slots.trail.as_slice()[checkpoint..])?;
+            Ok(Some(first))
+        }
+        Some(lows) => {
+            let higher = raised(alloc, slots, lows.as_slice())?;
+            discard_entries(lows);
+            Ok(Some(higher))
+        }
+    }
+}
+
+/// Puts a smaller type into a slot. The trail tells what was there, unless nothing changes. If allocation fails, the array's contents are
+/// unspecified.
+pub fn sink(slots: &mut Slots, slot: Slot, ty: Ty) -> Result<(), Memory>
+    requires position { slot < length slots.old.types }
+    requires below { Below ty (type_at slots.old.types slot) }
+    ensures value { IfOk result (λ _. slots.new.types ≡ set slots.old.types slot ty) }
+    ensures trailed { IfOk result (λ _. Trailed slots.old slots.new) }
+{
+    type_laws();
+    if slots.at(slot).leq(&ty) {
+        discard(ty);
+        return Ok(());
+    }
+    let former = slots.types.replace(slot as usize, ty);
+    match slots.trail.push(TrailEntry { slot, ty: former }) {
+        Ok(()) => Ok(()),
+        Err((entry, Memory)) => {
+            discard_entry(entry);
+            Err(Memory)
+        }
+    }
+}
+
+// Lays the entries onto the array, the last first.
+fn lay_each(mut lows: List<TrailEntry>, slots: &mut Slots) -> Result<(), Memory>
+    requires { KeptLows lows slots.old.types }
+    ensures value { IfOk result (λ _. slots.new.types ≡ laid lows slots.old.types) }
+    ensures trailed { IfOk result (λ _. Trailed slots.old slots.new) }
+{
+    while let Some(low) = lows.pop() {
+        sink(slots, low.slot, low.ty)?;
+    }
+    Ok(())
+}
+
+/// Narrows the array to the join of the solutions, and says whether there was one. If allocation fails, the array's contents are
+/// unspecified.
+pub fn lay(best: Option<List<TrailEntry>>, slots: &mut Slots) -> Result<bool, Memory>
+    requires { Kept best slots.old.types }
+    ensures value { IfOk result (λ alive. best_of best slots.old.types ≡ answer alive slots.new.types) }
+    ensures trailed { IfOk result (λ _. Trailed slots.old slots.new) }
+{
+    match best {
+        None => Ok(false),
+        Some(lows) => {
+            lay_each(lows, slots)?;
+            Ok(true)
+        }
+    }
+}
