@@ -1,0 +1,7 @@
+mod ApplicationOrder
+mod CallOrder
+mod Definitions
+mod Entered
+mod Filtered
+mod Listing
+mod Zipped

@@ -1,0 +1,4 @@
+pub mod Applications
+pub mod Calls
+pub mod Entering
+pub mod Texts

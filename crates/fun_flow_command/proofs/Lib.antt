@@ -1,0 +1,2 @@
+mod AnswerExits
+mod Sound
