@@ -11,13 +11,17 @@
 //! - `run-failing PIECE WRITE WORDS` does what `run` does over an output that takes at most PIECE bytes at a time and fails at this write;
 //! - `typer WORDS` prints the typings of the files that the words name, and gives its answer and what it wrote, as `run` does;
 //! - `typer-failing PIECE WRITE WORDS` does so over an output as that of `run-failing`;
+//! - `fun-flow WORDS` and `fun-flow-failing PIECE WRITE WORDS` list what the applications of values in the files that the words name
+//!   may enter, in the same way;
 //! - `failing READ REPLACE` empties the shelf, of which this read and this replace are to fail; the number 0 is for none;
 //! - `held NAME` gives the bytes that the shelf holds under the name, 32 a line, in hexadecimal digits;
 //! - `same NAME NAME` says whether the shelf holds the same bytes under both.
 use crate::held::{
     append_held, append_same, complement, put_bytes, put_front, put_lines, put_padded,
 };
-use crate::runs::{run, run_counted, run_failing, run_typer, run_typer_failing};
+use crate::runs::{
+    run, run_counted, run_failing, run_fun_flow, run_fun_flow_failing, run_typer, run_typer_failing,
+};
 use case_files::{Step, steps_of};
 use da_shelf::MemShelf;
 use std::alloc::Global;
@@ -65,6 +69,8 @@ fn play<R: Threads + Wait + Sync>(
         "run-failing" => run_failing(rt, alloc, step.rest, shelf, out),
         "typer" => run_typer(rt, alloc, step.rest, shelf, out),
         "typer-failing" => run_typer_failing(rt, alloc, step.rest, shelf, out),
+        "fun-flow" => run_fun_flow(alloc, step.rest, shelf, out),
+        "fun-flow-failing" => run_fun_flow_failing(alloc, step.rest, shelf, out),
         _ => play_on_shelf(alloc, step, shelf, out),
     }
 }

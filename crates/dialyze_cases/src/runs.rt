@@ -4,6 +4,7 @@ use crate::play::number;
 use case_files::words_of;
 use da_shelf::{Gate, MemShelf, MemSink, OpenGate};
 use dialyze_command::dialyze;
+use fun_flow_command::fun_flow;
 use std::alloc::Global;
 use std::sync::Wait;
 use std::thread::Threads;
@@ -118,6 +119,43 @@ fn typer_over<R: Threads + Wait + Sync>(
 ) -> Result<(), Memory> {
     let words = words_of(alloc, line)?;
     let status = typer(rt, alloc, words.as_slice(), shelf, sink, &OpenGate);
+    append_run_answer(status, out)?;
+    append_written(sink, out)
+}
+
+/// Lists what the applications of values in the files that the words of a line name may enter, and appends the answer and what was written.
+pub fn run_fun_flow(
+    alloc: Global,
+    line: &str,
+    shelf: &mut MemShelf,
+    out: &mut Bytes,
+) -> Result<(), Memory> {
+    let mut sink = MemSink::new(alloc, MOST_WRITTEN, MOST_WRITTEN, List::new(alloc))?;
+    fun_flow_over(alloc, line, shelf, &mut sink, out)
+}
+
+/// The same, where the line begins with how many bytes are written at a time and with the write that fails.
+pub fn run_fun_flow_failing(
+    alloc: Global,
+    line: &str,
+    shelf: &mut MemShelf,
+    out: &mut Bytes,
+) -> Result<(), Memory> {
+    let Some((mut sink, words)) = failing_sink(alloc, line)? else {
+        return out.append(b"no write\n");
+    };
+    fun_flow_over(alloc, words, shelf, &mut sink, out)
+}
+
+fn fun_flow_over(
+    alloc: Global,
+    line: &str,
+    shelf: &mut MemShelf,
+    sink: &mut MemSink,
+    out: &mut Bytes,
+) -> Result<(), Memory> {
+    let words = words_of(alloc, line)?;
+    let status = fun_flow(alloc, words.as_slice(), shelf, sink, &OpenGate);
     append_run_answer(status, out)?;
     append_written(sink, out)
 }
