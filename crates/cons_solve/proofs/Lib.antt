@@ -9,6 +9,7 @@ mod MemoLaws
 pub mod OrderLaws
 pub mod PlanLaws
 mod QueueLaws
+mod SettledParts
 pub mod SolutionLaws
 pub mod TurnLaws
 pub mod TurnTrails

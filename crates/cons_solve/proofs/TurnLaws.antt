@@ -21,6 +21,9 @@ module _ (laws : W.Laws environments) where
   pub part_ends : (p : Part) (xs ys : Types) → narrowed p xs ≡ Some ys → ys ≡ xs → solution (only p) xs ≡ Some ys
   part_ends p xs ys h e = S.part_stays environments laws p xs (h ∙ ap Some e) ∙ ap Some (sym e)
 
+  pub part_once : (p : Part) (xs ys : Types) → narrowed p xs ≡ Some ys → narrowed p ys ≡ Some ys → solution (only p) xs ≡ Some ys
+  part_once p xs ys h stays = sym (part_moves p xs ys h) ∙ S.part_stays environments laws p ys stays
+
   pub any_is : (cs : ConsList Part) (xs : Types) → solution (any_of cs) xs ≡ unions environments cs xs
   any_is cs xs = S.any_is environments laws cs xs
 

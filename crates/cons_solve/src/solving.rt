@@ -1,6 +1,8 @@
 //! The greatest solution of a constraint, on one array.
-ghost use Rattle.std.specs.Prelude.{◌≡◌, IfOk, IsTrue, Some};
+ghost use Rattle.std.specs.Prelude.{◌≡◌, IfOk, IsTrue, Some, length};
 ghost use Rattle.cons_tree.specs.Constraints.{only, all_of, constraint, constraints};
+ghost use Rattle.cons_tree.specs.Environments.{Types};
+ghost use Rattle.cons_tree.specs.Narrowing.{narrowed};
 ghost use Rattle.cons_tree.specs.Trails.{answer, Trailed};
 ghost use Rattle.cons_solve.specs.Environments.{environments, solution};
 ghost use Rattle.cons_solve.specs.steps.Passes.{unions};
@@ -83,6 +85,7 @@ fn settle(alloc: Global, part: &Part, slots: &mut Slots, visits: &mut u64) -> Re
     'turns: loop {
         *visits = visits.saturating_add(1);
         let checkpoint = slots.trail.len();
+        let count = slots.types.len();
         let alive = slots.narrow(alloc, part)?;
         if !alive {
             return Ok(false);
@@ -90,6 +93,26 @@ fn settle(alloc: Global, part: &Part, slots: &mut Slots, visits: &mut u64) -> Re
         if slots.trail.len() == checkpoint {
             return Ok(true);
         }
+        if is_settled_at_once(part, count) {
+            return Ok(true);
+        }
+    }
+}
+
+// Whether narrowing an array of `count` slots twice by a part is narrowing it once: a type, or an equality of two slots.
+fn is_settled_at_once(part: &Part, count: usize) -> bool
+    ensures { IsTrue result → (xs ys : Types) → length xs ≡ count → narrowed part.now xs ≡ Some ys → narrowed part.now ys ≡ Some ys }
+{
+    type_facts();
+    match part {
+        Part::Bound(slot, _) => (*slot as usize) < count,
+        Part::Equal(slot, other) => {
+            if *slot == *other || (*slot as usize) >= count {
+                return false;
+            }
+            (*other as usize) < count
+        }
+        _ => false,
     }
 }
 

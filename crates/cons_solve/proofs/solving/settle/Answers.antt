@@ -1,7 +1,7 @@
 use Rattle.std.proofs.Common.{arith, sym, ◌∙◌}
 use Rattle.cons_tree.proofs.TrailLaws.{no_answer, an_answer, trailed_then}
 use Rattle.cons_solve.proofs.TurnTrails.{trailed_same, trailed_falls}
-use Rattle.cons_solve.proofs.TurnLaws.{part_dies, part_moves, part_ends}
+use Rattle.cons_solve.proofs.TurnLaws.{part_dies, part_moves, part_ends, part_once}
 use Rattle.cons_solve.proofs.solving.settle.Goals as goal
 
 pub returns-then-not-alive-clause-value : goal.returns-then-not-alive-clause-value
@@ -23,4 +23,15 @@ turns-smaller c = trailed_falls c.turns.slots c.narrow.new.self c.environment_la
 
 pub returns-then-not-alive-clause-trailed : goal.returns-then-not-alive-clause-trailed
 returns-then-not-alive-clause-trailed c =
+    trailed_then c.args.slots.now c.turns.slots c.narrow.new.self c.turns.invariant.trailed c.in_ok-alive.ensures.trailed
+
+pub returns-then-is_settled_at_once-clause-value : goal.returns-then-is_settled_at_once-clause-value
+returns-then-is_settled_at_once-clause-value c =
+    let xs = c.turns.slots.types in
+    let ys = c.narrow.new.self.types in
+    let is = an_answer c.in_ok-alive.alive _ ys c.if-not-alive.false c.in_ok-alive.ensures.value in
+    sym c.turns.invariant.same ∙ part_once c.environment_laws.ensures.laws c.args.part.now xs ys is (c.is_settled_at_once.ensures c.if-is_settled_at_once.true xs ys (sym c.len-count.ensures) is)
+
+pub returns-then-is_settled_at_once-clause-trailed : goal.returns-then-is_settled_at_once-clause-trailed
+returns-then-is_settled_at_once-clause-trailed c =
     trailed_then c.args.slots.now c.turns.slots c.narrow.new.self c.turns.invariant.trailed c.in_ok-alive.ensures.trailed
