@@ -37,8 +37,8 @@ pub record NamesBadTable (words : List (List ℕ)) (held : Files) (fault : Fault
   pub held_so : Holds (Some held) name bytes
   pub is : IsFaultOf bytes fault
 
--- The word at this position names a file, or a generated file has this number, what stands before it is read, it is held, and of its
--- bytes, with the number that it may have, this holds.
+-- The word at this position names a file, what stands before it is read, it is held, and of its bytes, with the number that it may have,
+-- this holds. Of a generated file, which is always read, no cause of a refusal does.
 pub record NamesSource (words : List (List ℕ)) (held : Files) (word : ℕ) (Is : (most : ℕ) → List ℕ → Type 0) : Type 0 where
   pub from : Files
   pub start : ℕ
