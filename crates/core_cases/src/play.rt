@@ -19,7 +19,7 @@
 //! last line without its end, and with `hex` each line is hexadecimal digits.
 use crate::calls::append_over;
 use crate::graphs::{append_count, append_graph};
-use crate::rows::{Frame, frame_of, play_rows};
+use crate::rows::{TextFrame, frame_of, play_rows};
 use crate::token_changes::append_changed;
 use case_files::{Step, steps_of};
 use std::alloc::Global;
@@ -74,7 +74,7 @@ fn append_name(name: &str, out: &mut Bytes) -> Result<(), Memory> {
 fn play(
     alloc: Global,
     step: &Step,
-    frame: Frame,
+    frame: TextFrame,
     texts: &[Bytes],
     out: &mut Bytes,
 ) -> Result<(), Memory> {

@@ -10,16 +10,16 @@ use type_kinds::{Bytes, List, Memory};
 
 /// What stands before a text and behind it.
 #[derive(Clone, Copy)]
-pub struct Frame<'a> {
+pub struct TextFrame<'a> {
     front: &'a str,
     back: &'a str,
 }
 
 /// What stands before the first `...` and behind it; nothing, where there is none.
-pub fn frame_of(lines: &str) -> Frame<'_> {
+pub fn frame_of(lines: &str) -> TextFrame<'_> {
     match lines.split_once("...") {
-        Some((front, back)) => Frame { front, back },
-        None => Frame {
+        Some((front, back)) => TextFrame { front, back },
+        None => TextFrame {
             front: "",
             back: "",
         },
@@ -27,7 +27,12 @@ pub fn frame_of(lines: &str) -> Frame<'_> {
 }
 
 /// Appends what a step gives of each of its texts.
-pub fn play_rows(alloc: Global, step: &Step, frame: Frame, out: &mut Bytes) -> Result<(), Memory> {
+pub fn play_rows(
+    alloc: Global,
+    step: &Step,
+    frame: TextFrame,
+    out: &mut Bytes,
+) -> Result<(), Memory> {
     if step.rest == "together" {
         return row(alloc, step.what, frame, step.lines.as_bytes(), out);
     }
@@ -47,7 +52,7 @@ pub fn play_rows(alloc: Global, step: &Step, frame: Frame, out: &mut Bytes) -> R
 fn hex_row(
     alloc: Global,
     what: &str,
-    frame: Frame,
+    frame: TextFrame,
     digits: &str,
     out: &mut Bytes,
 ) -> Result<(), Memory> {
@@ -60,7 +65,7 @@ fn hex_row(
 fn row(
     alloc: Global,
     what: &str,
-    frame: Frame,
+    frame: TextFrame,
     bytes: &[u8],
     out: &mut Bytes,
 ) -> Result<(), Memory> {
@@ -74,7 +79,7 @@ fn row(
     out.append(b"\n")
 }
 
-fn add_text(frame: Frame, bytes: &[u8], text: &mut Bytes) -> Result<(), Memory> {
+fn add_text(frame: TextFrame, bytes: &[u8], text: &mut Bytes) -> Result<(), Memory> {
     text.append(frame.front.as_bytes())?;
     text.append(bytes)?;
     text.append(frame.back.as_bytes())
