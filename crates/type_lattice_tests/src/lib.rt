@@ -1,6 +1,5 @@
 //! What the crates of types say together: facts for all types that are proved from the clauses of
-//! those crates alone, and tests: one table of types and values that tries the calls against one
-//! another, and worked types.
+//! those crates alone.
 #![tactic(auto)]
 
 mod facts;
@@ -8,18 +7,3 @@ mod narrowing;
 
 pub use facts::{are_equal, inclusion_is_transitive, join_is_above, meet_is_below};
 pub use narrowing::{cons_of_its_parts, narrowed, narrowed_list, narrowing_is_monotone, read_back};
-
-#[cfg(test)]
-mod elements;
-#[cfg(test)]
-mod sets;
-#[cfg(test)]
-mod spelled;
-#[cfg(test)]
-mod table;
-#[cfg(test)]
-mod threads;
-#[cfg(test)]
-mod values;
-#[cfg(test)]
-mod worked;
