@@ -16,3 +16,6 @@ mod Numbered
 mod Finished
 mod OneNumbering
 pub mod AscendingLists
+pub mod Bounded
+mod Reaching
+mod Existing

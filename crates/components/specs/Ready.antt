@@ -20,3 +20,7 @@ pub record SamePairs (graph other : List (List ℕ)) : Type 0 where
   pub counted : length graph ≡ length other
   pub inside : (f g : ℕ) → Leads graph f g → g < length graph
   pub pairs : (f g : ℕ) → Leads graph f g ↔ Leads other f g
+
+-- Each graph whose pairs lead to its own nodes has a numbering in ready order.
+abbrev pub SomeNumbering : Type 0
+SomeNumbering = (graph : List (List ℕ)) → ((f g : ℕ) → Leads graph f g → g < length graph) → (c : Numbering) × IsReadyNumbering graph c

@@ -12,5 +12,5 @@ mod search;
 mod targets;
 
 pub use graph::Graph;
-pub use laws::one_numbering;
+pub use laws::{a_numbering, one_numbering};
 pub use numbering::{Comps, components};
