@@ -1,3 +1,5 @@
+mod FindingOrder
 mod LineTexts
 mod OneOrder
 mod Sorting
+mod SomeOrder

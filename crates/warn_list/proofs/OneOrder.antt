@@ -8,10 +8,10 @@ use Rattle.std.proofs.lemmas.List.Elements.{All-from_get_or, All-tail, All-head}
 use Rattle.std.proofs.lemmas.List.Sorted.{sorted_far}
 use Rattle.std.proofs.lemmas.Bool.{cases_Bool}
 
-passed : {X : Type 0} (p : X → Bool) (x : X) (xs : List X) → p x ≡ true → filter p (x ∷ xs) ≡ x ∷ filter p xs
+pub passed : {X : Type 0} (p : X → Bool) (x : X) (xs : List X) → p x ≡ true → filter p (x ∷ xs) ≡ x ∷ filter p xs
 passed p x xs h = ap (λ b. cond b (x ∷ filter p xs) (filter p xs)) h
 
-left_out : {X : Type 0} (p : X → Bool) (x : X) (xs : List X) → p x ≡ false → filter p (x ∷ xs) ≡ filter p xs
+pub left_out : {X : Type 0} (p : X → Bool) (x : X) (xs : List X) → p x ≡ false → filter p (x ∷ xs) ≡ filter p xs
 left_out p x xs h = ap (λ b. cond b (x ∷ filter p xs) (filter p xs)) h
 
 -- what passes the test first has what all have

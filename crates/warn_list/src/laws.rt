@@ -8,3 +8,8 @@ ghost use Rattle.warn_list.specs.Lines.{AreLines};
 pub fn one_text()
     ensures { (home : Atom) (findings : List Finding) (one other : List ℕ) → AreLines home findings one → AreLines home findings other → one ≡ other }
 {}
+
+/// Findings have lines, whatever the module's name.
+pub fn a_text()
+    ensures { (home : Atom) (findings : List Finding) → (bytes : List ℕ) × AreLines home findings bytes }
+{}

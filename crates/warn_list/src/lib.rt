@@ -8,5 +8,5 @@ mod printing;
 mod tests;
 
 pub use finding::{CallText, Finding, FindingKind};
-pub use laws::one_text;
+pub use laws::{a_text, one_text};
 pub use printing::lines;
