@@ -11,3 +11,5 @@ mod SameLaws
 mod SigReading
 mod TableLaws
 mod TableReading
+mod FoundOrNone
+mod TableOrFault

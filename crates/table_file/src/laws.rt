@@ -1,5 +1,5 @@
 //! Laws of spellings, as functions that do nothing: who calls one has its clauses.
-ghost use Rattle.std.specs.Prelude.{◌≡◌, ℕ, List, IsTrue};
+ghost use Rattle.std.specs.Prelude.{◌≡◌, ◌≢◌, ◌<◌, ◌⊎◌, ℕ, List, All, IsTrue};
 ghost use Rattle.std.specs.List.{list_all};
 ghost use Rattle.table_file.specs.Faults.{IsFirst};
 ghost use Rattle.table_file.specs.Lengths.{has_short_types, is_short_table};
@@ -22,6 +22,13 @@ pub fn table_laws()
     ensures fault_once { (f g : TableFault) (bytes : List ℕ) → (f ≡ Memory → ⊥) → (g ≡ Memory → ⊥) → IsFirst f bytes → IsFirst g bytes → f ≡ g }
     ensures no_fault { (f : TableFault) (t : Table) → IsTrue (list_all has_short_types t.entries) → IsFirst f (table_bytes t) → f ≡ Memory }
     ensures short { (t : Table) → IsTrue (is_short_table t) → IsTrue (list_all has_short_types t.entries) }
+{
+    spelling_laws();
+}
+
+/// Bytes are those of a table whose types can be written, or have a first fault.
+pub fn table_or_fault()
+    ensures { (bytes : List ℕ) → All (λ b. b < 256) bytes → ((t : Table) × (bytes ≡ table_bytes t) × IsTrue (list_all has_short_types t.entries)) ⊎ ((fault : TableFault) × (fault ≢ Memory) × IsFirst fault bytes) }
 {
     spelling_laws();
 }

@@ -16,7 +16,7 @@ mod writing;
 pub use digests::{Digest, digest_of};
 pub use entries::Entry;
 pub use faults::{TableFault, WriteFault};
-pub use laws::table_laws;
+pub use laws::{table_laws, table_or_fault};
 pub use reading::read_table;
 pub use tables::Table;
 pub use used::Used;
