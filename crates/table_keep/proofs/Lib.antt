@@ -14,3 +14,4 @@ mod ComponentGroups
 mod GraphLaws
 mod StandingEntries
 mod GroupLaws
+mod SomeGroups

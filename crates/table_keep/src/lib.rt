@@ -17,7 +17,7 @@ mod unchanged_groups;
 pub use calls::{called_functions, called_modules};
 pub use group_list::{GroupList, GroupMember};
 pub use grouping::groups;
-pub use laws::{call_laws, spelled_laws};
+pub use laws::{call_laws, some_groups, spelled_laws};
 pub use made::entry_from;
 pub use source::{Source, discard_source};
 pub use unchanged_groups::{entry_may_stand, unchanged};
