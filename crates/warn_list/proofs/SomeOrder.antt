@@ -3,13 +3,9 @@ use Rattle.std.proofs.Common.{◌≡◌, ℕ, zero, suc, ◌+◌, ◌<◌, Bool,
 use Rattle.std.specs.List.{filter}
 use Rattle.std.specs.Cmp.{IsStrictWeakOrder}
 use Rattle.std.specs.List.Sorted.{IsPermutation, IsSortedBy, ties, IsStableBy}
-use Rattle.std.proofs.lemmas.Bool.{and_parts}
+use Rattle.std.proofs.lemmas.Bool.{and_parts, not-true}
 use Rattle.std.proofs.lemmas.List.Sorted.{IsPermutation-refl, IsPermutation-sym, IsPermutation-cons, IsPermutation-trans, IsPermutation-middle}
 use Rattle.warn_list.proofs.OneOrder.{passed, left_out}
-
-not_true : (b : Bool) → not b ≡ true → b ≡ false
-not_true true h = absurd (true≢false (sym h))
-not_true false h = refl
 
 module _ {X : Type 0} (lt : X → X → Bool) (order : IsStrictWeakOrder lt) where
   abbrev placed : X → List X → List X
@@ -51,8 +47,8 @@ module _ {X : Type 0} (lt : X → X → Bool) (order : IsStrictWeakOrder lt) whe
   -- of two of which one is less, a third ties with one at most
   tie_apart : (z x y : X) → lt y x ≡ true → ties lt z y ≡ true → ties lt z x ≡ true → ⊥
   tie_apart z x y less a b =
-      let back = not_true (lt y z) (and_parts (not (lt z y)) (not (lt y z)) a).1 in
-      let there = not_true (lt z x) (and_parts (not (lt z x)) (not (lt x z)) b).0 in
+      let back = not-true (lt y z) (and_parts (not (lt z y)) (not (lt y z)) a).1 in
+      let there = not-true (lt z x) (and_parts (not (lt z x)) (not (lt x z)) b).0 in
       true≢false (sym less ∙ order.chain y z x back there)
 
   placed_ties : (z x : X) (ys : List X) → filter (ties lt z) (placed x ys) ≡ filter (ties lt z) (x ∷ ys)
