@@ -12,6 +12,7 @@ mod MakeFiles
 mod GeneratedTexts
 mod PlanExits
 mod PrintedNumbers
+mod ReportExits
 mod StoreExits
 mod TableModels
 mod Texts

@@ -7,5 +7,6 @@ pub mod Outcome
 pub mod Causes
 pub mod Laws
 pub mod OneOutcome
+pub mod Reported
 pub mod Runs
 pub mod steps

@@ -1,5 +1,5 @@
 // The top call.
-ghost use Rattle.std.specs.Prelude.{◌≡◌, ◌≢◌, ◌↔◌, ◌⊎◌, ℕ, IfSome, IfOk, OnErr};
+ghost use Rattle.std.specs.Prelude.{◌≡◌, ◌≢◌, ◌↔◌, ◌⊎◌, ℕ, [], IfSome, IfOk, OnErr};
 ghost use Rattle.table_file.specs.declared.faults.TableFault.{TableFault as FaultOfTable};
 ghost use Rattle.table_file.specs.declared.faults.TableFault.TheVariants as table_fault;
 ghost use Rattle.analysis_sources.specs.declared.refusals.SourceFault.{SourceFault};
@@ -12,8 +12,10 @@ ghost use Rattle.dialyze_command.specs.Lines.{refused, too_long, too_many, dupli
 ghost use Rattle.dialyze_command.specs.Outcome.{Answers, ChecksTooMany, FailsToRead, FailsToReplace, FailsToWrite, Intended, IsAnswer, IsPassed, IsPossible, StoresNothing};
 ghost use Rattle.dialyze_command.specs.Causes.{NamesMissing, NamesBadTable, NamesSource, NamesLongTable, NamesTwice, NamesModules, IsAnalysed, tokens, grammar, scopes, step_of};
 ghost use Rattle.dialyze_command.specs.Laws.{WritesFromScratch, WritesNothingFalse};
+ghost use Rattle.dialyze_command.specs.Reported.{Reports, ComesOf};
 
 use crate::answer::Answer;
+use crate::laws::one_outcome;
 use crate::making::made;
 use crate::plan::intended;
 use crate::status::Status;
@@ -91,6 +93,8 @@ pub fn dialyze<R: Threads + Wait + Sync, F: Shelf, K: Sink, G: Gate + Sync>(
     ensures not_accepted { IsAnswer result → IfSome (F.held shelf.old) (λ held. (word : ℕ) (fault : SourceFault) → step_of fault.name ≡ scopes → (result ≡ refused word fault) ↔ NamesSource (texts words.now) held word (λ most bytes. IsNotAccepted most bytes fault)) }
     ensures duplicate { IsAnswer result → IfSome (F.held shelf.old) (λ held. (word other : ℕ) → (result ≡ duplicate word other) ↔ NamesTwice (texts words.now) held word other) }
     ensures checked { IsAnswer result → IfSome (F.held shelf.old) (λ held. IsAnalysed (texts words.now) held result ↔ NamesModules (texts words.now) held) }
+    ensures clean { IsAnswer result → IfSome (F.held shelf.old) (λ held. ComesOf (texts words.now) held (result ≡ Status.Clean) (Reports (texts words.now) held (λ lines. lines ≡ []))) }
+    ensures warned { IsAnswer result → IfSome (F.held shelf.old) (λ held. ComesOf (texts words.now) held (result ≡ Status.Warnings) (Reports (texts words.now) held (λ lines. lines ≢ []) ⊎ ((count : ℕ) × IsMake (texts words.now) count))) }
     ensures makes { IsAnswer result → (count : ℕ) → IsMake (texts words.now) count → result ≡ Status.Warnings }
     ensures read { (word : ℕ) → result ≡ Status.DeviceFault (Device.Read word) → FailsToRead (texts words.now) (F.held shelf.old) word (F.read_faults shelf.old) (F.read_faults shelf.new) (K.written out.old) (K.written out.new) }
     ensures replace { (word : ℕ) → result ≡ Status.DeviceFault (Device.Replace word) → FailsToReplace (texts words.now) (F.held shelf.old) (F.held shelf.new) word (F.replace_faults shelf.old) (F.replace_faults shelf.new) (K.written out.old) (K.written out.new) }
@@ -111,6 +115,7 @@ pub fn dialyze<R: Threads + Wait + Sync, F: Shelf, K: Sink, G: Gate + Sync>(
     reports_are_found();
     nothing_is_false();
     findings_are_tied();
+    one_outcome();
     let Answer { status, output } = match answered(rt, alloc, words, shelf, gate) {
         Ok(answer) => answer,
         Err(Memory) => return Status::Memory,

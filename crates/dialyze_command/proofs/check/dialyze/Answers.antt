@@ -3,6 +3,7 @@ use Rattle.da_shelf.specs.Told.{appended}
 use Rattle.dialyze_command.proofs.CheckExits.{answers_it, usage_it, too_many_it, possible_it, makes_it, stays_it}
 use Rattle.dialyze_command.proofs.Causes as causes
 use Rattle.dialyze_command.proofs.KeptExits as kept
+use Rattle.dialyze_command.proofs.ReportExits.{clean_it, warned_it}
 use Rattle.dialyze_command.proofs.check.dialyze.Goals as goal
 
 pub returns-in-Ok-give-clause-outcome : goal.returns-in-Ok-give-clause-outcome
@@ -58,6 +59,12 @@ returns-in-Ok-give-clause-duplicate g c =
 pub returns-in-Ok-give-clause-checked : goal.returns-in-Ok-give-clause-checked
 returns-in-Ok-give-clause-checked g c =
     λ a. causes.checked_it c.one_reading_of_files.ensures.one_list c.one_reading_of_files.ensures.one_refusal c.one_reading_of_files.ensures.none_refused c.table_laws.ensures.fault_once c.table_laws.ensures.no_fault _ _ _ _ _ _ _ _ _ c.in-Ok.ensures.intended a
+
+pub returns-in-Ok-give-clause-clean : goal.returns-in-Ok-give-clause-clean
+returns-in-Ok-give-clause-clean g c = λ a. clean_it c.one_outcome.ensures.one _ _ _ _ _ _ _ _ c.in-Ok.answer.output c.in-Ok.ensures.intended a
+
+pub returns-in-Ok-give-clause-warned : goal.returns-in-Ok-give-clause-warned
+returns-in-Ok-give-clause-warned g c = λ a. warned_it c.one_outcome.ensures.one _ _ _ _ _ _ _ _ c.in-Ok.answer.output c.in-Ok.ensures.intended a
 
 pub returns-in-Ok-give-clause-makes : goal.returns-in-Ok-give-clause-makes
 returns-in-Ok-give-clause-makes g c = λ a count asks. makes_it _ _ _ _ _ _ _ _ c.in-Ok.answer.output c.in-Ok.ensures.intended a count asks
