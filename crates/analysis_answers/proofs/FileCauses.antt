@@ -15,7 +15,7 @@ use Rattle.analysis_answers.specs.declared.run_status.RunStatus.{RunStatus}
 use Rattle.analysis_answers.specs.declared.run_status.RunStatus.TheVariants.{Done, DeviceFault, Memory, Usage}
 use Rattle.analysis_answers.specs.ReadFiles.{HaveOwnNames}
 use Rattle.analysis_answers.specs.FileRuns.{refused, too_many, duplicate, Declines, no_command, many_files, file_refused, same_name, Outcome, declined, passed, IsAnswer, IsUnread}
-use Rattle.analysis_answers.specs.FileRuns.{declining, failing, Intended, stopped, written, Answers, FailsToRead, of_many, of_file, of_two, IsPossible}
+use Rattle.analysis_answers.specs.FileRuns.{declining, failing, Intended, stopped, written, Answers, Writes, FailsToRead, of_many, of_file, of_two, IsPossible}
 use Rattle.analysis_answers.specs.FileCauses.{NamesMissing, NamesTooLong, NamesFaulty, NamesTwice, NamesModules}
 use Rattle.analysis_answers.specs.Words.{IsNoCommand, NamesFiles, NamesTooMany}
 use Rattle.analysis_answers.proofs.FileRefusals.{tells, kind, refusal_of, told_once, long_fault, never_missing, only_long, one_duplicate, own_names}
@@ -120,6 +120,18 @@ module _ (usage_line : List ℕ) (Gives : List Source → List ℕ → Type 0) (
         by : (some : Option Files) → Outcome usage_line Gives words some status output → IfSome some (λ held. Answers usage_line Gives words held status before now)
         by None o = tt
         by (Some held) o = record { output = output; outcome = o; written_so = w }
+
+    pub writes_it : (before now : Option (List ℕ)) → now ≡ appended before output → status ≡ Done → IfSome told (λ held. Writes Gives words held before now)
+    writes_it before now w e = by told intended
+      where
+        by : (some : Option Files) → Intended usage_line Gives words some reads reads_now status output → IfSome some (λ held. Writes Gives words held before now)
+        by None h = tt
+        by (Some held) (stopped (declining (no_command a b c))) = let k = sym a ∙ e in absurd cc
+        by (Some held) (stopped (declining (many_files a b c))) = let k = sym a ∙ e in absurd cc
+        by (Some held) (stopped (declining (file_refused at file fault a b c d f))) = let k = sym a ∙ e in absurd cc
+        by (Some held) (stopped (declining (same_name first second file other a b c d f g))) = let k = sym a ∙ e in absurd cc
+        by (Some held) (stopped (failing word name a b c d)) = let k = sym a ∙ e in absurd cc
+        by (Some held) (written a p) = record { output = output; passes = p; written_so = w }
 
 -- ---- the causes of answers, where it is told what is held
 

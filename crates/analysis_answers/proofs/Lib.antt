@@ -1,3 +1,4 @@
+pub mod AnswerExits
 pub mod FileCauses
 mod FileExits
 pub mod FileRefusals

@@ -1,11 +1,12 @@
 -- What a run answers, of a program whose words are the names of files: by the words, by what is held, and by what is written of the
 -- sources that the files hold. `usage_line` is written where the words are no command, and `Gives` says what is written of sources.
-use Rattle.std.specs.Prelude.{◌≡◌, ℕ, ◌<◌, List, length, slice_get, Option, Some}
+use Rattle.std.specs.Prelude.{◌≡◌, ◌↔◌, ℕ, ◌<◌, List, length, map, slice_get, Option, Some, IfSome}
+use Rattle.core_scope.specs.Sets.{FirstDuplicate}
 use Rattle.da_shelf.specs.Counts.{Rose}
 use Rattle.da_shelf.specs.Told.{Files, appended, IsPrefixAppended}
 use Rattle.table_keep.specs.Model.{Source, trees, sources_so}
 use Rattle.analysis_sources.specs.declared.refusals.SourceFault.{SourceFault}
-use Rattle.analysis_sources.specs.declared.refusals.Device.TheVariants.{Read, Replace}
+use Rattle.analysis_sources.specs.declared.refusals.Device.TheVariants.{Read, Replace, Write}
 use Rattle.analysis_sources.specs.Reading.{IsReached, RefusedAt}
 use Rattle.analysis_sources.specs.Refusals.{refusal_at, refusal_line}
 use Rattle.analysis_answers.specs.declared.files.FilesRead.{FilesRead}
@@ -51,6 +52,14 @@ pub record Passes (Gives : List Source → List ℕ → Type 0) (words : List (L
   pub names : HaveOwnNames (trees sources)
   pub gives : Gives sources output
 
+-- The status and the output where all files are read, as these sources: what is written of them where their modules have names of their
+-- own, and else the line of the first two that have one name.
+pub data AnswersSources (Gives : List Source → List ℕ → Type 0) (words : List (List ℕ)) (sources : List Source) (status : RunStatus) (output : List ℕ) : Type 0 where
+  gives_output : status ≡ Done → HaveOwnNames (trees sources) → Gives sources output → AnswersSources Gives words sources status output
+  names_one : (first second : ℕ) (file other : List ℕ) → status ≡ duplicate second first → output ≡ duplicate_line file other
+      → slice_get words second ≡ Some file → slice_get words first ≡ Some other → FirstDuplicate (map (λ x. x.name) (trees sources)) first second
+      → AnswersSources Gives words sources status output
+
 -- The status and the output of a run.
 pub data Outcome (usage_line : List ℕ) (Gives : List Source → List ℕ → Type 0) (words : List (List ℕ)) (told : Option Files) (status : RunStatus) (output : List ℕ) : Type 0 where
   declined : Declines usage_line words told status output → Outcome usage_line Gives words told status output
@@ -85,6 +94,12 @@ pub data Intended (usage_line : List ℕ) (Gives : List Source → List ℕ → 
 pub record Answers (usage_line : List ℕ) (Gives : List Source → List ℕ → Type 0) (words : List (List ℕ)) (held : Files) (status : RunStatus) (written_before written_now : Option (List ℕ)) : Type 0 where
   pub output : List ℕ
   pub outcome : Outcome usage_line Gives words (Some held) status output
+  pub written_so : written_now ≡ appended written_before output
+
+-- The run wrote what is written of the sources that the files hold.
+pub record Writes (Gives : List Source → List ℕ → Type 0) (words : List (List ℕ)) (held : Files) (written_before written_now : Option (List ℕ)) : Type 0 where
+  pub output : List ℕ
+  pub passes : Passes Gives words (Some held) output
   pub written_so : written_now ≡ appended written_before output
 
 -- The shelf failed to read the file of this position among the words, and counted it, and the line that says so was written.
@@ -122,3 +137,17 @@ IsPossible words (TableFault number) = ⊥
 IsPossible words (DeviceFault (Read word)) = word < length words
 IsPossible words (DeviceFault (Replace word)) = ⊥
 IsPossible words status = Unit {0}
+
+-- ---- a run, by its status
+
+-- The run on these words ended with this status: what is promised of the status and of what was written. When each refusal comes follows
+-- from `outcome`.
+pub record IsRunOverFiles (usage_line : List ℕ) (Gives : List Source → List ℕ → Type 0) (words : List (List ℕ)) (held after : Option Files) (reads reads_now sink_before sink_now : ℕ)
+    (status : RunStatus) (written_before written_now : Option (List ℕ)) : Type 0 where
+  pub outcome : IsAnswer status → IfSome held (λ h. Answers usage_line Gives words h status written_before written_now)
+  pub usage : IsAnswer status → (status ≡ Usage) ↔ IsNoCommand words
+  pub read : (word : ℕ) → status ≡ DeviceFault (Read word) → FailsToRead words held word reads reads_now written_before written_now
+  pub write : status ≡ DeviceFault Write → FailsToWrite usage_line Gives words held reads reads_now sink_before sink_now written_before written_now
+  pub memory : status ≡ Memory → written_now ≡ written_before
+  pub possible : IsPossible words status
+  pub held_so : after ≡ held

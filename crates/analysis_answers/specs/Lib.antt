@@ -4,3 +4,4 @@ pub mod Words
 pub mod ReadFiles
 pub mod FileRuns
 pub mod FileCauses
+pub mod Programs

@@ -29,7 +29,8 @@ pub fn read_files<F: Shelf>(
     usage_text: &str,
     shelf: &mut F,
 ) -> Result<FilesRead, Memory>
-    ensures read { IfOk result (λ r. AreFilesRead (line usage_text.now) (texts words.now) (F.held shelf.old) (F.read_faults shelf.old) (F.read_faults shelf.new) r) }
+    ensures read { IfOk result (λ r. AreFilesRead (line usage_text.now) (texts words.now) (F.held shelf.old) (F.read_faults shelf.old)
+        (F.read_faults shelf.new) r) }
     ensures held { F.held shelf.new ≡ F.held shelf.old }
 {
     if !is_command(words) {
@@ -46,7 +47,8 @@ pub fn read_files<F: Shelf>(
 // The same for words that name files, and not too many.
 fn read_named<F: Shelf>(alloc: Global, words: &[&str], shelf: &mut F) -> Result<FilesRead, Memory>
     requires named { NamesFiles (texts words.now) }
-    ensures read { IfOk result (λ r. (usage_line : ListOf ℕ) → AreFilesRead usage_line (texts words.now) (F.held shelf.old) (F.read_faults shelf.old) (F.read_faults shelf.new) r) }
+    ensures read { IfOk result (λ r. (usage_line : ListOf ℕ)
+        → AreFilesRead usage_line (texts words.now) (F.held shelf.old) (F.read_faults shelf.old) (F.read_faults shelf.new) r) }
     ensures held { F.held shelf.new ≡ F.held shelf.old }
 {
     match read_sources(alloc, words, 0, shelf) {

@@ -1,7 +1,8 @@
 //! The lines of what isn't a report.
 ghost use Rattle.std.specs.Prelude.{◌≡◌, ◌++◌, IfOk};
 ghost use Rattle.analysis_sources.specs.Refusals.{line, refusal_line};
-ghost use Rattle.analysis_answers.specs.Lines.{duplicate_line, duplicate_refusal, read_fault_line, replace_fault_line, table_fault_line, table_fault_number, table_fault_text, too_many_line};
+ghost use Rattle.analysis_answers.specs.Lines.{duplicate_line, duplicate_refusal, read_fault_line, replace_fault_line, table_fault_line};
+ghost use Rattle.analysis_answers.specs.Lines.{table_fault_number, table_fault_text, too_many_line};
 
 use analysis_sources::{Refusal, SourceFault};
 use std::alloc::Global;

@@ -72,7 +72,8 @@ pub fn refuse_second(
     requires first { first < length words.now }
     requires second { second < length words.now }
     ensures status { IfOk result (λ a. a.status ≡ duplicate second first) }
-    ensures output { IfOk result (λ a. (file other : List ℕ) → slice_get (texts words.now) second ≡ Some file → slice_get (texts words.now) first ≡ Some other → a.output ≡ duplicate_line file other) }
+    ensures output { IfOk result (λ a. (file other : List ℕ) → slice_get (texts words.now) second ≡ Some file
+        → slice_get (texts words.now) first ≡ Some other → a.output ≡ duplicate_line file other) }
 {
     let file = words[second as usize];
     let other = words[first as usize];
