@@ -1,4 +1,4 @@
 mod ListedLines
-mod AnswerExits
 mod Typings
+mod Outputs
 mod Sound

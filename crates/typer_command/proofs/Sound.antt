@@ -1,7 +1,6 @@
 -- Each line that was written reads back, and says what is true of every run.
 use Rattle.std.proofs.Common.{◌≡◌, ℕ, ◌<◌, List, [], ◌∷◌, length, Option, Some, None, Contains, inl, inr, sym, ap, ◌∙◌, subst, arith}
 use Rattle.std.specs.Prelude.{IfSome}
-use Rattle.std.proofs.lemmas.List.{length-map}
 use Rattle.type_kinds.proofs.Lists.{contains_none, contains_cases}
 use Rattle.type_kinds.specs.declared.atom.Atom.{Atom}
 use Rattle.core_ast.specs.Model as m
@@ -9,7 +8,6 @@ use Rattle.core_ast.specs.declared.syntax.FunName.{FunName}
 use Rattle.core_scope.specs.Accepted.{IsSpelled}
 use Rattle.core_scope.specs.Checked.{is_accepted}
 use Rattle.core_scope.specs.Names.{Distinct, defined_names}
-use Rattle.core_scope.proofs.NameLaws.{none_earlier}
 use Rattle.type_lattice_model.specs.Values.{Value, Values}
 use Rattle.cons_tree.specs.declared.parts.Sig.{Sig}
 use Rattle.cons_tree.specs.declared.parts.Summary.{Summary}
@@ -17,25 +15,20 @@ use Rattle.comp_rounds.specs.Rounds.{Callees}
 use Rattle.core_meaning.specs.Meaning.{gave, Trace, Among}
 use Rattle.core_meaning.specs.Programs.{top_function}
 use Rattle.core_meaning.specs.Runs.{Run}
-use Rattle.da_shelf.specs.Told.{Files, appended}
+use Rattle.da_shelf.specs.Told.{Files}
 use Rattle.table_keep.specs.Model.{trees}
 use Rattle.sound_laws.specs.Accepted.{AreAccepted}
 use Rattle.sound_laws.specs.Knowledge.{Within, summary_of}
 use Rattle.analysis_summaries.specs.Known.{module_names}
 use Rattle.analysis_summaries.specs.Whole.{IsWholeOf}
-use Rattle.analysis_answers.specs.declared.run_status.RunStatus.{RunStatus}
-use Rattle.analysis_answers.specs.declared.run_status.RunStatus.TheVariants.{Done}
-use Rattle.analysis_answers.specs.FileRuns.{no_command, many_files, file_refused, same_name, declining, failing, Intended, stopped, written}
+use Rattle.analysis_answers.specs.FileRuns.{Writes}
 use Rattle.analysis_answers.specs.ReadFiles.{HaveOwnNames}
+use Rattle.analysis_answers.proofs.AnswerExits.{apart}
 use Rattle.typer_lines.specs.declared.typing.Typing.{Typing}
 use Rattle.typer_lines.specs.Lines.{IsTyping, typing_line}
-use Rattle.typer_command.specs.Listed.{Lists, usage_line, WritesTruth}
+use Rattle.typer_command.specs.Listed.{Lists, WritesTruth}
 use Rattle.typer_command.specs.Typed.{AreTypingsOf, ReadsBack, HoldsInRuns}
 use Rattle.typer_command.proofs.Typings.{IsTypingAmong, typing_among}
-
--- names of their own are distinct
-apart : (xs : List m.Module) → HaveOwnNames xs → Distinct (module_names xs)
-apart xs own = none_earlier (module_names xs) (λ j low e. own j (subst (λ n. j < n) (length-map xs (λ (x : m.Module). x.name)) low) e)
 
 -- an accepted module is spelled by some text
 spelled_in : (xs : List m.Module) (x : m.Module) → AreAccepted xs → Contains xs x → IsSpelled x
@@ -77,21 +70,12 @@ module _ (small : Small) (once : Once) (holds : Holds) where
         (holds xs typed.found.known accepted (apart xs own) typed.found.whole stage tr run t.home t.name h.is.summary c vs v
         (ap (λ home. summary_of (typed.found.known home t.name)) h.is.of_home ∙ h.is.known_so) top among)
 
-  pub sound_it : (words : List (List ℕ)) (told : Option Files) (rb rn : ℕ) (status : RunStatus) (output : List ℕ) (before now : Option (List ℕ)) → Intended usage_line Lists words told rb rn status output → now ≡ appended before output
-      → status ≡ Done → IfSome told (λ held. WritesTruth words held before now)
-  sound_it words None rb rn status output before now h w e = tt
-  sound_it words (Some held) rb rn status output before now h w e = by h
-    where
-      by : Intended usage_line Lists words (Some held) rb rn status output → WritesTruth words held before now
-      by (stopped (declining (no_command a b c))) = let k = sym a ∙ e in absurd cc
-      by (stopped (declining (many_files a b c))) = let k = sym a ∙ e in absurd cc
-      by (stopped (declining (file_refused at file fault a b c d f))) = let k = sym a ∙ e in absurd cc
-      by (stopped (declining (same_name first second file other a b c d f g))) = let k = sym a ∙ e in absurd cc
-      by (stopped (failing word name a b c d)) = let k = sym a ∙ e in absurd cc
-      by (written a p) = record {
-        output = output;
-        passes = p;
-        written_so = w;
+  pub sound_it : (words : List (List ℕ)) (told : Option Files) (before now : Option (List ℕ)) → IfSome told (λ held. Writes Lists words held before now) → IfSome told (λ held. WritesTruth words held before now)
+  sound_it words None before now h = tt
+  sound_it words (Some held) before now h =
+      let p = h.passes in
+      record {
+        writes = h;
         reads_back = back (trees p.sources) p.gives.accepted p.names p.gives.typings p.gives.typed;
         holds = true_in_runs (trees p.sources) p.gives.accepted p.names p.gives.typings p.gives.typed;
       }

@@ -1,4 +1,3 @@
 pub mod Typed
 pub mod Listed
 pub mod Runs
-pub mod steps

@@ -1,10 +1,10 @@
 -- What a run of the program writes of the files that it reads, and what is promised of that.
-use Rattle.std.specs.Prelude.{◌≡◌, ℕ, List, codes, Contains, Option, Some}
-use Rattle.da_shelf.specs.Told.{Files, appended}
+use Rattle.std.specs.Prelude.{◌≡◌, ℕ, List, codes, Contains, Option}
+use Rattle.da_shelf.specs.Told.{Files}
 use Rattle.table_keep.specs.Model.{Source, trees}
 use Rattle.sound_laws.specs.Accepted.{AreAccepted}
 use Rattle.analysis_sources.specs.Refusals.{line}
-use Rattle.analysis_answers.specs.FileRuns.{Passes}
+use Rattle.analysis_answers.specs.FileRuns.{Writes}
 use Rattle.typer_lines.specs.declared.typing.Typing.{Typing}
 use Rattle.typer_command.specs.Typed.{AreTypingsOf, lines_of, ReadsBack, HoldsInRuns}
 
@@ -20,8 +20,6 @@ pub record Lists (sources : List Source) (output : List ℕ) : Type 0 where
 
 -- The run wrote the lines of typings of the files' modules, each of which reads back and is true of every run of them.
 pub record WritesTruth (words : List (List ℕ)) (held : Files) (written_before written_now : Option (List ℕ)) : Type 0 where
-  pub output : List ℕ
-  pub passes : Passes Lists words (Some held) output
-  pub written_so : written_now ≡ appended written_before output
-  pub reads_back : (t : Typing) → Contains passes.gives.typings t → ReadsBack t
-  pub holds : (t : Typing) → Contains passes.gives.typings t → HoldsInRuns (trees passes.sources) t
+  pub writes : Writes Lists words held written_before written_now
+  pub reads_back : (t : Typing) → Contains writes.passes.gives.typings t → ReadsBack t
+  pub holds : (t : Typing) → Contains writes.passes.gives.typings t → HoldsInRuns (trees writes.passes.sources) t

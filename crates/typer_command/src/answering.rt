@@ -2,10 +2,9 @@
 ghost use Rattle.std.specs.Prelude.{◌≡◌, length, IfOk};
 ghost use Rattle.table_keep.specs.Model.{sources_so};
 ghost use Rattle.analysis_sources.specs.Words.{texts};
-ghost use Rattle.analysis_answers.specs.FileRuns.{Intended};
+ghost use Rattle.analysis_answers.specs.FileRuns.{AnswersSources, Intended};
 ghost use Rattle.analysis_answers.specs.Words.{NamesFiles};
 ghost use Rattle.typer_command.specs.Listed.{Lists, usage_line};
-ghost use Rattle.typer_command.specs.steps.Typing.{IsListed};
 
 use crate::listing::typing_lines;
 use analysis_answers::{FilesRead, RunAnswer, RunStatus, read_files, refuse_second};
@@ -27,7 +26,8 @@ pub fn intended<R: Threads + Wait + Sync, F: Shelf, G: Gate + Sync>(
     shelf: &mut F,
     gate: &G,
 ) -> Result<RunAnswer, Memory>
-    ensures intended { IfOk result (λ a. Intended usage_line Lists (texts words.now) (F.held shelf.old) (F.read_faults shelf.old) (F.read_faults shelf.new) a.status a.output) }
+    ensures intended { IfOk result (λ a. Intended usage_line Lists (texts words.now) (F.held shelf.old) (F.read_faults shelf.old)
+        (F.read_faults shelf.new) a.status a.output) }
     ensures held { F.held shelf.new ≡ F.held shelf.old }
 {
     match read_files(alloc, words, "usage: typer FILE..", shelf) {
@@ -47,7 +47,7 @@ fn listed<R: Threads + Wait + Sync, G: Gate + Sync>(
 ) -> Result<RunAnswer, Memory>
     requires named { NamesFiles (texts words.now) }
     requires whole { length sources ≡ length words.now }
-    ensures { IfOk result (λ a. IsListed (texts words.now) (sources_so sources) a.status a.output) }
+    ensures { IfOk result (λ a. AnswersSources Lists (texts words.now) (sources_so sources) a.status a.output) }
 {
     let answer = typed(rt, alloc, words, sources.as_slice(), gate);
     discard_sources(sources);
@@ -64,7 +64,7 @@ fn typed<R: Threads + Wait + Sync, G: Gate + Sync>(
 ) -> Result<RunAnswer, Memory>
     requires named { NamesFiles (texts words.now) }
     requires whole { length sources.now ≡ length words.now }
-    ensures { IfOk result (λ a. IsListed (texts words.now) (sources_so sources.now) a.status a.output) }
+    ensures { IfOk result (λ a. AnswersSources Lists (texts words.now) (sources_so sources.now) a.status a.output) }
 {
     match summaries(rt, alloc, sources, 1, gate) {
         Ok(found) => {

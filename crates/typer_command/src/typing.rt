@@ -45,7 +45,8 @@ pub fn typer<R: Threads + Wait + Sync, F: Shelf, K: Sink, G: Gate + Sync>(
     gate: &G,
 ) -> RunStatus
     // The headline: the status and the bytes written are those of the words and of what is held.
-    ensures outcome { IsAnswer result → IfSome (F.held shelf.old) (λ held. Answers usage_line Lists (texts words.now) held result (K.written out.old) (K.written out.new)) }
+    ensures outcome { IsAnswer result → IfSome (F.held shelf.old)
+        (λ held. Answers usage_line Lists (texts words.now) held result (K.written out.old) (K.written out.new)) }
 
     // Each line reads back, and what it says is true of every run.
     ensures sound { result ≡ RunStatus.Done → IfSome (F.held shelf.old) (λ held. WritesTruth (texts words.now) held (K.written out.old) (K.written out.new)) }
@@ -53,13 +54,21 @@ pub fn typer<R: Threads + Wait + Sync, F: Shelf, K: Sink, G: Gate + Sync>(
     // When each answer comes.
     ensures usage { IsAnswer result → (result ≡ RunStatus.Usage) ↔ IsNoCommand (texts words.now) }
     ensures too_many { IsAnswer result → (result ≡ too_many) ↔ NamesTooMany (texts words.now) }
-    ensures missing { IsAnswer result → IfSome (F.held shelf.old) (λ held. (word : ℕ) → (result ≡ refused word missing) ↔ NamesMissing (texts words.now) held word) }
-    ensures too_long { IsAnswer result → IfSome (F.held shelf.old) (λ held. (word : ℕ) → (result ≡ refused word (of_the_whole TooLong)) ↔ NamesTooLong (texts words.now) held word) }
-    ensures faulty { IsAnswer result → IfSome (F.held shelf.old) (λ held. (word : ℕ) (fault : SourceFault) → refusal_number fault.name ≤ 13 → (result ≡ refused word fault) ↔ NamesFaulty (texts words.now) held word fault) }
-    ensures duplicate { IsAnswer result → IfSome (F.held shelf.old) (λ held. (word other : ℕ) → (result ≡ duplicate word other) ↔ NamesTwice (texts words.now) held word other) }
+    ensures missing { IsAnswer result → IfSome (F.held shelf.old)
+        (λ held. (word : ℕ) → (result ≡ refused word missing) ↔ NamesMissing (texts words.now) held word) }
+    ensures too_long { IsAnswer result → IfSome (F.held shelf.old)
+        (λ held. (word : ℕ) → (result ≡ refused word (of_the_whole TooLong)) ↔ NamesTooLong (texts words.now) held word) }
+    ensures faulty { IsAnswer result → IfSome (F.held shelf.old)
+        (λ held. (word : ℕ) (fault : SourceFault) → refusal_number fault.name ≤ 13
+        → (result ≡ refused word fault) ↔ NamesFaulty (texts words.now) held word fault) }
+    ensures duplicate { IsAnswer result → IfSome (F.held shelf.old)
+        (λ held. (word other : ℕ) → (result ≡ duplicate word other) ↔ NamesTwice (texts words.now) held word other) }
     ensures done { IsAnswer result → IfSome (F.held shelf.old) (λ held. (result ≡ RunStatus.Done) ↔ NamesModules (texts words.now) held) }
-    ensures read { (word : ℕ) → result ≡ RunStatus.DeviceFault (Device.Read word) → FailsToRead (texts words.now) (F.held shelf.old) word (F.read_faults shelf.old) (F.read_faults shelf.new) (K.written out.old) (K.written out.new) }
-    ensures write { result ≡ RunStatus.DeviceFault Device.Write → FailsToWrite usage_line Lists (texts words.now) (F.held shelf.old) (F.read_faults shelf.old) (F.read_faults shelf.new) (K.faults out.old) (K.faults out.new) (K.written out.old) (K.written out.new) }
+    ensures read { (word : ℕ) → result ≡ RunStatus.DeviceFault (Device.Read word)
+        → FailsToRead (texts words.now) (F.held shelf.old) word (F.read_faults shelf.old) (F.read_faults shelf.new) (K.written out.old) (K.written out.new) }
+    ensures write { result ≡ RunStatus.DeviceFault Device.Write
+        → FailsToWrite usage_line Lists (texts words.now) (F.held shelf.old) (F.read_faults shelf.old) (F.read_faults shelf.new) (K.faults out.old)
+        (K.faults out.new) (K.written out.old) (K.written out.new) }
     ensures memory { result ≡ RunStatus.Memory → K.written out.new ≡ K.written out.old }
     ensures possible { IsPossible (texts words.now) result }
 

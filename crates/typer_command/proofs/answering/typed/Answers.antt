@@ -4,7 +4,9 @@ use Rattle.table_keep.specs.declared.source.Source.{Source as HandedIn}
 use Rattle.analysis_sources.specs.Words.{texts}
 use Rattle.analysis_typings.specs.Typings.{IsNoSet}
 use Rattle.typer_command.specs.Typed.{lines_of, typings_of}
-use Rattle.typer_command.proofs.AnswerExits.{listed_so, twins_so}
+use Rattle.typer_command.specs.Listed.{Lists}
+use Rattle.typer_command.proofs.Outputs.{listed_so}
+use Rattle.analysis_answers.proofs.AnswerExits.{twins_so}
 use Rattle.typer_command.proofs.answering.typed.Goals as goal
 
 pub returns-in_ok-output-in-Ok : goal.returns-in_ok-output-in-Ok
@@ -14,6 +16,6 @@ returns-in_ok-output-in-Ok g c =
 
 pub returns-in-Err-Set-DuplicateModule : goal.returns-in-Err-Set-DuplicateModule
 returns-in-Err-Set-DuplicateModule g c =
-    twins_so c.args.words.now c.args.sources.now c.in-Err-Set-DuplicateModule.field-0-0 _ _ c.refuse_second.result c.requires.whole
+    twins_so Lists c.args.words.now c.args.sources.now c.in-Err-Set-DuplicateModule.field-0-0 _ _ c.refuse_second.result c.requires.whole
     (subst (IsNoSet (map (λ (s : HandedIn). (module_of s.checked).name) c.args.sources.now)) c.in-Err-Set-DuplicateModule.field-0-is c.in-Err-Set-DuplicateModule.ensures.set)
     c.refuse_second.ensures.status c.refuse_second.ensures.output (λ i j e. (rw e refl, rw e refl))

@@ -10,12 +10,14 @@ returns-in-Ok g c =
     (g.K.Sink.faults c.typer.new.out) c.typer.result (g.K.Sink.written c.args.out.now) (g.K.Sink.written c.typer.new.out))
     (ap texts c.as_slice.ensures ∙ c.in-Ok.ensures)
     (record {
-      outcome = c.typer.ensures.outcome;
+      over_files = record {
+        outcome = c.typer.ensures.outcome;
+        usage = c.typer.ensures.usage;
+        read = c.typer.ensures.read;
+        write = c.typer.ensures.write;
+        memory = c.typer.ensures.memory;
+        possible = c.typer.ensures.possible;
+        held_so = c.typer.ensures.held;
+      };
       sound = c.typer.ensures.sound;
-      usage = c.typer.ensures.usage;
-      read = c.typer.ensures.read;
-      write = c.typer.ensures.write;
-      memory = c.typer.ensures.memory;
-      possible = c.typer.ensures.possible;
-      held_so = c.typer.ensures.held;
     })

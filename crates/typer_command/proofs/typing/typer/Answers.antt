@@ -10,7 +10,8 @@ returns-in-Ok-give-clause-outcome g c =
 
 pub returns-in-Ok-give-clause-sound : goal.returns-in-Ok-give-clause-sound
 returns-in-Ok-give-clause-sound g c =
-    λ e. sound_it c.small_definitions.ensures c.typing_lines_once.ensures c.known_holds.ensures.strict _ _ _ _ _ c.in-Ok.answer.output _ _ c.in-Ok.ensures.intended (c.in-Ok-give.ensures.all ∙ ap (appended (g.K.Sink.written c.args.out.now)) c.as_slice.ensures) e
+    λ e. sound_it c.small_definitions.ensures c.typing_lines_once.ensures c.known_holds.ensures.strict _ _ _ _
+    (causes.writes_it _ _ _ _ _ _ _ c.in-Ok.answer.output c.in-Ok.ensures.intended _ _ (c.in-Ok-give.ensures.all ∙ ap (appended (g.K.Sink.written c.args.out.now)) c.as_slice.ensures) e)
 
 pub returns-in-Ok-give-clause-usage : goal.returns-in-Ok-give-clause-usage
 returns-in-Ok-give-clause-usage g c = λ a. causes.usage_it _ _ _ _ _ _ _ c.in-Ok.answer.output c.in-Ok.ensures.intended a
