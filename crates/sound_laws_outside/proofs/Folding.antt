@@ -1,5 +1,5 @@
 -- What component by component is solved is known by components in the end.
-use Rattle.std.proofs.Common.{◌≡◌, ℕ, zero, ◌<◌, ◌≤◌, true, false, List, [], ◌∷◌, length, ◌⊎◌, inl, inr, Some, Contains, refl, sym, ap, ◌∙◌, subst, arith}
+use Rattle.std.proofs.Common.{◌≡◌, ◌↔◌, ℕ, zero, ◌<◌, ◌≤◌, true, false, List, [], ◌∷◌, length, ◌⊎◌, inl, inr, Some, Contains, refl, sym, ap, ◌∙◌, subst, arith}
 use Rattle.std.specs.Prelude.{slice_get, if◌then◌else◌}
 use Rattle.std.proofs.lemmas.Bool.{cases_lt, false_from_ne_true}
 use Rattle.std.proofs.lemmas.Option.{slice_get_within, same_Some}
@@ -21,7 +21,7 @@ use Rattle.comp_rounds.specs.Rounds.{Callees, Function, is_member, summaries}
 use Rattle.sound_laws_rounds.specs.Whole.{AreKnown}
 use Rattle.sound_laws.specs.Accepted.{AreAccepted}
 use Rattle.analysis_summaries.specs.Functions.{summarized, all_functions, picked}
-use Rattle.analysis_summaries.specs.Known.{module_names, closed_over, known_over}
+use Rattle.analysis_summaries.specs.Known.{all_unknown, module_names, closed_over, known_over}
 use Rattle.analysis_summaries.specs.Whole.{IsCallGraph}
 use Rattle.sound_laws_whole.specs.Once.{NamedOnce}
 use Rattle.sound_laws_whole.proofs.Named.{Positioned, search_named, member_at, one_position}
@@ -31,6 +31,7 @@ use Rattle.sound_laws_whole.proofs.Wholes.{source_of, summarized_at}
 use Rattle.sound_laws_outside.specs.Over.{is_home, Finds, Leads, Reaches, by_call, by_calls, Together, IsKnownOver}
 use Rattle.sound_laws_outside.specs.Laws.{SolvedLaw}
 use Rattle.sound_laws_outside.proofs.Members.{clash, member_named, home_in}
+use Rattle.sound_laws_outside.proofs.One.{one_number}
 
 none_in : (is : List ℕ) → ((i : ℕ) → Contains is i → ⊥) → is ≡ []
 none_in [] h = refl
@@ -188,6 +189,17 @@ module _ (xs : List m.Module) (accepted : AreAccepted xs) (apart : Distinct (mod
       together = together;
       known_so = by_number (λ ks. AreKnown end ks (summaries end ks)) (λ n low. whole.known_in_end xs accepted apart graph is c r outside n low) tt;
     }
+
+  -- the functions of a component are those that are together with one of it
+  pub own_component : (n : ℕ) (g k : Function) → Contains (gs n) g → Contains fs k → Contains (gs n) k ↔ Together fs g k
+  unfolding is_known
+  own_component n g k here there = (
+    λ has. together g k in_all there (numbered n g here ∙ sym (numbered n k has)),
+    λ both. subst (λ i. Contains (gs i) k) (sym (one_number xs all_unknown (end all_unknown) (is_known all_unknown) g k both) ∙ numbered n g here) (all k there),
+  )
+    where
+      in_all : Contains fs g
+      in_all = let p = picked_from fs (members_of c n) g here in contains_at fs p.0 g p.2
 
 pub solved : SolvedLaw
 solved xs outside known accepted apart is =

@@ -1,5 +1,5 @@
 mod Carrying
-mod Folding
+pub mod Folding
 mod Following
 pub mod Members
 pub mod One

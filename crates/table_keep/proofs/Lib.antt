@@ -2,10 +2,10 @@ pub mod CallLaws
 mod Leaving
 mod MadeLaws
 mod MemberLaws
-mod Rises
-mod RisingLaws
+pub mod Rises
+pub mod RisingLaws
 pub mod SpelledLaws
-mod RisingNames
+pub mod RisingNames
 mod SortedNames
 mod PlacedNames
 mod StandingNames

@@ -19,5 +19,6 @@ pub use group_list::{GroupList, GroupMember};
 pub use grouping::groups;
 pub use laws::{call_laws, some_groups, spelled_laws};
 pub use made::entry_from;
+pub use rising::{InOrder, once_each};
 pub use source::{Source, discard_source};
 pub use unchanged_groups::{entry_may_stand, unchanged};

@@ -1,0 +1,11 @@
+mod Broken
+mod Closedness
+mod Components
+mod Entered
+mod Entering
+mod SlotsBelow
+mod Leasts
+mod Listing
+mod Owned
+mod SideBySide
+mod Sources
