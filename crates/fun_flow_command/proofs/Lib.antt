@@ -1,2 +1,2 @@
-mod AnswerExits
+mod Outputs
 mod Sound

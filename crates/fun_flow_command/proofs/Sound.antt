@@ -1,18 +1,16 @@
 -- No run of the modules enters a function that the lines don't have.
-use Rattle.std.proofs.Common.{◌≡◌, ℕ, ◌<◌, ◌⊎◌, List, [], ◌∷◌, map, Option, Some, None, inl, inr, refl, sym, ◌∙◌, subst}
+use Rattle.std.proofs.Common.{◌≡◌, ℕ, ◌⊎◌, List, [], ◌∷◌, map, Option, Some, None, inl, inr, refl, subst}
 use Rattle.std.specs.Prelude.{IfSome}
-use Rattle.std.proofs.lemmas.List.{length-map}
 use Rattle.type_kinds.specs.declared.atom.Atom.{Atom}
 use Rattle.core_ast.specs.Model as m
 use Rattle.core_scope.specs.Checked.{tree_of}
 use Rattle.core_scope.specs.Names.{Distinct}
 use Rattle.core_scope.specs.declared.checked.Checked.{Checked}
-use Rattle.core_scope.proofs.NameLaws.{none_earlier}
 use Rattle.type_lattice_model.specs.Values.{Env, Values, closure, count, external, foreign}
 use Rattle.core_meaning.specs.Meaning.{Among, Outcome, Trace, applied, fails, raised}
 use Rattle.core_meaning.specs.Programs.{Program}
 use Rattle.core_meaning.specs.Runs.{Run}
-use Rattle.da_shelf.specs.Told.{Files, appended}
+use Rattle.da_shelf.specs.Told.{Files}
 use Rattle.table_keep.specs.Model.{trees}
 use Rattle.sound_laws.specs.Accepted.{AreAccepted}
 use Rattle.sound_laws_fun_flow.specs.Claims.{ApplyAt}
@@ -20,18 +18,13 @@ use Rattle.fun_flow_sets.specs.Items.{Item, anything, closure_at, external_funct
 use Rattle.fun_flow_sets.specs.Sets.{MayEnter}
 use Rattle.fun_flow_answers.specs.declared.target.AppliedCall.{AppliedCall}
 use Rattle.fun_flow_answers.specs.Answers.{AreCalls, IsSaid}
-use Rattle.analysis_answers.specs.declared.run_status.RunStatus.{RunStatus}
-use Rattle.analysis_answers.specs.declared.run_status.RunStatus.TheVariants.{Done}
-use Rattle.analysis_answers.specs.FileRuns.{no_command, many_files, file_refused, same_name, declining, failing, Intended, stopped, written}
+use Rattle.analysis_answers.specs.FileRuns.{Writes}
 use Rattle.analysis_answers.specs.ReadFiles.{HaveOwnNames}
-use Rattle.fun_flow_command.specs.Listed.{Lists, NothingElseIsEntered, usage_line, WritesTruth}
+use Rattle.analysis_answers.proofs.AnswerExits.{apart}
+use Rattle.fun_flow_command.specs.Listed.{Lists, NothingElseIsEntered, WritesTruth}
 
 abbrev names_of : List m.Module → List Atom
 names_of xs = map (λ (x : m.Module). x.name) xs
-
--- names of their own are distinct
-apart : (xs : List m.Module) → HaveOwnNames xs → Distinct (names_of xs)
-apart xs own = none_earlier (names_of xs) (λ j low e. own j (subst (λ n. j < n) (length-map xs (λ (x : m.Module). x.name)) low) e)
 
 -- accepted modules are the trees of what was accepted
 accepted_ones : (xs : List m.Module) → AreAccepted xs → (mods : List Checked) × (map tree_of mods ≡ xs)
@@ -42,15 +35,18 @@ accepted_ones (x ∷ xs) are =
 
 abbrev LeftOut : Type 0
 LeftOut =
-    (mods : List Checked) → Distinct (names_of (map tree_of mods)) → (cs : List AppliedCall) → AreCalls (map tree_of mods) cs → (home : Atom) (label : ℕ) (x : Item) → MayEnter (map tree_of mods) home label x → IsSaid (map tree_of mods) cs home label x
+    (mods : List Checked) → Distinct (names_of (map tree_of mods)) → (cs : List AppliedCall) → AreCalls (map tree_of mods) cs → (home : Atom) (label : ℕ) (x : Item)
+    → MayEnter (map tree_of mods) home label x → IsSaid (map tree_of mods) cs home label x
 
 abbrev Closures : Type 0
 Closures =
-    (U : Program) (stage : ℕ) (tr : Trace) → AreAccepted U → Run U stage tr → (home : Atom) (label : ℕ) (x : Atom) (l n : ℕ) (env : Env) → Among (applied home label (closure x l n env)) tr → MayEnter U home label anything ⊎ MayEnter U home label (closure_at x l n)
+    (U : Program) (stage : ℕ) (tr : Trace) → AreAccepted U → Run U stage tr → (home : Atom) (label : ℕ) (x : Atom) (l n : ℕ) (env : Env) → Among (applied home label (closure x l n env)) tr
+    → MayEnter U home label anything ⊎ MayEnter U home label (closure_at x l n)
 
 abbrev Externals : Type 0
 Externals =
-    (U : Program) (stage : ℕ) (tr : Trace) → AreAccepted U → Run U stage tr → (home : Atom) (label : ℕ) (x name : Atom) (n : ℕ) → Among (applied home label (external x name n)) tr → MayEnter U home label anything ⊎ MayEnter U home label (external_function x name n)
+    (U : Program) (stage : ℕ) (tr : Trace) → AreAccepted U → Run U stage tr → (home : Atom) (label : ℕ) (x name : Atom) (n : ℕ) → Among (applied home label (external x name n)) tr
+    → MayEnter U home label anything ⊎ MayEnter U home label (external_function x name n)
 
 abbrev Foreigners : Type 0
 Foreigners = (U : Program) (stage : ℕ) (tr : Trace) → AreAccepted U → Run U stage tr → (home : Atom) (label : ℕ) (x n : ℕ) → Among (applied home label (foreign x n)) tr → MayEnter U home label anything
@@ -90,20 +86,7 @@ module _ (left : LeftOut) (closures : Closures) (externals : Externals) (foreign
       external_arities = external_arities xs;
     }
 
-  pub sound_it : (words : List (List ℕ)) (told : Option Files) (rb rn : ℕ) (status : RunStatus) (output : List ℕ) (before now : Option (List ℕ)) → Intended usage_line Lists words told rb rn status output → now ≡ appended before output
-      → status ≡ Done → IfSome told (λ held. WritesTruth words held before now)
-  sound_it words None rb rn status output before now h w e = tt
-  sound_it words (Some held) rb rn status output before now h w e = by h
-    where
-      by : Intended usage_line Lists words (Some held) rb rn status output → WritesTruth words held before now
-      by (stopped (declining (no_command a b c))) = let k = sym a ∙ e in absurd cc
-      by (stopped (declining (many_files a b c))) = let k = sym a ∙ e in absurd cc
-      by (stopped (declining (file_refused at file fault a b c d f))) = let k = sym a ∙ e in absurd cc
-      by (stopped (declining (same_name first second file other a b c d f g))) = let k = sym a ∙ e in absurd cc
-      by (stopped (failing word name a b c d)) = let k = sym a ∙ e in absurd cc
-      by (written a p) = record {
-        output = output;
-        passes = p;
-        written_so = w;
-        sound = nothing_else (trees p.sources) p.gives.accepted p.names p.gives.calls p.gives.are;
-      }
+  pub sound_it : (words : List (List ℕ)) (told : Option Files) (before now : Option (List ℕ)) → IfSome told (λ held. Writes Lists words held before now) → IfSome told (λ held. WritesTruth words held before now)
+  sound_it words None before now h = tt
+  sound_it words (Some held) before now h =
+      let p = h.passes in record { writes = h; sound = nothing_else (trees p.sources) p.gives.accepted p.names p.gives.calls p.gives.are }

@@ -1,11 +1,11 @@
 -- What a run of the program writes of the files that it reads, and what is promised of that.
-use Rattle.std.specs.Prelude.{◌≡◌, ℕ, List, [], codes, map, Option, Some}
+use Rattle.std.specs.Prelude.{◌≡◌, ℕ, List, [], codes, map, Option}
 use Rattle.type_kinds.specs.declared.atom.Atom.{Atom}
 use Rattle.type_lattice_model.specs.Values.{Env, Values, closure, count, external, foreign}
 use Rattle.core_meaning.specs.Meaning.{Among, Outcome, Trace, applied, fails, raised}
 use Rattle.core_meaning.specs.Programs.{Program}
 use Rattle.core_meaning.specs.Runs.{Run}
-use Rattle.da_shelf.specs.Told.{Files, appended}
+use Rattle.da_shelf.specs.Told.{Files}
 use Rattle.table_keep.specs.Model.{Source, trees}
 use Rattle.sound_laws.specs.Accepted.{AreAccepted}
 use Rattle.sound_laws_fun_flow.specs.Claims.{ApplyAt}
@@ -14,7 +14,7 @@ use Rattle.fun_flow_answers.specs.declared.target.AppliedCall.{AppliedCall}
 use Rattle.fun_flow_answers.specs.Answers.{AreCalls, IsSaid}
 use Rattle.fun_flow_answers.specs.Lines.{call_lines}
 use Rattle.analysis_sources.specs.Refusals.{line}
-use Rattle.analysis_answers.specs.FileRuns.{Passes}
+use Rattle.analysis_answers.specs.FileRuns.{Writes}
 
 abbrev pub usage_line : List ℕ
 usage_line = line (codes "usage: fun_flow FILE..")
@@ -39,7 +39,5 @@ pub record NothingElseIsEntered (U : Program) (cs : List AppliedCall) : Type 0 w
 
 -- The run wrote the lines of the applications of values in the files' modules, and no run of these enters another function.
 pub record WritesTruth (words : List (List ℕ)) (held : Files) (written_before written_now : Option (List ℕ)) : Type 0 where
-  pub output : List ℕ
-  pub passes : Passes Lists words (Some held) output
-  pub written_so : written_now ≡ appended written_before output
-  pub sound : NothingElseIsEntered (trees passes.sources) passes.gives.calls
+  pub writes : Writes Lists words held written_before written_now
+  pub sound : NothingElseIsEntered (trees writes.passes.sources) writes.passes.gives.calls

@@ -10,14 +10,13 @@ ghost use Rattle.analysis_answers.specs.FileRuns.{Answers, FailsToRead, FailsToW
 ghost use Rattle.analysis_answers.specs.Words.{IsNoCommand, NamesTooMany};
 ghost use Rattle.fun_flow_command.specs.Listed.{Lists, WritesTruth, usage_line};
 
-use crate::answering::intended;
-use analysis_answers::{RunAnswer, RunStatus};
-use analysis_sources::{Device, one_reading_of_files};
-use da_shelf::{Gate, Shelf, Sink, SinkFault, give};
+use crate::program::FlowProgram;
+use analysis_answers::{RunStatus, run_program};
+use analysis_sources::Device;
+use da_shelf::{Gate, Shelf, Sink};
 use fun_flow_answers::nothing_is_left_out;
 use sound_laws_fun_flow::only_listed_are_entered;
 use std::alloc::Global;
-use type_kinds::Memory;
 
 /// Lists which functions each application of a value may enter: reads the files that the words name, 1 to 1,024, and writes a line to
 /// the sink for each `apply` whose operator isn't a function's name, as `'m':3: apply of a value with 1 arguments may enter fun 'm':2`:
@@ -41,7 +40,8 @@ pub fn fun_flow<F: Shelf, K: Sink, G: Gate + Sync>(
     _gate: &G,
 ) -> RunStatus
     // The headline: the status and the bytes written are those of the words and of what is held.
-    ensures outcome { IsAnswer result → IfSome (F.held shelf.old) (λ held. Answers usage_line Lists (texts words.now) held result (K.written out.old) (K.written out.new)) }
+    ensures outcome { IsAnswer result → IfSome (F.held shelf.old)
+        (λ held. Answers usage_line Lists (texts words.now) held result (K.written out.old) (K.written out.new)) }
 
     // No run enters what isn't listed.
     ensures sound { result ≡ RunStatus.Done → IfSome (F.held shelf.old) (λ held. WritesTruth (texts words.now) held (K.written out.old) (K.written out.new)) }
@@ -49,28 +49,28 @@ pub fn fun_flow<F: Shelf, K: Sink, G: Gate + Sync>(
     // When each answer comes.
     ensures usage { IsAnswer result → (result ≡ RunStatus.Usage) ↔ IsNoCommand (texts words.now) }
     ensures too_many { IsAnswer result → (result ≡ too_many) ↔ NamesTooMany (texts words.now) }
-    ensures missing { IsAnswer result → IfSome (F.held shelf.old) (λ held. (word : ℕ) → (result ≡ refused word missing) ↔ NamesMissing (texts words.now) held word) }
-    ensures too_long { IsAnswer result → IfSome (F.held shelf.old) (λ held. (word : ℕ) → (result ≡ refused word (of_the_whole TooLong)) ↔ NamesTooLong (texts words.now) held word) }
-    ensures faulty { IsAnswer result → IfSome (F.held shelf.old) (λ held. (word : ℕ) (fault : SourceFault) → refusal_number fault.name ≤ 13 → (result ≡ refused word fault) ↔ NamesFaulty (texts words.now) held word fault) }
-    ensures duplicate { IsAnswer result → IfSome (F.held shelf.old) (λ held. (word other : ℕ) → (result ≡ duplicate word other) ↔ NamesTwice (texts words.now) held word other) }
+    ensures missing { IsAnswer result → IfSome (F.held shelf.old)
+        (λ held. (word : ℕ) → (result ≡ refused word missing) ↔ NamesMissing (texts words.now) held word) }
+    ensures too_long { IsAnswer result → IfSome (F.held shelf.old)
+        (λ held. (word : ℕ) → (result ≡ refused word (of_the_whole TooLong)) ↔ NamesTooLong (texts words.now) held word) }
+    ensures faulty { IsAnswer result → IfSome (F.held shelf.old)
+        (λ held. (word : ℕ) (fault : SourceFault) → refusal_number fault.name ≤ 13
+        → (result ≡ refused word fault) ↔ NamesFaulty (texts words.now) held word fault) }
+    ensures duplicate { IsAnswer result → IfSome (F.held shelf.old)
+        (λ held. (word other : ℕ) → (result ≡ duplicate word other) ↔ NamesTwice (texts words.now) held word other) }
     ensures done { IsAnswer result → IfSome (F.held shelf.old) (λ held. (result ≡ RunStatus.Done) ↔ NamesModules (texts words.now) held) }
-    ensures read { (word : ℕ) → result ≡ RunStatus.DeviceFault (Device.Read word) → FailsToRead (texts words.now) (F.held shelf.old) word (F.read_faults shelf.old) (F.read_faults shelf.new) (K.written out.old) (K.written out.new) }
-    ensures write { result ≡ RunStatus.DeviceFault Device.Write → FailsToWrite usage_line Lists (texts words.now) (F.held shelf.old) (F.read_faults shelf.old) (F.read_faults shelf.new) (K.faults out.old) (K.faults out.new) (K.written out.old) (K.written out.new) }
+    ensures read { (word : ℕ) → result ≡ RunStatus.DeviceFault (Device.Read word)
+        → FailsToRead (texts words.now) (F.held shelf.old) word (F.read_faults shelf.old) (F.read_faults shelf.new) (K.written out.old) (K.written out.new) }
+    ensures write { result ≡ RunStatus.DeviceFault Device.Write
+        → FailsToWrite usage_line Lists (texts words.now) (F.held shelf.old) (F.read_faults shelf.old) (F.read_faults shelf.new) (K.faults out.old)
+        (K.faults out.new) (K.written out.old) (K.written out.new) }
     ensures memory { result ≡ RunStatus.Memory → K.written out.new ≡ K.written out.old }
     ensures possible { IsPossible (texts words.now) result }
 
     // Nothing is put onto the shelf.
     ensures held { F.held shelf.new ≡ F.held shelf.old }
 {
-    one_reading_of_files();
     nothing_is_left_out();
     only_listed_are_entered();
-    let RunAnswer { status, output } = match intended(alloc, words, shelf) {
-        Ok(answer) => answer,
-        Err(Memory) => return RunStatus::Memory,
-    };
-    match give(out, output.as_slice()) {
-        Ok(()) => status,
-        Err(SinkFault::Failed) => RunStatus::DeviceFault(Device::Write),
-    }
+    run_program(&FlowProgram, alloc, words, shelf, out)
 }

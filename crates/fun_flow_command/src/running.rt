@@ -23,7 +23,9 @@ pub fn run_over<F: Shelf, K: Sink, G: Gate + Sync>(
     out: &mut K,
     gate: &G,
 ) -> ExitCode
-    ensures { (status : TheStatus) × IsRun (map string_bytes words.now.items) (F.held shelf.old) (F.held shelf.new) (F.read_faults shelf.old) (F.read_faults shelf.new) (K.faults out.old) (K.faults out.new) status (K.written out.old) (K.written out.new) × (exit_status result ≡ run_code status) }
+    ensures { (status : TheStatus) × IsRun (map string_bytes words.now.items) (F.held shelf.old) (F.held shelf.new) (F.read_faults shelf.old)
+        (F.read_faults shelf.new) (K.faults out.old) (K.faults out.new) status (K.written out.old) (K.written out.new)
+        × (exit_status result ≡ run_code status) }
 {
     let status = status_of(alloc, words, shelf, out, gate);
     ExitCode::from(status.code())
@@ -37,7 +39,8 @@ fn status_of<F: Shelf, K: Sink, G: Gate + Sync>(
     out: &mut K,
     gate: &G,
 ) -> RunStatus
-    ensures { IsRun (map string_bytes words.now.items) (F.held shelf.old) (F.held shelf.new) (F.read_faults shelf.old) (F.read_faults shelf.new) (K.faults out.old) (K.faults out.new) result (K.written out.old) (K.written out.new) }
+    ensures { IsRun (map string_bytes words.now.items) (F.held shelf.old) (F.held shelf.new) (F.read_faults shelf.old) (F.read_faults shelf.new)
+        (K.faults out.old) (K.faults out.new) result (K.written out.old) (K.written out.new) }
 {
     match texts_of(alloc, words) {
         Ok(texts) => fun_flow(alloc, texts.as_slice(), shelf, out, gate),

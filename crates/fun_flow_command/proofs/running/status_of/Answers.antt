@@ -10,12 +10,14 @@ returns-in-Ok g c =
     (g.K.Sink.faults c.fun_flow.new.out) c.fun_flow.result (g.K.Sink.written c.args.out.now) (g.K.Sink.written c.fun_flow.new.out))
     (ap texts c.as_slice.ensures ∙ c.in-Ok.ensures)
     (record {
-      outcome = c.fun_flow.ensures.outcome;
+      over_files = record {
+        outcome = c.fun_flow.ensures.outcome;
+        usage = c.fun_flow.ensures.usage;
+        read = c.fun_flow.ensures.read;
+        write = c.fun_flow.ensures.write;
+        memory = c.fun_flow.ensures.memory;
+        possible = c.fun_flow.ensures.possible;
+        held_so = c.fun_flow.ensures.held;
+      };
       sound = c.fun_flow.ensures.sound;
-      usage = c.fun_flow.ensures.usage;
-      read = c.fun_flow.ensures.read;
-      write = c.fun_flow.ensures.write;
-      memory = c.fun_flow.ensures.memory;
-      possible = c.fun_flow.ensures.possible;
-      held_so = c.fun_flow.ensures.held;
     })
