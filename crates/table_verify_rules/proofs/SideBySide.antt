@@ -27,13 +27,6 @@ not_itself h = by (is_name_before h h) refl
     by true e = absurd (ascending.below-not_itself name_total name_same h e)
     by false e = refl
 
-not_back : (a b : Atom) → is_name_before b a ≡ true → is_name_before a b ≡ false
-not_back a b e = by (is_name_before a b) refl
-  where
-    by : (x : Bool) → is_name_before a b ≡ x → x ≡ false
-    by true f = absurd (ascending.below-not_itself name_total name_same a (ascending.below-below name_total name_same a b a f e))
-    by false f = refl
-
 not_below : (k g c : Atom) → is_name_before k g ≡ false → is_name_before c g ≡ true → is_name_before k c ≡ false
 not_below k g c low e = by (is_name_before k c) refl
   where

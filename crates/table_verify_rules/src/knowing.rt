@@ -1,10 +1,12 @@
 //! What is known by a certificate.
 ghost use Rattle.std.specs.Prelude.{◌≡◌, ◌<◌, ℕ, length, map, slice_get, IfOk, IsTrue, OnOk, Some};
+ghost use Rattle.type_kinds.specs.declared.atom.Atom.{Atom as TheAtom};
 ghost use Rattle.core_ast.specs.declared.syntax.FunName.{FunName as TheName};
 ghost use Rattle.core_scope.specs.Checked.{module_of, tree_of};
 ghost use Rattle.core_scope.specs.Names.{has_function};
 ghost use Rattle.core_scope.specs.Sets.{StandsEarlier};
 ghost use Rattle.cons_tree.specs.Callees.{found};
+ghost use Rattle.cons_tree.specs.declared.parts.Callee.TheVariants.{Unknown};
 ghost use Rattle.cons_tree.specs.declared.parts.Summary.{Summary as TheSummary};
 ghost use Rattle.comp_rounds.specs.Rounds.{standing, with_callee};
 ghost use Rattle.table_file.specs.Order.{rises, is_name_before};
@@ -37,11 +39,34 @@ pub fn known_by(
     ensures { IfOk result (λ known. found known ≡ known_by (entries_so cert.now) (sources_so sources.now)) }
 {
     let mut known = Summaries::new(alloc);
-    close_modules(sources, &mut known)?;
-    for source in sources {
-        enter_module(alloc, cert, source, names, &mut known)?;
+    match enter_all(alloc, cert, sources, names, &mut known) {
+        Ok(()) => Ok(known),
+        Err(Memory) => {
+            drop(known);
+            Err(Memory)
+        }
     }
-    Ok(known)
+}
+
+// The same, where nothing is known before.
+fn enter_all(
+    alloc: Global,
+    cert: &Table,
+    sources: &[Source],
+    names: &[Atom],
+    known: &mut Summaries,
+) -> Result<(), Memory>
+    requires distinct { (j : ℕ) → j < length sources.now → StandsEarlier (map (λ s. (module_of s.checked).name) sources.now) j → ⊥ }
+    requires rising { IsTrue (rises is_name_before names.now) }
+    requires cert { entry_names (entries_so cert.now) ≡ names.now }
+    requires unknown { (h : TheAtom) (f : TheName) → found known.old h f ≡ Unknown }
+    ensures { OnOk result (found known.new ≡ known_by (entries_so cert.now) (sources_so sources.now)) }
+{
+    close_modules(sources, known)?;
+    for source in sources {
+        enter_module(alloc, cert, source, names, known)?;
+    }
+    Ok(())
 }
 
 // The functions that the certificate's entry of a module lists, if there is one, are known from now on.

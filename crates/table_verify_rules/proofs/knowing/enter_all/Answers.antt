@@ -6,13 +6,13 @@ use Rattle.table_keep.specs.Model.{entries_so, sources_so}
 use Rattle.table_verify_rules.specs.steps.Knowing.{with_entries_of}
 use Rattle.table_verify_rules.proofs.Entered.{all_entered}
 use Rattle.table_verify_rules.proofs.Sources.{handed, names_of, names_so}
-use Rattle.table_verify_rules.proofs.knowing.known_by.Goals as goal
+use Rattle.table_verify_rules.proofs.knowing.enter_all.Goals as goal
 
 pub loop-source-init : goal.loop-source-init
 loop-source-init c =
     let ss = c.args.sources.now in
     ap (with_entries_of (entries_so c.args.cert.now) (sources_so ss)) c.in_ok-close_modules.ensures
-    ∙ all_entered (entries_so c.args.cert.now) (sources_so ss) (handed ss c.requires.distinct).distinct (found c.new-known.result) c.new-known.ensures (names_of ss) (names_so ss)
+    ∙ all_entered (entries_so c.args.cert.now) (sources_so ss) (handed ss c.requires.distinct).distinct (found c.args.known.now) c.requires.unknown (names_of ss) (names_so ss)
 
 pub loop-source-preserved : goal.loop-source-preserved
 loop-source-preserved c =

@@ -3,7 +3,7 @@ use Rattle.cons_tree.specs.Callees.{found}
 use Rattle.table_keep.specs.Model.{entries_so, sources_so}
 use Rattle.table_verify_laws.specs.Listed.{known_by}
 use Rattle.table_verify_rules.specs.steps.Knowing.{with_entries_of}
-use Rattle.table_verify_rules.proofs.knowing.known_by.Given as goal
+use Rattle.table_verify_rules.proofs.knowing.enter_all.Given as goal
 
 abbrev pub invariant-loop-source : goal.invariant-loop-source
 invariant-loop-source l =
