@@ -12,3 +12,4 @@ mod Storing
 mod Counted
 mod MadeReports
 mod SharedSources
+mod Certifying

@@ -3,6 +3,7 @@
 #![tactic(auto)]
 
 mod analysing;
+mod certificate;
 mod entering;
 mod new_table;
 mod reporting;
@@ -12,3 +13,4 @@ mod stopping;
 mod waves;
 
 pub use analysing::{Analysis, Fault, analyse};
+pub use certificate::whole;

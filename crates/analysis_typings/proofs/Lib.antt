@@ -1,3 +1,3 @@
-mod Known
-mod Listed
+pub mod Known
+pub mod Listed
 mod SmallNames

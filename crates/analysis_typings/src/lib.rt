@@ -6,4 +6,5 @@ mod listing;
 mod solving;
 
 pub use laws::small_definitions;
+pub use listing::summary_in;
 pub use solving::{SummariesFault, summaries};

@@ -63,8 +63,8 @@ fn def_summaries(
     Ok(summaries)
 }
 
-// The summary of a function that has one.
-fn summary_in(alloc: Global, callee: &Callee) -> Result<Summary, Memory>
+/// The summary of a function that has one. `Memory` if allocation fails.
+pub fn summary_in(alloc: Global, callee: &Callee) -> Result<Summary, Memory>
     requires { HasSummary callee.now }
     ensures { IfOk result (λ summary. summary_of callee.now ≡ Some summary) }
 {

@@ -1,6 +1,6 @@
 pub mod CallLaws
 mod Leaving
-mod MadeLaws
+pub mod MadeLaws
 mod MemberLaws
 pub mod Rises
 pub mod RisingLaws

@@ -33,7 +33,7 @@ use Rattle.table_keep.proofs.RisingLaws.{merged_in}
 
 -- ---- what is stored of a callee
 
-takes_from : (s : Summary) (n : ℕ) → Takes s n → takes s n ≡ true
+pub takes_from : (s : Summary) (n : ℕ) → Takes s n → takes s n ≡ true
 takes_from s n h = let a = h.0 in let b = h.1 in grind arith
 
 pub stored_as_called : (k : Callee) (n : ℕ) → Fits k n → is_stored (as_called k) n ≡ true

@@ -33,16 +33,10 @@ use Rattle.table_verify_laws.specs.Certificates.{AreListed, ListsAll, EachListsA
 use Rattle.table_verify_laws.specs.Closed.{IsClosedAt}
 use Rattle.table_verify_laws.specs.Listed.{defined, summary_among, callee_by, callee_listed, known_by}
 use Rattle.table_verify_laws.specs.Rules.{TableRule, same_modules, same_source, same_functions, closed, IsSomewhere, in_table, in_certificate, in_sources, IsEverywhere, ListsFunctions, Keeps, KeepsRules}
-use Rattle.table_verify_laws.proofs.Listing.{ExportsLaw, defined_has}
+use Rattle.table_verify_laws.proofs.Listing.{ExportsLaw, defined_has, listed_so}
 use Rattle.table_verify_laws.proofs.Named.{tree_of, module_of_source, named_defined}
 
 -- ---- functions that are listed by what is known
-
-listed_so : (known : Callees) (h : Atom) (fs : List FunName) (es : List (FunName × Summary)) → AreListed known h fs es → map (λ x. x.0) es ≡ fs
-listed_so known h [] [] are = refl
-listed_so known h [] (e ∷ es) are = absurd are
-listed_so known h (f ∷ fs) [] are = absurd are
-listed_so known h (f ∷ fs) (e ∷ es) are = ap₂ (λ g gs. g ∷ gs) are.0 (listed_so known h fs es are.2)
 
 summarized_so : (known : Callees) (h : Atom) (fs : List FunName) (es : List (FunName × Summary)) → AreSummarized known h fs es → map (λ x. x.0) es ≡ fs
 summarized_so known h [] [] are = refl

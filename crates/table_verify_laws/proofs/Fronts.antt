@@ -14,7 +14,8 @@ use Rattle.core_scope.specs.Names.{same_atom}
 use Rattle.table_file.specs.Order.{rises, is_name_before}
 use Rattle.table_keep.specs.Model.{Source, Entry, source_of, is_there, is_in, entry_of}
 use Rattle.sound_laws_kept.proofs.Graphs.{below_all, rises_behind}
-use Rattle.sound_laws_kept.proofs.Names.{itself, name_is, none_some, there_is}
+use Rattle.sound_laws_kept.proofs.Names.{name_is, none_some, there_is}
+use Rattle.table_verify_laws.proofs.Listing.{entry_there}
 use Rattle.table_verify_laws.specs.Rules.{TableRule, same_modules, same_source, same_functions, closed, rule_number, IsSomewhere, in_table, in_certificate, in_sources, IsEverywhere, Breaks, IsFirstBroken}
 use Rattle.table_verify_laws.specs.Lined.{entry_names, first_name, IsLeastFirst, AreModuleNames, SameNamesLaw, OtherNamesLaw}
 
@@ -63,16 +64,6 @@ first_there [] h e = none_some e
 first_there (g ∷ hs) h e = subst (Contains (g ∷ hs)) (same_Some _ _ e) (contains_first g hs)
 
 -- ---- entries by their names
-
-entry_there : (T : List Entry) (h : Atom) → Contains (entry_names T) h → (e : Entry) × (entry_of T h ≡ Some e)
-entry_there [] h has = absurd (contains_none h has)
-entry_there (e ∷ T) h has = by (same_atom h e.name) refl (contains_cases e.name h (entry_names T) has) (entry_there T h)
-  where
-    by : (b : Bool) → same_atom h e.name ≡ b → (e.name ≡ h) ⊎ Contains (entry_names T) h → (Contains (entry_names T) h → (d : Entry) × (entry_of T h ≡ Some d))
-        → (d : Entry) × (cond b (Some e) (entry_of T h) ≡ Some d)
-    by true is o rest = (e, refl)
-    by false is (inl same) rest = absurd (true≢false (sym (ap (same_atom h) same ∙ itself h) ∙ is))
-    by false is (inr more) rest = rest more
 
 there_entry : (T : List Entry) (h : Atom) (e : Entry) → entry_of T h ≡ Some e → Contains (entry_names T) h
 there_entry [] h e at = none_some at

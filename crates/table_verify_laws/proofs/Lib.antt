@@ -5,7 +5,7 @@ mod Complete
 mod Examples
 mod Firsts
 mod Fronts
-mod Listing
+pub mod Listing
 mod Named
 mod Passes
 mod Solved

@@ -1,18 +1,24 @@
 -- What entries list: a name that is listed has a summary there, and in a list that rises each function has the one that it stands with.
-use Rattle.std.proofs.Common.{◌≡◌, ◌↔◌, Bool, true, false, cond, List, [], ◌∷◌, map, Contains, inl, inr, Some, refl, sym, ap, ◌∙◌, subst, true≢false}
+use Rattle.std.proofs.Common.{◌≡◌, ◌↔◌, Bool, true, false, cond, List, [], ◌∷◌, ◌⊎◌, map, Contains, inl, inr, Some, refl, sym, ap, ap₂, ◌∙◌, subst, true≢false}
 use Rattle.std.specs.Ordering.{is_lt}
 use Rattle.type_kinds.proofs.Lists.{contains_none, contains_first, contains_later, contains_cases}
 use Rattle.type_kinds.proofs.Truths.{first, second}
 use Rattle.type_kinds_sets.specs.Ascending.{is_ascending, is_below_all}
 use Rattle.type_kinds_sets.proofs.AscendingLaws.{below-not_itself, ascending-merged}
+use Rattle.type_kinds.specs.declared.atom.Atom.{Atom}
 use Rattle.core_ast.specs.Model as m
 use Rattle.core_ast.specs.declared.syntax.FunName.{FunName}
-use Rattle.core_scope.specs.Names.{defined_names}
+use Rattle.core_scope.specs.Names.{defined_names, same_atom}
 use Rattle.cons_tree.specs.Callees.{same_name}
 use Rattle.cons_tree.specs.declared.parts.Summary.{Summary}
 use Rattle.cons_tree.proofs.NameLaws.{name_is, name_itself}
 use Rattle.table_keep.specs.Made.{function_cmp, exported}
 use Rattle.table_keep.specs.Orders.{function_total, function_same}
+use Rattle.table_keep.specs.Model.{Entry, entry_of}
+use Rattle.comp_rounds.specs.Rounds.{Callees}
+use Rattle.sound_laws_kept.proofs.Names.{itself}
+use Rattle.table_verify_laws.specs.Certificates.{AreListed}
+use Rattle.table_verify_laws.specs.Lined.{entry_names}
 use Rattle.table_verify_laws.specs.Listed.{summary_among, defined}
 
 -- the functions of a list, and their names
@@ -71,3 +77,23 @@ defined_has exports x f has = (exports (record x { exports = defined_names x.def
 pub defined_rise : (x : m.Module) → is_ascending function_cmp (defined x) ≡ true
 unfolding defined
 defined_rise x = ascending-merged function_total function_same [] (defined_names x.defs) refl
+
+-- ---- functions that are listed by what is known
+
+pub listed_so : (known : Callees) (h : Atom) (fs : List FunName) (es : List (FunName × Summary)) → AreListed known h fs es → map (λ x. x.0) es ≡ fs
+listed_so known h [] [] are = refl
+listed_so known h [] (e ∷ es) are = absurd are
+listed_so known h (f ∷ fs) [] are = absurd are
+listed_so known h (f ∷ fs) (e ∷ es) are = ap₂ (λ g gs. g ∷ gs) are.0 (listed_so known h fs es are.2)
+
+-- ---- entries by their names
+
+pub entry_there : (T : List Entry) (h : Atom) → Contains (entry_names T) h → (e : Entry) × (entry_of T h ≡ Some e)
+entry_there [] h has = absurd (contains_none h has)
+entry_there (e ∷ T) h has = by (same_atom h e.name) refl (contains_cases e.name h (entry_names T) has) (entry_there T h)
+  where
+    by : (b : Bool) → same_atom h e.name ≡ b → (e.name ≡ h) ⊎ Contains (entry_names T) h → (Contains (entry_names T) h → (d : Entry) × (entry_of T h ≡ Some d))
+        → (d : Entry) × (cond b (Some e) (entry_of T h) ≡ Some d)
+    by true is o rest = (e, refl)
+    by false is (inl same) rest = absurd (true≢false (sym (ap (same_atom h) same ∙ itself h) ∙ is))
+    by false is (inr more) rest = rest more
