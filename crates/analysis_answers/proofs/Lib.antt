@@ -2,3 +2,6 @@ pub mod AnswerExits
 pub mod FileCauses
 mod FileExits
 pub mod FileRefusals
+pub mod Texts
+pub mod TableModels
+pub mod TableFaults

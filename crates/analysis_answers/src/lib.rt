@@ -18,7 +18,7 @@ pub use lines::{
     table_fault_line, table_fault_number, too_many_line,
 };
 pub use program::{FileProgram, OutputFault};
-pub use run_answer::{RunAnswer, refuse_second};
+pub use run_answer::{RunAnswer, refuse, refuse_many, refuse_second, unread, usage};
 pub use run_status::RunStatus;
 pub use running::run_program;
 pub use words::{MOST_FILES, are_files, is_command, is_file, texts_of};

@@ -9,7 +9,7 @@ use Rattle.dialyze_command.specs.declared.begin.Begun.{Begun}
 use Rattle.dialyze_command.specs.declared.begin.Begun.TheVariants.{Reads, Says}
 use Rattle.dialyze_command.specs.Outcome.{Spells, named, IsFaultOf}
 use Rattle.dialyze_command.specs.steps.Plans.{faulty, IsOfBytes, IsReadAs, IsBegunAs}
-use Rattle.dialyze_command.proofs.Texts.{texts_at}
+use Rattle.analysis_answers.proofs.Texts.{texts_at}
 
 pub bytes_read : (told : Option Files) (word : ℕ) (name bytes items : List ℕ) (rb rn : ℕ) (r : Result Begun Memory) → items ≡ bytes → Holds told name bytes → IfOk r (λ b. IsOfBytes name items b) → IfOk r (λ b. IsReadAs told word name rb rn b)
 bytes_read told word name bytes items rb rn (Ok (Reads table)) same held h = (bytes, held, subst (Spells table) same h)

@@ -4,6 +4,7 @@ use Rattle.std.specs.Prelude.{IfSome}
 use Rattle.da_shelf.specs.Counts.{Rose}
 use Rattle.da_shelf.specs.Told.{Files, appended, IsPrefixAppended}
 use Rattle.analysis_sources.specs.declared.refusals.Device.TheVariants.{Read, Replace, Write}
+use Rattle.analysis_answers.proofs.TableFaults.{table_number}
 use Rattle.dialyze_command.specs.declared.status.Status.{Status}
 use Rattle.dialyze_command.specs.declared.status.Status.TheVariants.{Clean, DeviceFault, Memory, Refused, TableFault, Usage, Warnings}
 use Rattle.dialyze_command.specs.declared.words.Command.{Command}
@@ -11,7 +12,7 @@ use Rattle.dialyze_command.specs.Lines.{too_long, too_many}
 use Rattle.analysis_sources.specs.Refusals.{missing}
 use Rattle.dialyze_command.specs.Making.{IsSummary, PutsFirst}
 use Rattle.dialyze_command.specs.Words.{AsksForCheck, IsMake, IsNoCommand, IsNoMake}
-use Rattle.dialyze_command.proofs.Numbers.{mark, mark_of, not_other, table_number}
+use Rattle.dialyze_command.proofs.Numbers.{mark, mark_of, not_other}
 use Rattle.dialyze_command.proofs.Places.{start_late, plt_before, out_before}
 use Rattle.dialyze_command.proofs.WordExits.{one_check, one_command}
 use Rattle.dialyze_command.specs.Outcome.{Checks, ChecksTooMany, NamesTable, SaysWhether, says_no, says_yes, Outcome, usage, many, no_table, bad_table, faulty, duplicate_module, long_table, passed, made, IsUnread, of_table, of_file, IsUnreplaced, of_new_table, of_generated, Intended, answered, unread, unreplaced, Answers, FailsToRead, FailsToReplace, FailsToWrite, IsAnswer, IsPassed, IsPossible, StoresNothing, of_word, of_many, of_two}

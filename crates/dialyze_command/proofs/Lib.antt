@@ -14,6 +14,5 @@ mod PlanExits
 mod PrintedNumbers
 mod ReportExits
 mod StoreExits
-mod TableModels
-mod Texts
+mod UsedByEntries
 mod WordExits

@@ -1,16 +1,15 @@
 -- What a status tells.
-use Rattle.std.proofs.Common.{◌≡◌, ◌≢◌, ℕ, ◌<◌, ◌≤◌, refl, sym, ◌∙◌, ap, arith}
-use Rattle.std.specs.Prelude.{nat_eq, if◌then◌else◌}
+use Rattle.std.proofs.Common.{◌≡◌, ◌≢◌, ℕ, ◌<◌, sym, ◌∙◌, ap, arith}
 use Rattle.table_file.specs.declared.faults.TableFault.{TableFault as FaultOfTable}
-use Rattle.table_file.specs.declared.faults.TableFault.TheVariants as t
 use Rattle.analysis_sources.specs.declared.refusals.RefusalName.{RefusalName}
 use Rattle.analysis_sources.specs.declared.refusals.RefusalName.TheVariants as r
 use Rattle.analysis_sources.specs.declared.refusals.SourceFault.{SourceFault}
 use Rattle.analysis_sources.specs.Refusals.{refusal_number, missing}
 use Rattle.analysis_answers.proofs.FileRefusals.{by_number, tells}
+use Rattle.analysis_answers.proofs.TableFaults as faults
 use Rattle.dialyze_command.specs.declared.status.Status.{Status}
 use Rattle.dialyze_command.specs.declared.status.Status.TheVariants.{Clean, Refused, Warnings, TableFault, DeviceFault, Memory, Usage}
-use Rattle.dialyze_command.specs.Lines.{refused, table_fault_number, faulty_table}
+use Rattle.dialyze_command.specs.Lines.{refused, faulty_table}
 
 -- ---- a refusal's status tells its name and its line
 
@@ -61,40 +60,12 @@ not_other r.Missing = (λ e. absurd (omega (arith, e)), λ e. absurd (omega (ari
 
 -- ---- a table's fault is told by its number
 
-abbrev pub table_fault_by : ℕ → FaultOfTable
-table_fault_by n =
-    if nat_eq n 18 then t.NotATable
-    else if nat_eq n 19 then t.Version
-    else if nat_eq n 20 then t.Torn
-    else if nat_eq n 21 then t.Order
-    else if nat_eq n 22 then t.BadEntry
-    else if nat_eq n 23 then t.Rest
-    else t.Memory
-
-table_told : (fault : FaultOfTable) → table_fault_by (table_fault_number fault) ≡ fault
-table_told t.NotATable = refl
-table_told t.Version = refl
-table_told t.Torn = refl
-table_told t.Order = refl
-table_told t.BadEntry = refl
-table_told t.Rest = refl
-table_told t.Memory = refl
-
 abbrev pub table_number_by : Status → ℕ
 table_number_by (TableFault number) = number
 table_number_by _ = 0
 
 pub one_table_fault : (f g : FaultOfTable) → faulty_table f ≡ faulty_table g → f ≡ g
-one_table_fault f g e = sym (table_told f) ∙ ap (λ s. table_fault_by (table_number_by s)) e ∙ table_told g
-
-pub table_number : (fault : FaultOfTable) → (fault ≡ t.Memory → ⊥) → (18 ≤ table_fault_number fault) × (table_fault_number fault ≤ 23)
-table_number t.NotATable some = (omega arith, omega arith)
-table_number t.Version some = (omega arith, omega arith)
-table_number t.Torn some = (omega arith, omega arith)
-table_number t.Order some = (omega arith, omega arith)
-table_number t.BadEntry some = (omega arith, omega arith)
-table_number t.Rest some = (omega arith, omega arith)
-table_number t.Memory some = absurd (some refl)
+one_table_fault f g e = faults.one_table_fault f g (ap table_number_by e)
 
 -- ---- statuses are told apart
 

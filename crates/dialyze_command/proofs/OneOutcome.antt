@@ -19,6 +19,7 @@ use Rattle.sound_laws_kept.specs.Solving.{IsWritten}
 use Rattle.analysis_sources.specs.declared.refusals.SourceFault.{SourceFault}
 use Rattle.analysis_sources.specs.Reading.{AreRead, RefusedAt}
 use Rattle.analysis_sources.specs.Refusals.{refusal_line, missing}
+use Rattle.analysis_answers.proofs.TableModels.{same_bytes, same_short}
 use Rattle.dialyze_command.specs.declared.status.Status.{Status}
 use Rattle.dialyze_command.specs.declared.status.Status.TheVariants.{Usage}
 use Rattle.dialyze_command.specs.declared.words.Command.{Command}
@@ -31,7 +32,7 @@ use Rattle.dialyze_command.specs.Words.{IsMake, IsNoCommand}
 use Rattle.dialyze_command.proofs.Causes as causes
 use Rattle.dialyze_command.proofs.Causes.{no_command_checks, not_many, no_make, one_word_there, one_name, one_held, not_both_held, lacking_begins, one_first, one_second, own_or_duplicate}
 use Rattle.dialyze_command.proofs.KeptExits.{are_sources}
-use Rattle.dialyze_command.proofs.TableModels.{same_bytes, same_short, table_uses_called}
+use Rattle.dialyze_command.proofs.UsedByEntries.{table_uses_called}
 use Rattle.dialyze_command.proofs.WordExits.{one_check, one_command, one_make}
 
 abbrev IsOne : (status other : Status) (output that : List ℕ) (after then : Option Files) → Type 0

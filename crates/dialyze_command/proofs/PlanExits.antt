@@ -41,7 +41,7 @@ use Rattle.dialyze_command.specs.Outcome.{Checks, Names, NamesTable, IsBegun, Be
 use Rattle.dialyze_command.specs.Words.{IsCheck, IsNoCheck, IsNoCommand, IsNoMake, most_files}
 use Rattle.dialyze_command.specs.steps.Plans as p
 use Rattle.dialyze_command.proofs.Places.{start_small, files_there, plt_within, out_within, plt_small, out_small}
-use Rattle.dialyze_command.proofs.Texts.{texts_long, texts_at, word_of, within_words}
+use Rattle.analysis_answers.proofs.Texts.{texts_long, texts_at, word_of, within_words}
 
 -- ---- words that are no check of files
 

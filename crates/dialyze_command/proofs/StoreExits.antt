@@ -13,7 +13,7 @@ use Rattle.dialyze_command.specs.declared.plan.CheckPlan.{CheckPlan}
 use Rattle.dialyze_command.specs.declared.status.Status.TheVariants.{DeviceFault}
 use Rattle.dialyze_command.specs.Outcome.{Intended, answered, unreplaced, passed, under, of_new_table}
 use Rattle.dialyze_command.specs.steps.Plans as p
-use Rattle.dialyze_command.proofs.Texts.{texts_at}
+use Rattle.analysis_answers.proofs.Texts.{texts_at}
 
 pub stored_put : (ws : List (Bor (List ℕ))) (told after : Option Files) (n k : ℕ) (plan : Answer) (made : Option NewTable) (table : NewTable) (d : Bor (List ℕ)) (r : Result Answer Memory) → made ≡ Some table → IfSome made (λ t. t.word < length ws)
     → IfOk r (λ a. p.IsPutAs (get_or ws table.word d).now told after n k plan table a) → IfOk r (λ a. p.IsStored (texts ws) told after n k plan made a)
