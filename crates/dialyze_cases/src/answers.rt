@@ -17,7 +17,7 @@ pub fn append_answer(status: Status, out: &mut Bytes) -> Result<(), Memory> {
     }
 }
 
-/// The same of a run of `typer` or `fun_flow`.
+/// The same of a run of another program.
 pub fn append_run_answer(status: RunStatus, out: &mut Bytes) -> Result<(), Memory> {
     match status {
         RunStatus::Done => out.append(b"-- done\n"),

@@ -6,6 +6,7 @@ mod answers;
 mod held;
 mod play;
 mod runs;
+mod verifications;
 
 use case_files::named_texts;
 use da_shelf::{StdoutSink, give};

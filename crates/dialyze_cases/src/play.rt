@@ -13,6 +13,7 @@
 //! - `typer-failing PIECE WRITE WORDS` does so over an output as that of `run-failing`;
 //! - `fun-flow WORDS` and `fun-flow-failing PIECE WRITE WORDS` list what the applications of values in the files that the words name
 //!   may enter, in the same way;
+//! - `verify WORDS` and `verify-failing PIECE WRITE WORDS` make a certificate or check a table, as the words say, in the same way;
 //! - `failing READ REPLACE` empties the shelf, of which this read and this replace are to fail; the number 0 is for none;
 //! - `held NAME` gives the bytes that the shelf holds under the name, 32 a line, in hexadecimal digits;
 //! - `same NAME NAME` says whether the shelf holds the same bytes under both.
@@ -22,6 +23,7 @@ use crate::held::{
 use crate::runs::{
     run, run_counted, run_failing, run_fun_flow, run_fun_flow_failing, run_typer, run_typer_failing,
 };
+use crate::verifications::{run_verify, run_verify_failing};
 use case_files::{Step, steps_of};
 use da_shelf::MemShelf;
 use std::alloc::Global;
@@ -71,6 +73,8 @@ fn play<R: Threads + Wait + Sync>(
         "typer-failing" => run_typer_failing(rt, alloc, step.rest, shelf, out),
         "fun-flow" => run_fun_flow(alloc, step.rest, shelf, out),
         "fun-flow-failing" => run_fun_flow_failing(alloc, step.rest, shelf, out),
+        "verify" => run_verify(rt, alloc, step.rest, shelf, out),
+        "verify-failing" => run_verify_failing(rt, alloc, step.rest, shelf, out),
         _ => play_on_shelf(alloc, step, shelf, out),
     }
 }

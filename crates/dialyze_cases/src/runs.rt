@@ -23,7 +23,7 @@ pub fn run<R: Threads + Wait + Sync>(
     shelf: &mut MemShelf,
     out: &mut Bytes,
 ) -> Result<(), Memory> {
-    let mut sink = MemSink::new(alloc, MOST_WRITTEN, MOST_WRITTEN, List::new(alloc))?;
+    let mut sink = written_sink(alloc)?;
     run_over(rt, alloc, line, shelf, &mut sink, &OpenGate, out)
 }
 
@@ -36,7 +36,7 @@ pub fn run_counted<R: Threads + Wait + Sync>(
     out: &mut Bytes,
 ) -> Result<(), Memory> {
     let gate = CountingGate::new();
-    let mut sink = MemSink::new(alloc, MOST_WRITTEN, MOST_WRITTEN, List::new(alloc))?;
+    let mut sink = written_sink(alloc)?;
     run_over(rt, alloc, line, shelf, &mut sink, &gate, out)?;
     append_number(b"-- components: ", gate.entries(), out)
 }
@@ -55,8 +55,13 @@ pub fn run_failing<R: Threads + Wait + Sync>(
     run_over(rt, alloc, words, shelf, &mut sink, &OpenGate, out)
 }
 
-// The output that takes so many bytes at a time and fails at this write, and the words behind these numbers.
-fn failing_sink(alloc: Global, line: &str) -> Result<Option<(MemSink, &str)>, Memory> {
+/// The output that takes all that is written.
+pub fn written_sink(alloc: Global) -> Result<MemSink, Memory> {
+    MemSink::new(alloc, MOST_WRITTEN, MOST_WRITTEN, List::new(alloc))
+}
+
+/// The output that takes so many bytes at a time and fails at this write, and the words behind these numbers.
+pub fn failing_sink(alloc: Global, line: &str) -> Result<Option<(MemSink, &str)>, Memory> {
     let Some((piece, rest)) = line.split_once(' ') else {
         return Ok(None);
     };
@@ -91,7 +96,7 @@ pub fn run_typer<R: Threads + Wait + Sync>(
     shelf: &mut MemShelf,
     out: &mut Bytes,
 ) -> Result<(), Memory> {
-    let mut sink = MemSink::new(alloc, MOST_WRITTEN, MOST_WRITTEN, List::new(alloc))?;
+    let mut sink = written_sink(alloc)?;
     typer_over(rt, alloc, line, shelf, &mut sink, out)
 }
 
@@ -130,7 +135,7 @@ pub fn run_fun_flow(
     shelf: &mut MemShelf,
     out: &mut Bytes,
 ) -> Result<(), Memory> {
-    let mut sink = MemSink::new(alloc, MOST_WRITTEN, MOST_WRITTEN, List::new(alloc))?;
+    let mut sink = written_sink(alloc)?;
     fun_flow_over(alloc, line, shelf, &mut sink, out)
 }
 
@@ -160,8 +165,8 @@ fn fun_flow_over(
     append_written(sink, out)
 }
 
-// Appends what was written, with `..` behind a line that doesn't end.
-fn append_written(sink: &MemSink, out: &mut Bytes) -> Result<(), Memory> {
+/// Appends what was written, with `..` behind a line that doesn't end.
+pub fn append_written(sink: &MemSink, out: &mut Bytes) -> Result<(), Memory> {
     out.append(sink.bytes())?;
     if !sink.bytes().ends_with(b"\n") && !sink.bytes().is_empty() {
         out.append(b"..\n")?;

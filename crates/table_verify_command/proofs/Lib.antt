@@ -1,0 +1,9 @@
+mod Handed
+mod Commands
+mod Courses
+mod RunExits
+mod Causes
+mod ReadExits
+mod JudgeExits
+mod StepExits
+mod AskedExits
