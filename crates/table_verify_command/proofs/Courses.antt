@@ -24,7 +24,7 @@ use Rattle.analysis_answers.specs.declared.run_status.RunStatus.TheVariants.{Don
 use Rattle.analysis_answers.specs.FileRuns.{refused, too_many, duplicate}
 use Rattle.analysis_answers.specs.ReadFiles.{HaveOwnNames, IsDuplicate, ReadsAll}
 use Rattle.analysis_answers.specs.Tables.{IsFaultOf, IsTableRead, faulty_table}
-use Rattle.table_verify_command.proofs.Handed.{apart}
+use Rattle.analysis_answers.proofs.AnswerExits.{apart}
 use Rattle.analysis_answers.proofs.FileRefusals.{one_duplicate, own_names}
 use Rattle.analysis_answers.proofs.TableModels.{same_short}
 use Rattle.table_verify_laws.specs.Certificates.{IsCertificate}

@@ -18,7 +18,7 @@ use Rattle.analysis_answers.specs.declared.run_answer.RunAnswer.{RunAnswer}
 use Rattle.analysis_answers.specs.declared.run_status.RunStatus.TheVariants.{Done}
 use Rattle.analysis_answers.specs.FileRuns.{duplicate}
 use Rattle.analysis_answers.specs.Lines.{duplicate_line}
-use Rattle.table_verify_command.proofs.Handed.{names, names_so, own_so}
+use Rattle.analysis_answers.proofs.AnswerExits.{names, names_so, own_so}
 use Rattle.table_verify_laws.specs.Certificates.{IsCertificate}
 use Rattle.table_verify_laws.specs.Rules.{KeepsRules, TableRule, rule_number}
 use Rattle.table_verify_rules.specs.declared.fault.VerifyFault.TheVariants.{Rejected}

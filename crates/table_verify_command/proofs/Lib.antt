@@ -1,4 +1,3 @@
-mod Handed
 mod Commands
 mod Courses
 mod RunExits
