@@ -419,7 +419,7 @@ fn read_row(
     level: u32,
     count: u8,
     bytes: &[u8],
-) -> Result<(List<Node>, &[u8]), BytesFault>
+) -> Result<(List<Shared<Node>>, &[u8]), BytesFault>
     ensures each { IfOk result (λ p. EachNode (Fits level) p.0) }
     ensures read { Reads (λ p. (row_view level p.0, p.1.now)) result (many count (element_at level) bytes.now) }
 {
@@ -427,7 +427,7 @@ fn read_row(
     let mut rest = bytes;
     for _ in 0..count {
         let (element, after) = read_element(alloc, level, rest)?;
-        row.add(element)?;
+        row.add(Shared::new(alloc, element)?)?;
         rest = after;
     }
     Ok((row, rest))

@@ -115,12 +115,12 @@ fn is_short_tag(level: u32, tag: &TagOf<Node>) -> bool
 }
 
 #[cycle(short)]
-fn is_short_row(level: u32, row: &[Node]) -> bool
+fn is_short_row(level: u32, row: &[Shared<Node>]) -> bool
     requires { EachNode (Fits level) row.now }
     ensures { result ≡ list_all (is_short_at level) (row_view level row.now) }
 {
     for element in row {
-        if !is_short(level, element) {
+        if !is_short(level, element.get()) {
             return false;
         }
     }

@@ -158,14 +158,14 @@ fn append_tag(level: u32, tag: &TagOf<Node>, out: &mut Bytes) -> Result<(), Memo
 
 // Appends element types.
 #[cycle(write)]
-fn append_row(level: u32, row: &[Node], out: &mut Bytes) -> Result<(), Memory>
+fn append_row(level: u32, row: &[Shared<Node>], out: &mut Bytes) -> Result<(), Memory>
     requires fits { EachNode (Fits level) row.now }
     requires short { IsTrue (list_all (is_short_at level) (row_view level row.now)) }
     ensures ok { OnOk result (out.new ≡ out.old ++ flat_map (bytes_at level) (row_view level row.now)) }
     ensures front { take (length out.old) out.new ≡ out.old }
 {
     for element in row {
-        append_type(level, element, out)?;
+        append_type(level, element.get(), out)?;
     }
     Ok(())
 }

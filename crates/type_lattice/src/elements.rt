@@ -12,7 +12,7 @@ ghost use Rattle.type_lattice_trees.specs.View.{view, Fits, row_view, body_view,
 
 use crate::types::Ty;
 use std::alloc::Global;
-use type_kinds::Memory;
+use type_kinds::{Memory, Shared};
 use type_kinds_sets::{High, IntSet, Low};
 use type_lattice_trees::{BodyOf, Node, Plain, SizeOf, TuplesOf, elements_of, join, plain_alone};
 
@@ -74,7 +74,12 @@ fn with_body(
 }
 
 // The join of a type and of a row's elements at these positions.
-fn with_row(alloc: Global, t: Node, row: &[Node], positions: &IntSet) -> Result<Node, Memory>
+fn with_row(
+    alloc: Global,
+    t: Node,
+    row: &[Shared<Node>],
+    positions: &IntSet,
+) -> Result<Node, Memory>
     requires t { Fits 4 t }
     requires row { EachNode (Fits 3) row.now }
     ensures fits { IfOk result (λ n. Fits 4 n) }
@@ -83,7 +88,7 @@ fn with_row(alloc: Global, t: Node, row: &[Node], positions: &IntSet) -> Result<
     let mut joined = t;
     for at in 0..row.len() {
         if positions.contains((at + 1) as i128) {
-            joined = with_element(alloc, joined, &row[at])?;
+            joined = with_element(alloc, joined, row[at].get())?;
         }
     }
     Ok(joined)

@@ -1,22 +1,21 @@
 //! What the calls on types are made of: products, lists, and what stands in them.
-ghost use Rattle.std.specs.Prelude.{◌≡◌, ◌<◌, ◌≤◌, ℕ, false, [], Some, None, IfOk, cond, map, length, slice_get};
+ghost use Rattle.std.specs.Prelude.{◌≡◌, ◌<◌, ◌≤◌, ℕ, false, [], Some, None, IfOk, cond, map, length};
 ghost use Rattle.type_kinds_sets.specs.Names as names;
 ghost use Rattle.type_kinds_sets.specs.Numbers as numbers;
 ghost use Rattle.type_kinds_sets.specs.declared.bits.Bits.TheVariants.{No};
-ghost use Rattle.type_lattice_model.specs.Operations.{ops, has_none, elements, plain_none, plain_all};
+ghost use Rattle.type_lattice_model.specs.Operations.{ops, has_none, plain_none, plain_all};
 ghost use Rattle.type_lattice_model.specs.Parts.{product_of, flags_of_nil, is_list as lists_alone, element_with as joined_element, tail_parts as after_head};
 ghost use Rattle.type_lattice_model.specs.Shapes.{sizes, all_tuples, no_function};
-ghost use Rattle.type_lattice_trees.specs.View.{view, Fits, body_view, cell_view, parts_view, tuples_view, BodyFits, CellFits, PartsFit, EachInTuples};
+ghost use Rattle.type_lattice_trees.specs.View.{view, Fits, cell_view, parts_view, tuples_view, CellFits, PartsFit, EachInTuples};
 
 use crate::kinds::{Kind, plain_kind};
 use crate::types::Ty;
 use std::alloc::Global;
-use type_kinds::{List, Memory};
+use type_kinds::{List, Memory, Shared};
 use type_kinds_sets::SharedList;
 use type_lattice_model::MAX_ELEMENTS;
 use type_lattice_trees::{
-    BodyOf, CellOf, Node, PartsOf, Plain, TuplesOf, copy, discard, elements_of, join, product_body,
-    tuples_of,
+    CellOf, Node, PartsOf, Plain, TuplesOf, copy, discard, join, product_body, tuples_of,
 };
 
 /// Whether one of the types has no value.
@@ -38,12 +37,25 @@ pub fn product(alloc: Global, types: &[Ty]) -> Result<Node, Memory>
     ensures fits { IfOk result (λ n. Fits 5 n) }
     ensures value { IfOk result (λ n. view 5 n ≡ product_of (ops 4) (map (λ t. t.ty) types.now)) }
 {
+    let every = Shared::new(alloc, Node::Any)?;
     let mut row = List::new(alloc);
     for t in types {
-        row.add(copy(t.node())?)?;
+        row.add(shared_tree(alloc, t, &every)?)?;
     }
     let body = product_body(alloc, 4, SharedList::new(alloc, row)?)?;
     tuples_of(alloc, types.len() as u8, body)
+}
+
+// The tree of a type; where it is every value, the one that is there.
+fn shared_tree(alloc: Global, t: &Ty, every: &Shared<Node>) -> Result<Shared<Node>, Memory>
+    requires { every.now ≡ Node.Any }
+    ensures fits { IfOk result (λ n. Fits 4 n) }
+    ensures value { IfOk result (λ n. view 4 n ≡ t.now.ty) }
+{
+    if let Node::Any = t.node() {
+        return every.share();
+    }
+    Shared::new(alloc, copy(t.node())?)
 }
 
 /// Whether each value of the type is a proper list.
@@ -83,16 +95,6 @@ pub fn element_with(alloc: Global, head: Node, tail: &Node) -> Result<Node, Memo
         None => Ok(head),
         Some(cell) => join(alloc, 3, &head, cell.element.get()),
     }
-}
-
-/// The type of an element of a body's tuples, the first at 0.
-pub fn element(alloc: Global, level: u32, body: &BodyOf<Node>, at: usize) -> Result<Node, Memory>
-    requires { (n : ℕ) × (BodyFits level n body.now × (at < n)) }
-    ensures fits { IfOk result (λ n. Fits level n) }
-    ensures value { IfOk result (λ n. Some (view level n) ≡ slice_get (elements (ops level) (body_view level body.now)) at) }
-{
-    let row = elements_of(alloc, level, body)?;
-    copy(&row.as_slice()[at])
 }
 
 /// What may follow the head of a list.

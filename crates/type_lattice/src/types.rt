@@ -11,15 +11,15 @@ ghost use Rattle.type_lattice.specs.Kinds.{HasAtom, HasInt, IsKind, of_kind, ask
 ghost use Rattle.type_lattice_trees.specs.View.{view, Fits};
 
 use crate::kinds::{Ends, Kind, plain_kind};
-use crate::makers::{any_none, element, element_with, is_list, product, tail_parts};
+use crate::makers::{any_none, element_with, is_list, product, tail_parts};
 use std::alloc::Global;
 use std::marker::Model;
 use type_kinds::Memory;
 use type_kinds_sets::{AtomSet, IntSet};
 use type_lattice_model::MAX_ELEMENTS;
 use type_lattice_trees::{
-    Node, Plain, TuplesOf, copy, cut, every_tuple, find_size, is_none, join, leq, lists_of, made,
-    meet, plain_alone,
+    Node, Plain, TuplesOf, copy, cut, element_of, every_tuple, find_size, is_none, join, leq,
+    lists_of, made, meet, plain_alone,
 };
 
 /// A type: a set of values, in its one normal form of level 4. The type `none` has no value, and
@@ -209,7 +209,7 @@ impl Ty {
         }
         match find_size(sizes.as_slice(), size as u8) {
             None => Ok(Ty::none()),
-            Some(body) => Ok(Ty::of_node(element(alloc, 3, body, position as usize - 1)?)),
+            Some(body) => Ok(Ty::of_node(element_of(alloc, 3, body, position as usize - 1)?)),
         }
     }
 

@@ -195,6 +195,10 @@ tags_part x0 x1 x2 x3 = grind (arith, tags_above)
 pub tags_of_body : (d n : ℕ) (b : BodyOf Node) (ts us : List (TagOf Node)) → BodyFits d n b → b ≡ Tags ts → us ≡ ts → ((m : ℕ) × TagsFit d m us) × (0 < d)
 tags_of_body d n b ts us k e f = grind (arith, tags_part, body_is)
 
+-- each tag has one element type less than the tuples have elements
+pub tags_after_first : (d n : ℕ) (b : BodyOf Node) (ts us : List (TagOf Node)) → BodyFits d n b → b ≡ Tags ts → us ≡ ts → (m : ℕ) × ((n ≡ suc m) × TagsFit d m us)
+tags_after_first d n b ts us k e f = grind (arith, tags_part, body_is)
+
 pub tags_of_bodies : (d n : ℕ) (b c : BodyOf Node) (ts us vs ws : List (TagOf Node)) → BodyFits d n b → BodyFits d n c → b ≡ Tags ts → c ≡ Tags us → vs ≡ ts → ws ≡ us → (m : ℕ) × (TagsFit d m vs × TagsFit d m ws)
 tags_of_bodies d n b c ts us vs ws j k e f g h = grind (arith, tags_part, body_is)
 

@@ -7,4 +7,5 @@ pub mod MeetViews
 mod Nodes
 mod PositionLaws
 mod Plains
+mod Projections
 pub mod Views

@@ -4,7 +4,7 @@ ghost use Rattle.std.specs.Prelude.{◌≡◌, IfOk};
 
 use crate::node::{BodyOf, CellOf, Node, PartsOf, SizeOf, TagOf, TuplesOf};
 use std::alloc::Global;
-use type_kinds::{List, Memory};
+use type_kinds::{List, Memory, Shared};
 
 /// A second type of the same values.
 pub fn copy(t: &Node) -> Result<Node, Memory>
@@ -69,12 +69,12 @@ pub fn copy_tag(tag: &TagOf<Node>) -> Result<TagOf<Node>, Memory>
 }
 
 /// A list of its own of the same types.
-pub fn copy_row(alloc: Global, row: &[Node]) -> Result<List<Node>, Memory>
+pub fn copy_row(alloc: Global, row: &[Shared<Node>]) -> Result<List<Shared<Node>>, Memory>
     ensures { IfOk result (λ list. list ≡ row.now) }
 {
     let mut out = List::new(alloc);
     for element in row {
-        out.add(copy(element)?)?;
+        out.add(element.share()?)?;
     }
     Ok(out)
 }

@@ -76,15 +76,35 @@ fn cut_cell(
     }
 }
 
+// The same of an element: every value is shared.
 #[cycle(cuts)]
-fn cut_row(alloc: Global, from: u32, to: u32, row: &[Node]) -> Result<SharedList<Node>, Memory>
+#[tactic(auto, using(crate::proofs::Views::any_fits, crate::proofs::CutTrees::any_cut))]
+fn cut_element(alloc: Global, from: u32, to: u32, t: &Shared<Node>) -> Result<Shared<Node>, Memory>
+    requires fits { Fits from t.now }
+    requires filled { (1 ≤ to) ⊎ ((ops from).is_none (view from t.now) ≡ false) }
+    ensures fits { IfOk result (λ c. Fits to c) }
+    ensures value { IfOk result (λ c. view to c ≡ levels.cut from to (view from t.now)) }
+{
+    if let Node::Any = t.get() {
+        return t.share();
+    }
+    Shared::new(alloc, cut(alloc, from, to, t.get())?)
+}
+
+#[cycle(cuts)]
+fn cut_row(
+    alloc: Global,
+    from: u32,
+    to: u32,
+    row: &[Shared<Node>],
+) -> Result<SharedList<Shared<Node>>, Memory>
     requires { (n : ℕ) × RowFits from n row.now }
     ensures value { IfOk result (λ c. row_view to c ≡ row_lower (levels.cut from to) (ops from) (ops to) (row_view from row.now)) }
     ensures each { IfOk result (λ c. EachNode (Fits to) c) }
 {
     let mut out = List::new(alloc);
     for element in row {
-        let cut = cut(alloc, from, to, element)?;
+        let cut = cut_element(alloc, from, to, element)?;
         out.add(cut)?;
     }
     SharedList::new(alloc, out)

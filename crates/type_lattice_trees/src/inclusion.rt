@@ -6,6 +6,7 @@ ghost use Rattle.type_lattice_model.specs.Shapes.{tags, sizes};
 ghost use Rattle.type_lattice_trees.specs.View.{view, Fits, row_view, tags_view, body_view, sizes_view, tuples_view, cell_view, parts_view, RowFits, TagsFit, BodyFits, SizesFit, TuplesFit, CellFits, PartsFit};
 
 use crate::node::{BodyOf, CellOf, Node, PartsOf, SizeOf, TagOf, TuplesOf, find_size, rest_after};
+use type_kinds::Shared;
 
 /// Whether each value of the first type is one of the second.
 #[cycle(inclusion)]
@@ -62,12 +63,12 @@ fn leq_cell(level: u32, a: &Option<CellOf<Node>>, b: &Option<CellOf<Node>>) -> b
 // Whether each type of a product is below the one at its position.
 #[cycle(inclusion)]
 #[tactic(auto, using(type_kinds::proofs::Truths::granted, crate::proofs::Inclusions::row_below))]
-pub fn leq_row(level: u32, a: &[Node], b: &[Node]) -> bool
+pub fn leq_row(level: u32, a: &[Shared<Node>], b: &[Shared<Node>]) -> bool
     requires { (n : ℕ) × (RowFits level n a.now × RowFits level n b.now) }
     ensures { IsTrue result ↔ BelowBy (HasRow (HasAt level)) (Some (row_view level a.now)) (Some (row_view level b.now)) }
 {
     for i in 0..a.len() {
-        if !leq(level, &a[i], &b[i]) {
+        if !leq(level, a[i].get(), b[i].get()) {
             return false;
         }
     }

@@ -1,5 +1,5 @@
 //! The least type that contains two types.
-ghost use Rattle.std.specs.Prelude.{◌≡◌, ℕ, suc, ◌<◌, IfOk};
+ghost use Rattle.std.specs.Prelude.{◌≡◌, ℕ, suc, ◌<◌, Some, slice_get, IfOk};
 ghost use Rattle.std.specs.Ordering.{nat_cmp};
 ghost use Rattle.type_kinds_sets.specs.Names.{name_cmp, every, or_else};
 ghost use Rattle.type_lattice_model.specs.Operations.{ops, cell_join, row_join, elements, all_rows_join, tags_join, capped_tags, body_join, capped_sizes, tuples_join, parts_join};
@@ -20,7 +20,7 @@ use type_lattice_model::MAX_SIZES;
 
 /// The least type that contains both. Where one is part of the other, the other is shared.
 #[cycle(joins)]
-#[tactic(auto, using(crate::proofs::Views::of_above, crate::proofs::JoinLaws::any_left, crate::proofs::JoinLaws::any_right, crate::proofs::JoinLaws::joined_below, crate::proofs::JoinLaws::joined_above))]
+#[tactic(auto, using(crate::proofs::JoinLaws::joined_below, crate::proofs::JoinLaws::joined_above))]
 pub fn join(alloc: Global, level: u32, a: &Node, b: &Node) -> Result<Node, Memory>
     requires a { Fits level a.now }
     requires b { Fits level b.now }
@@ -33,6 +33,18 @@ pub fn join(alloc: Global, level: u32, a: &Node, b: &Node) -> Result<Node, Memor
     if leq(level, b, a) {
         return copy(a);
     }
+    join_apart(alloc, level, a, b)
+}
+
+// The same of two types, neither of which need be part of the other.
+#[cycle(joins)]
+#[tactic(auto, using(crate::proofs::Views::of_above, crate::proofs::JoinLaws::any_left, crate::proofs::JoinLaws::any_right))]
+fn join_apart(alloc: Global, level: u32, a: &Node, b: &Node) -> Result<Node, Memory>
+    requires a { Fits level a.now }
+    requires b { Fits level b.now }
+    ensures fits { IfOk result (λ j. Fits level j) }
+    ensures value { IfOk result (λ j. view level j ≡ (ops level).join (view level a.now) (view level b.now)) }
+{
     match a {
         Node::Any => Ok(Node::Any),
         Node::Of(parts) => match b {
@@ -92,17 +104,45 @@ fn join_cell(
     }
 }
 
+// The same of two elements: where one is part of the other, the other is shared.
+#[cycle(joins)]
+#[tactic(auto, using(crate::proofs::JoinLaws::joined_below, crate::proofs::JoinLaws::joined_above))]
+fn join_element(
+    alloc: Global,
+    level: u32,
+    a: &Shared<Node>,
+    b: &Shared<Node>,
+) -> Result<Shared<Node>, Memory>
+    requires a { Fits level a.now }
+    requires b { Fits level b.now }
+    ensures fits { IfOk result (λ j. Fits level j) }
+    ensures value { IfOk result (λ j. view level j ≡ (ops level).join (view level a.now) (view level b.now)) }
+{
+    if leq(level, a.get(), b.get()) {
+        return b.share();
+    }
+    if leq(level, b.get(), a.get()) {
+        return a.share();
+    }
+    Shared::new(alloc, join_apart(alloc, level, a.get(), b.get())?)
+}
+
 // The types of two products, position by position.
 #[cycle(joins)]
 #[tactic(auto, using(crate::proofs::JoinLaws::row_more))]
-fn join_row(alloc: Global, level: u32, a: &[Node], b: &[Node]) -> Result<List<Node>, Memory>
+fn join_row(
+    alloc: Global,
+    level: u32,
+    a: &[Shared<Node>],
+    b: &[Shared<Node>],
+) -> Result<List<Shared<Node>>, Memory>
     requires { (n : ℕ) × (RowFits level n a.now × RowFits level n b.now) }
     ensures value { IfOk result (λ j. row_view level j ≡ row_join (ops level) (row_view level a.now) (row_view level b.now)) }
     ensures each { IfOk result (λ j. EachNode (Fits level) j) }
 {
     let mut out = List::new(alloc);
     for i in 0..a.len() {
-        let joined = join(alloc, level, &a[i], &b[i])?;
+        let joined = join_element(alloc, level, &a[i], &b[i])?;
         out.add(joined)?;
     }
     Ok(out)
@@ -113,9 +153,9 @@ fn join_row(alloc: Global, level: u32, a: &[Node], b: &[Node]) -> Result<List<No
 fn join_rest(
     alloc: Global,
     level: u32,
-    a: &SharedList<Node>,
-    b: &SharedList<Node>,
-) -> Result<SharedList<Node>, Memory>
+    a: &SharedList<Shared<Node>>,
+    b: &SharedList<Shared<Node>>,
+) -> Result<SharedList<Shared<Node>>, Memory>
     requires { (n : ℕ) × (RowFits level n a.now × RowFits level n b.now) }
     ensures value { IfOk result (λ j. row_view level j ≡ row_join (ops level) (row_view level a.now) (row_view level b.now)) }
     ensures each { IfOk result (λ j. EachNode (Fits level) j) }
@@ -133,7 +173,7 @@ fn join_rest(
 
 // The least product that contains the rests of the tags, of which there is one at least.
 #[cycle(joins)]
-fn join_rests(alloc: Global, level: u32, tags: &[TagOf<Node>]) -> Result<List<Node>, Memory>
+fn join_rests(alloc: Global, level: u32, tags: &[TagOf<Node>]) -> Result<List<Shared<Node>>, Memory>
     requires { (n : ℕ) × TagsFit level n tags.now }
     ensures value { IfOk result (λ j. row_view level j ≡ all_rows_join (ops level) (held (tags_view level tags.now))) }
     ensures each { IfOk result (λ j. EachNode (Fits level) j) }
@@ -152,7 +192,7 @@ pub fn elements_of_tags(
     alloc: Global,
     level: u32,
     tags: &[TagOf<Node>],
-) -> Result<List<Node>, Memory>
+) -> Result<List<Shared<Node>>, Memory>
     requires fits { (n : ℕ) × TagsFit level n tags.now }
     requires above { 0 < level }
     ensures value { IfOk result (λ j. row_view level j ≡ elements (ops level) (tagged (tags_view level tags.now))) }
@@ -160,7 +200,7 @@ pub fn elements_of_tags(
 {
     let mut out = join_rests(alloc, level, tags)?;
     let first = atoms_of(alloc, tags)?;
-    out.insert(0, first)?;
+    out.insert(0, Shared::new(alloc, first)?)?;
     Ok(out)
 }
 
@@ -170,7 +210,7 @@ pub fn elements_of(
     alloc: Global,
     level: u32,
     body: &BodyOf<Node>,
-) -> Result<SharedList<Node>, Memory>
+) -> Result<SharedList<Shared<Node>>, Memory>
     requires { (n : ℕ) × BodyFits level n body.now }
     ensures value { IfOk result (λ j. row_view level j ≡ elements (ops level) (body_view level body.now)) }
     ensures each { IfOk result (λ j. EachNode (Fits level) j) }
@@ -181,6 +221,42 @@ pub fn elements_of(
             SharedList::new(alloc, elements_of_tags(alloc, level, tags.as_slice())?)
         }
     }
+}
+
+/// The type of an element of a body's tuples, the first at 0.
+pub fn element_of(alloc: Global, level: u32, body: &BodyOf<Node>, at: usize) -> Result<Node, Memory>
+    requires { (n : ℕ) × (BodyFits level n body.now × (at < n)) }
+    ensures fits { IfOk result (λ n. Fits level n) }
+    ensures value { IfOk result (λ n. Some (view level n) ≡ slice_get (elements (ops level) (body_view level body.now)) at) }
+{
+    match body {
+        BodyOf::Product(row) => copy(row.as_slice()[at].get()),
+        BodyOf::Tags(tags) => {
+            if at == 0 {
+                atoms_of(alloc, tags.as_slice())
+            } else {
+                element_of_rests(alloc, level, tags.as_slice(), at - 1)
+            }
+        }
+    }
+}
+
+// The join of what stands at a position of the rests of the tags, of which there is one at least.
+fn element_of_rests(
+    alloc: Global,
+    level: u32,
+    tags: &[TagOf<Node>],
+    at: usize,
+) -> Result<Node, Memory>
+    requires { (n : ℕ) × (TagsFit level n tags.now × (at < n)) }
+    ensures fits { IfOk result (λ n. Fits level n) }
+    ensures value { IfOk result (λ n. Some (view level n) ≡ slice_get (all_rows_join (ops level) (held (tags_view level tags.now))) at) }
+{
+    let mut out = copy(tags[0].rest.as_slice()[at].get())?;
+    for i in 1..tags.len() {
+        out = join(alloc, level, &out, tags[i].rest.as_slice()[at].get())?;
+    }
+    Ok(out)
 }
 
 // Puts a tag among others: it goes to its position, or what follows it is joined with what follows the

@@ -15,7 +15,7 @@ mod positions;
 pub use copies::copy;
 pub use cuts::cut;
 pub use inclusion::leq;
-pub use joins::{elements_of, join};
+pub use joins::{element_of, elements_of, join};
 pub use makers::{every_tuple, lists_of, plain_alone, tuples_of};
 pub use meets::{meet, product_body};
 pub use node::{

@@ -16,7 +16,7 @@ use type_kinds_sets::SharedList;
 
 /// The type whose values are those of both. Where one is part of the other it is shared.
 #[cycle(meets)]
-#[tactic(auto, using(crate::proofs::Views::of_above, crate::proofs::MeetViews::meet_of_any, crate::proofs::MeetViews::meet_with_any, crate::proofs::MeetViews::meet_of_parts, crate::proofs::MeetViews::met_below, crate::proofs::MeetViews::met_above))]
+#[tactic(auto, using(crate::proofs::MeetViews::met_below, crate::proofs::MeetViews::met_above))]
 pub fn meet(alloc: Global, level: u32, a: &Node, b: &Node) -> Result<Node, Memory>
     requires a { Fits level a.now }
     requires b { Fits level b.now }
@@ -29,6 +29,18 @@ pub fn meet(alloc: Global, level: u32, a: &Node, b: &Node) -> Result<Node, Memor
     if leq(level, b, a) {
         return copy(b);
     }
+    meet_apart(alloc, level, a, b)
+}
+
+// The same of two types, neither of which need be part of the other.
+#[cycle(meets)]
+#[tactic(auto, using(crate::proofs::Views::of_above, crate::proofs::MeetViews::meet_of_any, crate::proofs::MeetViews::meet_with_any, crate::proofs::MeetViews::meet_of_parts))]
+fn meet_apart(alloc: Global, level: u32, a: &Node, b: &Node) -> Result<Node, Memory>
+    requires a { Fits level a.now }
+    requires b { Fits level b.now }
+    ensures fits { IfOk result (λ m. Fits level m) }
+    ensures value { IfOk result (λ m. view level m ≡ (ops level).meet (view level a.now) (view level b.now)) }
+{
     match a {
         Node::Any => copy(b),
         Node::Of(parts) => match b {
@@ -101,19 +113,49 @@ fn some_cell(alloc: Global, element: Node, is_proper: bool) -> Result<Option<Cel
     }))
 }
 
+// The same of two elements: where one is part of the other it is shared.
+#[cycle(meets)]
+#[tactic(auto, using(crate::proofs::MeetViews::met_below, crate::proofs::MeetViews::met_above))]
+fn meet_element(
+    alloc: Global,
+    level: u32,
+    a: &Shared<Node>,
+    b: &Shared<Node>,
+) -> Result<Shared<Node>, Memory>
+    requires a { Fits level a.now }
+    requires b { Fits level b.now }
+    ensures fits { IfOk result (λ m. Fits level m) }
+    ensures value { IfOk result (λ m. view level m ≡ (ops level).meet (view level a.now) (view level b.now)) }
+{
+    if leq(level, a.get(), b.get()) {
+        return a.share();
+    }
+    if leq(level, b.get(), a.get()) {
+        return b.share();
+    }
+    Shared::new(alloc, meet_apart(alloc, level, a.get(), b.get())?)
+}
+
+fn discard_element(_t: Shared<Node>) {}
+
 // The types of two products, position by position: none where some position has no value.
 #[cycle(meets)]
 #[tactic(auto, using(crate::proofs::JoinLaws::row_more, crate::proofs::MeetViews::row_none, crate::proofs::MeetViews::filled_more, crate::proofs::Views::each_more))]
-fn meet_row(alloc: Global, level: u32, a: &[Node], b: &[Node]) -> Result<Option<List<Node>>, Memory>
+fn meet_row(
+    alloc: Global,
+    level: u32,
+    a: &[Shared<Node>],
+    b: &[Shared<Node>],
+) -> Result<Option<List<Shared<Node>>>, Memory>
     requires { (n : ℕ) × (RowFits level n a.now × RowFits level n b.now) }
     ensures value { IfOk result (λ m. option_map (row_view level) m ≡ row_meet (ops level) (row_view level a.now) (row_view level b.now)) }
     ensures each { IfOk result (λ m. IfSome m (λ r. EachNode (Fits level) r)) }
 {
     let mut out = List::new(alloc);
     for i in 0..a.len() {
-        let met = meet(alloc, level, &a[i], &b[i])?;
-        if is_none(&met) {
-            discard(met);
+        let met = meet_element(alloc, level, &a[i], &b[i])?;
+        if is_none(met.get()) {
+            discard_element(met);
             return Ok(None);
         }
         out.add(met)?;
@@ -126,9 +168,9 @@ fn meet_row(alloc: Global, level: u32, a: &[Node], b: &[Node]) -> Result<Option<
 fn meet_rest(
     alloc: Global,
     level: u32,
-    a: &SharedList<Node>,
-    b: &[Node],
-) -> Result<Option<SharedList<Node>>, Memory>
+    a: &SharedList<Shared<Node>>,
+    b: &[Shared<Node>],
+) -> Result<Option<SharedList<Shared<Node>>>, Memory>
     requires { (n : ℕ) × (RowFits level n a.now × RowFits level n b.now) }
     ensures value { IfOk result (λ m. option_map (row_view level) m ≡ row_meet (ops level) (row_view level a.now) (row_view level b.now)) }
     ensures each { IfOk result (λ m. IfSome m (λ r. EachNode (Fits level) r)) }
@@ -147,7 +189,7 @@ fn meet_rest(
 pub fn product_body(
     alloc: Global,
     level: u32,
-    row: SharedList<Node>,
+    row: SharedList<Shared<Node>>,
 ) -> Result<BodyOf<Node>, Memory>
     requires { EachNode (Fits level) row }
     ensures value { IfOk result (λ b. body_view level b ≡ body_of (ops level) (row_view level row)) }
@@ -156,7 +198,7 @@ pub fn product_body(
     let Some((first, rest)) = row.as_slice().split_first() else {
         return Ok(BodyOf::Product(row));
     };
-    let Some(atoms) = only_atoms(first) else {
+    let Some(atoms) = only_atoms(first.get()) else {
         return Ok(BodyOf::Product(row));
     };
     let tags = spread(alloc, level, atoms, rest)?;
@@ -168,7 +210,7 @@ fn spread(
     alloc: Global,
     level: u32,
     atoms: &[Shared<Atom>],
-    rest: &[Node],
+    rest: &[Shared<Node>],
 ) -> Result<List<TagOf<Node>>, Memory>
     requires { EachNode (Fits level) rest.now }
     ensures value { IfOk result (λ tags. tags_view level tags ≡ all_hold atoms.now (row_view level rest.now)) }

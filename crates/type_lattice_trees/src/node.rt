@@ -49,7 +49,7 @@ pub struct SizeOf<E> {
 /// The tuples of one size.
 #[derive(Drop)]
 pub enum BodyOf<E> {
-    Product(SharedList<E>),
+    Product(SharedList<Shared<E>>),
     /// Tags in ascending order.
     Tags(SharedList<TagOf<E>>),
 }
@@ -57,7 +57,7 @@ pub enum BodyOf<E> {
 #[derive(Drop)]
 pub struct TagOf<E> {
     pub atom: Shared<Atom>,
-    pub rest: SharedList<E>,
+    pub rest: SharedList<Shared<E>>,
 }
 
 pub fn discard(_t: Node) {}
@@ -138,7 +138,7 @@ pub fn find_size(sizes: &[SizeOf<Node>], size: u8) -> Option<&BodyOf<Node>>
 }
 
 /// The types of what follows a first element that is this atom.
-pub fn rest_after<'a>(body: &'a BodyOf<Node>, atom: &Shared<Atom>) -> Option<&'a [Node]>
+pub fn rest_after<'a>(body: &'a BodyOf<Node>, atom: &Shared<Atom>) -> Option<&'a [Shared<Node>]>
     ensures value { (d : ℕ) → EachInBody (Fits d) body.now → option_map (row_view d) (option_copied result) ≡ row_at (ops d) (body_view d body.now) atom.now }
     ensures each { (d : ℕ) → EachInBody (Fits d) body.now → IfSome result (λ r. EachNode (Fits d) r.now) }
 {
@@ -149,12 +149,12 @@ pub fn rest_after<'a>(body: &'a BodyOf<Node>, atom: &Shared<Atom>) -> Option<&'a
 }
 
 // The types after the first, where it has the atom.
-fn rest_of_product<'a>(row: &'a [Node], atom: &Shared<Atom>) -> Option<&'a [Node]>
+fn rest_of_product<'a>(row: &'a [Shared<Node>], atom: &Shared<Atom>) -> Option<&'a [Shared<Node>]>
     ensures value { (d : ℕ) → EachNode (Fits d) row.now → option_map (row_view d) (option_copied result) ≡ row_at (ops d) (product (row_view d row.now)) atom.now }
     ensures each { (d : ℕ) → EachNode (Fits d) row.now → IfSome result (λ r. EachNode (Fits d) r.now) }
 {
     let (first, rest) = row.split_first()?;
-    if has_atom(first, atom) {
+    if has_atom(first.get(), atom) {
         Some(rest)
     } else {
         None
@@ -163,7 +163,7 @@ fn rest_of_product<'a>(row: &'a [Node], atom: &Shared<Atom>) -> Option<&'a [Node
 
 /// What stands after a tag.
 #[tactic(auto, using(crate::proofs::Nodes::tag_found, crate::proofs::Nodes::tag_passed))]
-pub fn find_tag<'a>(tags: &'a [TagOf<Node>], atom: &Atom) -> Option<&'a [Node]>
+pub fn find_tag<'a>(tags: &'a [TagOf<Node>], atom: &Atom) -> Option<&'a [Shared<Node>]>
     ensures value { (d : ℕ) → option_map (row_view d) (option_copied result) ≡ find name_cmp (tags_view d tags.now) atom.now }
     ensures each { (d : ℕ) → EachTag (Fits d) tags.now → IfSome result (λ r. EachNode (Fits d) r.now) }
 {

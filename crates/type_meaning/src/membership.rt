@@ -7,6 +7,7 @@ ghost use Rattle.type_lattice_trees.specs.View.{view, Fits, row_view, body_view,
 ghost use Rattle.type_meaning.specs.Values.{value_of, values};
 
 use crate::value::Value;
+use type_kinds::Shared;
 use type_kinds_sets::Bits;
 use type_lattice::Ty;
 use type_lattice_model::MAX_ELEMENTS;
@@ -95,13 +96,13 @@ fn body_in(level: u32, elements: &[Value], body: &BodyOf<Node>) -> bool
 
 // Whether each element is in the type at its position.
 #[cycle(membership)]
-fn each_in(level: u32, elements: &[Value], row: &[Node]) -> bool
+fn each_in(level: u32, elements: &[Value], row: &[Shared<Node>]) -> bool
     requires fits { EachNode (Fits level) row.now }
     requires same { length elements.now ≡ length row.now }
     ensures { IsTrue result ↔ HasEach (HasAt level) (values (map value_of elements.now)) (row_view level row.now) }
 {
     for i in 0..elements.len() {
-        if !is_in(level, &elements[i], &row[i]) {
+        if !is_in(level, &elements[i], row[i].get()) {
             return false;
         }
     }

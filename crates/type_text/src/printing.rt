@@ -128,7 +128,12 @@ fn append_body(
 
 // Appends the word of a product.
 #[cycle(print)]
-fn append_product(level: u32, row: &[Node], some: &mut bool, out: &mut Bytes) -> Result<(), Memory>
+fn append_product(
+    level: u32,
+    row: &[Shared<Node>],
+    some: &mut bool,
+    out: &mut Bytes,
+) -> Result<(), Memory>
     requires { EachNode (Fits level) row.now }
     ensures ok { OnOk result (Adds (codes " | ") (tuple_word (map (text_at level) (row_view level row.now)) ∷ []) some.old some.new out.old out.new) }
     ensures front { take (length out.old) out.new ≡ out.old }
@@ -175,14 +180,19 @@ fn append_tag(level: u32, tag: &TagOf<Node>, some: &mut bool, out: &mut Bytes) -
 // Appends the types of a tuple, with commas between. `some` says whether a first element stands
 // before them.
 #[cycle(print)]
-fn append_row(level: u32, row: &[Node], mut some: bool, out: &mut Bytes) -> Result<(), Memory>
+fn append_row(
+    level: u32,
+    row: &[Shared<Node>],
+    mut some: bool,
+    out: &mut Bytes,
+) -> Result<(), Memory>
     requires { EachNode (Fits level) row.now }
     ensures ok { OnOk result (out.new ≡ out.old ++ row_text (codes ",") some (map (text_at level) (row_view level row.now))) }
     ensures front { take (length out.old) out.new ≡ out.old }
 {
     for element in row {
         separate(b",", &mut some, out)?;
-        append_type(level, element, out)?;
+        append_type(level, element.get(), out)?;
     }
     Ok(())
 }

@@ -18,7 +18,7 @@ ghost use Rattle.type_text.specs.Starts.{begins_number, NoFlag, NoBits, NoFuncti
 
 use crate::leaves::{after_word, read_arity, read_integer, read_quoted, read_range};
 use std::alloc::Global;
-use type_kinds::{List, Memory};
+use type_kinds::{List, Memory, Shared};
 use type_kinds_sets::{AtomSet, Bits, High, IntSet, Low, SharedList};
 use type_lattice_model::MAX_ELEMENTS;
 use type_lattice_trees::{
@@ -195,11 +195,11 @@ fn read_tuple<'a>(
     Ok(Some((tuples_with(alloc, level, row)?, rest)))
 }
 
-fn discard_row(_row: List<Node>) {}
+fn discard_row(_row: List<Shared<Node>>) {}
 
 // The tuples of these element types.
 #[tactic(auto, using(type_lattice_trees::proofs::MadeTrees::row_body))]
-fn tuples_with(alloc: Global, level: u32, row: List<Node>) -> Result<Node, Memory>
+fn tuples_with(alloc: Global, level: u32, row: List<Shared<Node>>) -> Result<Node, Memory>
     requires few { length row ≤ MAX_ELEMENTS }
     requires each { EachNode (Fits level) row }
     requires some { AreElements (NormalAt level) (ops level) (row_view level row) }
@@ -218,7 +218,7 @@ fn read_row<'a>(
     alloc: Global,
     level: u32,
     text: &'a [u8],
-) -> Result<Option<(List<Node>, &'a [u8])>, Memory>
+) -> Result<Option<(List<Shared<Node>>, &'a [u8])>, Memory>
     ensures each { IfOk result (λ r. IfSome r (λ p. EachNode (Fits level) p.0)) }
     ensures some { IfOk result (λ r. IfSome r (λ p. AreElements (NormalAt level) (ops level) (row_view level p.0))) }
     ensures shorter { IfOk result (λ r. IfSome r (λ p. length p.1.now ≤ length text.now)) }
@@ -231,7 +231,7 @@ fn read_row<'a>(
         return Ok(None);
     };
     let mut row = List::new(alloc);
-    row.add(element)?;
+    row.add(Shared::new(alloc, element)?)?;
     read_later(alloc, level, row, rest)
 }
 
@@ -240,9 +240,9 @@ fn read_row<'a>(
 fn read_later<'a>(
     alloc: Global,
     level: u32,
-    first: List<Node>,
+    first: List<Shared<Node>>,
     text: &'a [u8],
-) -> Result<Option<(List<Node>, &'a [u8])>, Memory>
+) -> Result<Option<(List<Shared<Node>>, &'a [u8])>, Memory>
     requires each { EachNode (Fits level) first }
     requires some { AreElements (NormalAt level) (ops level) (row_view level first) }
     ensures each { IfOk result (λ r. IfSome r (λ p. EachNode (Fits level) p.0)) }
@@ -257,7 +257,7 @@ fn read_later<'a>(
             discard_row(row);
             return Ok(None);
         };
-        row.add(element)?;
+        row.add(Shared::new(alloc, element)?)?;
         rest = after;
     }
     match after_word(rest, b"}") {

@@ -1,4 +1,4 @@
-use Rattle.std.proofs.Common.{inl, inr, refl, sym, ap, ◌∙◌, subst, rules}
+use Rattle.std.proofs.Common.{◌≡◌, ◌++◌, ◌∷◌, [], inl, inr, refl, sym, ap, ◌∙◌, subst, rules}
 use Rattle.std.proofs.lemmas.Result.{err_from_is_err_and}
 use Rattle.type_lattice_model.specs.Operations.{ops}
 use Rattle.type_lattice_trees.specs.declared.node.Node.TheVariants as v
@@ -60,9 +60,10 @@ pub read_row-loop-preserved : goal.read_row-loop-preserved
 read_row-loop-preserved t c =
     let d = c.args.level in
     let n = c.in_ok-element.element in
+    let added : c.add.new.self ≡ c.loop.row ++ n ∷ [] = c.in_ok-add.ensures.ok ∙ ap (λ x. c.loop.row ++ x ∷ []) c.in_ok-new.ensures in
     record {
-      each = each_more (Fits d) c.add.new.self c.loop.row n c.in_ok-add.ensures.ok c.loop.invariant.each c.in_ok-element.ensures.fits;
-      read = read_more (element_at d) c.args.count c.loop.counter c.loop.rest.now (row_view d c.loop.row) _ (row_view d c.add.new.self) (view d n) c.in_ok-element.after.now c.loop-test.true (ap (row_view d) c.in_ok-add.ensures.ok ∙ row_more d c.loop.row n) c.in_ok-element.ensures.read c.loop.invariant.read;
+      each = each_more (Fits d) c.add.new.self c.loop.row n added c.loop.invariant.each c.in_ok-element.ensures.fits;
+      read = read_more (element_at d) c.args.count c.loop.counter c.loop.rest.now (row_view d c.loop.row) _ (row_view d c.add.new.self) (view d n) c.in_ok-element.after.now c.loop-test.true (ap (row_view d) added ∙ row_more d c.loop.row n) c.in_ok-element.ensures.read c.loop.invariant.read;
     }
 
 pub list_tags-loop-preserved : goal.list_tags-loop-preserved

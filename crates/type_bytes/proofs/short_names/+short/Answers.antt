@@ -1,4 +1,4 @@
-use Rattle.std.proofs.Common.{refl, arith, subst, sym, ◌∙◌}
+use Rattle.std.proofs.Common.{refl, arith, ap, subst, sym, ◌∙◌}
 use Rattle.type_lattice_trees.specs.View.{view, row_view, tags_view, sizes_view, Fits, EachNode, EachInBody}
 use Rattle.type_lattice_trees.proofs.Views.{of_above, below_fits, size_at, tag_at}
 use Rattle.type_bytes.specs.ShortNames.{is_short_tag, is_short_size, is_short_at}
@@ -49,9 +49,9 @@ are_short_tags-loop-tag-preserved t c =
 pub is_short_row-returns-then-not-is_short : goal.is_short_row-returns-then-not-is_short
 is_short_row-returns-then-not-is_short t c =
     let d = c.args.level in
-    not_all (is_short_at d) (row_view d) (view d) (λ xs. refl) c.args.row.now c.loop-element.element-index c.element-item.result c.loop-element-test.true c.element-item.is c.is_short.result c.is_short.ensures c.if-not-is_short.true
+    not_all (is_short_at d) (row_view d) (view d) (λ xs. refl) c.args.row.now c.loop-element.element-index c.element-item.result c.loop-element-test.true c.element-item.is c.is_short.result (c.is_short.ensures ∙ ap (λ n. is_short_at d (view d n)) c.get.ensures) c.if-not-is_short.true
 
 pub is_short_row-loop-element-preserved : goal.is_short_row-loop-element-preserved
 is_short_row-loop-element-preserved t c =
     let d = c.args.level in
-    one_more (is_short_at d) (row_view d) (view d) (λ xs. refl) c.args.row.now c.loop-element.element-index c.element-item.result c.loop-element-test.true c.element-item.is c.is_short.result c.is_short.ensures c.if-not-is_short.false c.loop-element.invariant
+    one_more (is_short_at d) (row_view d) (view d) (λ xs. refl) c.args.row.now c.loop-element.element-index c.element-item.result c.loop-element-test.true c.element-item.is c.is_short.result (c.is_short.ensures ∙ ap (λ n. is_short_at d (view d n)) c.get.ensures) c.if-not-is_short.false c.loop-element.invariant

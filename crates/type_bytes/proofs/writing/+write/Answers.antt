@@ -75,13 +75,13 @@ append_row-append_type-requires t c =
     let d = c.args.level in
     let i = c.loop-element.element-index in
     let x = c.element-item.result in
-    (omega (arith, c.decreases), (subst (Fits d) (sym c.element-item.is) (each_at (Fits d) c.args.row.now c.requires.fits i x c.loop-element-test.true), subst (λ y. IsTrue (is_short_at d (view d y))) (sym c.element-item.is) (short_at (is_short_at d) (view d) c.args.row.now c.requires.short i x c.loop-element-test.true)))
+    (omega (arith, c.decreases), (subst (Fits d) (sym (c.get.ensures ∙ c.element-item.is)) (each_at (Fits d) c.args.row.now c.requires.fits i x c.loop-element-test.true), subst (λ y. IsTrue (is_short_at d (view d y))) (sym (c.get.ensures ∙ c.element-item.is)) (short_at (is_short_at d) (view d) c.args.row.now c.requires.short i x c.loop-element-test.true)))
 
 pub append_row-loop-element-preserved : goal.append_row-loop-element-preserved
 append_row-loop-element-preserved t c =
     let d = c.args.level in
     let x = c.element-item.result in
-    one_more (row_bytes d) (row_bytes-append d) c.args.row.now c.loop-element.element-index x x c.loop-element-test.true c.element-item.is [] c.args.out.now c.loop-element.out _ _ c.loop-element.invariant c.in_ok-append_type.ensures.ok (sym (append-nil (bytes_at d (view d x))))
+    one_more (row_bytes d) (row_bytes-append d) c.args.row.now c.loop-element.element-index x x c.loop-element-test.true c.element-item.is [] c.args.out.now c.loop-element.out _ _ c.loop-element.invariant c.in_ok-append_type.ensures.ok (ap (λ n. bytes_at d (view d n)) c.get.ensures ∙ sym (append-nil (bytes_at d (view d x))))
 
 pub append_size-append_row-requires : goal.append_size-append_row-requires
 append_size-append_row-requires t c = (omega (arith, c.decreases), product_items c.args.level c.args.size.now.size c.args.size.now.body c.in-Product.row c.as_slice.result.now c.in-Product.is c.as_slice.ensures c.requires.fits c.requires.short)

@@ -10,7 +10,7 @@ use Rattle.type_lattice.proofs.elements.with_row.Goals.{then-contains+in_ok-join
 
 pub with_element-requires-clause-element : goal.with_element-requires-clause-element
 with_element-requires-clause-element c =
-    rw c.index-row-at.is (each_at (Fits 3) c.args.row.now c.requires.row c.loop-at.at c.index-row-at.result c.loop-at-test.true)
+    rw (c.get.ensures, c.index-row-at.is) (each_at (Fits 3) c.args.row.now c.requires.row c.loop-at.at c.index-row-at.result c.loop-at-test.true)
 
 pub loop-at-preserved : goal.loop-at-preserved
 loop-at-preserved c =
@@ -21,7 +21,7 @@ loop-at-preserved c =
     elim c.if-contains.branch [
       | then-contains+in_ok-joined w ↦ rw (w.joined-is, add-one) (record {
         fits = w.in_ok-joined.ensures.fits;
-        value = rw w.in_ok-joined.ensures.value (rw (drop-cons row i w.index-row-at.result below, ← w.index-row-at.is, position ∙ w.if-contains.true) at c.loop-at.invariant.value);
+        value = rw (w.in_ok-joined.ensures.value, w.get.ensures) (rw (drop-cons row i w.index-row-at.result below, ← w.index-row-at.is, position ∙ w.if-contains.true) at c.loop-at.invariant.value);
       })
       | else-contains w ↦ rw (w.joined-is, add-one) (record {
         fits = c.loop-at.invariant.fits;

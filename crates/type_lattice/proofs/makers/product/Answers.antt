@@ -14,8 +14,8 @@ pub loop-t-preserved : goal.loop-t-preserved
 loop-t-preserved c =
     let more = map_more (λ t. t.ty) c.args.types.now c.loop-t.t-index c.t-item.result c.loop-t-test.true in
     record {
-      rows = rw (c.in_ok-add.ensures.ok, map-append, c.loop-t.invariant.rows, c.in_ok-copy.ensures, c.node.ensures.value, more, ← c.t-item.is) refl;
-      each = each_more (Fits 4) _ _ _ c.in_ok-add.ensures.ok c.loop-t.invariant.each (rw c.in_ok-copy.ensures c.node.ensures.fits);
+      rows = rw (c.in_ok-add.ensures.ok, map-append, c.loop-t.invariant.rows, c.in_ok-shared_tree.ensures.value, more, ← c.t-item.is) refl;
+      each = each_more (Fits 4) _ _ _ c.in_ok-add.ensures.ok c.loop-t.invariant.each c.in_ok-shared_tree.ensures.fits;
     }
 
 pub product_body-requires : goal.product_body-requires

@@ -18,8 +18,8 @@ cut_body-cut_row-requires-in-Tags t c = (omega (arith, c.decreases), product_fit
 pub cut_parts-returns-clause-fits : goal.cut_parts-returns-clause-fits
 cut_parts-returns-clause-fits t c = cut_parts_fit c.args.from c.args.to c.args.parts.now _ c.requires c.in_ok-plain.ensures c.in_ok-cell.ensures.value c.in_ok-tuples.ensures.value c.in_ok-cell.ensures.each c.in_ok-tuples.ensures.each
 
-pub cut_row-cut-requires : goal.cut_row-cut-requires
-cut_row-cut-requires t c = (omega (arith, c.decreases), element_fits _ _ _ c.requires _ _ c.loop-element-test.true c.element-item.is)
+pub cut_row-cut_element-requires : goal.cut_row-cut_element-requires
+cut_row-cut_element-requires t c = (omega (arith, c.decreases), element_fits _ _ _ c.requires _ _ c.loop-element-test.true c.element-item.is)
 
 pub cut_tags-cut_row-requires : goal.cut_tags-cut_row-requires
 cut_tags-cut_row-requires t c = (omega (arith, c.decreases), rest_fits _ _ c.requires _ _ _ c.loop-tag-test.true c.tag-item.is c.as_slice.ensures)

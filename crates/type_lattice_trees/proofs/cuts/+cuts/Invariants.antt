@@ -9,26 +9,29 @@ use Rattle.type_lattice_trees.proofs.cuts.+cuts.Given as goal
 abbrev pub decreases-cut : goal.decreases-cut
 decreases-cut l = 10 * l.from
 
+abbrev pub decreases-cut_element : goal.decreases-cut_element
+decreases-cut_element l = 10 * l.from + 1
+
 abbrev pub decreases-cut_cell : goal.decreases-cut_cell
-decreases-cut_cell l = 10 * l.from + 1
+decreases-cut_cell l = 10 * l.from + 2
 
 abbrev pub decreases-cut_row : goal.decreases-cut_row
-decreases-cut_row l = 10 * l.from + 1
+decreases-cut_row l = 10 * l.from + 2
 
 abbrev pub decreases-cut_tags : goal.decreases-cut_tags
-decreases-cut_tags l = 10 * l.from + 2
+decreases-cut_tags l = 10 * l.from + 3
 
 abbrev pub decreases-cut_body : goal.decreases-cut_body
-decreases-cut_body l = 10 * l.from + 3
+decreases-cut_body l = 10 * l.from + 4
 
 abbrev pub decreases-cut_sizes : goal.decreases-cut_sizes
-decreases-cut_sizes l = 10 * l.from + 4
+decreases-cut_sizes l = 10 * l.from + 5
 
 abbrev pub decreases-cut_tuples : goal.decreases-cut_tuples
-decreases-cut_tuples l = 10 * l.from + 5
+decreases-cut_tuples l = 10 * l.from + 6
 
 abbrev pub decreases-cut_parts : goal.decreases-cut_parts
-decreases-cut_parts l = 10 * l.from + 6
+decreases-cut_parts l = 10 * l.from + 7
 
 -- what is cut so far, and what is to come, make the whole
 abbrev pub invariant-cut_row-loop-element : goal.invariant-cut_row-loop-element

@@ -52,7 +52,8 @@ leq_cell-returns-else-two t c =
 -- ---- products
 
 pub leq_row-returns-then-not-leq : goal.leq_row-returns-then-not-leq
-leq_row-returns-then-not-leq t c = refuted (λ h. failed _ c.leq.ensures c.if-not-leq.true (position_below _ _ _ _ c.requires.1.0 h _ _ _ c.loop-i-test.true c.index-a-i.is c.index-b-i.is))
+leq_row-returns-then-not-leq t c =
+    refuted (λ h. failed _ c.leq.ensures c.if-not-leq.true (rw (c.get.ensures, c.get-in-loop-i.ensures) (position_below _ _ _ _ c.requires.1.0 h _ _ _ c.loop-i-test.true c.index-a-i.is c.index-b-i.is)))
 
 -- ---- the tuples of one size
 

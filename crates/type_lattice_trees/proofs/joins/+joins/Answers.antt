@@ -15,15 +15,15 @@ use Rattle.type_lattice_trees.proofs.joins.+joins.Goals as goal
 pub elements_of-elements_of_tags-requires : goal.elements_of-elements_of_tags-requires
 elements_of-elements_of_tags-requires t c = (omega (arith, c.decreases), tags_of_body _ _ _ _ _ c.requires.1 c.in-Tags.is c.as_slice.ensures)
 
-pub join-join_parts-requires : goal.join-join_parts-requires
-join-join_parts-requires t c = (
+pub join_apart-join_parts-requires : goal.join_apart-join_parts-requires
+join_apart-join_parts-requires t c = (
   omega (arith, c.decreases, of_above c.args.a.now c.in-Of.parts c.in-Of.is c.args.level c.requires.a),
   (part_fits _ _ c.in-Of.is _ _ c.requires.a refl, part_fits _ _ c.in-Of-b.is _ _ c.requires.b refl),
 )
 
-pub join-returns-in_ok-join_parts-in-Of-b-clause-value :
-    goal.join-returns-in_ok-join_parts-in-Of-b-clause-value
-join-returns-in_ok-join_parts-in-Of-b-clause-value t c =
+pub join_apart-returns-in_ok-join_parts-in-Of-b-clause-value :
+    goal.join_apart-returns-in_ok-join_parts-in-Of-b-clause-value
+join_apart-returns-in_ok-join_parts-in-Of-b-clause-value t c =
     made_join c.args.level _ _ _ _ _ _ (of_above _ _ c.in-Of.is _ c.requires.a) c.in-Of.is c.in-Of-b.is c.in_ok-join_parts-in-Of-b.ensures.fits c.in_ok-join_parts-in-Of-b.ensures.value c.made.ensures.value
 
 pub join_body-join_tags-requires : goal.join_body-join_tags-requires

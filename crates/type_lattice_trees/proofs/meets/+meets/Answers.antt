@@ -6,15 +6,15 @@ use Rattle.type_lattice_trees.proofs.Inclusions.{rest_fits, after_fits, size_fit
 use Rattle.type_lattice_trees.proofs.MeetViews.{row_below, meet_of_parts_fits, sizes_fit}
 use Rattle.type_lattice_trees.proofs.meets.+meets.Goals as goal
 
-pub meet-meet_parts-requires : goal.meet-meet_parts-requires
-meet-meet_parts-requires t c = (
+pub meet_apart-meet_parts-requires : goal.meet_apart-meet_parts-requires
+meet_apart-meet_parts-requires t c = (
   omega (arith, c.decreases, of_above c.args.a.now c.in-Of.parts c.in-Of.is c.args.level c.requires.a),
   (below_fits c.args.a.now c.in-Of.parts c.in-Of.is c.args.level c.requires.a, below_fits c.args.b.now c.in-Of-b.others c.in-Of-b.is c.args.level c.requires.b),
 )
 
-pub meet-returns-in_ok-meet_parts-in-Of-b-clause-fits :
-    goal.meet-returns-in_ok-meet_parts-in-Of-b-clause-fits
-meet-returns-in_ok-meet_parts-in-Of-b-clause-fits t c =
+pub meet_apart-returns-in_ok-meet_parts-in-Of-b-clause-fits :
+    goal.meet_apart-returns-in_ok-meet_parts-in-Of-b-clause-fits
+meet_apart-returns-in_ok-meet_parts-in-Of-b-clause-fits t c =
     meet_of_parts_fits c.args.a.now c.args.b.now _ c.in-Of.parts c.in-Of-b.others c.in_ok-meet_parts-in-Of-b.field-0 c.in-Of.is c.in-Of-b.is refl c.args.level c.requires.a c.requires.b c.in_ok-meet_parts-in-Of-b.ensures.fits c.in_ok-meet_parts-in-Of-b.ensures.value
 
 pub meet_sizes-meet_body-requires : goal.meet_sizes-meet_body-requires

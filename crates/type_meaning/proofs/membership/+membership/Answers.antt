@@ -107,4 +107,4 @@ body_in-returns-in-Some-find_tag t c =
 
 pub each_in-is_in-requires : goal.each_in-is_in-requires
 each_in-is_in-requires t c =
-    (omega (arith, c.decreases, lighter_item c.args.elements.now c.loop-i.i c.index-elements-i.result c.loop-i-test.true c.index-elements-i.is), subst (Fits c.args.level) (sym c.index-row-i.is) (each_at (Fits c.args.level) c.args.row.now c.requires.fits c.loop-i.i c.index-row-i.result (omega (arith, c.loop-i-test.true, c.requires.same))))
+    (omega (arith, c.decreases, lighter_item c.args.elements.now c.loop-i.i c.index-elements-i.result c.loop-i-test.true c.index-elements-i.is), subst (Fits c.args.level) (sym (c.get.ensures ∙ c.index-row-i.is)) (each_at (Fits c.args.level) c.args.row.now c.requires.fits c.loop-i.i c.index-row-i.result (omega (arith, c.loop-i-test.true, c.requires.same))))

@@ -18,11 +18,12 @@ read_later-returns-in_default-2-clause-complete t c =
 pub read_later-loop-next-preserved : goal.read_later-loop-next-preserved
 read_later-loop-next-preserved t c =
     let fits = MatchOption-at_some _ _ _ c.in-Some-2.is c.in_ok-element.ensures.fits in
+    let added : c.add.new.self ≡ c.loop-next.row ++ c.in-Some-2.element ∷ [] = c.in_ok-add.ensures.ok ∙ ap (λ x. c.loop-next.row ++ x ∷ []) c.in_ok-new.ensures in
     record {
-      each = each_more (Fits c.args.level) c.add.new.self c.loop-next.row c.in-Some-2.element c.in_ok-add.ensures.ok c.loop-next.invariant.each fits.0;
-      some = elements_more c.args.level c.loop-next.row c.add.new.self c.in-Some-2.element c.in_ok-add.ensures.ok c.loop-next.invariant.some fits.0 fits.1;
+      each = each_more (Fits c.args.level) c.add.new.self c.loop-next.row c.in-Some-2.element added c.loop-next.invariant.each fits.0;
+      some = elements_more c.args.level c.loop-next.row c.add.new.self c.in-Some-2.element added c.loop-next.invariant.some fits.0 fits.1;
       shorter = omega (arith, MatchOption-at_some _ _ _ c.in-Some-2.is c.in_ok-element.ensures.shorter, c.in-Some.ensures.shorter, c.loop-next.invariant.shorter);
-      so_far = λ o f. c.loop-next.invariant.so_far o (element_further c.args.level _ _ c.in-Some-2.element _ _ _ o c.in-Some.ensures.exact c.in_ok-add.ensures.ok
+      so_far = λ o f. c.loop-next.invariant.so_far o (element_further c.args.level _ _ c.in-Some-2.element _ _ _ o c.in-Some.ensures.exact added
           (λ e r k stop text. MatchOption-at_some _ _ _ c.in-Some-2.is (c.in_ok-element.ensures.complete e r k stop text)) f);
     }
 
@@ -63,7 +64,7 @@ read_row-returns-in_default-2-clause-complete t c =
 
 pub read_row-returns-clause-complete : goal.read_row-returns-clause-complete
 read_row-returns-clause-complete t c =
-    let is : c.add.new.self ≡ [] ++ c.in-Some-2.element ∷ [] = c.in_ok-add.ensures.ok ∙ ap (λ r. r ++ c.in-Some-2.element ∷ []) c.new-row.ensures in
+    let is : c.add.new.self ≡ [] ++ c.in-Some-2.element ∷ [] = c.in_ok-add.ensures.ok ∙ ap (λ x. c.new-row.result ++ x ∷ []) c.in_ok-new.ensures ∙ ap (λ r. r ++ c.in-Some-2.element ∷ []) c.new-row.ensures in
     IfOk-weaker c.read_later.result _ _
     (λ r f. whole_row c.args.level _ c.in_default.ensures.complete _ (element_further c.args.level [] _ c.in-Some-2.element _ _ _ r refl is
     (λ e q k stop text. MatchOption-at_some _ _ _ c.in-Some-2.is (c.in_ok-element.ensures.complete e q k stop text)) f)) c.read_later.ensures.complete

@@ -44,13 +44,13 @@ returns-then-size c =
     let e = same_type r.result p (rw (r.ensures.value, ← c.self.view_is, c.in-Of.is, parts_tree, c.in-Sizes.is, wide, ← empty, c.if-is_empty.false) refl) in
     rw e (record { value = refl; holds = laws.project-holds _ _ _ })
 
-pub element-requires : goal.element-requires
-element-requires c =
+pub element_of-requires : goal.element_of-requires
+element_of-requires c =
     let fit : SizesFit 3 c.as_slice.result.now = rw c.as_slice.ensures (sizes_there c.in-Of.parts c.in-Sizes.sizes (rw c.in-Of.is at c.self.invariant) c.in-Sizes.is) in
     (c.args.size, (found_fits 3 _ c.args.size c.in-Some.body.now fit (c.in-Some.ensures.value 3) (c.in-Some.ensures.each 3 fit.each), omega (arith, c.requires)))
 
 pub of_node-requires : goal.of_node-requires
-of_node-requires c = fits_up _ c.in_ok-element-in-Some.ensures.fits
+of_node-requires c = fits_up _ c.in_ok-element_of-in-Some.ensures.fits
 
 pub returns-in-None : goal.returns-in-None
 unfolding none project
@@ -61,11 +61,11 @@ returns-in-None c =
     let e = same_type r.result p (rw (r.ensures.value, ← c.self.view_is, c.in-Of.is, parts_tree, c.in-Sizes.is, narrow, ← c.as_slice.ensures, ← c.in-None.ensures.value 3) refl) in
     rw e (record { value = refl; holds = laws.project-holds _ _ _ })
 
-pub returns-in_ok-element-in-Some : goal.returns-in_ok-element-in-Some
+pub returns-in_ok-element_of-in-Some : goal.returns-in_ok-element_of-in-Some
 unfolding project
-returns-in_ok-element-in-Some c =
+returns-in_ok-element_of-in-Some c =
     let p = project c.args.self.now c.args.size c.args.position in
-    let x = c.in_ok-element-in-Some in
+    let x = c.in_ok-element_of-in-Some in
     let narrow = lt-ltb c.args.size 65 (omega arith) in
     let is = c.of_node.ensures ∙ view_up x.field-0 x.ensures.fits ∙ ap (lifted 3) x.ensures.value in
     let e = same_type c.of_node.result p (rw (← c.self.view_is, c.in-Of.is, parts_tree, c.in-Sizes.is, narrow, ← c.as_slice.ensures, ← c.in-Some.ensures.value 3) is) in
