@@ -5,5 +5,6 @@ mod ExpressionExits
 mod FormExits
 mod FormRounds
 mod Givens
+mod Silence
 mod StepRounds
 mod Walks

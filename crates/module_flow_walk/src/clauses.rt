@@ -1,8 +1,5 @@
 //! Clauses: the heads that may hold, and what stands behind them.
-ghost use Rattle.std.specs.Prelude.{◌≡◌, ◌++◌, ◌∷◌, [], cond, None, IfOk, IsTrue, OnOk};
-ghost use Rattle.core_ast.specs.Model as m;
-ghost use Rattle.core_ast.specs.declared.syntax.Literal.{Literal};
-ghost use Rattle.core_ast.specs.declared.syntax.Mark.{Mark};
+ghost use Rattle.std.specs.Prelude.{◌≡◌, ◌++◌, ◌∷◌, [], cond, None, IfOk, OnOk};
 ghost use Rattle.core_ast.specs.Tree.{all_clauses, tree};
 ghost use Rattle.core_scope.specs.Asks.{one_value, width};
 ghost use Rattle.core_scope.specs.declared.ask.Ask.TheVariants.{Exactly};
@@ -20,9 +17,10 @@ ghost use Rattle.module_flow_walk.specs.steps.Walked.{with_solved};
 
 use crate::control::walk_passed;
 use crate::expressions::walk_expression;
+use crate::guards::is_silent;
 use cons_gen::head;
 use cons_tree::{Constraint, Slot, type_facts};
-use core_ast::{Clause, Expr, Form, Mark};
+use core_ast::{Clause, Expr, Mark};
 use core_scope::{Ask, width};
 use module_flow_calls::{Given, NodeContext, as_many, discard_given, either};
 use module_flow_state::{FlowWalk, WalkContext};
@@ -158,7 +156,7 @@ fn walk_guard(
 ) -> Result<(), Memory>
     ensures noted { OnOk result (walker.new ≡ noting walker.old (where_solved (solution (constraint patterns.now) walker.old.types) (λ solved. contributions (world_of context.now) (with_solved (walk_scope_of walker.old) solved) one_value (tree guard.now))) ([])) }
 {
-    if is_literal(guard) {
+    if is_silent(guard) {
         return Ok(());
     }
     let narrowed = walker.narrow(patterns)?;
@@ -199,13 +197,6 @@ fn walk_quietly(
     discard_given(given);
     walker.resume(reporting);
     Ok(())
-}
-
-// Whether an expression is a literal.
-fn is_literal(expr: &Expr) -> bool
-    ensures { IsTrue result → (i : Mark) × ((x : Literal) × (tree expr.now ≡ m.literal i x)) }
-{
-    matches!(&expr.form, Form::Lit(_))
 }
 
 // The body of a clause, where its head may hold.

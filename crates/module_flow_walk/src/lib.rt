@@ -6,6 +6,7 @@ mod clauses;
 mod control;
 mod expressions;
 mod forms;
+mod guards;
 mod handing;
 
 pub use control::walk_function;

@@ -8,6 +8,8 @@ use Rattle.core_ast.specs.Named.{local_name}
 use Rattle.core_ast.specs.Tree.{all_clauses, all_defs, all_pairs, all_segments, all_steps, all_trees, tree}
 use Rattle.core_ast.proofs.Forms.{apply_tree, binary_tree, call_tree, case_tree, catch_tree, chain_tree, external_tree, fun_tree, letrec_tree, listed_tree, literal_tree, local_tree, new_map_tree, primop_tree, receive_tree, try_tree, tuple_tree, updated_map_tree, values_tree, variable_tree}
 use Rattle.type_lattice.specs.Types.{any}
+use Rattle.cons_tree.specs.Constraints.{constraint}
+use Rattle.cons_solve.specs.Environments.{solution}
 use Rattle.cons_gen_rows.specs.Words.{function_type, literal_type}
 use Rattle.module_flow_state.specs.steps.Walking.{world_of, walk_scope_of}
 use Rattle.module_flow_walk.proofs.ExpressionExits.{applied_gives, applied_noted, binary_noted, call_gives, call_noted, case_noted, catch_noted, chain_form_noted, form_given, form_silent, fun_noted, letrec_form_noted, listed_noted, named_call_gives, named_call_noted, new_map_noted, operator_gives, operator_noted, primop_noted, receive_noted, try_noted, tuple_noted, unnamed_call, updated_map_noted, value_is, values_noted}
@@ -20,6 +22,7 @@ use Rattle.module_flow_walk.specs.Contributions.{contributions_of_steps}
 use Rattle.module_flow_walk.specs.Walk.{passed, see_steps}
 use Rattle.module_flow_walk.proofs.ClauseExits.{clause_noted, clause_told, clauses_end, clauses_noted, clauses_noted_round, clauses_round}
 use Rattle.module_flow_walk.proofs.ControlExits.{chain_given, chain_noted, functions_noted, functions_round, letrec_given, letrec_noted, matching_given, matching_noted, under_given, under_noted}
+use Rattle.module_flow_walk.proofs.Silence.{guard_silent}
 use Rattle.module_flow_walk.proofs.StepRounds.{steps_begin, steps_round}
 use Rattle.module_flow_walk.proofs.Walks.{told}
 
@@ -278,4 +281,9 @@ control::walk_functions-loop-def-preserved t c =
 pub control::walk_functions-returns : goal.control::walk_functions-returns
 control::walk_functions-returns t c = record {
   noted = functions_noted (world_of c.args.context.now) c.args.around c.args.defs.now c.loop-def.walker c.loop-def.def-index _ c.loop-def-test.false c.loop-def.invariant;
+}
+
+pub clauses::walk_guard-returns-then-is_silent : goal.clauses::walk_guard-returns-then-is_silent
+clauses::walk_guard-returns-then-is_silent t c = record {
+  noted = guard_silent (world_of c.args.context.now) c.args.walker.now (solution (constraint c.args.patterns.now) c.args.walker.now.types) (tree c.args.guard.now) (c.is_silent.ensures c.if-is_silent.true);
 }
