@@ -2,6 +2,7 @@
 use Rattle.std.proofs.Common.{◌≡◌, ℕ, zero, suc, ◌+◌, ◌-◌, ◌<◌, ◌≤◌, ◌⊎◌, inl, inr, Bool, true, false, ◌||◌, List, [], ◌∷◌, ◌++◌, length, drop, get_or, set, take, Some, slice_get, slice_index, refl, ap, ◌∙◌, subst, arith}
 use Rattle.std.specs.List.{Contains, list_any}
 use Rattle.std.specs.List.Sorted.{IsNonDecreasing}
+use Rattle.std.proofs.lemmas.List.Elements.{Contains-append_left, Contains-append_right}
 use Rattle.std.proofs.Math.ListN.{length-set}
 use Rattle.std.proofs.lemmas.Option.{slice_get_within}
 use Rattle.std.proofs.lemmas.Bool.{or_cases}
@@ -11,7 +12,7 @@ use Rattle.module_flow.specs.declared.visits.Visit.{Visit}
 use Rattle.module_flow_state.specs.World.{World}
 use Rattle.module_flow.specs.steps.Readers.{AreNoted, readers}
 use Rattle.module_flow_state.specs.steps.Reading.{labels_given}
-use Rattle.module_flow_state.specs.steps.Changes.{AllListed, in_round}
+use Rattle.module_flow_state.specs.steps.Changes.{AllListed, Rounds, in_round}
 use Rattle.module_flow.specs.steps.Visits.{AreCandidates, Definition, contributions_again, contributions_of_one, is_touched, visits_again}
 use Rattle.module_flow.proofs.NotedReaders.{of_set}
 use Rattle.module_flow.proofs.VisitRounds.{contributions_end, contributions_off, contributions_on, visits_end, visits_off, visits_on}
@@ -29,15 +30,15 @@ any_found p (l ∷ ls) e = by (p l) refl e (any_found p ls)
         let h : there.1.0 < length ls = there.1.1 in
         (there.0, (suc there.1.0, omega arith, there.1.2), there.2)
 
-pub candidates_of : (table : List (List ℕ)) (vs : List Visit) (rounds latest positions : List ℕ) (k : ℕ) → AreNoted table vs → ((l q : ℕ) → Contains latest l → Contains (readers table l) q → Contains positions q) → IsNonDecreasing positions → AllListed rounds k latest → AreCandidates rounds k vs positions
-candidates_of table vs rounds latest positions k noted all ascending listed = record { ascending = ascending; all = λ q v at touched. by q v at (or_cases (list_any (in_round rounds k) v.own) (list_any (in_round rounds k) v.given) touched) }
+pub candidates_of : (table : List (List ℕ)) (vs : List Visit) (rounds : Rounds) (entered given positions : List ℕ) (k : ℕ) → AreNoted table vs → ((l q : ℕ) → Contains (entered ++ given) l → Contains (readers table l) q → Contains positions q) → IsNonDecreasing positions → AllListed rounds.0 k entered → AllListed rounds.1 k given → AreCandidates rounds k vs positions
+candidates_of table vs rounds entered given positions k noted all ascending listed_entered listed_given = record { ascending = ascending; all = λ q v at touched. by q v at (or_cases (list_any (in_round rounds.0 k) v.own) (list_any (in_round rounds.1 k) v.given) touched) }
   where
-    by : (q : ℕ) (v : Visit) → slice_get vs q ≡ Some v → (list_any (in_round rounds k) v.own ≡ true) ⊎ (list_any (in_round rounds k) v.given ≡ true) → Contains positions q
-    by q v at (inl e) = let f = any_found (in_round rounds k) v.own e in all f.0 q (listed f.0 f.2) (noted.own q v at f.0 f.1)
-    by q v at (inr e) = let f = any_found (in_round rounds k) v.given e in all f.0 q (listed f.0 f.2) (noted.given q v at f.0 f.1)
+    by : (q : ℕ) (v : Visit) → slice_get vs q ≡ Some v → (list_any (in_round rounds.0 k) v.own ≡ true) ⊎ (list_any (in_round rounds.1 k) v.given ≡ true) → Contains positions q
+    by q v at (inl e) = let f = any_found (in_round rounds.0 k) v.own e in all f.0 q (Contains-append_left entered given f.0 (listed_entered f.0 f.2)) (noted.own q v at f.0 f.1)
+    by q v at (inr e) = let f = any_found (in_round rounds.1 k) v.given e in all f.0 q (Contains-append_right entered given f.0 (listed_given f.0 f.2)) (noted.given q v at f.0 f.1)
 
 -- all positions
-pub candidates_first : (vs : List Visit) (rounds positions : List ℕ) (k : ℕ) → length positions ≡ length vs → ((q : ℕ) → q < length vs → slice_index positions q ≡ q) → AreCandidates rounds k vs positions
+pub candidates_first : (vs : List Visit) (rounds : Rounds) (positions : List ℕ) (k : ℕ) → length positions ≡ length vs → ((q : ℕ) → q < length vs → slice_index positions q ≡ q) → AreCandidates rounds k vs positions
 candidates_first vs rounds positions k many each = record {
   ascending = λ i j d h less. omega (arith, item i d (omega arith), item j d (omega arith));
   all = λ q v at touched. let within = slice_get_within vs q v at in (q, omega arith, item q q within);
@@ -56,7 +57,7 @@ candidates_first vs rounds positions k many each = record {
 head_least : (p q : ℕ) (more : List ℕ) → IsNonDecreasing (p ∷ more) → Contains (p ∷ more) q → p ≤ q
 head_least p q more ascending (i, h, e) = let least = ascending 0 i q (omega arith) h in omega (arith, least, e)
 
-module _ (W : World) (rounds : List ℕ) (k : ℕ) (ds : List Definition) (all_contributions : List Contribution) (all_visits : List Visit) where
+module _ (W : World) (rounds : Rounds) (k : ℕ) (ds : List Definition) (all_contributions : List Contribution) (all_visits : List Visit) where
   -- The functions before a position are walked, and each from there on for which something changed is among those that are left.
   pub record IsWalked (vs : List Visit) (gs : List Contribution) (from : ℕ) (left : List ℕ) : Type 0 where
     pub many : length vs ≡ length ds

@@ -125,8 +125,8 @@ module _ (callee : Atom → FunName → Callee) (home : Atom) (names : List FunN
   -- ---- the application of a name
 
   by_meaning_same : (f : FunName) (x : ResolvedName) (ts : List Type4) → Given_alike (enters_resolved x ts) → by_meaning V f x ts ≡ by_meaning W f x ts
-  by_meaning_same f (Inner l) ts a = ap one (sym a.0.result)
-  by_meaning_same f (Top l) ts a = ap (λ t. by_state t (callee home f) ts) (sym a.0.result)
+  by_meaning_same f (Inner l) ts a = ap one (sym a.0)
+  by_meaning_same f (Top l) ts a = ap (λ t. by_state t (callee home f) ts) (sym a.0)
   by_meaning_same f Nothing ts a = refl
 
   applied_same : (sc : WalkScope) (f : FunName) (ts : List Type4) → Given_alike (enters V sc f ts) → applied V sc f ts ≡ applied W sc f ts
@@ -444,7 +444,7 @@ module _ (callee : Atom → FunName → Callee) (home : Atom) (names : List FunN
     contributions_of_functions_same (m.and_def f i xs t ds) sc h a =
         let one_function = λ (ts : List Type4). contributions V (with_variables sc xs ts) one_value t ++ returns i.label (walk V (with_variables sc xs ts) one_value t) in
         let own = where_entered (parameters_of st i.label) one_function in
-        both (entered_same (parameters_of st i.label) (parameters_of su i.label) one_function (λ ts. contributions W (with_variables sc xs ts) one_value t ++ returns i.label (walk W (with_variables sc xs ts) one_value t)) (sym h.0.parameters)
+        both (entered_same (parameters_of st i.label) (parameters_of su i.label) one_function (λ ts. contributions W (with_variables sc xs ts) one_value t ++ returns i.label (walk W (with_variables sc xs ts) one_value t)) (sym h.0)
         (λ ts e.
         let b = front (contributions V (with_variables sc xs ts) one_value t) (returns i.label (walk V (with_variables sc xs ts) one_value t)) (at_entered (parameters_of st i.label) one_function ts (front own (contributions_of_functions V sc ds) a) e) in
         both (contributions_same t (with_variables sc xs ts) one_value (text_front (functions t) (functions_of_defs ds) h.1) b) (ap (returns i.label) (walk_same t (with_variables sc xs ts) one_value b))))

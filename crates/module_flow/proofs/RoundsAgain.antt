@@ -8,11 +8,10 @@ use Rattle.module_flow_state.specs.declared.states.Contribution.{Contribution}
 use Rattle.module_flow.specs.declared.visits.Visit.{Visit}
 use Rattle.module_flow.specs.Flow.{Callees, made_of}
 use Rattle.module_flow_calls.specs.Functions.{defined_labels}
-use Rattle.module_flow_state.specs.States.{FlowState, next_state, takes}
+use Rattle.module_flow_state.specs.States.{FlowState, next_state, parameters_of, result_of, takes}
 use Rattle.module_flow_state.specs.World.{World}
-use Rattle.module_flow_state.specs.steps.Reading.{Alike}
 use Rattle.module_flow.specs.steps.Visits.{AreSettled, Definition, contributions_again, visits_again}
-use Rattle.module_flow_state.specs.steps.Changes.{Noted, in_round}
+use Rattle.module_flow_state.specs.steps.Changes.{Noted, Rounds, in_round}
 use Rattle.module_flow_state.proofs.Absorbing.{JoinFacts}
 use Rattle.module_flow.proofs.Beginnings.{round_made}
 use Rattle.module_flow_state.proofs.Skipping.{after}
@@ -23,7 +22,7 @@ module _ (F : JoinFacts) (callees : Callees) (source : Module) (names : List Fun
   In st = record { callee = callees; home = source.name; names = names; labels = labels; state = st }
 
   -- what the code has behind a round: the contributions, what is known of the functions, and the state
-  module _ (st next : FlowState) (rounds later : List ℕ) (k : ℕ) (ds : List Definition) (vs new : List Visit) (gs taken : List Contribution) (c : Bool) (is_all : ds ≡ source.defs) (settled : AreSettled (In st) rounds k source.defs vs)
+  module _ (st next : FlowState) (rounds later : Rounds) (k : ℕ) (ds : List Definition) (vs new : List Visit) (gs taken : List Contribution) (c : Bool) (is_all : ds ≡ source.defs) (settled : AreSettled (In st) rounds k source.defs vs)
       (contributions : gs ≡ contributions_again (In st) rounds k ds vs) (visits : new ≡ visits_again (In st) rounds k ds vs) (all_taken : taken ≡ gs) (after_it : next ≡ next_state k st (takes st taken)) where
     taken_again : next ≡ after k st (contributions_again (In st) rounds k source.defs vs)
     taken_again = after_it ∙ ap (after k st) (all_taken ∙ contributions ∙ ap (λ xs. contributions_again (In st) rounds k xs vs) is_all)
@@ -36,7 +35,12 @@ module _ (F : JoinFacts) (callees : Callees) (source : Module) (names : List Fun
 
     pub settled_next : Noted st next rounds later (k + 1) c → AreSettled (In next) later (k + 1) source.defs new
     settled_next noted =
-        let alike : (l : ℕ) → in_round later (suc k) l ≡ false → Alike st next l = subst (λ n. (l : ℕ) → in_round later n l ≡ false → Alike st next l) (add-one k) noted.alike in
+        let entered : (l : ℕ) → in_round later.0 (suc k) l ≡ false → parameters_of next l ≡ parameters_of st l =
+        subst (λ n. (l : ℕ) → in_round later.0 n l ≡ false → parameters_of next l ≡ parameters_of st l) (add-one k) noted.entered.alike
+        in
+        let given : (l : ℕ) → in_round later.1 (suc k) l ≡ false → result_of next l ≡ result_of st l =
+        subst (λ n. (l : ℕ) → in_round later.1 n l ≡ false → result_of next l ≡ result_of st l) (add-one k) noted.given.alike
+        in
         subst (λ n. AreSettled (In next) later n source.defs new) (sym (add-one k))
         (subst (AreSettled (In next) later (suc k) source.defs) (sym (visits ∙ ap (λ xs. visits_again (In st) rounds k xs vs) is_all))
-        (settled_again F callees source.name names labels st rounds k next later alike source.defs vs taken_again settled))
+        (settled_again F callees source.name names labels st rounds k next later entered given source.defs vs taken_again settled))

@@ -6,6 +6,7 @@ use Rattle.module_flow_state.specs.declared.states.Contribution.{Contribution}
 use Rattle.module_flow.specs.declared.visits.Visit.{Visit}
 use Rattle.module_flow_state.specs.World.{World}
 use Rattle.module_flow_state.specs.steps.Reading.{labels_given}
+use Rattle.module_flow_state.specs.steps.Changes.{Rounds}
 use Rattle.module_flow.specs.steps.Visits.{AreSettled, Definition, first_visit, contributions_again, contributions_of_one, is_touched, visits_again}
 
 next_is : {X : Type 0} (xs : List X) (i : ℕ) (x : X) → slice_get xs i ≡ Some x → drop i xs ≡ x ∷ drop (suc i) xs
@@ -32,7 +33,7 @@ all_taken [] (suc i) h = refl
 all_taken (x ∷ xs) zero h = absurd (omega arith)
 all_taken (x ∷ xs) (suc i) h = ap (λ ys. x ∷ ys) (all_taken xs i (omega arith))
 
-module _ (W : World) (rounds : List ℕ) (k : ℕ) where
+module _ (W : World) (rounds : Rounds) (k : ℕ) where
   abbrev contributions_from : List Definition → List Visit → List Contribution
   contributions_from ds vs = contributions_again W rounds k ds vs
 
@@ -93,10 +94,10 @@ module _ (W : World) (rounds : List ℕ) (k : ℕ) where
   settled_long (d ∷ ds) (v ∷ vs) s = ap suc (settled_long ds vs s.1)
 
 -- where the rounds begin, each function is to be walked
-first_touched : (d : Definition) → is_touched [] 0 (first_visit d) ≡ true
+first_touched : (d : Definition) → is_touched ([], []) 0 (first_visit d) ≡ true
 first_touched d = refl
 
-first_settled_from : (W : World) (ds : List Definition) → AreSettled W [] 0 ds (map first_visit ds)
+first_settled_from : (W : World) (ds : List Definition) → AreSettled W ([], []) 0 ds (map first_visit ds)
 first_settled_from W [] = tt
 first_settled_from W (d ∷ ds) = (
   record {
@@ -107,6 +108,6 @@ first_settled_from W (d ∷ ds) = (
   first_settled_from W ds,
 )
 
-pub first_settled : (W : World) (rounds : List ℕ) (ds : List Definition) (vs : List Visit) → rounds ≡ [] → vs ≡ map first_visit ds → AreSettled W rounds 0 ds vs
+pub first_settled : (W : World) (rounds : Rounds) (ds : List Definition) (vs : List Visit) → rounds ≡ ([], []) → vs ≡ map first_visit ds → AreSettled W rounds 0 ds vs
 first_settled W rounds ds vs e f =
-    subst (λ r. AreSettled W r 0 ds vs) (sym e) (subst (λ us. AreSettled W [] 0 ds us) (sym f) (first_settled_from W ds))
+    subst (λ r. AreSettled W r 0 ds vs) (sym e) (subst (λ us. AreSettled W ([], []) 0 ds us) (sym f) (first_settled_from W ds))

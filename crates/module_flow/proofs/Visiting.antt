@@ -12,43 +12,43 @@ use Rattle.cons_tree.specs.declared.parts.Callee.{Callee}
 use Rattle.module_flow_state.specs.declared.states.Contribution.{Contribution}
 use Rattle.module_flow.specs.declared.visits.Visit.{Visit}
 use Rattle.module_flow_walk.specs.Contributions.{contributions, contributions_of_functions, where_entered}
-use Rattle.module_flow_state.specs.States.{returns, FlowState, parameters_of}
+use Rattle.module_flow_state.specs.States.{returns, FlowState, parameters_of, result_of}
 use Rattle.module_flow_calls.specs.NamedFunctions.{named_as, named_functions}
 use Rattle.module_flow_state.specs.Scopes.{outermost, with_variables}
 use Rattle.module_flow_walk.specs.Walk.{walk}
 use Rattle.module_flow_state.specs.World.{World}
 use Rattle.module_flow_state.specs.steps.Kept.{KeptIn}
-use Rattle.module_flow_state.specs.steps.Reading.{Alike, AlikeIfNamed, AlikeInText, AlikeWhereGiven, AreAlike, labels_given, labels_named}
+use Rattle.module_flow_state.specs.steps.Reading.{AlikeIfNamed, AlikeInText, AlikeWhereGiven, AreAlike, labels_given, labels_named}
 use Rattle.module_flow.specs.steps.Visits.{AreSettled, Definition, IsSettled, contributions_again, contributions_of_one, is_touched, labels_in_text, visits_again}
-use Rattle.module_flow_state.specs.steps.Changes.{in_round}
+use Rattle.module_flow_state.specs.steps.Changes.{Rounds, in_round}
 use Rattle.module_flow_state.proofs.Absorbing.{JoinFacts}
 use Rattle.module_flow.proofs.Readings.{contributions_of_functions_same}
 use Rattle.module_flow_state.proofs.Skipping.{after, after_skips, kept_given, kept_still}
 
 -- ---- what is alike where nothing was touched
 
-module _ (old new : FlowState) (rounds : List ℕ) (k : ℕ) (alike : (l : ℕ) → in_round rounds k l ≡ false → Alike old new l) where
-  all_alike : (ls : List ℕ) → list_any (in_round rounds k) ls ≡ false → AreAlike old new ls
-  all_alike [] e = tt
-  all_alike (l ∷ ls) e =
-      let parts = or_parts (in_round rounds k l) (list_any (in_round rounds k) ls) e in
-      (alike l parts.0, all_alike ls parts.1)
+all_alike : {X : Type 0} (kind : FlowState → ℕ → X) (old new : FlowState) (rounds : List ℕ) (k : ℕ) → ((l : ℕ) → in_round rounds k l ≡ false → kind new l ≡ kind old l) → (ls : List ℕ) → list_any (in_round rounds k) ls ≡ false → AreAlike kind old new ls
+all_alike kind old new rounds k alike [] e = tt
+all_alike kind old new rounds k alike (l ∷ ls) e =
+    let parts = or_parts (in_round rounds k l) (list_any (in_round rounds k) ls) e in
+    (alike l parts.0, all_alike kind old new rounds k alike ls parts.1)
 
-  given_alike : (gs : List Contribution) → AreAlike old new (labels_given gs) → AlikeWhereGiven old new gs
+module _ (old new : FlowState) where
+  given_alike : (gs : List Contribution) → AreAlike result_of old new (labels_given gs) → AlikeWhereGiven old new gs
   given_alike [] a = tt
   given_alike (g ∷ gs) a = (a.0, given_alike gs a.1)
 
-  text_alike : (fs : List LabelledFunction) → AreAlike old new (labels_named (named_functions fs)) → AlikeInText old new fs
+  text_alike : (fs : List LabelledFunction) → AreAlike parameters_of old new (labels_named (named_functions fs)) → AlikeInText old new fs
   text_alike [] a = tt
   text_alike (f ∷ fs) a = by f.name a (text_alike fs)
     where
-      by : (o : Option FunName) → AreAlike old new (labels_named (named_as f o ++ named_functions fs)) → (AreAlike old new (labels_named (named_functions fs)) → AlikeInText old new fs) → AlikeIfNamed old new f.label o × AlikeInText old new fs
+      by : (o : Option FunName) → AreAlike parameters_of old new (labels_named (named_as f o ++ named_functions fs)) → (AreAlike parameters_of old new (labels_named (named_functions fs)) → AlikeInText old new fs) → AlikeIfNamed old new f.label o × AlikeInText old new fs
       by None b more = (tt, more b)
       by (Some name) b more = (b.0, more b.1)
 
 -- ---- a round
 
-module _ (F : JoinFacts) (callee : Atom → FunName → Callee) (home : Atom) (names : List FunName) (labels : List ℕ) (st : FlowState) (rounds : List ℕ) (k : ℕ) where
+module _ (F : JoinFacts) (callee : Atom → FunName → Callee) (home : Atom) (names : List FunName) (labels : List ℕ) (st : FlowState) (rounds : Rounds) (k : ℕ) where
   abbrev world_in : FlowState → World
   world_in s = record { callee = callee; home = home; names = names; labels = labels; state = s }
 
@@ -83,12 +83,12 @@ module _ (F : JoinFacts) (callee : Atom → FunName → Callee) (home : Atom) (n
 
   -- ---- what is known of the functions after it
 
-  module _ (next : FlowState) (later : List ℕ) (alike : (l : ℕ) → in_round later (suc k) l ≡ false → Alike st next l) where
-    same_contributions : (d : Definition) → AreAlike st next (labels_in_text d) → AreAlike st next (labels_given (contributions_of_one (world_in st) d)) → contributions_of_one (world_in st) d ≡ contributions_of_one (world_in next) d
+  module _ (next : FlowState) (later : Rounds) (entered : (l : ℕ) → in_round later.0 (suc k) l ≡ false → parameters_of next l ≡ parameters_of st l) (given_same : (l : ℕ) → in_round later.1 (suc k) l ≡ false → result_of next l ≡ result_of st l) where
+    same_contributions : (d : Definition) → AreAlike parameters_of st next (labels_in_text d) → AreAlike result_of st next (labels_given (contributions_of_one (world_in st) d)) → contributions_of_one (world_in st) d ≡ contributions_of_one (world_in next) d
     same_contributions d text given =
         contributions_of_functions_same callee home names labels st next (all_defs (d ∷ [])) outermost
-        (text_alike st next later (suc k) alike (functions_of_defs (all_defs (d ∷ []))) text)
-        (given_alike st next later (suc k) alike (contributions_of_one (world_in st) d) given)
+        (text_alike st next (functions_of_defs (all_defs (d ∷ []))) text)
+        (given_alike st next (contributions_of_one (world_in st) d) given)
 
     -- one function, of which is known what it gave
     settled_one : (d : Definition) (v : Visit) → v.own ≡ labels_in_text d → labels_given (contributions_of_one (world_in st) d) ≡ v.given → KeptIn (suc k) next (contributions_of_one (world_in st) d) → IsSettled (world_in next) later (suc k) d v
@@ -100,9 +100,9 @@ module _ (F : JoinFacts) (callee : Atom → FunName → Callee) (home : Atom) (n
       where
         same : is_touched later (suc k) v ≡ false → contributions_of_one (world_in st) d ≡ contributions_of_one (world_in next) d
         same e =
-            let parts = or_parts (list_any (in_round later (suc k)) v.own) (list_any (in_round later (suc k)) v.given) e in
-            same_contributions d (subst (AreAlike st next) own (all_alike st next later (suc k) alike v.own parts.0))
-            (subst (AreAlike st next) (sym given) (all_alike st next later (suc k) alike v.given parts.1))
+            let parts = or_parts (list_any (in_round later.0 (suc k)) v.own) (list_any (in_round later.1 (suc k)) v.given) e in
+            same_contributions d (subst (AreAlike parameters_of st next) own (all_alike parameters_of st next later.0 (suc k) entered v.own parts.0))
+            (subst (AreAlike result_of st next) (sym given) (all_alike result_of st next later.1 (suc k) given_same v.given parts.1))
 
     settled_from : (ds : List Definition) (vs : List Visit) (hs : List Contribution) → next ≡ after k st (hs ++ contributions_again (world_in st) rounds k ds vs) → AreSettled (world_in st) rounds k ds vs → AreSettled (world_in next) later (suc k) ds (visits_again (world_in st) rounds k ds vs)
     settled_from [] [] hs is s = tt

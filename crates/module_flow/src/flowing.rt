@@ -20,7 +20,7 @@ use cons_tree::{Callee, Summaries, type_facts};
 use core_ast::{FunDef, Module};
 use core_scope::Checked;
 use module_flow_calls::{Functions, NodeContext, unknown_functions};
-use module_flow_state::{Changes, FlowFun, FlowStates, FlowWalk, JOINED_ROUNDS, WalkContext};
+use module_flow_state::{FlowChanges, FlowFun, FlowStates, FlowWalk, JOINED_ROUNDS, WalkContext};
 use std::alloc::Global;
 use type_kinds::{List, Memory, Shared};
 use type_lattice::decision_laws;
@@ -80,7 +80,7 @@ fn last_state(
     let mut state = first_state(alloc, source)?;
     let mut visits = first_visits(alloc, defs)?;
     let mut positions = first_positions(alloc, defs.len())?;
-    let mut changes = Changes::new(alloc);
+    let mut changes = FlowChanges::new(alloc);
     let count = state.functions().len();
     for round in 0..JOINED_ROUNDS + 2 * count {
         let context = WalkContext {

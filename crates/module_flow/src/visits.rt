@@ -2,14 +2,14 @@
 ghost use Rattle.std.specs.Prelude.{◌≡◌, ◌++◌, ◌∷◌, ◌<◌, ℕ, [], length, map, slice_get, slice_index, slice_set, true, Some, IfOk, OnOk};
 ghost use Rattle.module_flow.specs.declared.visits.Visit.{Visit};
 ghost use Rattle.module_flow_state.specs.steps.Reading.{labels_given, labels_named};
-ghost use Rattle.module_flow_state.specs.steps.Changes.{AllListed};
+ghost use Rattle.module_flow_state.specs.steps.Changes.{AllListed, rounds_of};
 ghost use Rattle.module_flow.specs.steps.Visits.{AreCandidates, first_visit, contributions_again, contributions_of_one, is_touched, visits_again};
 ghost use Rattle.module_flow_state.specs.steps.Walking.{world_of};
 
 use crate::readers::Readers;
 use core_ast::FunDef;
 use module_flow_calls::{DefinedFunction, NodeContext, names_of_function};
-use module_flow_state::{Changes, Contribution, FlowWalk, WalkContext};
+use module_flow_state::{Contribution, FlowChanges, FlowWalk, WalkContext};
 use module_flow_walk::walk_function;
 use std::alloc::Global;
 use std::marker::Model;
@@ -98,12 +98,24 @@ impl Visits {
 
     /// The positions, in ascending order, of the functions for which something changed before the round for which changes were
     /// noted last, and perhaps of others.
-    pub fn candidates(&self, changes: &Changes) -> Result<List<usize>, Memory>
-        ensures { IfOk result (λ positions. (k : ℕ) → AllListed changes.now.rounds k changes.now.latest → AreCandidates changes.now.rounds k self.now positions) }
+    pub fn candidates(&self, changes: &FlowChanges) -> Result<List<usize>, Memory>
+        ensures { IfOk result (λ positions. (k : ℕ) → AllListed changes.now.entered.rounds k changes.now.entered.latest → AllListed changes.now.given.rounds k changes.now.given.latest → AreCandidates (rounds_of changes.now) k self.now positions) }
     {
-        let positions = self.readers.of(changes.latest.as_slice())?;
+        let mut labels = changes.entered.latest.copy(self.alloc)?;
+        add_labels(&mut labels, changes.given.latest.as_slice())?;
+        let positions = self.readers.of(labels.as_slice())?;
         Ok(positions)
     }
+}
+
+// Adds labels last.
+fn add_labels(labels: &mut List<u32>, more: &[u32]) -> Result<(), Memory>
+    ensures { OnOk result (labels.new ≡ labels.old ++ more.now) }
+{
+    for label in more {
+        labels.add(*label)?;
+    }
+    Ok(())
 }
 
 // Whether two lists of labels are the same.
@@ -171,11 +183,11 @@ pub fn first_positions(alloc: Global, count: usize) -> Result<List<usize>, Memor
 }
 
 // Whether something changed of what it read, before this round.
-fn is_touched(changes: &Changes, round: usize, visit: &Visit) -> bool
-    ensures { result ≡ is_touched changes.now.rounds round visit.now }
+fn is_touched(changes: &FlowChanges, round: usize, visit: &Visit) -> bool
+    ensures { result ≡ is_touched (rounds_of changes.now) round visit.now }
 {
-    changes.any_in_round(round, visit.own.as_slice())
-        || changes.any_in_round(round, visit.given.as_slice())
+    changes.entered.any_in_round(round, visit.own.as_slice())
+        || changes.given.any_in_round(round, visit.given.as_slice())
 }
 
 // What the walk of one function gives.
@@ -230,14 +242,14 @@ pub fn walk_again(
     around: NodeContext,
     defs: &[Shared<FunDef>],
     visits: &mut Visits,
-    changes: &Changes,
+    changes: &FlowChanges,
     round: usize,
     positions: &[usize],
 ) -> Result<List<Contribution>, Memory>
     requires many { length visits.old ≡ length defs.now }
-    requires positions { AreCandidates changes.now.rounds round visits.old positions.now }
-    ensures contributions { IfOk result (λ contributions. contributions ≡ contributions_again (world_of context.now) changes.now.rounds round defs.now visits.old) }
-    ensures visits { OnOk result (visits.new ≡ visits_again (world_of context.now) changes.now.rounds round defs.now visits.old) }
+    requires positions { AreCandidates (rounds_of changes.now) round visits.old positions.now }
+    ensures contributions { IfOk result (λ contributions. contributions ≡ contributions_again (world_of context.now) (rounds_of changes.now) round defs.now visits.old) }
+    ensures visits { OnOk result (visits.new ≡ visits_again (world_of context.now) (rounds_of changes.now) round defs.now visits.old) }
 {
     let mut contributions = List::new(alloc);
     let mut from = 0;

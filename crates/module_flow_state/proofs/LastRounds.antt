@@ -1,6 +1,6 @@
 -- For each label, the round before which it last changed: what is noted, and what a state that took contributions has of the
 -- others.
-use Rattle.std.proofs.Common.{◌≡◌, ℕ, zero, suc, ◌+◌, ◌-◌, ◌<◌, ◌≤◌, Bool, true, false, cond, nat_eq, List, [], ◌∷◌, ◌++◌, length, get_or, set, drop, replicate, refl, sym, ap, ap₂, ◌∙◌, subst, eqb-true, eq-eqb, true≢false, length-append, le-ltb, lt-ltb, arith}
+use Rattle.std.proofs.Common.{◌≡◌, ℕ, zero, suc, ◌+◌, ◌-◌, ◌<◌, ◌≤◌, ◌⊎◌, inl, inr, Bool, true, false, cond, nat_eq, List, [], ◌∷◌, ◌++◌, length, get_or, set, drop, replicate, refl, sym, ap, ap₂, ◌∙◌, subst, eqb-true, eq-eqb, true≢false, length-append, le-ltb, lt-ltb, arith}
 use Rattle.std.specs.Prelude.{IsTrue, ◌↔◌, Some, if◌then◌else◌, slice_get}
 use Rattle.std.proofs.lemmas.List.{get_or-set_other, get_or-set_same}
 use Rattle.std.proofs.lemmas.Option.{slice_get_read}
@@ -11,8 +11,7 @@ use Rattle.module_flow_state.specs.declared.states.Contribution.{Contribution}
 use Rattle.module_flow_state.specs.declared.states.Contribution.TheVariants.{Enters, Returns}
 use Rattle.module_flow_state.specs.States.{FlowState, changed, entered, joined_rounds, next_state, parameters_of, result_of, returning, takes, takes_one, widened, widened_parameters, widened_result}
 use Rattle.module_flow_state.specs.steps.Kept.{functions_given, widens}
-use Rattle.module_flow_state.specs.steps.Reading.{Alike, label_of}
-use Rattle.module_flow_state.specs.steps.Changes.{Noted, in_round}
+use Rattle.module_flow_state.specs.steps.Changes.{Noted, NotedOf, Rounds, in_round}
 use Rattle.module_flow_state.proofs.Labels.{takes_labels}
 use Rattle.module_flow_state.proofs.Taking.{widened_parameters_of, widened_result_of}
 use Rattle.module_flow_state.proofs.Widening.{parameters_itself, widened_itself}
@@ -61,60 +60,61 @@ noted_at old reached new i n k r l more h is =
 
 -- ---- what is noted
 
-alike_itself : (st : FlowState) (l : ℕ) → Alike st st l
-alike_itself st l = record { parameters = refl; result = refl }
+none_of : {X : Type 0} (kind : FlowState → ℕ → X) (st : FlowState) (rounds : List ℕ) (k : ℕ) → NotedOf kind st st rounds rounds k
+none_of kind st rounds k = record { keeps = λ l h. h; alike = λ l h. refl }
 
-alike_through : (a b d : FlowState) (l : ℕ) → Alike a b l → Alike b d l → Alike a d l
-alike_through a b d l x y = record { parameters = y.parameters ∙ x.parameters; result = y.result ∙ x.result }
-
-pub noted_none : (st new : FlowState) (rounds : List ℕ) (k : ℕ) → new ≡ st → Noted st new rounds rounds k false
+pub noted_none : (st new : FlowState) (rounds : Rounds) (k : ℕ) → new ≡ st → Noted st new rounds rounds k false
 noted_none st new rounds k e =
-    subst (λ n. Noted st n rounds rounds k false) (sym e) (record { keeps = λ l h. h; alike = λ l h. alike_itself st l; still = λ h. refl })
+    subst (λ n. Noted st n rounds rounds k false) (sym e) (record { entered = none_of parameters_of st rounds.0 k; given = none_of result_of st rounds.1 k; still = λ h. refl })
 
 -- where nothing more changed, and where something did
-pub noted_more : (a b d : FlowState) (x y z : List ℕ) (k : ℕ) (c e f : Bool) → Noted a b x y k c → Noted b d y z k e → (f ≡ false → (c ≡ false) × (e ≡ false)) → Noted a d x z k f
+more_of : {X : Type 0} (kind : FlowState → ℕ → X) (a b d : FlowState) (x y z : List ℕ) (k : ℕ) → NotedOf kind a b x y k → NotedOf kind b d y z k → NotedOf kind a d x z k
+more_of kind a b d x y z k one two = record { keeps = λ l h. one.keeps l (two.keeps l h); alike = λ l h. two.alike l h ∙ one.alike l (two.keeps l h) }
+
+pub noted_more : (a b d : FlowState) (x y z : Rounds) (k : ℕ) (c e f : Bool) → Noted a b x y k c → Noted b d y z k e → (f ≡ false → (c ≡ false) × (e ≡ false)) → Noted a d x z k f
 noted_more a b d x y z k c e f one two both = record {
-  keeps = λ l h. one.keeps l (two.keeps l h);
-  alike = λ l h. alike_through a b d l (one.alike l (two.keeps l h)) (two.alike l h);
+  entered = more_of parameters_of a b d x.0 y.0 z.0 k one.entered two.entered;
+  given = more_of result_of a b d x.1 y.1 z.1 k one.given two.given;
   still = λ h. two.still (both h).1 ∙ one.still (both h).0;
 }
 
 -- ---- one contribution
 
 module _ (change : FlowFun → FlowFun) (keeps : (f : FlowFun) → (change f).label ≡ f.label) where
-  other_kept : (fs : FlowState) (l k : ℕ) → nat_eq l k ≡ false → Alike fs (changed fs l change) k
-  other_kept [] l k e = alike_itself [] k
-  other_kept (f ∷ fs) l k e = by (nat_eq f.label l) refl (other_kept fs l k e)
+  -- what is asked of another function, or what the change leaves
+  same_parameters : (fs : FlowState) (l k : ℕ) → (nat_eq l k ≡ false) ⊎ ((f : FlowFun) → (change f).params ≡ f.params) → parameters_of (changed fs l change) k ≡ parameters_of fs k
+  same_parameters [] l k e = refl
+  same_parameters (f ∷ fs) l k e = by (nat_eq f.label l) refl (same_parameters fs l k e)
     where
-      here : nat_eq f.label l ≡ true → Alike (f ∷ fs) (change f ∷ fs) k
-      here q =
-          let old : nat_eq f.label k ≡ false = ap (λ j. nat_eq j k) (eqb-true f.label l q) ∙ e in
-          let new : nat_eq (change f).label k ≡ false = ap (λ j. nat_eq j k) (keeps f) ∙ old in
-          record {
-            parameters = ap (λ b. if b then (change f).params else parameters_of fs k) new ∙ sym (ap (λ b. if b then f.params else parameters_of fs k) old);
-            result = ap (λ b. if b then (change f).result else result_of fs k) new ∙ sym (ap (λ b. if b then f.result else result_of fs k) old);
-          }
+      here : nat_eq f.label l ≡ true → (nat_eq l k ≡ false) ⊎ ((f : FlowFun) → (change f).params ≡ f.params) → (if nat_eq f.label k then (change f).params else parameters_of fs k) ≡ (if nat_eq f.label k then f.params else parameters_of fs k)
+      here q (inl other) =
+          let no : nat_eq f.label k ≡ false = ap (λ j. nat_eq j k) (eqb-true f.label l q) ∙ other in
+          ap (λ b. if b then (change f).params else parameters_of fs k) no ∙ sym (ap (λ b. if b then f.params else parameters_of fs k) no)
+      here q (inr left) = ap (λ p. if nat_eq f.label k then p else parameters_of fs k) (left f)
 
-      there : Alike fs (changed fs l change) k → Alike (f ∷ fs) (f ∷ changed fs l change) k
-      there a = record {
-        parameters = ap (λ p. if nat_eq f.label k then f.params else p) a.parameters;
-        result = ap (λ r. if nat_eq f.label k then f.result else r) a.result;
-      }
+      by : (b : Bool) → nat_eq f.label l ≡ b → parameters_of (changed fs l change) k ≡ parameters_of fs k → parameters_of (if b then change f ∷ fs else f ∷ changed fs l change) k ≡ parameters_of (f ∷ fs) k
+      by true q more = ap (λ j. if nat_eq j k then (change f).params else parameters_of fs k) (keeps f) ∙ here q e
+      by false q more = ap (λ p. if nat_eq f.label k then f.params else p) more
 
-      by : (b : Bool) → nat_eq f.label l ≡ b → Alike fs (changed fs l change) k → Alike (f ∷ fs) (if b then change f ∷ fs else f ∷ changed fs l change) k
-      by true q more = here q
-      by false q more = there more
+  same_result : (fs : FlowState) (l k : ℕ) → (nat_eq l k ≡ false) ⊎ ((f : FlowFun) → (change f).result ≡ f.result) → result_of (changed fs l change) k ≡ result_of fs k
+  same_result [] l k e = refl
+  same_result (f ∷ fs) l k e = by (nat_eq f.label l) refl (same_result fs l k e)
+    where
+      here : nat_eq f.label l ≡ true → (nat_eq l k ≡ false) ⊎ ((f : FlowFun) → (change f).result ≡ f.result) → (if nat_eq f.label k then (change f).result else result_of fs k) ≡ (if nat_eq f.label k then f.result else result_of fs k)
+      here q (inl other) =
+          let no : nat_eq f.label k ≡ false = ap (λ j. nat_eq j k) (eqb-true f.label l q) ∙ other in
+          ap (λ b. if b then (change f).result else result_of fs k) no ∙ sym (ap (λ b. if b then f.result else result_of fs k) no)
+      here q (inr left) = ap (λ r. if nat_eq f.label k then r else result_of fs k) (left f)
 
-other_alike : (st : FlowState) (g : Contribution) (k : ℕ) → nat_eq (label_of g) k ≡ false → Alike st (takes_one st g) k
-other_alike st (Enters l ts) k e = other_kept (λ f. entered f ts) (λ f. refl) st l k e
-other_alike st (Returns l t) k e = other_kept (λ f. returning f t) (λ f. refl) st l k e
+      by : (b : Bool) → nat_eq f.label l ≡ b → result_of (changed fs l change) k ≡ result_of fs k → result_of (if b then change f ∷ fs else f ∷ changed fs l change) k ≡ result_of (f ∷ fs) k
+      by true q more = ap (λ j. if nat_eq j k then (change f).result else result_of fs k) (keeps f) ∙ here q e
+      by false q more = ap (λ r. if nat_eq f.label k then f.result else r) more
 
--- a contribution that changed the state
-pub noted_one : (st new : FlowState) (g : Contribution) (before after : List ℕ) (k : ℕ) → new ≡ takes_one st g → ((r l : ℕ) → in_round after r l ≡ cond (nat_eq (label_of g) l) (nat_eq k r) (in_round before r l)) → Noted st new before after k true
-noted_one st new g before after k is noted = record {
-  keeps = λ l h. first l (nat_eq (label_of g) l) (sym (noted k l) ∙ h);
-  alike = λ l h. subst (λ n. Alike st n l) (sym is) (other_alike st g l (second l (nat_eq (label_of g) l) (sym (noted k l) ∙ h)));
-  still = λ h. absurd cc;
+-- what is noted of a kind that changed at one label, and what where that kind changed nowhere
+one_of : {X : Type 0} (kind : FlowState → ℕ → X) (st new : FlowState) (i : ℕ) (before after : List ℕ) (k : ℕ) → ((l : ℕ) → nat_eq i l ≡ false → kind new l ≡ kind st l) → ((r l : ℕ) → in_round after r l ≡ cond (nat_eq i l) (nat_eq k r) (in_round before r l)) → NotedOf kind st new before after k
+one_of kind st new i before after k others noted = record {
+  keeps = λ l h. first l (nat_eq i l) (sym (noted k l) ∙ h);
+  alike = λ l h. others l (second l (nat_eq i l) (sym (noted k l) ∙ h));
 }
   where
     first : (l : ℕ) (b : Bool) → cond b (nat_eq k k) (in_round before k l) ≡ false → in_round before k l ≡ false
@@ -125,23 +125,52 @@ noted_one st new g before after k is noted = record {
     second l true h = absurd (let e : nat_eq k k ≡ true = eq-eqb k k refl in cc)
     second l false h = refl
 
+-- a contribution that changed the state
+pub noted_entered : (st new : FlowState) (g : Contribution) (i : ℕ) (ts : List Type4) (before after : Rounds) (k : ℕ) → g ≡ Enters i ts → new ≡ takes_one st g → after.1 ≡ before.1 → ((r l : ℕ) → in_round after.0 r l ≡ cond (nat_eq i l) (nat_eq k r) (in_round before.0 r l)) → Noted st new before after k true
+noted_entered st new g i ts before after k e is same noted =
+    let made : new ≡ changed st i (λ f. entered f ts) = is ∙ ap (takes_one st) e in
+    record {
+      entered = one_of parameters_of st new i before.0 after.0 k (λ l h. ap (λ n. parameters_of n l) made ∙ same_parameters (λ f. entered f ts) (λ f. refl) st i l (inl h)) noted;
+      given = record {
+        keeps = λ l h. ap (λ r. in_round r k l) (sym same) ∙ h;
+        alike = λ l h. ap (λ n. result_of n l) made ∙ same_result (λ f. entered f ts) (λ f. refl) st i l (inr (λ f. refl));
+      };
+      still = λ h. absurd cc;
+    }
+
+pub noted_returned : (st new : FlowState) (g : Contribution) (i : ℕ) (t : Type4) (before after : Rounds) (k : ℕ) → g ≡ Returns i t → new ≡ takes_one st g → after.0 ≡ before.0 → ((r l : ℕ) → in_round after.1 r l ≡ cond (nat_eq i l) (nat_eq k r) (in_round before.1 r l)) → Noted st new before after k true
+noted_returned st new g i t before after k e is same noted =
+    let made : new ≡ changed st i (λ f. returning f t) = is ∙ ap (takes_one st) e in
+    record {
+      entered = record {
+        keeps = λ l h. ap (λ r. in_round r k l) (sym same) ∙ h;
+        alike = λ l h. ap (λ n. parameters_of n l) made ∙ same_parameters (λ f. returning f t) (λ f. refl) st i l (inr (λ f. refl));
+      };
+      given = one_of result_of st new i before.1 after.1 k (λ l h. ap (λ n. result_of n l) made ∙ same_result (λ f. returning f t) (λ f. refl) st i l (inl h)) noted;
+      still = λ h. absurd cc;
+    }
+
 -- ---- late rounds
 
 module _ (same : (s t : Type4) → IsTrue (is_same s t) ↔ (s ≡ t)) where
-  widened_alike : (st ns : FlowState) (l : ℕ) (p : parameters_of ns l ≡ parameters_of st l) (r : result_of ns l ≡ result_of st l) → parameters_of (widened st ns) l ≡ widened_parameters (parameters_of st l) (parameters_of ns l) → result_of (widened st ns) l ≡ widened_result (result_of st l) (result_of ns l) → Alike st (widened st ns) l
-  widened_alike st ns l p r e f = record {
-    parameters = e ∙ ap (widened_parameters (parameters_of st l)) p ∙ parameters_itself same (parameters_of st l);
-    result = f ∙ ap (widened_result (result_of st l)) r ∙ ap (λ b. cond b (result_of st l) any) ((same (result_of st l) (result_of st l)).1 refl);
-  }
-
-  pub noted_wide : (st made new : FlowState) (gs : List Contribution) (before after : List ℕ) (k : ℕ) (c : Bool) → made ≡ takes st gs → new ≡ widened st (takes st gs) → Noted st made before after k c → Noted st new before after k c
+  pub noted_wide : (st made new : FlowState) (gs : List Contribution) (before after : Rounds) (k : ℕ) (c : Bool) → made ≡ takes st gs → new ≡ widened st (takes st gs) → Noted st made before after k c → Noted st new before after k c
   noted_wide st made new gs before after k c is wide noted =
       subst (λ n. Noted st n before after k c) (sym wide)
       (record {
-        keeps = noted.keeps;
-        alike = λ l h.
-            let a = subst (λ m. Alike st m l) is (noted.alike l h) in
-            widened_alike st (takes st gs) l a.parameters a.result (widened_parameters_of st (takes st gs) l (takes_labels st gs)) (widened_result_of same st (takes st gs) l (takes_labels st gs));
+        entered = record {
+          keeps = noted.entered.keeps;
+          alike = λ l h.
+              widened_parameters_of st (takes st gs) l (takes_labels st gs)
+              ∙ ap (widened_parameters (parameters_of st l)) (sym (ap (λ m. parameters_of m l) is) ∙ noted.entered.alike l h)
+              ∙ parameters_itself same (parameters_of st l);
+        };
+        given = record {
+          keeps = noted.given.keeps;
+          alike = λ l h.
+              widened_result_of same st (takes st gs) l (takes_labels st gs)
+              ∙ ap (widened_result (result_of st l)) (sym (ap (λ m. result_of m l) is) ∙ noted.given.alike l h)
+              ∙ ap (λ b. cond b (result_of st l) any) ((same (result_of st l) (result_of st l)).1 refl);
+        };
         still = λ h. ap (widened st) (sym is ∙ noted.still h) ∙ widened_itself same st;
       })
 

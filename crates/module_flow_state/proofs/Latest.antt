@@ -3,7 +3,8 @@ use Rattle.std.proofs.Common.{◌≡◌, ℕ, zero, suc, ◌<◌, Bool, true, fa
 use Rattle.std.specs.List.{Contains}
 use Rattle.std.proofs.lemmas.List.Elements.{Contains-append_left, Contains-push}
 use Rattle.module_flow_state.specs.declared.changes.Changes.{Changes}
-use Rattle.module_flow_state.specs.steps.Changes.{AllListed, MoreNoted, NoneIn, NotedAnew, in_round}
+use Rattle.module_flow_state.specs.declared.changes.FlowChanges.{FlowChanges}
+use Rattle.module_flow_state.specs.steps.Changes.{AllListed, AllNotedAnew, MoreChanges, MoreNoted, NoneIn, NotedAnew, in_round, rounds_of}
 
 pub more_none : (changes : Changes) (k : ℕ) → MoreNoted changes changes k
 more_none changes k = record { listed = λ h. h; later = λ n lt h. h }
@@ -47,3 +48,20 @@ none_at_first rounds n e h l = ap (λ r. in_round r n l) e ∙ by l
     by : (i : ℕ) → in_round [] n i ≡ false
     by zero = not_later 0 n h
     by (suc i) = not_later 0 n h
+
+-- ---- both kinds of change
+
+pub changes_none : (changes : FlowChanges) (k : ℕ) → MoreChanges changes changes k
+changes_none changes k = record { entered = more_none changes.entered k; given = more_none changes.given k }
+
+pub changes_through : (a b d : FlowChanges) (k : ℕ) → MoreChanges a b k → MoreChanges b d k → MoreChanges a d k
+changes_through a b d k one two = record {
+  entered = more_through a.entered b.entered d.entered k one.entered two.entered;
+  given = more_through a.given b.given d.given k one.given two.given;
+}
+
+pub changes_anew : (before cleared after : FlowChanges) (k : ℕ) → rounds_of cleared ≡ rounds_of before → MoreChanges cleared after k → AllNotedAnew before after k
+changes_anew before cleared after k e more = record {
+  entered = noted_anew before.entered cleared.entered after.entered k (ap (λ r. r.0) e) more.entered;
+  given = noted_anew before.given cleared.given after.given k (ap (λ r. r.1) e) more.given;
+}

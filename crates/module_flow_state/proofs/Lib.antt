@@ -6,6 +6,7 @@ pub mod Notes
 mod Positions
 mod Sameness
 pub mod Skipping
+mod TakenBefore
 pub mod Taking
 mod WalkSteps
 pub mod Widening

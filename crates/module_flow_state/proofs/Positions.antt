@@ -71,7 +71,7 @@ changed_at (f ∷ fs) l i change d e =
 
 -- ---- the same, where the function there is known
 
-at_slice : (fs : FlowState) (i : ℕ) (f d : FlowFun) → slice_get fs i ≡ Some f → get_or fs i d ≡ f
+pub at_slice : (fs : FlowState) (i : ℕ) (f d : FlowFun) → slice_get fs i ≡ Some f → get_or fs i d ≡ f
 at_slice fs i f d e = get_or_from_slice_get fs i f d e
 
 pub parameters_there : (fs : FlowState) (l i : ℕ) (f : FlowFun) → position_of fs l ≡ Some i → slice_get fs i ≡ Some f → parameters_of fs l ≡ f.params

@@ -1,7 +1,7 @@
 //! When functions of the flow changed last.
 ghost use Rattle.std.specs.Prelude.{◌≡◌, ◌++◌, ◌-◌, [], ℕ, cond, length, nat_eq, replicate, slice_index_or, OnOk};
 ghost use Rattle.std.specs.List.{list_any};
-ghost use Rattle.module_flow_state.specs.steps.Changes.{MoreNoted, in_round};
+ghost use Rattle.module_flow_state.specs.steps.Changes.{MoreNoted, in_round, rounds_of};
 
 use std::alloc::Global;
 use type_kinds::{List, Memory};
@@ -81,5 +81,37 @@ impl Changes {
             }
         }
         false
+    }
+}
+
+/// When functions of the flow changed last: with what they are entered, and what they give.
+#[derive(Drop)]
+pub struct FlowChanges {
+    /// With what they are entered, and whether.
+    pub entered: Changes,
+    /// What they give.
+    pub given: Changes,
+}
+
+impl FlowChanges {
+    /// No function changed since. Takes no memory.
+    pub fn new(alloc: Global) -> FlowChanges
+        ensures entered { result.entered.rounds ≡ [] }
+        ensures given { result.given.rounds ≡ [] }
+    {
+        FlowChanges {
+            entered: Changes::new(alloc),
+            given: Changes::new(alloc),
+        }
+    }
+
+    /// Changes are noted for another round from here on. Takes no memory.
+    pub fn begin(&mut self)
+        ensures rounds { rounds_of self.new ≡ rounds_of self.old }
+        ensures entered { self.new.entered.latest ≡ [] }
+        ensures given { self.new.given.latest ≡ [] }
+    {
+        self.entered.begin();
+        self.given.begin();
     }
 }

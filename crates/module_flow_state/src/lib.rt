@@ -5,6 +5,6 @@ mod changes;
 mod states;
 mod walk;
 
-pub use changes::Changes;
+pub use changes::{Changes, FlowChanges};
 pub use states::{Contribution, FlowFun, FlowStates, JOINED_ROUNDS};
 pub use walk::{FlowWalk, Narrowed, ScopePosition, WalkContext, add_first};

@@ -1,13 +1,14 @@
 //! The state of the flow: what each function is entered with, and what it gives.
-ghost use Rattle.std.specs.Prelude.{◌≡◌, ◌++◌, ◌∷◌, [], ◌<◌, false, length, IfOk, IfSome, OnErr, OnOk, MatchOption, None, Some};
+ghost use Rattle.std.specs.Prelude.{◌≡◌, ◌++◌, ◌∷◌, [], ◌<◌, ℕ, false, length, IfOk, IfSome, IsTrue, OnErr, OnOk, MatchOption, None, Some};
+ghost use Rattle.module_flow_calls.specs.TypeLists.{joins};
 ghost use Rattle.module_flow_state.specs.States.{changed, entered, next_state, parameters_of, result_of, returning, takes, takes_one, widened_one, widened_parameters};
-ghost use Rattle.module_flow_state.specs.steps.Kept.{functions_at, functions_given, widens};
+ghost use Rattle.module_flow_state.specs.steps.Kept.{Absorbs, KeptIn, functions_at, functions_given, widens};
 ghost use Rattle.module_flow_state.specs.steps.Placing.{are_same_parameters, is_same_function, position_of};
 ghost use Rattle.module_flow_state.specs.steps.Reading.{label_of};
-ghost use Rattle.module_flow_state.specs.steps.Changes.{MoreNoted, Noted, NotedAnew};
+ghost use Rattle.module_flow_state.specs.steps.Changes.{AllNotedAnew, MoreChanges, Noted, rounds_of};
 
-use crate::changes::Changes;
-use cons_tree::copy_types;
+use crate::changes::FlowChanges;
+use cons_tree::{copy_types, type_facts};
 use core_ast::FunName;
 use indexmap::IndexMap;
 use module_flow_calls::{any_types, are_same, joins};
@@ -148,13 +149,54 @@ impl FlowStates {
     pub fn take_round(
         &mut self,
         contributions: &[Contribution],
-        changes: &mut Changes,
+        changes: &mut FlowChanges,
         round: usize,
         next: usize,
     ) -> Result<bool, Memory>
         ensures after { OnOk result (self.new ≡ next_state round self.old (takes self.old contributions.now)) }
-        ensures noted { IfOk result (λ changed. Noted self.old self.new changes.old.rounds changes.new.rounds next changed) }
-        ensures anew { OnOk result (NotedAnew changes.old changes.new next) }
+        ensures noted { IfOk result (λ changed. Noted self.old self.new (rounds_of changes.old) (rounds_of changes.new) next changed) }
+        ensures anew { OnOk result (AllNotedAnew changes.old changes.new next) }
+    {
+        let news = self.news(contributions)?;
+        self.take_news(news.as_slice(), changes, round, next)
+    }
+
+    // Those of the contributions that may change something.
+    fn news(&self, contributions: &[Contribution]) -> Result<List<Contribution>, Memory>
+        ensures { IfOk result (λ news. (k : ℕ) → next_state k self.now (takes self.now news) ≡ next_state k self.now (takes self.now contributions.now)) }
+    {
+        type_facts();
+        decision_laws();
+        let mut news = List::new(self.alloc);
+        for contribution in contributions {
+            if !self.has_taken(contribution) {
+                news.add(contribution.copy(self.alloc)?)?;
+            }
+        }
+        Ok(news)
+    }
+
+    // Whether taking a contribution changes nothing. Takes no memory.
+    fn has_taken(&self, contribution: &Contribution) -> bool
+        ensures { IsTrue result → (k : ℕ) → KeptIn k self.now (contribution.now ∷ []) }
+    {
+        match self.position(contribution.label()) {
+            Some(position) => self.functions.at(position).has_taken(contribution),
+            None => true,
+        }
+    }
+
+    // The same, of contributions some of which may change something.
+    fn take_news(
+        &mut self,
+        contributions: &[Contribution],
+        changes: &mut FlowChanges,
+        round: usize,
+        next: usize,
+    ) -> Result<bool, Memory>
+        ensures after { OnOk result (self.new ≡ next_state round self.old (takes self.old contributions.now)) }
+        ensures noted { IfOk result (λ changed. Noted self.old self.new (rounds_of changes.old) (rounds_of changes.new) next changed) }
+        ensures anew { OnOk result (AllNotedAnew changes.old changes.new next) }
     {
         changes.begin();
         if round < JOINED_ROUNDS {
@@ -171,12 +213,12 @@ impl FlowStates {
     fn take_all(
         &mut self,
         contributions: &[Contribution],
-        changes: &mut Changes,
+        changes: &mut FlowChanges,
         next: usize,
     ) -> Result<bool, Memory>
         ensures after { OnOk result (self.new ≡ takes self.old contributions.now) }
-        ensures noted { IfOk result (λ changed. Noted self.old self.new changes.old.rounds changes.new.rounds next changed) }
-        ensures more { OnOk result (MoreNoted changes.old changes.new next) }
+        ensures noted { IfOk result (λ changed. Noted self.old self.new (rounds_of changes.old) (rounds_of changes.new) next changed) }
+        ensures more { OnOk result (MoreChanges changes.old changes.new next) }
     {
         let mut changed = false;
         for contribution in contributions {
@@ -191,17 +233,20 @@ impl FlowStates {
     fn take_noting(
         &mut self,
         contribution: &Contribution,
-        changes: &mut Changes,
+        changes: &mut FlowChanges,
         next: usize,
     ) -> Result<bool, Memory>
         ensures after { OnOk result (self.new ≡ takes_one self.old contribution.now) }
-        ensures noted { IfOk result (λ changed. Noted self.old self.new changes.old.rounds changes.new.rounds next changed) }
-        ensures more { OnOk result (MoreNoted changes.old changes.new next) }
+        ensures noted { IfOk result (λ changed. Noted self.old self.new (rounds_of changes.old) (rounds_of changes.new) next changed) }
+        ensures more { OnOk result (MoreChanges changes.old changes.new next) }
     {
         if !self.take(contribution)? {
             return Ok(false);
         }
-        changes.note(contribution.label(), next)?;
+        match contribution {
+            Contribution::Enters(label, _) => changes.entered.note(*label, next)?,
+            Contribution::Returns(label, _) => changes.given.note(*label, next)?,
+        }
         Ok(true)
     }
 
@@ -305,9 +350,37 @@ impl Contribution {
             Contribution::Enters(label, _) | Contribution::Returns(label, _) => *label,
         }
     }
+
+    // A second contribution, equal to the first.
+    fn copy(&self, alloc: Global) -> Result<Contribution, Memory>
+        ensures { IfOk result (λ copy. copy ≡ self.now) }
+    {
+        match self {
+            Contribution::Enters(label, types) => {
+                Ok(Contribution::Enters(*label, copy_types(alloc, types.as_slice())?))
+            }
+            Contribution::Returns(label, ty) => Ok(Contribution::Returns(*label, ty.copy()?)),
+        }
+    }
 }
 
 fn discard_function(_function: FlowFun) {}
+
+// Whether each of these types is below the other at its position, of which there are no more. Takes no memory.
+fn cover(others: &[Ty], types: &[Ty]) -> bool
+    ensures { IsTrue result → joins others.now types.now ≡ others.now }
+{
+    type_facts();
+    if types.len() < others.len() {
+        return false;
+    }
+    for at in 0..others.len() {
+        if !types[at].leq(&others[at]) {
+            return false;
+        }
+    }
+    true
+}
 
 // Parameters, copied.
 fn copy_parameters(alloc: Global, params: &Option<List<Ty>>) -> Result<Option<List<Ty>>, Memory>
@@ -368,6 +441,20 @@ impl FlowFun {
             params,
             result,
         })
+    }
+
+    // Whether taking a contribution for it changes nothing. Takes no memory.
+    fn has_taken(&self, contribution: &Contribution) -> bool
+        ensures { IsTrue result → Absorbs self.now contribution.now }
+    {
+        type_facts();
+        match contribution {
+            Contribution::Enters(_, types) => match &self.params {
+                Some(before) => cover(before.as_slice(), types.as_slice()),
+                None => false,
+            },
+            Contribution::Returns(_, ty) => ty.leq(&self.result),
+        }
     }
 
     // The function, entered with arguments of these types.

@@ -14,7 +14,7 @@ use Rattle.module_flow_state.specs.Scopes.{outermost}
 use Rattle.module_flow_state.specs.World.{World}
 use Rattle.module_flow_state.specs.steps.Kept.{KeptIn}
 use Rattle.module_flow_state.specs.steps.Reading.{labels_given, labels_named}
-use Rattle.module_flow_state.specs.steps.Changes.{in_round}
+use Rattle.module_flow_state.specs.steps.Changes.{Rounds, in_round}
 
 abbrev pub Definition : Type 0
 Definition = FunDefOf Expr
@@ -32,18 +32,18 @@ first_visit d = record { own = labels_in_text d; given = [] }
 
 -- ---- what changed
 
--- rounds: of each label the round before which it changed last, 0 where it isn't known
-abbrev pub is_touched : (rounds : List ℕ) → (round : ℕ) → Visit → Bool
-is_touched rounds k v = list_any (in_round rounds k) v.own || list_any (in_round rounds k) v.given
+-- what it was entered with, of the functions in its text, or what those give that it gave something to
+abbrev pub is_touched : (rounds : Rounds) → (round : ℕ) → Visit → Bool
+is_touched rounds k v = list_any (in_round rounds.0 k) v.own || list_any (in_round rounds.1 k) v.given
 
 -- Positions in ascending order, with those of all functions of which something changed before the round.
-pub record AreCandidates (rounds : List ℕ) (k : ℕ) (visits : List Visit) (positions : List ℕ) : Type 0 where
+pub record AreCandidates (rounds : Rounds) (k : ℕ) (visits : List Visit) (positions : List ℕ) : Type 0 where
   pub ascending : IsNonDecreasing positions
   pub all : (q : ℕ) (v : Visit) → slice_get visits q ≡ Some v → is_touched rounds k v ≡ true → Contains positions q
 
 -- ---- a round
 
-module _ (W : World) (rounds : List ℕ) (k : ℕ) where
+module _ (W : World) (rounds : Rounds) (k : ℕ) where
   -- what is given by the functions that are walked again
   abbrev pub contributions_again : List Definition → List Visit → List Contribution
   contributions_again [] vs = []

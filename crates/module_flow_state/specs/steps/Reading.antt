@@ -21,23 +21,19 @@ abbrev pub labels_named : List DefinedFunction → List ℕ
 labels_named [] = []
 labels_named (d ∷ ds) = d.label ∷ labels_named ds
 
--- two states have the same of a function
-pub record Alike (old new : FlowState) (l : ℕ) : Type 0 where
-  pub parameters : parameters_of new l ≡ parameters_of old l
-  pub result : result_of new l ≡ result_of old l
+-- two states have the same of each function of these labels: with what it is entered, or what it gives
+abbrev pub AreAlike : {X : Type 0} (kind : FlowState → ℕ → X) (old new : FlowState) → List ℕ → Type 0
+AreAlike kind old new [] = Unit {0}
+AreAlike kind old new (l ∷ ls) = (kind new l ≡ kind old l) × AreAlike kind old new ls
 
--- of each function of these labels, of each that contributions are for, and of each that has a name
-abbrev pub AreAlike : (old new : FlowState) → List ℕ → Type 0
-AreAlike old new [] = Unit {0}
-AreAlike old new (l ∷ ls) = Alike old new l × AreAlike old new ls
-
+-- what each function gives that contributions are for, and with what each is entered that has a name
 abbrev pub AlikeWhereGiven : (old new : FlowState) → List Contribution → Type 0
 AlikeWhereGiven old new [] = Unit {0}
-AlikeWhereGiven old new (g ∷ gs) = Alike old new (label_of g) × AlikeWhereGiven old new gs
+AlikeWhereGiven old new (g ∷ gs) = (result_of new (label_of g) ≡ result_of old (label_of g)) × AlikeWhereGiven old new gs
 
 abbrev pub AlikeIfNamed : (old new : FlowState) → ℕ → Option FunName → Type 0
 AlikeIfNamed old new l None = Unit {0}
-AlikeIfNamed old new l (Some f) = Alike old new l
+AlikeIfNamed old new l (Some f) = parameters_of new l ≡ parameters_of old l
 
 abbrev pub AlikeInText : (old new : FlowState) → List LabelledFunction → Type 0
 AlikeInText old new [] = Unit {0}

@@ -2,6 +2,7 @@ use Rattle.std.proofs.Common.{◌≡◌, ◌+◌, ◌⊎◌, inl, inr, ◌<◌, 
 use Rattle.std.proofs.lemmas.List.{drop_all, drop_more}
 use Rattle.std.proofs.lemmas.Option.{slice_get_read}
 use Rattle.module_flow_state.specs.World.{World}
+use Rattle.module_flow_state.specs.steps.Changes.{rounds_of}
 use Rattle.module_flow.specs.steps.Visits.{contributions_again, is_touched, visits_again}
 use Rattle.module_flow_state.specs.steps.Walking.{world_of}
 use Rattle.module_flow.proofs.Candidates.{walk_ends, walk_leaves, walk_passes, walk_takes}
@@ -11,7 +12,7 @@ use Rattle.module_flow.proofs.visits.walk_again.Goals.{else-is_touched, then-is_
 pub loop-candidate-preserved-then-position-from : goal.loop-candidate-preserved-then-position-from
 loop-candidate-preserved-then-position-from c =
     let W : World = world_of c.args.context.now in
-    let rounds = c.args.changes.now.rounds in
+    let rounds = (rounds_of c.args.changes.now) in
     let k = c.args.round in
     let ds = c.args.defs.now in
     let i = c.loop-candidate.candidate-index in
@@ -24,7 +25,7 @@ loop-candidate-preserved-then-position-from c =
 pub loop-candidate-preserved : goal.loop-candidate-preserved
 loop-candidate-preserved c =
     let W : World = world_of c.args.context.now in
-    let rounds = c.args.changes.now.rounds in
+    let rounds = (rounds_of c.args.changes.now) in
     let k = c.args.round in
     let ds = c.args.defs.now in
     let i = c.loop-candidate.candidate-index in
@@ -55,7 +56,7 @@ loop-candidate-preserved c =
 pub returns : goal.returns
 returns c =
     let W : World = world_of c.args.context.now in
-    let rounds = c.args.changes.now.rounds in
+    let rounds = (rounds_of c.args.changes.now) in
     let k = c.args.round in
     let ds = c.args.defs.now in
     let i = c.loop-candidate.candidate-index in
