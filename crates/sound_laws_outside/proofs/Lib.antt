@@ -5,3 +5,4 @@ pub mod Members
 pub mod One
 pub mod Orderless
 mod Parts
+mod Something

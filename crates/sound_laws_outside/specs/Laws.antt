@@ -30,6 +30,10 @@ pub record IsPart (xs ys : List m.Module) : Type 0 where
 abbrev pub SolvedLaw : Type 0
 SolvedLaw = (xs : List m.Module) (outside known : Callees) → AreAccepted xs → Distinct (module_names xs) → IsWholeOver outside xs known → IsKnownOver outside xs known
 
+-- Something is known of accepted modules with distinct names, whatever stands outside of them.
+abbrev pub SomeLaw : Type 0
+SomeLaw = (xs : List m.Module) (outside : Callees) → AreAccepted xs → Distinct (module_names xs) → (known : Callees) × IsKnownOver outside xs known
+
 -- What is known may be carried over to the same modules in another order, and to what is the same outside where they call.
 abbrev pub CarriedLaw : Type 0
 CarriedLaw = (xs ys : List m.Module) (outside around known other : Callees) → SameModules xs ys → AgreeOutside xs outside around → IsKnownOver outside xs known

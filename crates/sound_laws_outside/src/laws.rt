@@ -1,7 +1,12 @@
 //! The laws, as functions that do nothing: who calls one has its clauses.
-ghost use Rattle.sound_laws_outside.specs.Laws.{CarriedLaw, OneLaw, OrderLaw, PartsLaw, RestsLaw, SolvedLaw};
+ghost use Rattle.std.specs.Prelude.{List};
+ghost use Rattle.core_ast.specs.Model as m;
+ghost use Rattle.comp_rounds.specs.Rounds.{Callees};
+ghost use Rattle.analysis_summaries.specs.Whole.{IsWholeOver};
+ghost use Rattle.sound_laws_outside.specs.Laws.{CarriedLaw, OneLaw, OrderLaw, PartsLaw, RestsLaw, SolvedLaw, SomeLaw};
 
 use comp_rounds::rounds_laws;
+use components::a_numbering;
 
 /// What is solved of accepted modules with distinct names, component by component, over what stands outside of them,
 /// is known over it: each component by the summaries that its rounds give by all that is known in the end.
@@ -27,6 +32,16 @@ pub fn one_is_known()
     ensures { OneLaw }
 {
     rounds_laws();
+}
+
+/// Something is known of modules over what stands outside: their functions have a call graph, which has a numbering in ready
+/// order, and what is known component by component is a function of it.
+pub fn some_is_known()
+    ensures whole { (outside : Callees) (xs : List m.Module) → (known : Callees) × IsWholeOver outside xs known }
+    ensures known { SomeLaw }
+{
+    a_numbering();
+    solved_is_known();
 }
 
 /// What is known of modules over what stands outside rests on their texts, and on what stands of the functions that they

@@ -6,5 +6,5 @@ mod laws;
 
 pub use laws::{
     known_is_carried, known_of_parts, known_rests_on_calls, one_is_known, order_does_not_matter,
-    solved_is_known,
+    solved_is_known, some_is_known,
 };
