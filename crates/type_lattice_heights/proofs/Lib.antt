@@ -1,0 +1,10 @@
+mod Bodies
+mod Cells
+mod Chains
+mod Levels
+mod PlainWays
+mod Rows
+mod TableHeights
+mod Tuples
+mod TypeHeights
+mod Ways
