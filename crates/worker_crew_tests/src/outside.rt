@@ -76,6 +76,7 @@ fn a_shelf_in_memory_fails_at_the_listed_reads(rt: HostRuntime) -> Result<(), Me
         );
     }
     assert!(rt; reads_as(&mut shelf, "a", b"second"));
+    drop(shelf);
     Ok(())
 }
 
@@ -107,6 +108,7 @@ fn a_shelf_in_memory_fails_at_the_listed_replaces(rt: HostRuntime) -> Result<(),
     assert!(rt; replace_by_bound(&mut shelf, "b", b"new").is_ok());
     assert!(rt; reads_as(&mut shelf, "b", b"new"));
     assert!(rt; shelf.look("a") == Some(b"".as_slice()));
+    drop(shelf);
     Ok(())
 }
 
@@ -136,6 +138,7 @@ fn a_sink_in_memory_takes_what_is_given(rt: HostRuntime) -> Result<(), Memory> {
         let answer = give(&mut sink, GIVEN);
         assert!(rt; answer.is_ok() == (*taken == 23), "room {room}");
         assert!(rt; Some(sink.bytes()) == GIVEN.get(..*taken), "room {room}");
+        drop(sink);
     }
     Ok(())
 }
@@ -145,6 +148,7 @@ fn nothing_is_given_without_a_write(rt: HostRuntime) -> Result<(), Memory> {
     let mut sink = sink(rt.alloc(), 1, 0, &[1])?;
     assert!(rt; give(&mut sink, b"") == Ok(()));
     assert!(rt; sink.bytes().is_empty());
+    drop(sink);
     pass(&OpenGate);
     Ok(())
 }
@@ -187,14 +191,10 @@ fn is_there(rt: &HostRuntime, name: &str) -> bool {
     fs::metadata(rt, name).is_ok()
 }
 
-// Whether a file holds these bytes, and nobody but its owner and its group may read it.
-fn holds(rt: &HostRuntime, shelf: &mut FileShelf<&HostRuntime>, name: &str, bytes: &[u8]) -> bool {
-    let mode = match fs::metadata(rt, name) {
-        Ok(data) => data.permissions().mode(),
-        Err(_) => return false,
-    };
-    match shelf.read(name) {
-        Ok(read) => read.as_slice() == bytes && mode & 0o777 == 0o640,
+// Whether nobody but a file's owner and its group may read it.
+fn is_closed(rt: &HostRuntime, name: &str) -> bool {
+    match fs::metadata(rt, name) {
+        Ok(data) => data.permissions().mode() & 0o777 == 0o640,
         Err(_) => false,
     }
 }
@@ -212,7 +212,7 @@ fn replaced_whole(
     let again = replace_by_bound(shelf, name, b"second").is_ok();
     [
         first && closed && again,
-        holds(rt, shelf, name, b"second"),
+        reads_as(shelf, name, b"second") && is_closed(rt, name),
         !is_there(rt, second),
         replace_by_bound(shelf, below, b"") == Err(ShelfFault::Failed),
     ]

@@ -6,16 +6,21 @@ use std::alloc::Global;
 use std::process::Abort;
 use std::sync::Wait;
 use std::thread::Threads;
-use summary_board::{Board, Done, Event, Job, Take, assemble};
+use summary_board::{Board, Done, Event, Job, Take, Work, assemble};
 use type_kinds::{List, Memory, Shared};
 use worker_crew::run_crew;
 
+// The job that was handed out, if one was.
+fn given<W: Work>(take: Take<W>) -> Option<Job<W>> {
+    match take {
+        Take::Given(job) => Some(job),
+        _ => None,
+    }
+}
+
 // The job that the seat is given.
 fn taken(rt: &impl Abort, board: &mut Board<Chains>, seat: u32) -> Job<Chains> {
-    match board.take(seat).expect(rt, "memory") {
-        Take::Given(job) => job,
-        _ => panic!(rt; "no job"),
-    }
+    given(board.take(seat).expect(rt, "memory")).expect(rt, "a job")
 }
 
 fn solved(rt: &impl Abort, work: &Chains, job: Job<Chains>) -> Done<Chains> {
@@ -90,6 +95,8 @@ fn a_board_step_by_step(rt: HostRuntime) {
     board.stop();
     assert!(rt; told(&rt, &mut board, 2) == Reply::Stopped);
     assert!(rt; board.journal().len() == 5);
+    drop(board);
+    drop(work);
 }
 
 // A plain search for the least ready component would take some 8,000,000 looks.
@@ -108,17 +115,8 @@ fn few_looks_along_a_chain(rt: HostRuntime) {
     // Each component that is taken was looked at.
     assert!(rt; board.looks() >= 4096);
     assert!(rt; board.looks() < 100_000);
-}
-
-// How many components the journal finishes.
-fn finished(journal: &[Event]) -> u32 {
-    let mut count = 0u32;
-    for event in journal {
-        if let Event::Finished(_, _) = event {
-            count = count.saturating_add(1);
-        }
-    }
-    count
+    drop(board);
+    drop(work);
 }
 
 const OUTPUTS: &[u32] = &[0, 0, 0, 3, 3, 3, 6, 6, 6];
@@ -138,6 +136,7 @@ fn expect_assembled(rt: &impl Abort, alloc: Global, work: &Chains, board: &Board
     assert!(rt; outputs.len() == 9);
     assert!(rt; are_outputs(outputs.as_slice()));
     assert!(rt; work.solves() == 9);
+    drop(outputs);
 }
 
 // Solves three chains of three by `workers` workers: each component is solved once, and not again by
@@ -152,8 +151,11 @@ fn solve_once<R: Threads + Wait + Abort + Sync>(rt: &R, alloc: Global, workers: 
     let board = run_crew(rt, &work, board, workers, &gate).expect(rt, "memory");
     assert!(rt; gate.entries() == 9);
     assert!(rt; work.solves() == 9);
-    assert!(rt; finished(board.journal()) == 9);
+    // nine were taken, and nine are finished
+    assert!(rt; board.journal().len() == 18);
     expect_assembled(rt, alloc, &work, &board);
+    drop(board);
+    drop(work);
 }
 
 #[test]
@@ -169,7 +171,8 @@ fn two_jobs_at_once(rt: HostRuntime) {
     let work = Chains::new(alloc, 2, 1).expect(&rt, "memory");
     let board = Board::new(alloc, &work).expect(&rt, "memory");
     let gate = MeetingGate::new();
-    let _ = run_crew(&rt, &work, board, 2, &gate).expect(&rt, "memory");
+    drop(run_crew(&rt, &work, board, 2, &gate).expect(&rt, "memory"));
+    drop(work);
     assert!(rt; gate.met());
 }
 
@@ -178,7 +181,10 @@ fn one_that_lacks_memory_stops_all(rt: HostRuntime) {
     let alloc = rt.alloc();
     let work = Chains::new(alloc, 9, 3).expect(&rt, "memory").refusing(4);
     let board = Board::new(alloc, &work).expect(&rt, "memory");
-    assert!(rt; run_crew(&rt, &work, board, 3, &OpenGate).is_err());
+    let lacks = run_crew(&rt, &work, board, 3, &OpenGate);
+    assert!(rt; lacks.is_err());
+    drop(lacks);
+    drop(work);
 }
 
 // What a crew and `assemble` give of nine components, if allocation doesn't fail.
