@@ -1,0 +1,7 @@
+mod AlongTokens
+mod Breaks
+mod Deciding
+mod Depths
+mod Fronts
+mod Ranks
+mod Wholes
