@@ -5,3 +5,5 @@ pub mod FileRefusals
 pub mod Texts
 pub mod TableModels
 pub mod TableFaults
+mod ReportsJoined
+pub mod PrintedNumbers

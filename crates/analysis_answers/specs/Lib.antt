@@ -6,3 +6,4 @@ pub mod Tables
 pub mod FileRuns
 pub mod FileCauses
 pub mod Programs
+pub mod steps

@@ -5,6 +5,10 @@ use Rattle.std.specs.Prelude.{◌≢◌, ℕ, ◌<◌, ◌≤◌, List, [], ◌�
 abbrev pub most_files : ℕ
 most_files = 1024
 
+-- how many workers may be asked for
+abbrev pub most_workers : ℕ
+most_workers = 64
+
 -- A file's name isn't empty and doesn't begin with `-`.
 abbrev pub IsFile : List ℕ → Type 0
 IsFile [] = ⊥

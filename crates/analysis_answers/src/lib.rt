@@ -5,6 +5,7 @@
 mod files;
 mod host;
 mod lines;
+mod numbers;
 mod program;
 mod run_answer;
 mod run_status;
@@ -14,11 +15,12 @@ mod words;
 pub use files::{FilesRead, read_files};
 pub use host::{HostCommand, STACK_SIZE, host_words, run_on_host};
 pub use lines::{
-    TOO_MANY, duplicate_line, duplicate_refusal, read_fault_line, refusal_line, replace_fault_line,
-    table_fault_line, table_fault_number, too_many_line,
+    TOO_MANY, duplicate_line, duplicate_refusal, joined, read_fault_line, refusal_line,
+    replace_fault_line, table_fault_line, table_fault_number, too_many_line,
 };
+pub use numbers::number_of;
 pub use program::{FileProgram, OutputFault};
 pub use run_answer::{RunAnswer, refuse, refuse_many, refuse_second, unread, usage};
 pub use run_status::RunStatus;
 pub use running::run_program;
-pub use words::{MOST_FILES, are_files, is_command, is_file, texts_of};
+pub use words::{MOST_FILES, MOST_WORKERS, are_files, is_command, is_file, texts_of};

@@ -1,5 +1,6 @@
 //! The lines of what isn't a report.
 ghost use Rattle.std.specs.Prelude.{◌≡◌, ◌++◌, IfOk};
+ghost use Rattle.std.specs.List.{concat};
 ghost use Rattle.analysis_sources.specs.Refusals.{line, refusal_line};
 ghost use Rattle.analysis_answers.specs.Lines.{duplicate_line, duplicate_refusal, read_fault_line, replace_fault_line, table_fault_line};
 ghost use Rattle.analysis_answers.specs.Lines.{table_fault_number, table_fault_text, too_many_line};
@@ -69,6 +70,17 @@ pub fn replace_fault_line(alloc: Global, file: &str) -> Result<Bytes, Memory>
     ensures { IfOk result (λ found. found ≡ replace_fault_line file.now) }
 {
     line_of(alloc, file, b": device fault replace")
+}
+
+/// Reports, or other lists of bytes, one after the other.
+pub fn joined(alloc: Global, reports: &[Bytes]) -> Result<Bytes, Memory>
+    ensures { IfOk result (λ output. output ≡ concat reports.now) }
+{
+    let mut output: Bytes = List::new(alloc);
+    for report in reports {
+        output.append(report.as_slice())?;
+    }
+    Ok(output)
 }
 
 // The line of a name with this text behind it.

@@ -10,6 +10,9 @@ use type_kinds::{List, Memory};
 /// How many files the words may name.
 pub const MOST_FILES: usize = 1024;
 
+/// How many workers may be asked for.
+pub const MOST_WORKERS: u32 = 64;
+
 /// Whether the words name files, one at least.
 pub fn is_command(words: &[&str]) -> bool
     ensures { IsTrue result ↔ IsCommand (texts words.now) }

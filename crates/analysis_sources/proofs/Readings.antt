@@ -1,5 +1,5 @@
 -- Files that are read one after another.
-use Rattle.std.proofs.Common.{◌≡◌, ℕ, ◌+◌, ◌<◌, ◌≤◌, List, [], ◌∷◌, ◌++◌, length, take, sym, ap, ◌∙◌, subst, Some, Ok, Err, Result, get_or, add-one, take_all}
+use Rattle.std.proofs.Common.{◌≡◌, ℕ, ◌+◌, ◌<◌, ◌≤◌, List, [], ◌∷◌, ◌++◌, length, take, sym, ap, ◌∙◌, subst, Some, Ok, Err, Result, get_or, add-one, take_all, arith}
 use Rattle.std.proofs.lemmas.List.{map-append, length-map}
 use Rattle.std.specs.Prelude.{slice_get, Option, option_map, IfErr}
 use Rattle.std.specs.Borrow.{Bor}
@@ -11,7 +11,7 @@ use Rattle.table_keep.specs.declared.source.Source.{Source as HandedIn}
 use Rattle.table_keep.specs.Model.{Source, source_so, sources_so}
 use Rattle.analysis_sources.specs.declared.reading.ReadFault.{ReadFault}
 use Rattle.analysis_sources.specs.declared.reading.ReadFault.TheVariants.{Refused, Failed, Memory}
-use Rattle.analysis_sources.specs.Reading.{AreRead, IsReached, RefusedAt, not_held, at_fault, Fails}
+use Rattle.analysis_sources.specs.Reading.{AreRead, IsReached, RefusedAt, not_held, at_fault, Fails, bytes_of}
 use Rattle.analysis_sources.specs.steps.ReadingSteps.{OneRefused, lacking, faulty, FailsOne, FailsBytes, IsReadAs}
 use Rattle.analysis_sources.specs.Words.{texts}
 use Rattle.analysis_sources.specs.Sources.{room, IsTextOf, IsAtFault}
@@ -69,11 +69,17 @@ bytes_fail told file bytes more word before a n (Err (Refused at fault)) is has 
 bytes_fail told file bytes more word before a n (Err (Failed at)) is has h = absurd h
 bytes_fail told file bytes more word before a n (Err Memory) is has h = tt
 
+-- their counts, and that of one more
+pub bytes_more : (ss : List HandedIn) (s : HandedIn) → bytes_of (ss ++ s ∷ []) ≡ bytes_of ss + s.length
+bytes_more [] s = omega arith
+bytes_more (t ∷ ss) s = omega (arith, bytes_more ss s)
+
 -- all files are read
-pub all_read : (told : Option Files) (words : List (Bor (List ℕ))) (i : ℕ) (xs : List Source) (before : ℕ) → length words ≤ i
-    → AreRead told 0 (take i (texts words)) xs before → (after : ℕ) × AreRead told 0 (texts words) xs after
-all_read told words i xs before h front =
-    (before, subst (λ fs. AreRead told 0 fs xs before) (take_whole (texts words) i (subst (λ n. n ≤ i) (sym (length-map words (λ (w : Bor (List ℕ)). w.now))) h)) front)
+pub all_read : (told : Option Files) (words : List (Bor (List ℕ))) (i : ℕ) (ss : List HandedIn) (before : ℕ) → length words ≤ i
+    → bytes_of ss ≡ before → AreRead told 0 (take i (texts words)) (sources_so ss) before → AreRead told 0 (texts words) (sources_so ss) (bytes_of ss)
+all_read told words i ss before h count front =
+    subst (λ n. AreRead told 0 (texts words) (sources_so ss) n) (sym count)
+    (subst (λ fs. AreRead told 0 fs (sources_so ss) before) (take_whole (texts words) i (subst (λ n. n ≤ i) (sym (length-map words (λ (w : Bor (List ℕ)). w.now))) h)) front)
 
 -- the file at this place can't be read
 pub fails_at : (told now : Option Files) (words : List (Bor (List ℕ))) (first i : ℕ) (w d : Bor (List ℕ)) (xs : List Source) (before b n : ℕ) (fault : ReadFault)
@@ -93,4 +99,4 @@ fails_at told now words first i w d xs before b n (Failed at) a low h e same fro
     (i, one.0, (w.now, before, record { there = text_at words i w d h e; sources = xs; read = front }), rose_since a b n low one.1)
 fails_at told now words first i w d xs before b n Memory a low h e same front one = tt
 
-pub ruleset readings = (source_read, all_read, fails_at)
+pub ruleset readings = (source_read, bytes_more, all_read, fails_at)

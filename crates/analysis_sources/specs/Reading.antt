@@ -2,6 +2,7 @@
 use Rattle.std.specs.Prelude.{◌≡◌, ℕ, ◌+◌, List, [], ◌∷◌, length, take, slice_get, Option, Some}
 use Rattle.da_shelf.specs.Counts.{Rose}
 use Rattle.da_shelf.specs.Told.{Files, Holds, Lacks}
+use Rattle.table_keep.specs.declared.source.Source.{Source as HandedIn}
 use Rattle.table_keep.specs.Model.{Source}
 use Rattle.analysis_sources.specs.declared.reading.ReadFault.{ReadFault}
 use Rattle.analysis_sources.specs.declared.reading.ReadFault.TheVariants.{Refused, Failed, Memory}
@@ -17,6 +18,11 @@ AreRead told before [] (s ∷ ss) after = ⊥
 AreRead told before (file ∷ files) [] after = ⊥
 AreRead told before (file ∷ files) (s ∷ ss) after =
     (bytes : List ℕ) × Holds told file bytes × IsTextOf (room before) bytes s × AreRead told (before + length bytes) files ss after
+
+-- how many bytes the texts of sources have together, by the counts that they have
+abbrev pub bytes_of : List HandedIn → ℕ
+bytes_of [] = 0
+bytes_of (s ∷ ss) = s.length + bytes_of ss
 
 -- All files before the one at this position were read, `before` bytes in all.
 pub record IsReached (told : Option Files) (files : List (List ℕ)) (at : ℕ) (file : List ℕ) (before : ℕ) : Type 0 where

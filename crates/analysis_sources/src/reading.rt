@@ -3,7 +3,7 @@ ghost use Rattle.std.specs.Prelude.{◌≡◌, ℕ, ◌+◌, ◌-◌, ◌<◌, �
 ghost use Rattle.da_shelf.specs.Counts.{Rose};
 ghost use Rattle.da_shelf.specs.Told.{Files, Holds};
 ghost use Rattle.table_keep.specs.Model.{source_so, sources_so};
-ghost use Rattle.analysis_sources.specs.Reading.{AreHeld, AreRead, Fails, TextFails};
+ghost use Rattle.analysis_sources.specs.Reading.{AreHeld, AreRead, Fails, TextFails, bytes_of};
 ghost use Rattle.analysis_sources.specs.Sources.{room, IsTextOf};
 ghost use Rattle.analysis_sources.specs.Words.{texts};
 ghost use Rattle.analysis_sources.specs.steps.ReadingSteps.{FailsBytes, FailsOne, IsReadAs};
@@ -36,7 +36,7 @@ pub fn discard_sources(sources: List<Source>) {
 }
 
 /// Reads the files that the words from the position `first` on name, each wholly before the next, and gives
-/// their sources in this order. A source may have 16 MiB, and all that were read 64 MiB together.
+/// their sources in this order, each with the count of its bytes. A source may have 16 MiB, and all that were read 64 MiB together.
 ///
 /// `Refused`: this file is the first that isn't held, or whose bytes are too many or the source of no module.
 /// `Failed`: the shelf failed at this file, and has counted it; all before it were read.
@@ -49,6 +49,7 @@ pub fn read_sources<F: Shelf>(
     requires within { first < length words.now }
     requires few { length words.now < 2 ^ 32 }
     ensures sources { IfOk result (λ sources. (after : ℕ) × AreRead (F.held shelf.old) 0 (drop first (texts words.now)) (sources_so sources) after) }
+    ensures lengths { IfOk result (λ sources. AreRead (F.held shelf.old) 0 (drop first (texts words.now)) (sources_so sources) (bytes_of sources)) }
     ensures fault { IfErr result (λ fault. Fails (F.held shelf.old) (drop first (texts words.now)) first (F.read_faults shelf.old) (F.read_faults shelf.new) fault) }
     ensures held { F.held shelf.new ≡ F.held shelf.old }
     ensures replaces { F.replace_faults shelf.new ≡ F.replace_faults shelf.old }
@@ -76,7 +77,7 @@ fn read_all<F: Shelf>(
 ) -> Result<(), ReadFault>
     requires few { first + length files.now < 2 ^ 32 }
     requires empty { sources.old ≡ [] }
-    ensures sources { OnOk result ((after : ℕ) × AreRead (F.held shelf.old) 0 (texts files.now) (sources_so sources.new) after) }
+    ensures sources { OnOk result (AreRead (F.held shelf.old) 0 (texts files.now) (sources_so sources.new) (bytes_of sources.new)) }
     ensures fault { IfErr result (λ fault. Fails (F.held shelf.old) (texts files.now) first (F.read_faults shelf.old) (F.read_faults shelf.new) fault) }
     ensures held { F.held shelf.new ≡ F.held shelf.old }
     ensures replaces { F.replace_faults shelf.new ≡ F.replace_faults shelf.old }

@@ -68,6 +68,12 @@ pub const MISSING: SourceFault = SourceFault {
     line: 0,
 };
 
+/// The refusal of what has too many bytes: a file, by itself or with others, or a table that is to be written.
+pub const TOO_LONG: SourceFault = SourceFault {
+    name: RefusalName::TooLong,
+    line: 0,
+};
+
 impl RefusalName {
     /// The number of the refusal.
     pub fn number(self) -> u8

@@ -1,7 +1,6 @@
 mod BeginExits
 mod Causes
 mod CheckExits
-mod Joined
 mod KeptExits
 mod Numbers
 mod OneOutcome
@@ -11,7 +10,6 @@ mod MakeExits
 mod MakeFiles
 mod GeneratedTexts
 mod PlanExits
-mod PrintedNumbers
 mod ReportExits
 mod StoreExits
 mod UsedByEntries

@@ -19,7 +19,7 @@ use Rattle.analysis_sources.proofs.FilesRead.{read_length}
 use Rattle.analysis_sources.specs.Reading.{AreHeld, IsMissingAt}
 use Rattle.dialyze_command.specs.Making.{file_name, file_names, files_with, generated_files, with_first}
 use Rattle.dialyze_command.specs.ReadFiles.{ReadsAll}
-use Rattle.dialyze_command.proofs.PrintedNumbers.{decimal_once}
+use Rattle.analysis_answers.proofs.PrintedNumbers.{decimal_once}
 
 -- ---- names
 

@@ -10,7 +10,7 @@ use Rattle.analysis_sources.specs.Words.{texts}
 use Rattle.dialyze_command.specs.declared.words.Command.{Command}
 use Rattle.dialyze_command.specs.declared.words.OptionName.{OptionName}
 use Rattle.dialyze_command.specs.declared.words.OptionName.TheVariants.{Plt, Out, Workers}
-use Rattle.dialyze_command.proofs.PrintedNumbers.{decimal_once}
+use Rattle.analysis_answers.proofs.PrintedNumbers.{decimal_once}
 use Rattle.dialyze_command.specs.Words.{AreFiles, AreOptions, no_more, one_more, Adds, IsFile, option_word, plain, IsCheck, IsMake, IsNoCheck, IsNoMake, most_modules}
 use Rattle.dialyze_command.specs.steps.Options.{Splits, HasNoOptions, EndsOptions, IsNoOption, AddsNothing}
 

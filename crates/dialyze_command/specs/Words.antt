@@ -1,14 +1,10 @@
 -- Which words are a command, and what it asks for.
 use Rattle.std.specs.Prelude.{◌≡◌, ◌≢◌, ◌⊎◌, ℕ, ◌+◌, ◌≤◌, List, [], ◌∷◌, ◌++◌, codes, Option, Some, None}
 use Rattle.std.specs.Fmt.{decimal}
-pub use Rattle.analysis_answers.specs.Words.{most_files, IsFile, AreFiles}
+pub use Rattle.analysis_answers.specs.Words.{most_files, most_workers, IsFile, AreFiles}
 use Rattle.dialyze_command.specs.declared.words.Command.{Command}
 use Rattle.dialyze_command.specs.declared.words.OptionName.{OptionName}
 use Rattle.dialyze_command.specs.declared.words.OptionName.TheVariants.{Plt, Out, Workers}
-
--- how many workers a check may have
-abbrev pub most_workers : ℕ
-most_workers = 64
 
 -- how many generated modules may be asked for
 abbrev pub most_modules : ℕ

@@ -7,19 +7,13 @@ ghost use Rattle.dialyze_command.specs.Outcome.{SaysWhether};
 
 use crate::status::Status;
 use analysis_answers::{
-    TOO_MANY, duplicate_line, duplicate_refusal, read_fault_line, refusal_line, table_fault_line,
-    table_fault_number, too_many_line,
+    TOO_MANY, duplicate_line, duplicate_refusal, joined, read_fault_line, refusal_line,
+    table_fault_line, table_fault_number, too_many_line,
 };
-use analysis_sources::{Device, RefusalName, SourceFault};
+use analysis_sources::{Device, SourceFault};
 use std::alloc::Global;
 use table_file::TableFault;
 use type_kinds::{Bytes, List, Memory};
-
-/// The refusal of a table that is to be written and whose counts and lengths don't fit.
-pub const TOO_LONG: SourceFault = SourceFault {
-    name: RefusalName::TooLong,
-    line: 0,
-};
 
 /// The status that a run means to end with, and its output.
 #[derive(Drop)]
@@ -40,17 +34,6 @@ pub fn reported(alloc: Global, reports: &[Bytes]) -> Result<Answer, Memory>
     }
     let status = Status::Warnings;
     Ok(Answer { status, output })
-}
-
-// Lists of bytes one after the other.
-fn joined(alloc: Global, reports: &[Bytes]) -> Result<Bytes, Memory>
-    ensures { IfOk result (λ output. output ≡ concat reports.now) }
-{
-    let mut output: Bytes = List::new(alloc);
-    for report in reports {
-        output.append(report.as_slice())?;
-    }
-    Ok(output)
 }
 
 /// The answer to a file, or a table, that is refused.

@@ -7,12 +7,12 @@ ghost use Rattle.dialyze_command.specs.Outcome.{Checks, IsBegun};
 ghost use Rattle.dialyze_command.specs.Words.{IsNoMake};
 ghost use Rattle.dialyze_command.specs.steps.Plans.{IsJudged, IsMade, IsNewAs, IsPlan, first_of, second_of};
 
-use crate::answer::{Answer, TOO_LONG, duplicate, refuse, reported, too_many, unread, usage};
+use crate::answer::{Answer, duplicate, refuse, reported, too_many, unread, usage};
 use crate::begin::{Begun, table_to_begin};
 use crate::words::{Command, command_of};
 use analysis::{Analysis, Fault, analyse};
 use analysis_answers::{MOST_FILES, replace_fault_line};
-use analysis_sources::{ReadFault, discard_sources, read_sources};
+use analysis_sources::{ReadFault, TOO_LONG, discard_sources, read_sources};
 use core_scope::SetFault;
 use da_shelf::{Gate, Shelf};
 use std::alloc::Global;

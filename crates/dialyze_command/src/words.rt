@@ -1,16 +1,11 @@
 //! Which words are a command.
-ghost use Rattle.std.specs.Prelude.{◌≡◌, ◌↔◌, ℕ, ◌+◌, ◌≤◌, ◌<◌, ◌^◌, drop, length, IsTrue, MatchOption};
-ghost use Rattle.std.specs.Fmt.{decimal};
+ghost use Rattle.std.specs.Prelude.{◌≡◌, ◌+◌, ◌<◌, ◌^◌, drop, length, MatchOption};
 ghost use Rattle.analysis_sources.specs.Words.{texts};
-ghost use Rattle.dialyze_command.specs.Words.{Adds, IsCheck, IsMake, IsNoCheck, IsNoMake, most_modules, option_word, plain, workers_asked};
-ghost use Rattle.dialyze_command.specs.steps.Options.{AddsNothing, Begins, EndsOptions, HasNoOptions, IsNoOption};
+ghost use Rattle.dialyze_command.specs.Words.{Adds, IsCheck, IsMake, IsNoCheck, IsNoMake, option_word, plain, workers_asked};
+ghost use Rattle.dialyze_command.specs.steps.Options.{AddsNothing, EndsOptions, HasNoOptions, IsNoOption};
 
-use analysis_answers::{are_files, is_file};
+use analysis_answers::{MOST_WORKERS, are_files, is_file, number_of};
 use core_make::MOST_MODULES;
-use type_kinds::{digits_len, parse_decimal};
-
-/// How many workers a check may have.
-pub const MOST_WORKERS: u32 = 64;
 
 /// What a check asks for by its options, by positions among the words.
 #[derive(Clone, Copy, Debug)]
@@ -189,35 +184,4 @@ fn with_workers(value: &str, before: Command) -> Option<Command>
         start: before.start + 2,
         ..before
     })
-}
-
-// The number from 1 to `most` that a word is, as it is printed.
-fn number_of(word: &str, most: u32) -> Option<u32>
-    requires { most ≤ most_modules }
-    ensures { MatchOption result ((n : ℕ) → 1 ≤ n → n ≤ most → word.now ≡ decimal n → ⊥) (λ n. (word.now ≡ decimal n) × (1 ≤ n) × (n ≤ most)) }
-{
-    let digits = word.as_bytes();
-    if !begins_number(digits) {
-        return None;
-    }
-    if digits_len(digits) < digits.len() {
-        return None;
-    }
-    let Some(number) = parse_decimal(digits) else {
-        return None;
-    };
-    if number > u128::from(most) {
-        return None;
-    }
-    Some(number as u32)
-}
-
-// Whether there is a first byte, and it isn't the digit 0.
-fn begins_number(digits: &[u8]) -> bool
-    ensures { IsTrue result ↔ Begins digits.now }
-{
-    match digits.first() {
-        Some(first) => *first != b'0',
-        None => false,
-    }
 }

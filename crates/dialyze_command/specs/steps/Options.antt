@@ -30,8 +30,3 @@ IsNoOption word = (option : OptionName) → word ≡ option_word option → ⊥
 -- the option can't stand here with this value
 abbrev pub AddsNothing : OptionName → (value : List ℕ) → (before : Command) → Type 0
 AddsNothing option value before = (now : Command) → Adds option value before now → ⊥
-
--- There is a first digit, and it isn't 0.
-abbrev pub Begins : List ℕ → Type 0
-Begins [] = ⊥
-Begins (d ∷ ds) = d ≢ 48

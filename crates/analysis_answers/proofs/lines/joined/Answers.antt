@@ -1,5 +1,5 @@
-use Rattle.dialyze_command.proofs.Joined.{joined_round, joined_end}
-use Rattle.dialyze_command.proofs.answer.joined.Goals as goal
+use Rattle.analysis_answers.proofs.ReportsJoined.{joined_round, joined_end}
+use Rattle.analysis_answers.proofs.lines.joined.Goals as goal
 
 pub loop-report-preserved : goal.loop-report-preserved
 loop-report-preserved c =

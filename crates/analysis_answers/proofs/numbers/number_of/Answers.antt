@@ -1,6 +1,6 @@
 use Rattle.std.proofs.Common.{sym, ◌∙◌, ◌<◌, ◌≤◌, ◌^◌, subst, arith}
-use Rattle.dialyze_command.proofs.PrintedNumbers.{not_begun, not_digits, all_digits, not_so_many, too_many_told, number_so}
-use Rattle.dialyze_command.proofs.words.number_of.Goals as goal
+use Rattle.analysis_answers.proofs.PrintedNumbers.{not_begun, not_digits, all_digits, not_so_many, too_many_told, number_so}
+use Rattle.analysis_answers.proofs.numbers.number_of.Goals as goal
 
 pub returns-then-not-begins_number : goal.returns-then-not-begins_number
 returns-then-not-begins_number c =

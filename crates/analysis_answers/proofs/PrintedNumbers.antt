@@ -11,7 +11,7 @@ use Rattle.std.proofs.lemmas.List.{take_all}
 use Rattle.std.proofs.lemmas.Bool.{and_parts, and_from}
 use Rattle.type_kinds.specs.Digits.{is_digit, number}
 use Rattle.type_kinds.proofs.DigitLaws.{front_digits, front_is, is_written}
-use Rattle.dialyze_command.specs.steps.Options.{Begins}
+use Rattle.analysis_answers.specs.steps.Numbers.{Begins}
 
 abbrev AreDigits : List ℕ → Type 0
 AreDigits ds = list_all is_digit ds ≡ true
