@@ -150,6 +150,7 @@ impl Engine {
     pub fn drop_file(&mut self, file: &str) -> bool
         ensures there { result ≡ is_held (held_by self.old) file.now }
         ensures held { held_by self.new ≡ without (held_by self.old) file.now }
+        ensures stays { result ≡ false → self.new ≡ self.old }
     {
         let Some(at) = self.names.get_index_of(file) else {
             return false;
