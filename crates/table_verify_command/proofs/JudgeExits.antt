@@ -23,8 +23,8 @@ use Rattle.table_verify_laws.specs.Certificates.{IsCertificate}
 use Rattle.table_verify_laws.specs.Rules.{KeepsRules, TableRule, rule_number}
 use Rattle.table_verify_rules.specs.declared.fault.VerifyFault.TheVariants.{Rejected}
 use Rattle.table_verify_rules.specs.Rejected.{IsRejected}
-use Rattle.table_verify_command.specs.declared.making.Plan.{Plan}
-use Rattle.table_verify_command.specs.declared.making.Plan.TheVariants.{Says}
+use Rattle.table_verify_command.specs.declared.making.CertificatePlan.{CertificatePlan}
+use Rattle.table_verify_command.specs.declared.making.CertificatePlan.TheVariants.{Says}
 use Rattle.table_verify_command.specs.Lines.{accepted_line, rejected, rejected_line}
 use Rattle.table_verify_command.specs.steps.Judging.{SaysTwice, IsJudged, accepting, rejecting, twice_named, IsSpelledAs, IsPlanned, certifying, declining}
 
@@ -92,7 +92,8 @@ any_words words T C M (Ok a) h = h words
 
 -- ---- a make
 
-pub certified_plan : (words : List (Bor (List ℕ))) (d : Bor (List ℕ)) (ss : List HandedIn) (cert other : Table) (r : Result Plan Memory) → 1 < length words → AreApart ss → IsCertificate (sources_so ss) (entries_so cert) → other ≡ cert
+pub certified_plan : (words : List (Bor (List ℕ))) (d : Bor (List ℕ)) (ss : List HandedIn) (cert other : Table) (r : Result CertificatePlan Memory) → 1 < length words → AreApart ss
+    → IsCertificate (sources_so ss) (entries_so cert) → other ≡ cert
     → ((name : List ℕ) → slice_get (texts words) 1 ≡ Some name → (get_or words 1 d).now ≡ name) → IfOk r (λ p. IsSpelledAs (get_or words 1 d).now other p)
     → IfOk r (λ p. (name : List ℕ) → slice_get (texts words) 1 ≡ Some name → IsPlanned (texts words) (sources_so ss) name p)
 certified_plan words d ss cert other (Err e) low own is same called spelled = tt
@@ -105,6 +106,6 @@ pub twice_plan : (words : List (Bor (List ℕ))) (ss : List HandedIn) (fault : S
     → (name : List ℕ) → slice_get (texts words) 1 ≡ Some name → IsPlanned (texts words) (sources_so ss) name (Says a)
 twice_plan words ss fault first second a long h is s o name there = declining a refl (says_twice words 2 ss first second a long (twins ss fault first second h is) s o)
 
-pub dropped : (words : List (List ℕ)) (ss ts : List HandedIn) (r : Result Plan Memory) → ts ≡ ss → IfOk r (λ p. (name : List ℕ) → slice_get words 1 ≡ Some name → IsPlanned words (sources_so ts) name p)
+pub dropped : (words : List (List ℕ)) (ss ts : List HandedIn) (r : Result CertificatePlan Memory) → ts ≡ ss → IfOk r (λ p. (name : List ℕ) → slice_get words 1 ≡ Some name → IsPlanned words (sources_so ts) name p)
     → IfOk r (λ p. (name : List ℕ) → slice_get words 1 ≡ Some name → IsPlanned words (sources_so ss) name p)
 dropped words ss ts r same h = subst (λ us. IfOk r (λ p. (name : List ℕ) → slice_get words 1 ≡ Some name → IsPlanned words (sources_so us) name p)) same h

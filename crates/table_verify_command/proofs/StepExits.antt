@@ -21,8 +21,8 @@ use Rattle.analysis_answers.specs.declared.run_status.RunStatus.{RunStatus}
 use Rattle.analysis_answers.specs.ReadFiles.{ReadsAll, HaveOwnNames}
 use Rattle.analysis_answers.specs.Tables.{IsTableRead}
 use Rattle.analysis_answers.proofs.Texts.{texts_at, texts_long, word_of}
-use Rattle.table_verify_command.specs.declared.making.Plan.{Plan}
-use Rattle.table_verify_command.specs.declared.making.Plan.TheVariants.{Puts, Says}
+use Rattle.table_verify_command.specs.declared.making.CertificatePlan.{CertificatePlan}
+use Rattle.table_verify_command.specs.declared.making.CertificatePlan.TheVariants.{Puts, Says}
 use Rattle.table_verify_command.specs.declared.reading.TableRead.{TableRead}
 use Rattle.table_verify_command.specs.declared.reading.TableRead.TheVariants as r
 use Rattle.table_verify_command.specs.Outcome.{ReachesTable, to_table, to_certificate, Begins, by_make, by_check, Certifies, Judges, no_table, bad_table, faulty, duplicate_module, long_certificate, made, accepts, rejects}
@@ -102,7 +102,7 @@ module _ (ws : List (List ℕ)) (told : Option Files) (rb rn n k : ℕ) (status 
 
 module _ (ws : List (List ℕ)) (told after : Option Files) (rb rn n k : ℕ) (name : List ℕ) (files : List (List ℕ)) (makes : Makes ws name files) (M : List Source)
     (read : ReadsAll told files M) (accepted : AreAccepted (trees M)) (a : RunAnswer) where
-  pub stored_ends : (plan : Plan) → IsPlanned ws M name plan → IsStored name told after n k plan a → Intended ws told rb rn n k a.status a.output after
+  pub stored_ends : (plan : CertificatePlan) → IsPlanned ws M name plan → IsStored name told after n k plan a → Intended ws told rb rn n k a.status a.output after
   stored_ends (Puts bytes line) (certifying cert own is spelled) h = by h
     where
       certifies : Certifies ws told name cert
@@ -191,7 +191,7 @@ module _ (words : List (Bor (List ℕ))) (told mid : Option Files) (rb rn : ℕ)
       subst (λ o. Intended (texts words) told rb rn n k a.status a.output o) (sym same)
       (files_end (texts words) told rb rn n k a.status a.output 2 (drop 2 (texts words)) (by_make cert refl makes) (subst (reads.AreReadFrom told (drop 2 (texts words)) 2 rb rn) is h))
 
-  pub stored_answer : (d : Bor (List ℕ)) (after : Option Files) (n m k late : ℕ) (t : FilesRead) (ss : List HandedIn) (plan : Plan) (a : Result RunAnswer Memory) → t ≡ f.Reads ss → mid ≡ told → m ≡ n → late ≡ rn
+  pub stored_answer : (d : Bor (List ℕ)) (after : Option Files) (n m k late : ℕ) (t : FilesRead) (ss : List HandedIn) (plan : CertificatePlan) (a : Result RunAnswer Memory) → t ≡ f.Reads ss → mid ≡ told → m ≡ n → late ≡ rn
       → reads.AreReadFrom told (drop 2 (texts words)) 2 rb rn t → ((name : List ℕ) → slice_get (texts words) 1 ≡ Some name → IsPlanned (texts words) (sources_so ss) name plan)
       → IfOk a (λ b. IsStored (get_or words 1 d).now mid after m k plan b) → IfOk a (λ b. Intended (texts words) told rb late n k b.status b.output after)
   stored_answer d after n m k late t ss plan (Err e) is same also reading h planned stored = tt

@@ -29,7 +29,7 @@ const TOO_LONG: SourceFault = SourceFault {
 
 /// What is to be done with a certificate.
 #[derive(Drop)]
-pub enum Plan {
+pub enum CertificatePlan {
     /// Its bytes are to be put onto the shelf; and this line is written where the shelf fails.
     Puts(Bytes, Bytes),
     /// This is answered, and nothing is put there.
@@ -66,7 +66,7 @@ fn plan_of<R: Threads + Wait + Sync, G: Gate + Sync>(
     words: &[&str],
     sources: List<Source>,
     gate: &G,
-) -> Result<Plan, Memory>
+) -> Result<CertificatePlan, Memory>
     requires some { 1 < length words.now }
     requires whole { 2 + length sources ≡ length words.now }
     requires few { length words.now < 2 ^ 32 }
@@ -84,7 +84,7 @@ fn planned<R: Threads + Wait + Sync, G: Gate + Sync>(
     words: &[&str],
     sources: &[Source],
     gate: &G,
-) -> Result<Plan, Memory>
+) -> Result<CertificatePlan, Memory>
     requires some { 1 < length words.now }
     requires whole { 2 + length sources.now ≡ length words.now }
     requires few { length words.now < 2 ^ 32 }
@@ -94,24 +94,24 @@ fn planned<R: Threads + Wait + Sync, G: Gate + Sync>(
         Ok(cert) => spelled(alloc, words[1], &cert),
         Err(Fault::Set(SetFault::DuplicateModule { first, second })) => {
             let answer = refuse_second(alloc, words, 2 + first, 2 + second)?;
-            Ok(Plan::Says(answer))
+            Ok(CertificatePlan::Says(answer))
         }
         Err(Fault::Memory) => Err(Memory),
     }
 }
 
 // The bytes of a certificate for this name, or the refusal.
-fn spelled(alloc: Global, name: &str, cert: &Table) -> Result<Plan, Memory>
+fn spelled(alloc: Global, name: &str, cert: &Table) -> Result<CertificatePlan, Memory>
     ensures { IfOk result (λ p. IsSpelledAs name.now cert.now p) }
 {
     match write_table(alloc, cert) {
         Ok(bytes) => {
             let line = replace_fault_line(alloc, name)?;
-            Ok(Plan::Puts(bytes, line))
+            Ok(CertificatePlan::Puts(bytes, line))
         }
         Err(WriteFault::TooLong) => {
             let answer = refuse(alloc, name, 1, TOO_LONG)?;
-            Ok(Plan::Says(answer))
+            Ok(CertificatePlan::Says(answer))
         }
         Err(WriteFault::Memory) => Err(Memory),
     }
@@ -121,7 +121,7 @@ fn spelled(alloc: Global, name: &str, cert: &Table) -> Result<Plan, Memory>
 fn stored<F: Shelf>(
     alloc: Global,
     name: &str,
-    plan: Plan,
+    plan: CertificatePlan,
     shelf: &mut F,
 ) -> Result<RunAnswer, Memory>
     ensures stored { IfOk result (λ a. IsStored name.now (F.held shelf.old) (F.held shelf.new) (F.replace_faults shelf.old)
@@ -130,8 +130,8 @@ fn stored<F: Shelf>(
     ensures reads { F.read_faults shelf.new ≡ F.read_faults shelf.old }
 {
     match plan {
-        Plan::Puts(bytes, line) => put(alloc, name, bytes, line, shelf),
-        Plan::Says(answer) => Ok(answer),
+        CertificatePlan::Puts(bytes, line) => put(alloc, name, bytes, line, shelf),
+        CertificatePlan::Says(answer) => Ok(answer),
     }
 }
 

@@ -19,8 +19,8 @@ use Rattle.analysis_answers.specs.Lines.{duplicate_line, replace_fault_line}
 use Rattle.analysis_answers.specs.ReadFiles.{HaveOwnNames}
 use Rattle.table_verify_laws.specs.Certificates.{IsCertificate}
 use Rattle.table_verify_laws.specs.Rules.{IsFirstBroken, KeepsRules, TableRule}
-use Rattle.table_verify_command.specs.declared.making.Plan.{Plan}
-use Rattle.table_verify_command.specs.declared.making.Plan.TheVariants.{Puts, Says}
+use Rattle.table_verify_command.specs.declared.making.CertificatePlan.{CertificatePlan}
+use Rattle.table_verify_command.specs.declared.making.CertificatePlan.TheVariants.{Puts, Says}
 use Rattle.table_verify_command.specs.Lines.{accepted_line, rejected, rejected_line, too_long}
 
 -- What is answered where two modules have one name. The first file is the word at the position `start`.
@@ -48,13 +48,13 @@ pub data IsJudged (words : List (List ℕ)) (T C : List Entry) (sources : List S
 
 -- The bytes of the certificate and the line for a shelf that doesn't take them under this name; or what is answered where a count or a
 -- length doesn't fit.
-abbrev pub IsSpelledAs : (name : List ℕ) → Table → Plan → Type 0
+abbrev pub IsSpelledAs : (name : List ℕ) → Table → CertificatePlan → Type 0
 IsSpelledAs name cert (Puts bytes line) = (is_short_table cert ≡ true) × (bytes ≡ table_bytes cert) × (line ≡ replace_fault_line name)
 IsSpelledAs name cert (Says answer) =
     (is_short_table cert ≡ false) × (answer.status ≡ refused 1 too_long) × (answer.output ≡ refusal_line name too_long)
 
 -- What is to be done with the certificate of sources, for this name: it is spelled; or nothing is put, since two modules have one name.
-pub data IsPlanned (words : List (List ℕ)) (sources : List Source) (name : List ℕ) (plan : Plan) : Type 0 where
+pub data IsPlanned (words : List (List ℕ)) (sources : List Source) (name : List ℕ) (plan : CertificatePlan) : Type 0 where
   certifying : (cert : Table) → HaveOwnNames (trees sources) → IsCertificate sources (entries_so cert) → IsSpelledAs name cert plan
       → IsPlanned words sources name plan
   declining : (answer : RunAnswer) → plan ≡ Says answer → SaysTwice words 2 sources answer.status answer.output → IsPlanned words sources name plan
@@ -66,6 +66,6 @@ pub data IsPutAs (name bytes line : List ℕ) (told after : Option Files) (repla
       → IsPutAs name bytes line told after replaces replaces_now answer
 
 -- What became of a plan.
-abbrev pub IsStored : (name : List ℕ) (told after : Option Files) (replaces replaces_now : ℕ) → Plan → RunAnswer → Type 0
+abbrev pub IsStored : (name : List ℕ) (told after : Option Files) (replaces replaces_now : ℕ) → CertificatePlan → RunAnswer → Type 0
 IsStored name told after replaces replaces_now (Puts bytes line) answer = IsPutAs name bytes line told after replaces replaces_now answer
 IsStored name told after replaces replaces_now (Says planned) answer = (answer ≡ planned) × (after ≡ told)
