@@ -8,17 +8,17 @@ use Rattle.da_shelf.specs.Told.{Files, appended}
 use Rattle.table_keep.specs.Model.{Source, trees}
 use Rattle.analysis_sources.specs.declared.refusals.Device.TheVariants.{Read, Write}
 use Rattle.analysis_sources.specs.declared.refusals.SourceFault.{SourceFault}
-use Rattle.analysis_sources.specs.Reading.{AreRead, HoldsAt, RefusedAt, not_held, at_fault}
+use Rattle.analysis_sources.specs.Reading.{HoldsAt, RefusedAt, not_held, at_fault}
 use Rattle.analysis_sources.specs.Refusals.{refusal_number, missing}
 use Rattle.analysis_sources.specs.Sources.{IsAtFault, too_long}
 use Rattle.analysis_answers.specs.declared.run_status.RunStatus.{RunStatus}
 use Rattle.analysis_answers.specs.declared.run_status.RunStatus.TheVariants.{Done, DeviceFault, Memory, Usage}
-use Rattle.analysis_answers.specs.ReadFiles.{HaveOwnNames}
 use Rattle.analysis_answers.specs.FileRuns.{refused, too_many, duplicate, Declines, no_command, many_files, file_refused, same_name, Outcome, declined, passed, IsAnswer, IsUnread}
 use Rattle.analysis_answers.specs.FileRuns.{declining, failing, Intended, stopped, written, Answers, Writes, FailsToRead, of_many, of_file, of_two, IsPossible}
 use Rattle.analysis_answers.specs.FileCauses.{NamesMissing, NamesTooLong, NamesFaulty, NamesTwice, NamesModules}
 use Rattle.analysis_answers.specs.Words.{IsNoCommand, NamesFiles, NamesTooMany}
-use Rattle.analysis_answers.proofs.FileRefusals.{tells, kind, refusal_of, told_once, long_fault, never_missing, only_long, one_duplicate, own_names}
+use Rattle.analysis_answers.proofs.FileRefusals.{tells, kind, refusal_of, told_once, long_fault, never_missing, only_long}
+use Rattle.analysis_answers.proofs.HeldOnce.{NoneRefused, OneList, OneRefusal, not_read, not_repeated, one_repeated}
 
 -- ---- what is answered once all is written
 
@@ -135,15 +135,6 @@ module _ (usage_line : List ℕ) (Gives : List Source → List ℕ → Type 0) (
 
 -- ---- the causes of answers, where it is told what is held
 
-abbrev OneList : Type 0
-OneList = (held : Files) (files : List (List ℕ)) (xs ys : List Source) (a b : ℕ) → AreRead (Some held) 0 files xs a → AreRead (Some held) 0 files ys b → xs ≡ ys
-
-abbrev OneRefusal : Type 0
-OneRefusal = (held : Files) (files : List (List ℕ)) (i j : ℕ) (f g : SourceFault) → RefusedAt (Some held) files i f → RefusedAt (Some held) files j g → (i ≡ j) × (f ≡ g)
-
-abbrev NoneRefused : Type 0
-NoneRefused = (held : Files) (files : List (List ℕ)) (xs : List Source) (after i : ℕ) (f : SourceFault) → AreRead (Some held) 0 files xs after → RefusedAt (Some held) files i f → ⊥
-
 module _ (one_list : OneList) (one_refusal : OneRefusal) (none_refused : NoneRefused) (usage_line : List ℕ) (Gives : List Source → List ℕ → Type 0) (words : List (List ℕ)) where
   module _ (held : Files) (status : RunStatus) (output : List ℕ) (outcome : Outcome usage_line Gives words (Some held) status output) where
     abbrev Run : Type 0
@@ -170,8 +161,8 @@ module _ (one_list : OneList) (one_refusal : OneRefusal) (none_refused : NoneRef
         by (declined (file_refused at file other a b c d f)) =
             let same = one_refusal held words at word other fault f is in
             a ∙ ap (λ w. refused w other) same.0 ∙ ap (refused word) same.1
-        by (declined (same_name first second file other a b c d f g)) = absurd (none_refused held words g.sources g.read.after word fault g.read.read is)
-        by (passed a h) = absurd (none_refused held words h.sources h.read.after word fault h.read.read is)
+        by (declined (same_name first second file other a b c d f g)) = absurd (not_read none_refused is g.read)
+        by (passed a h) = absurd (not_read none_refused is h.read)
 
     missing_both : (word : ℕ) → (status ≡ refused word missing) ↔ NamesMissing words held word
     missing_both word = (λ e. let h = refused_to word missing e in by h.0 h.1, λ h. refused_from word missing h.named (not_held refl h.is))
@@ -216,15 +207,11 @@ module _ (one_list : OneList) (one_refusal : OneRefusal) (none_refused : NoneRef
         from : Run → NamesTwice words held word other → status ≡ duplicate word other
         from (declined (no_command a b c)) h = absurd (c h.named.command)
         from (declined (many_files a b c)) h = absurd (omega (arith, c.many, h.named.few))
-        from (declined (file_refused at file fault a b c d f)) h = absurd (none_refused held words h.is.sources h.is.read.after at fault h.is.read.read f)
+        from (declined (file_refused at file fault a b c d f)) h = absurd (not_read none_refused f h.is.read)
         from (declined (same_name first second file that a b c d f g)) h =
-            let same = one_list held words g.sources h.is.sources g.read.after h.is.read.after g.read.read h.is.read.read in
-            let also = subst (λ xs. FirstDuplicate (map (λ (x : m.Module). x.name) (trees xs)) first second) same g.is in
-            let one = one_duplicate (map (λ (x : m.Module). x.name) (trees h.is.sources)) first second other word also h.is.is in
+            let one = one_repeated one_list g h.is in
             a ∙ ap (λ w. duplicate w first) one.1 ∙ ap (duplicate word) one.0
-        from (passed a k) h =
-            let same = one_list held words k.sources h.is.sources k.read.after h.is.read.after k.read.read h.is.read.read in
-            absurd (own_names (trees h.is.sources) other word (subst (λ xs. HaveOwnNames (trees xs)) same k.names) h.is.is)
+        from (passed a k) h = absurd (not_repeated one_list h.is k.read k.names)
 
     done_both : (status ≡ Done) ↔ NamesModules words held
     done_both = (λ e. to outcome (ap kind e), λ h. from outcome h)
@@ -239,10 +226,8 @@ module _ (one_list : OneList) (one_refusal : OneRefusal) (none_refused : NoneRef
         from : Run → NamesModules words held → status ≡ Done
         from (declined (no_command a b c)) h = absurd (c h.named.command)
         from (declined (many_files a b c)) h = absurd (omega (arith, c.many, h.named.few))
-        from (declined (file_refused at file fault a b c d f)) h = absurd (none_refused held words h.sources h.read.after at fault h.read.read f)
-        from (declined (same_name first second file that a b c d f g)) h =
-            let same = one_list held words h.sources g.sources h.read.after g.read.after h.read.read g.read.read in
-            absurd (own_names (trees g.sources) first second (subst (λ xs. HaveOwnNames (trees xs)) same h.names) g.is)
+        from (declined (file_refused at file fault a b c d f)) h = absurd (not_read none_refused f h.read)
+        from (declined (same_name first second file that a b c d f g)) h = absurd (not_repeated one_list g h.read h.names)
         from (passed a k) h = a
 
   module _ (told : Option Files) (reads reads_now : ℕ) (status : RunStatus) (output : List ℕ) (intended : Intended usage_line Gives words told reads reads_now status output) (answer : IsAnswer status) where

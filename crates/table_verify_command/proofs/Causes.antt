@@ -1,18 +1,12 @@
 -- From what a run answers to the cause of its answer, and back.
-use Rattle.std.proofs.Common.{◌≡◌, ◌≢◌, ◌↔◌, ◌⊎◌, inl, inr, ℕ, ◌+◌, ◌≤◌, List, length, Option, Some, None, refl, sym, ap, ap₂, ◌∙◌, subst, arith, IsTrue}
+use Rattle.std.proofs.Common.{◌≡◌, ◌≢◌, ◌↔◌, ◌⊎◌, inl, inr, ℕ, ◌+◌, ◌≤◌, List, length, Option, Some, None, refl, sym, ap, ap₂, ◌∙◌, subst, arith}
 use Rattle.std.specs.Prelude.{IfSome}
-use Rattle.std.specs.List.{list_all}
-use Rattle.core_ast.specs.Model as m
 use Rattle.da_shelf.specs.Told.{Files, Lacks}
-use Rattle.table_file.specs.declared.tables.Table.{Table}
 use Rattle.table_file.specs.declared.faults.TableFault.{TableFault as FaultOfTable}
 use Rattle.table_file.specs.declared.faults.TableFault.TheVariants as t
-use Rattle.table_file.specs.Faults.{IsFirst}
-use Rattle.table_file.specs.Lengths.{has_short_types}
-use Rattle.table_file.specs.Spelling.{table_bytes}
-use Rattle.table_keep.specs.Model.{Source, entries_so}
+use Rattle.table_keep.specs.Model.{entries_so}
 use Rattle.analysis_sources.specs.declared.refusals.SourceFault.{SourceFault}
-use Rattle.analysis_sources.specs.Reading.{AreRead, HoldsAt, RefusedAt, not_held, at_fault}
+use Rattle.analysis_sources.specs.Reading.{HoldsAt, RefusedAt, not_held, at_fault}
 use Rattle.analysis_sources.specs.Refusals.{missing, refusal_number}
 use Rattle.analysis_sources.specs.Sources.{IsAtFault}
 use Rattle.analysis_sources.specs.Sources.{too_long as bytes_too_long}
@@ -22,6 +16,7 @@ use Rattle.analysis_answers.specs.FileRuns.{IsAnswer, refused, too_many, duplica
 use Rattle.analysis_answers.specs.Tables.{faulty_table}
 use Rattle.analysis_answers.specs.Words.{most_files}
 use Rattle.analysis_answers.proofs.FileRefusals.{tells, kind, refusal_of, told_once, never_missing, only_long}
+use Rattle.analysis_answers.proofs.HeldOnce.{NoFault, NoneRefused, OnceSpelled, OneFault, OneList, OneRefusal}
 use Rattle.analysis_answers.proofs.TableFaults.{one_table_fault}
 use Rattle.table_verify_laws.specs.Laws.{OneCertificateLaw, OneFirstLaw, SoundLaw}
 use Rattle.table_verify_laws.specs.Rules.{TableRule, rule_number}
@@ -299,24 +294,6 @@ module _ {words : List (List ℕ)} {held : Files} where
   done_course (inr h) = ends_with_certificate h.certifies (fits h.cert refl h.certifies.is h.short)
 
 -- ---- when each answer comes
-
-abbrev OneList : Type 0
-OneList = (held : Files) (files : List (List ℕ)) (xs ys : List Source) (a b : ℕ) → AreRead (Some held) 0 files xs a → AreRead (Some held) 0 files ys b → xs ≡ ys
-
-abbrev OneRefusal : Type 0
-OneRefusal = (held : Files) (files : List (List ℕ)) (i j : ℕ) (f g : SourceFault) → RefusedAt (Some held) files i f → RefusedAt (Some held) files j g → (i ≡ j) × (f ≡ g)
-
-abbrev NoneRefused : Type 0
-NoneRefused = (held : Files) (files : List (List ℕ)) (xs : List Source) (after i : ℕ) (f : SourceFault) → AreRead (Some held) 0 files xs after → RefusedAt (Some held) files i f → ⊥
-
-abbrev OnceSpelled : Type 0
-OnceSpelled = (s t : Table) → IsTrue (list_all has_short_types s.entries) → IsTrue (list_all has_short_types t.entries) → table_bytes s ≡ table_bytes t → s ≡ t
-
-abbrev OneFault : Type 0
-OneFault = (f g : FaultOfTable) (bytes : List ℕ) → (f ≡ t.Memory → ⊥) → (g ≡ t.Memory → ⊥) → IsFirst f bytes → IsFirst g bytes → f ≡ g
-
-abbrev NoFault : Type 0
-NoFault = (f : FaultOfTable) (table : Table) → IsTrue (list_all has_short_types table.entries) → IsFirst f (table_bytes table) → f ≡ t.Memory
 
 module _ (one_list : OneList) (one_refusal : OneRefusal) (none_refused : NoneRefused) (once : OnceSpelled) (fault_once : OneFault) (no_fault : NoFault)
     (one_certificate : OneCertificateLaw) (one_first : OneFirstLaw) (sound : SoundLaw) (words : List (List ℕ)) where

@@ -1,31 +1,24 @@
 -- The course of a run, step by step: the words, each table, the files, and what is made of them. Two courses of the same words end with
 -- one status, where the same is held.
-use Rattle.std.proofs.Common.{◌≡◌, ℕ, ◌+◌, true, false, List, Option, Some, sym, ap, ap₂, ◌∙◌, subst, true≢false, IsTrue}
-use Rattle.std.specs.Prelude.{map}
-use Rattle.std.specs.List.{list_all}
-use Rattle.std.proofs.lemmas.Option.{same_Some, none-some}
+use Rattle.std.proofs.Common.{◌≡◌, ℕ, ◌+◌, true, false, List, Option, Some, refl, sym, ap, ap₂, ◌∙◌, subst, true≢false}
 use Rattle.type_kinds.specs.declared.atom.Atom.{Atom}
-use Rattle.core_ast.specs.Model as m
-use Rattle.core_scope.specs.Sets.{FirstDuplicate}
 use Rattle.da_shelf.specs.Told.{Files, Holds, Lacks}
 use Rattle.table_file.specs.declared.tables.Table.{Table}
 use Rattle.table_file.specs.declared.faults.TableFault.{TableFault as FaultOfTable}
-use Rattle.table_file.specs.declared.faults.TableFault.TheVariants as t
-use Rattle.table_file.specs.Faults.{IsFirst}
-use Rattle.table_file.specs.Lengths.{has_short_types, is_short_table}
-use Rattle.table_file.specs.Spelling.{table_bytes}
+use Rattle.table_file.specs.Lengths.{is_short_table}
 use Rattle.table_keep.specs.Model.{Source, trees, entries_so}
 use Rattle.sound_laws_kept.specs.Solving.{AreSources}
 use Rattle.analysis_sources.specs.declared.refusals.SourceFault.{SourceFault}
-use Rattle.analysis_sources.specs.Reading.{AreRead, RefusedAt}
+use Rattle.analysis_sources.specs.Reading.{RefusedAt}
 use Rattle.analysis_sources.specs.Refusals.{missing}
 use Rattle.analysis_answers.specs.declared.run_status.RunStatus.{RunStatus}
 use Rattle.analysis_answers.specs.declared.run_status.RunStatus.TheVariants.{Done, Usage}
 use Rattle.analysis_answers.specs.FileRuns.{refused, too_many, duplicate}
-use Rattle.analysis_answers.specs.ReadFiles.{HaveOwnNames, IsDuplicate, ReadsAll}
+use Rattle.analysis_answers.specs.ReadFiles.{IsDuplicate}
 use Rattle.analysis_answers.specs.Tables.{IsFaultOf, IsTableRead, faulty_table}
 use Rattle.analysis_answers.proofs.AnswerExits.{apart}
-use Rattle.analysis_answers.proofs.FileRefusals.{one_duplicate, own_names}
+use Rattle.analysis_answers.proofs.HeldOnce.{NoFault, NoneRefused, OnceSpelled, OneFault, OneList, OneRefusal}
+use Rattle.analysis_answers.proofs.HeldOnce.{not_both_held, not_faulty, not_read, not_repeated, one_fault, one_reading, one_repeated, one_table}
 use Rattle.analysis_answers.proofs.TableModels.{same_short}
 use Rattle.table_verify_laws.specs.Certificates.{IsCertificate}
 use Rattle.table_verify_laws.specs.Laws.{OneCertificateLaw, OneFirstLaw}
@@ -119,75 +112,40 @@ module _ {words : List (List ℕ)} {held : Files} {status : RunStatus} where
 
 -- ---- one course
 
-one_held : (held : Files) (n : List ℕ) {a b : List ℕ} → Holds (Some held) n a → Holds (Some held) n b → a ≡ b
-one_held held n h k = same_Some _ _ (sym h ∙ k)
-
-not_held : (held : Files) (n : List ℕ) {a : List ℕ} → Holds (Some held) n a → Lacks (Some held) n → ⊥
-not_held held n h k = absurd (none-some _ (sym k ∙ h))
-
 pub are_sources : (held : Files) {files : List (List ℕ)} {M : List Source} → ReadsModules (Some held) files M → AreSources M
 are_sources held {M = M} read = record { accepted = read.accepted; distinct = apart (trees M) read.names }
 
-module _ (one_list : (held : Files) (files : List (List ℕ)) (xs ys : List Source) (a b : ℕ) → AreRead (Some held) 0 files xs a → AreRead (Some held) 0 files ys b → xs ≡ ys)
-    (one_refusal : (held : Files) (files : List (List ℕ)) (i j : ℕ) (f g : SourceFault) → RefusedAt (Some held) files i f → RefusedAt (Some held) files j g → (i ≡ j) × (f ≡ g))
-    (none_refused : (held : Files) (files : List (List ℕ)) (xs : List Source) (after i : ℕ) (f : SourceFault) → AreRead (Some held) 0 files xs after → RefusedAt (Some held) files i f → ⊥)
-    (once : (s t : Table) → IsTrue (list_all has_short_types s.entries) → IsTrue (list_all has_short_types t.entries) → table_bytes s ≡ table_bytes t → s ≡ t)
-    (fault_once : (f g : FaultOfTable) (bytes : List ℕ) → (f ≡ t.Memory → ⊥) → (g ≡ t.Memory → ⊥) → IsFirst f bytes → IsFirst g bytes → f ≡ g)
-    (no_fault : (f : FaultOfTable) (table : Table) → IsTrue (list_all has_short_types table.entries) → IsFirst f (table_bytes table) → f ≡ t.Memory)
+module _ (one_list : OneList) (one_refusal : OneRefusal) (none_refused : NoneRefused) (once : OnceSpelled) (fault_once : OneFault) (no_fault : NoFault)
     (one_certificate : OneCertificateLaw) (one_first : OneFirstLaw) (held : Files) where
-  -- a table that is read has no fault
-  no_spoil : {name bytes : List ℕ} {fault : FaultOfTable} {table : Table} → Holds (Some held) name bytes → IsFaultOf bytes fault → IsTableRead (Some held) name table → ⊥
-  no_spoil {fault = fault} {table = table} holds is read =
-      is.some (no_fault fault table read.spells.short (subst (IsFirst fault) (one_held held _ holds read.held_so ∙ read.spells.bytes_so) is.first))
-
-  pub one_table : {name : List ℕ} {table other : Table} → IsTableRead (Some held) name table → IsTableRead (Some held) name other → table ≡ other
-  one_table {table = table} {other = other} h k =
-      once table other h.spells.short k.spells.short (sym h.spells.bytes_so ∙ one_held held _ h.held_so k.held_so ∙ k.spells.bytes_so)
-
   one_table_course : (word : ℕ) (name : List ℕ) (Next Then : Table → Type 0) (s u : RunStatus) → ((T : Table) → Next T → Then T → s ≡ u) → TableCourse held word name Next s → TableCourse held word name Then u → s ≡ u
   one_table_course word name Next Then s u next (lacks a gone) (lacks b also) = a ∙ sym b
-  one_table_course word name Next Then s u next (lacks a gone) (spoils bytes fault b holds is) = absurd (not_held held _ holds gone)
-  one_table_course word name Next Then s u next (lacks a gone) (goes_on table read more) = absurd (not_held held _ read.held_so gone)
-  one_table_course word name Next Then s u next (spoils bytes fault a holds is) (lacks b gone) = absurd (not_held held _ holds gone)
+  one_table_course word name Next Then s u next (lacks a gone) (spoils bytes fault b holds is) = absurd (not_both_held held refl holds gone)
+  one_table_course word name Next Then s u next (lacks a gone) (goes_on table read more) = absurd (not_both_held held refl read.held_so gone)
+  one_table_course word name Next Then s u next (spoils bytes fault a holds is) (lacks b gone) = absurd (not_both_held held refl holds gone)
   one_table_course word name Next Then s u next (spoils bytes fault a holds is) (spoils other cause b also so) =
-      a ∙ ap faulty_table (fault_once fault cause other is.some so.some (subst (IsFirst fault) (one_held held _ holds also) is.first) so.first) ∙ sym b
-  one_table_course word name Next Then s u next (spoils bytes fault a holds is) (goes_on table read more) = absurd (no_spoil holds is read)
-  one_table_course word name Next Then s u next (goes_on table read more) (lacks b gone) = absurd (not_held held _ read.held_so gone)
-  one_table_course word name Next Then s u next (goes_on table read more) (spoils bytes fault b holds is) = absurd (no_spoil holds is read)
+      a ∙ ap faulty_table (one_fault fault_once held refl holds is also so) ∙ sym b
+  one_table_course word name Next Then s u next (spoils bytes fault a holds is) (goes_on table read more) = absurd (not_faulty no_fault held refl holds is read)
+  one_table_course word name Next Then s u next (goes_on table read more) (lacks b gone) = absurd (not_both_held held refl read.held_so gone)
+  one_table_course word name Next Then s u next (goes_on table read more) (spoils bytes fault b holds is) = absurd (not_faulty no_fault held refl holds is read)
   one_table_course word name Next Then s u next (goes_on table read more) (goes_on other also rest) =
-      next table more (subst Then (one_table also read) rest)
-
-  pub one_reading : {files : List (List ℕ)} {M N : List Source} → ReadsAll (Some held) files M → ReadsAll (Some held) files N → M ≡ N
-  one_reading {files} {M} {N} h k = one_list held files M N h.after k.after h.read k.read
-
-  refused_read : {files : List (List ℕ)} {at : ℕ} {fault : SourceFault} {M : List Source} → RefusedAt (Some held) files at fault → ReadsAll (Some held) files M → ⊥
-  refused_read {files} {at} {fault} {M} h k = none_refused held files M k.after at fault k.read h
-
-  repeated_read : {files : List (List ℕ)} {first second : ℕ} {M : List Source} → IsDuplicate (Some held) files first second → ReadsModules (Some held) files M → ⊥
-  repeated_read {first = first} {second = second} h k =
-      own_names (trees h.sources) first second (subst (λ N. HaveOwnNames (trees N)) (one_reading k.read h.read) k.names) h.is
-
-  repeated_once : {files : List (List ℕ)} {i j k l : ℕ} → IsDuplicate (Some held) files i j → IsDuplicate (Some held) files k l → (i ≡ k) × (j ≡ l)
-  repeated_once {i = i} {j = j} {k = k} {l = l} h g =
-      let names = map (λ (x : m.Module). x.name) (trees h.sources) in
-      one_duplicate names i j k l h.is (subst (λ M. FirstDuplicate (map (λ (x : m.Module). x.name) (trees M)) k l) (one_reading g.read h.read) g.is)
+      next table more (subst Then (one_table once held refl also read) rest)
 
   one_files_course : (start : ℕ) (files : List (List ℕ)) (Next Then : List Source → Type 0) (s u : RunStatus) → ((M : List Source) → ReadsModules (Some held) files M → Next M → Then M → s ≡ u)
       → FilesCourse held start files Next s → FilesCourse held start files Then u → s ≡ u
   one_files_course start files Next Then s u next (refuses i f a is) (refuses j g b so) =
       let same = one_refusal held files i j f g is so in
       a ∙ ap₂ (λ n e. refused (start + n) e) same.0 same.1 ∙ sym b
-  one_files_course start files Next Then s u next (refuses i f a is) (repeats first second b so) = absurd (refused_read is so.read)
-  one_files_course start files Next Then s u next (refuses i f a is) (reads_all M read more) = absurd (refused_read is read.read)
-  one_files_course start files Next Then s u next (repeats first second a is) (refuses j g b so) = absurd (refused_read so is.read)
+  one_files_course start files Next Then s u next (refuses i f a is) (repeats first second b so) = absurd (not_read none_refused is so.read)
+  one_files_course start files Next Then s u next (refuses i f a is) (reads_all M read more) = absurd (not_read none_refused is read.read)
+  one_files_course start files Next Then s u next (repeats first second a is) (refuses j g b so) = absurd (not_read none_refused so is.read)
   one_files_course start files Next Then s u next (repeats i j a is) (repeats k l b so) =
-      let same = repeated_once is so in
+      let same = one_repeated one_list is so in
       a ∙ ap₂ (λ v w. duplicate (start + w) (start + v)) same.0 same.1 ∙ sym b
-  one_files_course start files Next Then s u next (repeats first second a is) (reads_all M read more) = absurd (repeated_read is read)
-  one_files_course start files Next Then s u next (reads_all M read more) (refuses j g b so) = absurd (refused_read so read.read)
-  one_files_course start files Next Then s u next (reads_all M read more) (repeats first second b so) = absurd (repeated_read so read)
+  one_files_course start files Next Then s u next (repeats first second a is) (reads_all M read more) = absurd (not_repeated one_list is read.read read.names)
+  one_files_course start files Next Then s u next (reads_all M read more) (refuses j g b so) = absurd (not_read none_refused so read.read)
+  one_files_course start files Next Then s u next (reads_all M read more) (repeats first second b so) = absurd (not_repeated one_list so read.read read.names)
   one_files_course start files Next Then s u next (reads_all M read more) (reads_all N also rest) =
-      next M read more (subst Then (one_reading also.read read.read) rest)
+      next M read more (subst Then (one_reading one_list also.read read.read) rest)
 
   pub certificates_fit : {files : List (List ℕ)} {M : List Source} (cert other : Table) → ReadsModules (Some held) files M → IsCertificate M (entries_so cert) → IsCertificate M (entries_so other) → is_short_table cert ≡ is_short_table other
   certificates_fit {M = M} cert other read h k = same_short cert other (one_certificate M (entries_so cert) (entries_so other) (are_sources held read) h k)

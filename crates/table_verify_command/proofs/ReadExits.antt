@@ -1,14 +1,13 @@
 -- A table or files are read: each way out.
-use Rattle.std.proofs.Common.{◌≡◌, ℕ, ◌+◌, ◌<◌, List, drop, length, get_or, slice_get, Option, Some, Result, Ok, Err, sym, ap, ◌∙◌, subst, arith}
+use Rattle.std.proofs.Common.{◌≡◌, ℕ, ◌+◌, List, drop, get_or, Option, Result, Ok, Err, ap, ◌∙◌, subst}
 use Rattle.std.specs.Prelude.{IfOk}
 use Rattle.std.specs.Borrow.{Bor}
-use Rattle.std.proofs.lemmas.Option.{slice_get_within, same_Some}
 use Rattle.type_kinds.specs.declared.memory.Memory.{Memory}
 use Rattle.da_shelf.specs.Told.{Files, Holds}
 use Rattle.analysis_sources.specs.declared.reading.ReadFault.TheVariants as read
 use Rattle.analysis_sources.specs.declared.refusals.Device.TheVariants.{Read}
 use Rattle.analysis_sources.specs.declared.refusals.SourceFault.{SourceFault}
-use Rattle.analysis_sources.specs.Reading.{RefusedAt, not_held, at_fault, Fails}
+use Rattle.analysis_sources.specs.Reading.{Fails}
 use Rattle.analysis_sources.specs.Refusals.{refusal_line}
 use Rattle.analysis_sources.specs.Words.{texts}
 use Rattle.analysis_answers.specs.declared.run_status.RunStatus.{RunStatus}
@@ -16,7 +15,7 @@ use Rattle.analysis_answers.specs.declared.run_status.RunStatus.TheVariants.{Dev
 use Rattle.analysis_answers.specs.FileRuns.{refused}
 use Rattle.analysis_answers.specs.Lines.{read_fault_line}
 use Rattle.analysis_answers.specs.Tables.{Spells, IsFaultOf}
-use Rattle.analysis_answers.proofs.Texts.{texts_at, word_of, within_words}
+use Rattle.analysis_answers.proofs.FileWords.{failed_word, refused_name, refused_word}
 use Rattle.table_verify_command.specs.declared.reading.TableRead.{TableRead}
 use Rattle.table_verify_command.specs.declared.reading.TableRead.TheVariants.{Reads, Says}
 use Rattle.table_verify_command.specs.steps.Reads.{IsOfBytes, IsReadAs, faulty, IsFileFault, refusing, failing_at}
@@ -35,31 +34,12 @@ module _ (words : List (Bor (List ℕ))) (start : ℕ) (told : Option Files) (rb
   abbrev files : List (List ℕ)
   files = drop start (texts words)
 
-  reached_file : {at : ℕ} {fault : SourceFault} → RefusedAt told files at fault → (file : List ℕ) × (slice_get files at ≡ Some file)
-  reached_file (not_held e h) = (h.file, h.reached.there)
-  reached_file (at_fault h) = (h.file, h.reached.there)
-
-  pub refused_low : (word : ℕ) (fault : SourceFault) → Fails told files start rb rn (read.Refused word fault) → word < length words
-  refused_low word fault h =
-      let file = reached_file h.2 in
-      let low = within_words words start h.0 (slice_get_within files h.0 file.0 file.1) in
-      let place = h.1 in
-      omega arith
-
-  pub failed_low : (word : ℕ) → Fails told files start rb rn (read.Failed word) → word < length words
-  failed_low word h =
-      let file = h.2 in
-      let low = within_words words start h.0 (slice_get_within files h.0 file.0 file.2.there) in
-      let place = h.1 in
-      omega arith
-
   -- the word and the fault as the code names them
   pub refused_file : (word v : ℕ) (fault f : SourceFault) (d : Bor (List ℕ)) (status : RunStatus) (output : List ℕ) → Fails told files start rb rn (read.Refused word fault) → v ≡ word → f ≡ fault → status ≡ refused v f
       → output ≡ refusal_line (get_or words v d).now f → IsFileFault told files start rb rn status output
   refused_file word v fault f d status output h is same s o =
-      let file = reached_file h.2 in
-      let there = texts_at words word d (refused_low word fault h) in
-      let called : (get_or words word d).now ≡ file.0 = same_Some _ _ (sym there ∙ ap (slice_get (texts words)) h.1 ∙ word_of (texts words) start h.0 ∙ file.1) in
+      let file = refused_name h.2 in
+      let called = refused_word words start told rb rn word fault d h in
       refusing h.0 file.0 fault
       (s ∙ ap (λ w. refused w f) (is ∙ h.1) ∙ ap (refused (start + h.0)) same)
       (o ∙ ap (λ w. refusal_line (get_or words w d).now f) is ∙ ap (λ n. refusal_line n f) called ∙ ap (refusal_line file.0) same)
@@ -68,9 +48,7 @@ module _ (words : List (Bor (List ℕ))) (start : ℕ) (told : Option Files) (rb
   pub failed_file : (word v : ℕ) (d : Bor (List ℕ)) (status : RunStatus) (output : List ℕ) → Fails told files start rb rn (read.Failed word) → v ≡ word → status ≡ DeviceFault (Read v)
       → output ≡ read_fault_line (get_or words v d).now → IsFileFault told files start rb rn status output
   failed_file word v d status output h is s o =
-      let there = texts_at words word d (failed_low word h) in
-      let called : (get_or words word d).now ≡ h.2.0 = same_Some _ _ (sym there ∙ ap (slice_get (texts words)) h.1 ∙ word_of (texts words) start h.0 ∙ h.2.2.there) in
       failing_at h.0 h.2.1 h.2.0
       (s ∙ ap (λ w. DeviceFault (Read w)) (is ∙ h.1))
-      (o ∙ ap (λ w. read_fault_line (get_or words w d).now) is ∙ ap read_fault_line called)
+      (o ∙ ap (λ w. read_fault_line (get_or words w d).now) is ∙ ap read_fault_line (failed_word words start told rb rn word d h))
       h.2.2 h.3

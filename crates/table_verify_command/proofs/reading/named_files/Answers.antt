@@ -1,20 +1,21 @@
 use Rattle.std.proofs.Common.{ℕ, ◌<◌, drop, length, sym, subst}
 use Rattle.analysis_sources.specs.Reading.{Fails}
 use Rattle.analysis_sources.specs.Words.{texts}
-use Rattle.table_verify_command.proofs.ReadExits.{failed_file, failed_low, refused_file, refused_low}
+use Rattle.analysis_answers.proofs.FileWords.{failed_within, refused_within}
+use Rattle.table_verify_command.proofs.ReadExits.{failed_file, refused_file}
 use Rattle.table_verify_command.proofs.reading.named_files.Goals as goal
 
 pub bounds-words-word : goal.bounds-words-word
 bounds-words-word g c =
     subst (λ (w : ℕ). w < length c.args.words.now) (sym c.in-Err-Refused.word-is)
-    (refused_low c.args.words.now c.args.start (g.F.Shelf.held c.args.shelf.now) (g.F.Shelf.read_faults c.args.shelf.now) (g.F.Shelf.read_faults c.read_sources.new.shelf) c.in-Err-Refused.word c.in-Err-Refused.fault
+    (refused_within c.args.words.now c.args.start (g.F.Shelf.held c.args.shelf.now) (g.F.Shelf.read_faults c.args.shelf.now) (g.F.Shelf.read_faults c.read_sources.new.shelf) c.in-Err-Refused.word c.in-Err-Refused.fault
     (subst (Fails (g.F.Shelf.held c.args.shelf.now) (drop c.args.start (texts c.args.words.now)) c.args.start (g.F.Shelf.read_faults c.args.shelf.now)
     (g.F.Shelf.read_faults c.read_sources.new.shelf)) c.in-Err-Refused.field-0-is c.in-Err-Refused.ensures.fault))
 
 pub bounds-words-word-in-Err-Failed : goal.bounds-words-word-in-Err-Failed
 bounds-words-word-in-Err-Failed g c =
     subst (λ (w : ℕ). w < length c.args.words.now) (sym c.in-Err-Failed.word-is)
-    (failed_low c.args.words.now c.args.start (g.F.Shelf.held c.args.shelf.now) (g.F.Shelf.read_faults c.args.shelf.now) (g.F.Shelf.read_faults c.read_sources.new.shelf) c.in-Err-Failed.word
+    (failed_within c.args.words.now c.args.start (g.F.Shelf.held c.args.shelf.now) (g.F.Shelf.read_faults c.args.shelf.now) (g.F.Shelf.read_faults c.read_sources.new.shelf) c.in-Err-Failed.word
     (subst (Fails (g.F.Shelf.held c.args.shelf.now) (drop c.args.start (texts c.args.words.now)) c.args.start (g.F.Shelf.read_faults c.args.shelf.now)
     (g.F.Shelf.read_faults c.read_sources.new.shelf)) c.in-Err-Failed.field-0-is c.in-Err-Failed.ensures.fault))
 
