@@ -1,29 +1,13 @@
-//! A command on the words, the files and the output of the host.
+//! The words, the files and the output of the host.
 use crate::run_status::RunStatus;
-use da_shelf::{FileShelf, Shelf, Sink, StdoutSink};
+use da_shelf::{FileShelf, StdoutSink};
 use std::alloc::Global;
 use std::env;
 use std::io::ErrorKind;
-use std::process::ExitCode;
 use std::rt::{Env, Files};
-use std::sync::Wait;
-use std::thread::Threads;
 
 /// The stack of the thread that a program carries its command out on, in bytes: the deepest text takes up to 7 MiB.
 pub const STACK_SIZE: usize = 16 * 1024 * 1024;
-
-/// What a program does with the words that follow its name.
-pub trait HostCommand {
-    /// Carries out the command that these words are, on this shelf and this sink, and gives the code to end with.
-    fn run_over<R: Threads + Wait + Sync, F: Shelf, K: Sink>(
-        &self,
-        rt: &R,
-        alloc: Global,
-        words: &Vec<String>,
-        shelf: &mut F,
-        out: &mut K,
-    ) -> ExitCode;
-}
 
 /// The words that follow the program's name, or the status to end with where the host doesn't give them as text: `Usage`, or `Memory`.
 pub fn host_words<R: Env + AllocGlobal>(rt: &R) -> Result<Vec<String>, RunStatus> {
@@ -44,19 +28,17 @@ pub fn host_words<R: Env + AllocGlobal>(rt: &R) -> Result<Vec<String>, RunStatus
     }
 }
 
-/// Carries a command out on the files and the standard output of the host. Where there is no memory for these it does nothing, and ends
-/// as on an allocation that failed.
-pub fn run_on_host<R: Threads + Wait + Sync + Files + Print, C: HostCommand>(
+/// The files and the standard output of the host, of which nothing has failed yet. `Memory`, the status to end with, where there is none
+/// for them.
+pub fn host_devices<R: Files + Print>(
     rt: &R,
     alloc: Global,
-    words: &Vec<String>,
-    command: &C,
-) -> ExitCode {
-    let Ok(mut shelf) = FileShelf::new(rt, alloc) else {
-        return ExitCode::from(RunStatus::Memory.code());
+) -> Result<(FileShelf<&R>, StdoutSink<&R>), RunStatus> {
+    let Ok(shelf) = FileShelf::new(rt, alloc) else {
+        return Err(RunStatus::Memory);
     };
-    let Ok(mut out) = StdoutSink::new(rt) else {
-        return ExitCode::from(RunStatus::Memory.code());
+    let Ok(out) = StdoutSink::new(rt) else {
+        return Err(RunStatus::Memory);
     };
-    command.run_over(rt, alloc, words, &mut shelf, &mut out)
+    Ok((shelf, out))
 }

@@ -13,7 +13,7 @@ mod running;
 mod words;
 
 pub use files::{FilesRead, read_files};
-pub use host::{HostCommand, STACK_SIZE, host_words, run_on_host};
+pub use host::{STACK_SIZE, host_devices, host_words};
 pub use lines::{
     TOO_MANY, duplicate_line, duplicate_refusal, joined, read_fault_line, refusal_line,
     replace_fault_line, table_fault_line, table_fault_number, too_many_line,
