@@ -1,0 +1,4 @@
+mod GroupByGroup
+mod NewTable
+mod Solved
+mod Written
