@@ -1,0 +1,51 @@
+//! The program: `run_over` on the words, the files and the output of the host.
+#![tactic(auto)]
+
+use analysis_answers::{RunStatus, STACK_SIZE, host_words};
+use da_shelf::{FileShelf, OpenGate, StdoutSink};
+use dia_session_command::run_over;
+use std::alloc::Global;
+use std::process::ExitCode;
+use std::rt::Files;
+use std::sync::Wait;
+use std::thread;
+use std::thread::{Builder, Threads};
+
+fn main(rt: HostRuntime) -> ExitCode {
+    let words = match host_words(&rt) {
+        Ok(words) => words,
+        Err(status) => return ExitCode::from(status.code()),
+    };
+    let alloc = rt.alloc();
+    let host = &rt;
+    let asked = &words;
+    let code = thread::scope(thread::scope_env(), host, |scope| {
+        let started = Builder::new()
+            .stack_size(STACK_SIZE)
+            .spawn_scoped(scope, move || run(host, alloc, asked));
+        match started {
+            Ok(child) => Some(child.join(host)),
+            Err(_) => None,
+        }
+    });
+    // where no thread can be started, this one does the work
+    match code {
+        Some(code) => code,
+        None => run(host, alloc, asked),
+    }
+}
+
+// Carries the command out on files and the standard output.
+fn run<R: Threads + Wait + Sync + Files + Print>(
+    rt: &R,
+    alloc: Global,
+    words: &Vec<String>,
+) -> ExitCode {
+    let Ok(mut shelf) = FileShelf::new(rt, alloc) else {
+        return ExitCode::from(RunStatus::Memory.code());
+    };
+    let Ok(mut out) = StdoutSink::new(rt) else {
+        return ExitCode::from(RunStatus::Memory.code());
+    };
+    run_over(rt, alloc, words, &mut shelf, &mut out, &OpenGate)
+}

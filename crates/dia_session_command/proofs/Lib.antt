@@ -1,0 +1,6 @@
+mod Carried
+mod Ended
+mod LineExits
+mod ScriptLines
+mod SessionExits
+mod WordExits
