@@ -47,7 +47,7 @@ fn append_refusal(refusal: Refusal, out: &mut Bytes) -> Result<(), Memory> {
     append_number(b", other word ", u64::from(refusal.other), out)
 }
 
-// The device that failed, and the word that names the file.
+// The device that failed, and the word that names the file; in a session the line that does, unless the script isn't read.
 fn append_device(device: Device, out: &mut Bytes) -> Result<(), Memory> {
     match device {
         Device::Read(word) => append_number(b"-- no read of word ", u64::from(word), out),

@@ -5,8 +5,8 @@
 mod answers;
 mod held;
 mod play;
+mod programs;
 mod runs;
-mod verifications;
 
 use case_files::named_texts;
 use da_shelf::{StdoutSink, give};

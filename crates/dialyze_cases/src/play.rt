@@ -14,16 +14,15 @@
 //! - `fun-flow WORDS` and `fun-flow-failing PIECE WRITE WORDS` list what the applications of values in the files that the words name
 //!   may enter, in the same way;
 //! - `verify WORDS` and `verify-failing PIECE WRITE WORDS` make a certificate or check a table, as the words say, in the same way;
+//! - `session WORDS` and `session-failing PIECE WRITE WORDS` carry out the script that the words name, in the same way;
 //! - `failing READ REPLACE` empties the shelf, of which this read and this replace are to fail; the number 0 is for none;
 //! - `held NAME` gives the bytes that the shelf holds under the name, 32 a line, in hexadecimal digits;
 //! - `same NAME NAME` says whether the shelf holds the same bytes under both.
 use crate::held::{
     append_held, append_same, complement, put_bytes, put_front, put_lines, put_padded,
 };
-use crate::runs::{
-    run, run_counted, run_failing, run_fun_flow, run_fun_flow_failing, run_typer, run_typer_failing,
-};
-use crate::verifications::{run_verify, run_verify_failing};
+use crate::programs::CaseProgram;
+use crate::runs::{run, run_counted, run_failing};
 use case_files::{Step, steps_of};
 use da_shelf::MemShelf;
 use std::alloc::Global;
@@ -65,17 +64,39 @@ fn play<R: Threads + Wait + Sync>(
     shelf: &mut MemShelf,
     out: &mut Bytes,
 ) -> Result<(), Memory> {
-    match step.what {
-        "run" => run(rt, alloc, step.rest, shelf, out),
-        "count" => run_counted(rt, alloc, step.rest, shelf, out),
-        "run-failing" => run_failing(rt, alloc, step.rest, shelf, out),
-        "typer" => run_typer(rt, alloc, step.rest, shelf, out),
-        "typer-failing" => run_typer_failing(rt, alloc, step.rest, shelf, out),
-        "fun-flow" => run_fun_flow(alloc, step.rest, shelf, out),
-        "fun-flow-failing" => run_fun_flow_failing(alloc, step.rest, shelf, out),
-        "verify" => run_verify(rt, alloc, step.rest, shelf, out),
-        "verify-failing" => run_verify_failing(rt, alloc, step.rest, shelf, out),
-        _ => play_on_shelf(alloc, step, shelf, out),
+    if step.what == "count" {
+        return run_counted(rt, alloc, step.rest, shelf, out);
+    }
+    if let Some(program) = program_of(step.what) {
+        return run(rt, alloc, program, step.rest, shelf, out);
+    }
+    match failing_program_of(step.what) {
+        Some(program) => run_failing(rt, alloc, program, step.rest, shelf, out),
+        None => play_on_shelf(alloc, step, shelf, out),
+    }
+}
+
+// The program that a step runs.
+fn program_of(what: &str) -> Option<CaseProgram> {
+    match what {
+        "run" => Some(CaseProgram::Dialyze),
+        "typer" => Some(CaseProgram::Typer),
+        "fun-flow" => Some(CaseProgram::FunFlow),
+        "verify" => Some(CaseProgram::TableVerify),
+        "session" => Some(CaseProgram::DiaSession),
+        _ => None,
+    }
+}
+
+// The program that a step runs over an output that fails.
+fn failing_program_of(what: &str) -> Option<CaseProgram> {
+    match what {
+        "run-failing" => Some(CaseProgram::Dialyze),
+        "typer-failing" => Some(CaseProgram::Typer),
+        "fun-flow-failing" => Some(CaseProgram::FunFlow),
+        "verify-failing" => Some(CaseProgram::TableVerify),
+        "session-failing" => Some(CaseProgram::DiaSession),
+        _ => None,
     }
 }
 
