@@ -1,15 +1,10 @@
 -- Each refusal, and accepted modules, by what is held.
-use Rattle.std.proofs.Common.{◌≡◌, ◌≢◌, ◌↔◌, ◌⊎◌, inl, inr, ℕ, ◌+◌, ◌<◌, ◌≤◌, List, refl, sym, ◌∙◌, ap, subst, Option, Some, None, arith, IsTrue}
+use Rattle.std.proofs.Common.{◌≡◌, ◌≢◌, ◌↔◌, ◌⊎◌, inl, inr, ℕ, ◌+◌, ◌<◌, ◌≤◌, List, refl, sym, ◌∙◌, ap, ap₂, subst, Option, Some, None, arith}
 use Rattle.std.proofs.Common.{length as list_length}
 use Rattle.std.specs.Prelude.{IfSome, slice_get}
-use Rattle.std.specs.FinMap.{get}
-use Rattle.std.specs.List.{list_all}
-use Rattle.std.proofs.lemmas.List.{length-map}
-use Rattle.type_kinds.specs.declared.atom.Atom.{Atom}
 use Rattle.core_ast.specs.Model as m
 use Rattle.core_scan.specs.declared.token.ScanFault.{ScanFault}
 use Rattle.core_scan.specs.declared.token.ScanFault.TheVariants as s
-use Rattle.core_scope.specs.Sets.{FirstDuplicate}
 use Rattle.core_parse_grammar.specs.declared.fault.ParseFault.{ParseFault}
 use Rattle.core_parse_grammar.specs.declared.fault.ParseFault.TheVariants as p
 use Rattle.core_scope.specs.declared.fault.ScopeRule.{ScopeRule}
@@ -18,29 +13,30 @@ use Rattle.da_shelf.specs.Told.{Files, Holds, Lacks}
 use Rattle.table_file.specs.declared.tables.Table.{Table}
 use Rattle.table_file.specs.declared.faults.TableFault.{TableFault as FaultOfTable}
 use Rattle.table_file.specs.declared.faults.TableFault.TheVariants as t
-use Rattle.table_file.specs.Faults.{IsFirst}
-use Rattle.table_file.specs.Lengths.{has_short_types}
-use Rattle.table_file.specs.Spelling.{table_bytes}
 use Rattle.table_keep.specs.Model.{Source, trees}
 use Rattle.analysis_sources.specs.declared.refusals.RefusalName.TheVariants as r
 use Rattle.analysis_sources.specs.declared.refusals.SourceFault.{SourceFault}
-use Rattle.analysis_sources.specs.Reading.{AreRead, IsMissingAt, HoldsAt, RefusedAt, not_held, at_fault}
+use Rattle.analysis_sources.specs.Reading.{IsMissingAt, HoldsAt, RefusedAt, not_held, at_fault}
 use Rattle.analysis_sources.specs.Refusals.{missing, refusal_number}
 use Rattle.analysis_sources.specs.Sources.{of_the_whole, scan_refusal, parse_refusal, rule_name, IsTooLong, IsNotScanned, IsNotParsed, IsNotAccepted, IsAtFault, too_long, not_scanned, not_parsed, not_accepted}
 use Rattle.sound_laws_kept.proofs.Names.{some_is}
+use Rattle.analysis_answers.specs.ReadFiles.{HaveOwnNames, IsDuplicate, ReadsAll}
+use Rattle.analysis_answers.specs.Tables.{IsFaultOf, IsTableRead}
+use Rattle.analysis_answers.proofs.HeldOnce.{NoFault, NoneRefused, OneFault, OneList, OneRefusal}
+use Rattle.analysis_answers.proofs.HeldOnce.{not_both_held, not_faulty, not_read, not_repeated, one_fault, one_repeated}
 use Rattle.dialyze_command.specs.declared.status.Status.{Status}
 use Rattle.dialyze_command.specs.declared.words.Command.{Command}
 use Rattle.dialyze_command.specs.Lines.{refused, duplicate, faulty_table}
 use Rattle.dialyze_command.specs.Lines.{too_long as too_long_fault}
-use Rattle.dialyze_command.specs.Making.{IsSummary, file_names, generated_files}
+use Rattle.dialyze_command.specs.Making.{file_names, generated_files}
 use Rattle.dialyze_command.specs.Words.{IsMake, IsNoCommand}
-use Rattle.dialyze_command.specs.Outcome.{Checks, ChecksTooMany, Names, NamesTable, Spells, IsBegun, empty, named, Begins, IsFaultOf, ReadsAll, HaveOwnNames, module_names, IsDuplicate, Analyses, SaysWhether, says_no, says_yes, Outcome, usage, many, no_table, bad_table, faulty, duplicate_module, long_table, passed, made, Intended, IsAnswer}
-use Rattle.dialyze_command.specs.Causes.{Reads, by_check, by_make, NamesMissing, as_table, as_file, NamesBadTable, NamesSource, NamesTwice, NamesModules, NamesLongTable, IsAnalysed, is_clean, is_warned, is_long, Step, holding, length, tokens, grammar, scopes, step_of}
+use Rattle.dialyze_command.specs.Outcome.{Checks, ChecksTooMany, Names, NamesTable, IsBegun, empty, named, Begins, Analyses, SaysWhether}
+use Rattle.dialyze_command.specs.Outcome.{says_no, says_yes, Outcome, usage, many, no_table, bad_table, faulty, duplicate_module, long_table, passed, made, Intended, IsAnswer}
+use Rattle.dialyze_command.specs.Causes.{Reads, by_check, by_make, NamesMissing, as_table, as_file, NamesBadTable, NamesSource, NamesTwice, NamesModules, NamesLongTable, IsAnalysed, is_clean, is_warned, is_long}
+use Rattle.dialyze_command.specs.Causes.{Step, holding, length, tokens, grammar, scopes, step_of}
 use Rattle.dialyze_command.proofs.CheckExits.{outcome_of, summary_mark}
-use Rattle.analysis_answers.proofs.FileRefusals.{earliest_of, one_duplicate}
 use Rattle.dialyze_command.proofs.Numbers.{mark, mark_of, word_by, other_by, one_fault_of, one_word, one_table_fault}
-use Rattle.dialyze_command.proofs.MakeFiles.{never_missing}
-use Rattle.dialyze_command.proofs.WordExits.{one_check, one_command, one_make}
+use Rattle.dialyze_command.proofs.WordExits.{one_check, one_command}
 
 -- ---- the step that a refusal is of
 
@@ -127,27 +123,20 @@ pub one_name : {words : List (List ℕ)} {v w : ℕ} {m n : List ℕ} → NamesT
 one_name {words} {v} {w} {m} {n} h k =
     one_word_there words k.command.plt v w m n (subst (λ c. Names words c.plt v m) (one_check h.checks.check k.checks.check).0 h.plt) k.plt
 
-pub one_held : (held : Files) {m n : List ℕ} {a b : List ℕ} → m ≡ n → Holds (Some held) m a → Holds (Some held) n b → a ≡ b
-one_held held e h k = some_is (sym h ∙ ap (get held) e ∙ k)
-
-pub not_both_held : (held : Files) {m n : List ℕ} {a : List ℕ} → m ≡ n → Holds (Some held) m a → Lacks (Some held) n → ⊥
-not_both_held held e h k = let f = sym h ∙ ap (get held) e ∙ k in absurd cc
-
--- the bytes that the table to begin with is read from, if one is named
-named_bytes : {words files : List (List ℕ)} {held : Files} {command : Command} {w : ℕ} {n : List ℕ} → Begins words (Some held) command files → NamesTable words w n
-    → (bytes : List ℕ) × (table : Table) × Holds (Some held) n bytes × Spells table bytes
-named_bytes {words} {files} {held} {command} {w} {n} h k = by h.begun
+-- the table to begin with is read, if one is named
+named_table : {words files : List (List ℕ)} {held : Files} {command : Command} {w : ℕ} {n : List ℕ} → Begins words (Some held) command files → NamesTable words w n
+    → (table : Table) × IsTableRead (Some held) n table
+named_table {words} {files} {held} {command} {w} {n} h k = by h.begun
   where
     names : Names words command.plt w n
     names = subst (λ c. Names words c.plt w n) (one_check k.checks.check h.checks.check).0 k.plt
 
-    by : IsBegun words (Some held) command.plt h.table → (bytes : List ℕ) × (table : Table) × Holds (Some held) n bytes × Spells table bytes
+    by : IsBegun words (Some held) command.plt h.table → (table : Table) × IsTableRead (Some held) n table
     by (empty none e) = let f = sym none ∙ names.given in absurd cc
-    by (named v m bytes there holds spells) =
-        (bytes, h.table, subst (λ x. Holds (Some held) x bytes) (one_word_there words command.plt v w m n there names).1 holds, spells)
+    by (named v m there read) = (h.table, subst (λ x. IsTableRead (Some held) x h.table) (one_word_there words command.plt v w m n there names).1 read)
 
 pub lacking_begins : {words files : List (List ℕ)} {held : Files} {command : Command} {w : ℕ} {n : List ℕ} → NamesTable words w n → Lacks (Some held) n → Begins words (Some held) command files → ⊥
-lacking_begins {held = held} h lacks begins = let b = named_bytes begins h in not_both_held held refl b.2 lacks
+lacking_begins {held = held} h lacks begins = not_both_held held refl (named_table begins h).1.held_so lacks
 
 -- ---- from the status to the cause
 
@@ -159,13 +148,12 @@ is_other word fault e =
 
 -- a file that is read is refused by this fault
 record RefusedHere (words : List (List ℕ)) (held : Files) (word : ℕ) (fault : SourceFault) : Type 0 where
-  pub from : Files
-  pub start : ℕ
+  pub command : Command
   pub files : List (List ℕ)
-  pub reads : Reads words held from start files
+  pub begins : Begins words (Some held) command files
   pub at : ℕ
-  pub place : word ≡ start + at
-  pub refused_so : RefusedAt (Some from) files at fault
+  pub place : word ≡ command.start + at
+  pub refused_so : RefusedAt (Some held) files at fault
 
 -- what a refusal of a word is of: the table to begin with, a file, or the table to write
 data RefusedAs (words : List (List ℕ)) (held : Files) (word : ℕ) (fault : SourceFault) : Type 0 where
@@ -184,10 +172,9 @@ refused_of_outcome word fault (bad_table at name bytes other a b c names holds i
 refused_of_outcome {held = held} word fault (faulty command files at file other a b c d f g) e =
     let is = sym a ∙ e in
     file_refused (record {
-      from = held;
-      start = command.start;
+      command = command;
       files = files;
-      reads = by_check command refl refl d;
+      begins = d;
       at = at;
       place = sym (one_word (command.start + at) word other fault is);
       refused_so = subst (RefusedAt (Some held) files at) (one_fault_of (command.start + at) word other fault is) g;
@@ -212,14 +199,7 @@ faulty_not_missing away (at_fault h) = h
 
 missing_named : {words : List (List ℕ)} {held : Files} {word : ℕ} → RefusedAs words held word missing → NamesMissing words held word
 missing_named (table_missing name e names lacks) = as_table name names lacks
-missing_named {words} {held} {word} (file_refused h) = by h.reads
-  where
-    by : Reads words held h.from h.start h.files → NamesMissing words held word
-    by (by_check command same start begins) =
-        as_file command h.files h.at (h.place ∙ ap (λ n. n + h.at) start) begins (subst (λ f. IsMissingAt (Some f) h.files h.at) same (missing_not_faulty h.refused_so))
-    by (by_make count asks same start files) =
-        absurd (never_missing count h.at (omega (arith, asks.most))
-        (subst (λ fs. IsMissingAt (Some (generated_files count)) fs h.at) files (subst (λ f. IsMissingAt (Some f) h.files h.at) same (missing_not_faulty h.refused_so))))
+missing_named (file_refused h) = as_file h.command h.files h.at h.place h.begins (missing_not_faulty h.refused_so)
 missing_named (table_long e h) = let k : 26 ≡ 25 = ap (λ f. refusal_number f.name) e in absurd (omega (arith, k))
 
 -- of a file, where this isn't a missing one, nor a table's
@@ -233,7 +213,14 @@ long_named : {words : List (List ℕ)} {held : Files} {word : ℕ} → RefusedAs
 long_named (table_missing name e names lacks) = let k : 25 ≡ 26 = ap (λ f. refusal_number f.name) e in absurd (omega (arith, k))
 long_named (file_refused h) =
     let i = faulty_not_missing (λ k. cc) h.refused_so in
-    inl (record { from = h.from; start = h.start; files = h.files; reads = h.reads; at = h.at; place = h.place; source = record { file = i.file; bytes = i.bytes; before = i.before; reached = i.reached; held_so = i.held_so; is = by_length refl i.is } })
+    inl (record {
+      command = h.command;
+      files = h.files;
+      begins = h.begins;
+      at = h.at;
+      place = h.place;
+      source = record { file = i.file; bytes = i.bytes; before = i.before; reached = i.reached; held_so = i.held_so; is = by_length refl i.is };
+    })
 long_named (table_long e h) = inr h
 
 bad_table_of_outcome : {words : List (List ℕ)} {held : Files} {status : Status} {output : List ℕ} {after : Option Files} (fault : FaultOfTable) → Outcome words (Some held) status output after
@@ -259,7 +246,7 @@ duplicate_of_outcome word other (bad_table at name bytes fault a b c names holds
 duplicate_of_outcome word other (faulty command files at file fault a b c d f g) e = absurd ((mark_of fault.name).1 (ap mark (sym a ∙ e)))
 duplicate_of_outcome {held = held} word other (duplicate_module command files first second file that a b c d f g h) e =
     let is = sym a ∙ e in
-    record { from = held; start = command.start; files = files; reads = by_check command refl refl d; first = first; second = second; place = sym (ap word_by is); other_place = sym (ap other_by is); duplicate_module = h }
+    record { command = command; files = files; begins = d; first = first; second = second; place = sym (ap word_by is); other_place = sym (ap other_by is); duplicate_module = h }
 duplicate_of_outcome word other (long_table command reports new at name a b c d names long) e = let k : 25 ≡ 14 = ap mark (sym a ∙ e) in absurd (omega (arith, k))
 duplicate_of_outcome word other (passed command reports new (says_no a b) c d f) e = let k : 100 ≡ 14 = ap mark (sym a ∙ e) in absurd (omega (arith, k))
 duplicate_of_outcome word other (passed command reports new (says_yes a b) c d f) e = let k : 101 ≡ 14 = ap mark (sym a ∙ e) in absurd (omega (arith, k))
@@ -289,42 +276,23 @@ analysed_modules o (is_long word e long) = modules_of long.analyses
 
 -- ---- from the cause to the status
 
--- one module is the first that has the name of one before it
-pub one_second : (names : List Atom) (i j k l : ℕ) → FirstDuplicate names i j → FirstDuplicate names k l → j ≡ l
-one_second names i j k l h g = (one_duplicate names i j k l h g).1
-
-pub one_first : (names : List Atom) (i j k : ℕ) → FirstDuplicate names i j → FirstDuplicate names k j → i ≡ k
-one_first names i j k h g = (one_duplicate names i j k j h g).0
-
-pub own_or_duplicate : (xs : List m.Module) (i j : ℕ) → HaveOwnNames xs → FirstDuplicate (module_names xs) i j → ⊥
-own_or_duplicate xs i j own h =
-    own j (subst (λ n. j < n) (length-map xs (λ (x : m.Module). x.name)) h.within) (earliest_of h)
-
-from_zero : (n : ℕ) → n ≡ 0 + n
-from_zero n = omega arith
-
--- what an outcome says of the files that are read
-data Level (words : List (List ℕ)) (held from : Files) (start : ℕ) (files : List (List ℕ)) (status : Status) : Type 0 where
-  refused_level : (at : ℕ) (fault : SourceFault) → status ≡ refused (start + at) fault → RefusedAt (Some from) files at fault → Level words held from start files status
-  twice_level : (first second : ℕ) → status ≡ duplicate (start + second) (start + first) → IsDuplicate (Some from) files first second → Level words held from start files status
-  read_level : (M : List Source) → ReadsAll (Some from) files M → HaveOwnNames (trees M) → IsAnalysed words held status → Level words held from start files status
+-- what an outcome says of the files of a check
+data Level (words : List (List ℕ)) (held : Files) (start : ℕ) (files : List (List ℕ)) (status : Status) : Type 0 where
+  refused_level : (at : ℕ) (fault : SourceFault) → status ≡ refused (start + at) fault → RefusedAt (Some held) files at fault → Level words held start files status
+  twice_level : (first second : ℕ) → status ≡ duplicate (start + second) (start + first) → IsDuplicate (Some held) files first second → Level words held start files status
+  read_level : (M : List Source) → ReadsAll (Some held) files M → HaveOwnNames (trees M) → IsAnalysed words held status → Level words held start files status
 
 says_analysed : {words : List (List ℕ)} {held : Files} {status : Status} {output : List ℕ} → SaysWhether status output → IsAnalysed words held status
 says_analysed (says_no a b) = is_clean a
 says_analysed (says_yes a b) = is_warned a
 
-module _ (one_list : (held : Files) (files : List (List ℕ)) (xs ys : List Source) (a b : ℕ) → AreRead (Some held) 0 files xs a → AreRead (Some held) 0 files ys b → xs ≡ ys)
-    (one_refusal : (held : Files) (files : List (List ℕ)) (i j : ℕ) (f g : SourceFault) → RefusedAt (Some held) files i f → RefusedAt (Some held) files j g → (i ≡ j) × (f ≡ g))
-    (none_refused : (held : Files) (files : List (List ℕ)) (xs : List Source) (after i : ℕ) (f : SourceFault) → AreRead (Some held) 0 files xs after → RefusedAt (Some held) files i f → ⊥)
-    (fault_once : (f g : FaultOfTable) (bytes : List ℕ) → (f ≡ t.Memory → ⊥) → (g ≡ t.Memory → ⊥) → IsFirst f bytes → IsFirst g bytes → f ≡ g)
-    (no_fault : (f : FaultOfTable) (table : Table) → IsTrue (list_all has_short_types table.entries) → IsFirst f (table_bytes table) → f ≡ t.Memory) where
-  pub faulty_begins : {words files : List (List ℕ)} {held : Files} {command : Command} {w : ℕ} {n bytes : List ℕ} {fault : FaultOfTable} → NamesTable words w n → Holds (Some held) n bytes → IsFaultOf bytes fault → Begins words (Some held) command files → ⊥
-  faulty_begins {held = held} {fault = fault} h holds is begins =
-      let b = named_bytes begins h in
-      is.some (no_fault fault b.1 b.3.short (subst (IsFirst fault) (one_held held refl holds b.2 ∙ b.3.bytes_so) is.first))
+module _ (one_list : OneList) (one_refusal : OneRefusal) (none_refused : NoneRefused) (fault_once : OneFault) (no_fault : NoFault) where
+  pub faulty_begins : {words files : List (List ℕ)} {held : Files} {command : Command} {w : ℕ} {n bytes : List ℕ} {fault : FaultOfTable} → NamesTable words w n → Holds (Some held) n bytes
+      → IsFaultOf bytes fault → Begins words (Some held) command files → ⊥
+  faulty_begins {held = held} h holds is begins = not_faulty no_fault held refl holds is (named_table begins h).1
 
   check_level : {words files : List (List ℕ)} {held : Files} {command : Command} {status : Status} {output : List ℕ} {after : Option Files} → Outcome words (Some held) status output after
-      → Begins words (Some held) command files → Level words held held command.start files status
+      → Begins words (Some held) command files → Level words held command.start files status
   check_level (usage a b c d) h = absurd (no_command_checks h.checks d)
   check_level (many a b c d) h = absurd (not_many h.checks d)
   check_level (no_table at name a b c names lacks) h = absurd (lacking_begins names lacks h)
@@ -344,64 +312,45 @@ module _ (one_list : (held : Files) (files : List (List ℕ)) (xs ys : List Sour
       read_level d.sources (subst (λ fs. ReadsAll (Some held) fs d.sources) one.1 d.read) d.names (says_analysed says)
   check_level (made count asks is c) h = absurd (no_make h.checks asks)
 
-  -- the same of a make, whose number is one
-  make_level : {words : List (List ℕ)} {held : Files} {count : ℕ} {status : Status} {output : List ℕ} → IsSummary count status output → Level words held (generated_files count) 0 (file_names count) status
-  make_level h = read_level h.sources h.read h.names (is_warned h.status_so)
-
-  level : {words files : List (List ℕ)} {held from : Files} {start : ℕ} {status : Status} {output : List ℕ} {after : Option Files} → Outcome words (Some held) status output after
-      → Reads words held from start files → Level words held from start files status
-  level {words} {files} {held} {from} {start} {status} o (by_check command same is begins) =
-      subst (λ f. Level words held f start files status) (sym same) (subst (λ n. Level words held held n files status) (sym is) (check_level o begins))
-  level {words} {files} {held} {from} {start} {status} {output} o (by_make count asks same is names) =
-      subst (λ f. Level words held f start files status) (sym same)
-      (subst (λ n. Level words held (generated_files count) n files status) (sym is)
-      (subst (λ fs. Level words held (generated_files count) 0 fs status) (sym names) (of_make o)))
-    where
-      of_make : {after : Option Files} → Outcome words (Some held) status output after → Level words held (generated_files count) 0 (file_names count) status
-      of_make (usage a b c d) = absurd (d (inr (count, asks)))
-      of_make (many a b c d) = absurd (one_command d.check asks)
-      of_make (no_table at name a b c names lacks) = absurd (no_make names.checks asks)
-      of_make (bad_table at name bytes fault a b c names holds is) = absurd (no_make names.checks asks)
-      of_make (faulty command files at file fault a b c d f g) = absurd (no_make d.checks asks)
-      of_make (duplicate_module command files first second file other a b c d f g h) = absurd (no_make d.checks asks)
-      of_make (long_table command reports new at name a b c d names long) = absurd (no_make d.begins.checks asks)
-      of_make (passed command reports new says c d f) = absurd (no_make d.begins.checks asks)
-      of_make (made other also is c) = make_level (subst (λ n. IsSummary n status output) (one_make also asks) is)
-
-  refused_answered : {words files : List (List ℕ)} {held from : Files} {start : ℕ} {status : Status} (at word : ℕ) (fault : SourceFault) → Level words held from start files status
-      → word ≡ start + at → RefusedAt (Some from) files at fault → status ≡ refused word fault
-  refused_answered {files = files} {from = from} {start = start} at word fault (refused_level place other e g) is h =
-      let one = one_refusal from files place at other fault g h in
+  refused_answered : {words files : List (List ℕ)} {held : Files} {start : ℕ} {status : Status} (at word : ℕ) (fault : SourceFault) → Level words held start files status
+      → word ≡ start + at → RefusedAt (Some held) files at fault → status ≡ refused word fault
+  refused_answered {files = files} {held = held} {start = start} at word fault (refused_level place other e g) is h =
+      let one = one_refusal held files place at other fault g h in
       e ∙ ap (λ n. refused (start + n) other) one.0 ∙ ap (refused (start + at)) one.1 ∙ ap (λ w. refused w fault) (sym is)
-  refused_answered {files = files} {from = from} at word fault (twice_level first second e i) is h = absurd (none_refused from files i.sources i.read.after at fault i.read.read h)
-  refused_answered {files = files} {from = from} at word fault (read_level M read names status_so) is h = absurd (none_refused from files M read.after at fault read.read h)
+  refused_answered at word fault (twice_level first second e i) is h = absurd (not_read none_refused h i.read)
+  refused_answered at word fault (read_level M read names status_so) is h = absurd (not_read none_refused h read)
 
-  pub same_sources : {from : Files} {files : List (List ℕ)} {xs ys : List Source} → ReadsAll (Some from) files xs → ReadsAll (Some from) files ys → xs ≡ ys
-  same_sources {from} {files} {xs} {ys} h k = one_list from files xs ys h.after k.after h.read k.read
-
-  twice_answered : {words : List (List ℕ)} {held : Files} {status : Status} (word other : ℕ) → (h : NamesTwice words held word other) → Level words held h.from h.start h.files status
+  twice_answered : {words : List (List ℕ)} {held : Files} {status : Status} (word other : ℕ) → (h : NamesTwice words held word other) → Level words held h.command.start h.files status
       → status ≡ duplicate word other
-  twice_answered {words} {held} word other h level = by level
-    where
-      by : {status : Status} → Level words held h.from h.start h.files status → status ≡ duplicate word other
-      by (refused_level at fault e g) = absurd (none_refused h.from h.files h.duplicate_module.sources h.duplicate_module.read.after at fault h.duplicate_module.read.read g)
-      by (twice_level first second e k) =
-          let i = h.duplicate_module in
-          let names = module_names (trees i.sources) in
-          let is : FirstDuplicate names first second = subst (λ M. FirstDuplicate (module_names (trees M)) first second) (same_sources k.read i.read) k.is in
-          let two = one_second names first second h.first h.second is i.is in
-          let one = one_first names first h.second h.first (subst (FirstDuplicate names first) two is) i.is in
-          e ∙ ap (λ n. duplicate (h.start + n) (h.start + first)) two ∙ ap (λ n. duplicate (h.start + h.second) (h.start + n)) one
-          ∙ ap (λ w. duplicate w (h.start + h.first)) (sym h.place) ∙ ap (duplicate word) (sym h.other_place)
-      by (read_level M read names status_so) =
-          let i = h.duplicate_module in
-          absurd (own_or_duplicate (trees i.sources) h.first h.second (subst (λ M. HaveOwnNames (trees M)) (same_sources read i.read) names) i.is)
+  twice_answered word other h (refused_level at fault e g) = absurd (not_read none_refused g h.duplicate_module.read)
+  twice_answered word other h (twice_level first second e k) =
+      let one = one_repeated one_list k h.duplicate_module in
+      e ∙ ap₂ (λ i j. duplicate (h.command.start + j) (h.command.start + i)) one.0 one.1 ∙ sym (ap₂ duplicate h.place h.other_place)
+  twice_answered word other h (read_level M read names status_so) = absurd (not_repeated one_list h.duplicate_module read names)
 
-  modules_answered : {words : List (List ℕ)} {held : Files} {status : Status} → (h : NamesModules words held) → Level words held h.from h.start h.files status → IsAnalysed words held status
-  modules_answered h (refused_level at fault e g) = absurd (none_refused h.from h.files h.sources h.read.after at fault h.read.read g)
-  modules_answered h (twice_level first second e k) =
-      absurd (own_or_duplicate (trees k.sources) first second (subst (λ N. HaveOwnNames (trees N)) (same_sources h.read k.read) h.names) k.is)
-  modules_answered h (read_level N also own status_so) = status_so
+  modules_answered : {words : List (List ℕ)} {held : Files} {status : Status} {output : List ℕ} {after : Option Files} → Outcome words (Some held) status output after → NamesModules words held
+      → IsAnalysed words held status
+  modules_answered {words} {held} {status} {output} {after} o h = by h.reads
+    where
+      of_level : {files : List (List ℕ)} {start : ℕ} → ReadsAll (Some held) files h.sources → Level words held start files status → IsAnalysed words held status
+      of_level read (refused_level at fault e g) = absurd (not_read none_refused g read)
+      of_level read (twice_level first second e k) = absurd (not_repeated one_list k read h.names)
+      of_level read (read_level N also own status_so) = status_so
+
+      of_make : {count : ℕ} → IsMake words count → Outcome words (Some held) status output after → IsAnalysed words held status
+      of_make asks (usage a b c d) = absurd (d (inr (_, asks)))
+      of_make asks (many a b c d) = absurd (one_command d.check asks)
+      of_make asks (no_table at name a b c names lacks) = absurd (no_make names.checks asks)
+      of_make asks (bad_table at name bytes fault a b c names holds is) = absurd (no_make names.checks asks)
+      of_make asks (faulty command files at file fault a b c d f g) = absurd (no_make d.checks asks)
+      of_make asks (duplicate_module command files first second file other a b c d f g i) = absurd (no_make d.checks asks)
+      of_make asks (long_table command reports new at name a b c d names long) = absurd (no_make d.begins.checks asks)
+      of_make asks (passed command reports new says c d f) = absurd (no_make d.begins.checks asks)
+      of_make asks (made other also is c) = is_warned is.status_so
+
+      by : Reads words held h.from h.start h.files → IsAnalysed words held status
+      by (by_check command same start begins) = of_level (subst (λ f. ReadsAll (Some f) h.files h.sources) same h.read) (check_level o begins)
+      by (by_make count asks same start files) = of_make asks o
 
   missing_table_answered : {words : List (List ℕ)} {held : Files} {status : Status} {output : List ℕ} {after : Option Files} (word : ℕ) (name : List ℕ) → Outcome words (Some held) status output after
       → NamesTable words word name → Lacks (Some held) name → status ≡ refused word missing
@@ -421,8 +370,7 @@ module _ (one_list : (held : Files) (files : List (List ℕ)) (xs ys : List Sour
   bad_table_answered fault (many a b c d) h = absurd (not_many h.names.checks d)
   bad_table_answered {held = held} fault (no_table at other a b c names k) h = absurd (not_both_held held (sym (one_name names h.names).1) h.held_so k)
   bad_table_answered {held = held} fault (bad_table at name bytes other a b c names holds is) h =
-      let same = one_held held (one_name names h.names).1 holds h.held_so in
-      a ∙ ap faulty_table (fault_once other fault h.bytes is.some h.is.some (subst (IsFirst other) same is.first) h.is.first)
+      a ∙ ap faulty_table (one_fault fault_once held (one_name names h.names).1 holds is h.held_so h.is)
   bad_table_answered fault (faulty command files at file other a b c d f g) h = absurd (faulty_begins h.names h.held_so h.is d)
   bad_table_answered fault (duplicate_module command files first second file other a b c d f g i) h = absurd (faulty_begins h.names h.held_so h.is d)
   bad_table_answered fault (long_table command reports new at other a b c d names long) h = absurd (faulty_begins h.names h.held_so h.is d.begins)
@@ -457,7 +405,7 @@ module _ (one_list : (held : Files) (files : List (List ℕ)) (xs ys : List Sour
         → Outcome words (Some held) status output after → NamesSource words held word (λ most bytes. Is most bytes fault) → status ≡ refused word fault
     source_answered word fault Is from o h =
         let i = h.source in
-        refused_answered h.at word fault (level o h.reads) h.place (at_fault (record { file = i.file; bytes = i.bytes; before = i.before; reached = i.reached; held_so = i.held_so; is = from _ i.bytes i.is }))
+        refused_answered h.at word fault (check_level o h.begins) h.place (at_fault (record { file = i.file; bytes = i.bytes; before = i.before; reached = i.reached; held_so = i.held_so; is = from _ i.bytes i.is }))
 
     -- a fault of a step whose faults are those of a relation
     at_step : (Is : ℕ → List ℕ → SourceFault → Type 0) (step : Step) (fault : SourceFault) → (step ≡ holding → ⊥) → (step ≡ length → ⊥)
@@ -468,7 +416,14 @@ module _ (one_list : (held : Files) (files : List (List ℕ)) (xs ys : List Sour
       λ e.
           let h = source_named (λ k. away (sym of ∙ k)) (λ k. short (sym of ∙ ap (λ f. step_of f.name) k)) (refused_of_outcome word fault o e) in
           let i = faulty_not_missing (λ k. away (sym of ∙ k)) h.refused_so in
-          record { from = h.from; start = h.start; files = h.files; reads = h.reads; at = h.at; place = h.place; source = record { file = i.file; bytes = i.bytes; before = i.before; reached = i.reached; held_so = i.held_so; is = to _ i.bytes of i.is } },
+          record {
+            command = h.command;
+            files = h.files;
+            begins = h.begins;
+            at = h.at;
+            place = h.place;
+            source = record { file = i.file; bytes = i.bytes; before = i.before; reached = i.reached; held_so = i.held_so; is = to _ i.bytes of i.is };
+          },
       source_answered word fault Is from o,
     )
 
@@ -500,9 +455,9 @@ module _ (one_list : (held : Files) (files : List (List ℕ)) (xs ys : List Sour
     pub duplicate_it : IfSome told (λ held. (word other : ℕ) → (status ≡ duplicate word other) ↔ NamesTwice words held word other)
     duplicate_it =
         told_cases (λ held. (word other : ℕ) → (status ≡ duplicate word other) ↔ NamesTwice words held word other)
-        (λ held o word other. (λ e. duplicate_of_outcome word other o e, λ h. twice_answered word other h (level o h.reads)))
+        (λ held o word other. (λ e. duplicate_of_outcome word other o e, λ h. twice_answered word other h (check_level o h.begins)))
 
     pub checked_it : IfSome told (λ held. IsAnalysed words held status ↔ NamesModules words held)
     checked_it =
         told_cases (λ held. IsAnalysed words held status ↔ NamesModules words held)
-        (λ held o. (λ e. analysed_modules o e, λ h. modules_answered h (level o h.reads)))
+        (λ held o. (λ e. analysed_modules o e, λ h. modules_answered o h))

@@ -12,10 +12,12 @@ use Rattle.dialyze_command.specs.Lines.{too_long, too_many}
 use Rattle.analysis_sources.specs.Refusals.{missing}
 use Rattle.dialyze_command.specs.Making.{IsSummary, PutsFirst}
 use Rattle.dialyze_command.specs.Words.{AsksForCheck, IsMake, IsNoCommand, IsNoMake}
-use Rattle.dialyze_command.proofs.Numbers.{mark, mark_of, not_other}
+use Rattle.dialyze_command.proofs.Numbers.{mark, mark_of}
 use Rattle.dialyze_command.proofs.Places.{start_late, plt_before, out_before}
 use Rattle.dialyze_command.proofs.WordExits.{one_check, one_command}
-use Rattle.dialyze_command.specs.Outcome.{Checks, ChecksTooMany, NamesTable, SaysWhether, says_no, says_yes, Outcome, usage, many, no_table, bad_table, faulty, duplicate_module, long_table, passed, made, IsUnread, of_table, of_file, IsUnreplaced, of_new_table, of_generated, Intended, answered, unread, unreplaced, Answers, FailsToRead, FailsToReplace, FailsToWrite, IsAnswer, IsPassed, IsPossible, StoresNothing, of_word, of_many, of_two}
+use Rattle.dialyze_command.specs.Outcome.{Checks, ChecksTooMany, NamesTable, SaysWhether, says_no, says_yes, Outcome, usage, many, no_table, bad_table, faulty, duplicate_module, long_table, passed, made}
+use Rattle.dialyze_command.specs.Outcome.{IsUnread, of_table, of_file, IsUnreplaced, of_new_table, of_generated, Intended, answered, unread, unreplaced, Answers, FailsToRead, FailsToReplace, FailsToWrite}
+use Rattle.dialyze_command.specs.Outcome.{IsAnswer, IsPassed, IsPossible, StoresNothing, of_word, of_many, of_two}
 use Rattle.dialyze_command.specs.Laws.{Passed}
 
 says_answer : {status : Status} {output : List ℕ} → SaysWhether status output → IsAnswer status
@@ -43,7 +45,8 @@ outcome_of h (unread word name a b c d rose) = absurd (subst IsAnswer a h)
 outcome_of h (unreplaced word name a b d rose) = absurd (subst IsAnswer a h)
 
 -- the headline
-pub answers_it : (words : List (List ℕ)) (told after : Option Files) (rb rn n k : ℕ) (status : Status) (output : List ℕ) (before now : Option (List ℕ)) → Intended words told rb rn n k status output after → now ≡ appended before output → IsAnswer status → IfSome told (λ held. Answers words held after status before now)
+pub answers_it : (words : List (List ℕ)) (told after : Option Files) (rb rn n k : ℕ) (status : Status) (output : List ℕ) (before now : Option (List ℕ))
+    → Intended words told rb rn n k status output after → now ≡ appended before output → IsAnswer status → IfSome told (λ held. Answers words held after status before now)
 answers_it words None after rb rn n k status output before now h w a = tt
 answers_it words (Some held) after rb rn n k status output before now h w a = record { output = output; outcome = outcome_of a h; written = w }
 
@@ -67,7 +70,8 @@ passed_answer (DeviceFault device) h = absurd h
 passed_answer Memory h = absurd h
 passed_answer Usage h = absurd h
 
-pub passed_so : {words : List (List ℕ)} {held : Files} {after : Option Files} {status : Status} {output : List ℕ} {before now : Option (List ℕ)} → AsksForCheck words → 100 ≤ mark status → mark status ≤ 101 → Outcome words (Some held) status output after
+pub passed_so : {words : List (List ℕ)} {held : Files} {after : Option Files} {status : Status} {output : List ℕ} {before now : Option (List ℕ)} → AsksForCheck words → 100 ≤ mark status
+    → mark status ≤ 101 → Outcome words (Some held) status output after
     → now ≡ appended before output → Passed words held after before now
 passed_so asks h k (usage a b c d) w = absurd (omega (arith, k, ap mark a))
 passed_so asks h k (many a b c d) w = absurd (omega (arith, h, ap mark a))
@@ -80,7 +84,8 @@ passed_so {before = before} asks h k (passed command reports new says c d f) w =
     record { command = command; reports = reports; new = new; analyses = d; written = w ∙ ap (appended before) c; stored = f }
 passed_so asks h k (made count make is c) w = absurd (one_command asks.2 make)
 
-pub passed_it : (words : List (List ℕ)) (held : Files) (after : Option Files) (rb rn n k : ℕ) (status : Status) (output : List ℕ) (before now : Option (List ℕ)) → Intended words (Some held) rb rn n k status output after → now ≡ appended before output → AsksForCheck words → IsPassed status → Passed words held after before now
+pub passed_it : (words : List (List ℕ)) (held : Files) (after : Option Files) (rb rn n k : ℕ) (status : Status) (output : List ℕ) (before now : Option (List ℕ))
+    → Intended words (Some held) rb rn n k status output after → now ≡ appended before output → AsksForCheck words → IsPassed status → Passed words held after before now
 passed_it words held after rb rn n k status output before now h w asks is =
     let m = passed_mark status is in
     passed_so asks m.0 m.1 (outcome_of (passed_answer status is) h) w
@@ -129,7 +134,7 @@ many_to (usage a b c d) e = absurd (omega (arith, ap mark (sym a ∙ e)))
 many_to (many a b c d) e = d
 many_to (no_table at name a b c names lacks) e = absurd (omega (arith, ap mark (sym a ∙ e)))
 many_to (bad_table at name bytes fault a b c names holds is) e = absurd (omega (arith, ap mark (sym a ∙ e)))
-many_to (faulty command files at file fault a b c d f g) e = absurd ((not_other fault.name).1 (ap mark (sym a ∙ e)))
+many_to (faulty command files at file fault a b c d f g) e = absurd ((mark_of fault.name).2 (ap mark (sym a ∙ e)))
 many_to (duplicate_module command files first second file other a b c d f g h) e = absurd (omega (arith, ap mark (sym a ∙ e)))
 many_to (long_table command reports new at name a b c d names long) e = absurd (omega (arith, ap mark (sym a ∙ e)))
 many_to (passed command reports new (says_no a b) c d f) e = absurd (omega (arith, ap mark (sym a ∙ e)))
@@ -152,24 +157,28 @@ too_many_it words told after rb rn n k status output h answer = (many_to (outcom
 
 -- ---- the faults of devices
 
-read_to : {words : List (List ℕ)} {told after : Option Files} {rb rn n k : ℕ} {status : Status} {output : List ℕ} {before now : Option (List ℕ)} (word : ℕ) → Intended words told rb rn n k status output after → now ≡ appended before output → status ≡ DeviceFault (Read word) → FailsToRead words told word rb rn before now
+read_to : {words : List (List ℕ)} {told after : Option Files} {rb rn n k : ℕ} {status : Status} {output : List ℕ} {before now : Option (List ℕ)} (word : ℕ)
+    → Intended words told rb rn n k status output after → now ≡ appended before output → status ≡ DeviceFault (Read word) → FailsToRead words told word rb rn before now
 read_to word (answered o) w e = absurd (subst IsAnswer e (answers o))
 read_to {words} {told} {before = before} word (unread at name a b c d rose) w e =
     let is : at ≡ word = let k = sym a ∙ e in cc in
     record { name = name; unread_so = subst (λ v. IsUnread words told v name) is d; rose = rose; written = w ∙ ap (appended before) b }
 read_to word (unreplaced at name a b d rose) w e = let k = sym a ∙ e in absurd cc
 
-pub read_it : (words : List (List ℕ)) (told after : Option Files) (rb rn n k : ℕ) (status : Status) (output : List ℕ) (before now : Option (List ℕ)) → Intended words told rb rn n k status output after → now ≡ appended before output → (word : ℕ) → status ≡ DeviceFault (Read word) → FailsToRead words told word rb rn before now
+pub read_it : (words : List (List ℕ)) (told after : Option Files) (rb rn n k : ℕ) (status : Status) (output : List ℕ) (before now : Option (List ℕ))
+    → Intended words told rb rn n k status output after → now ≡ appended before output → (word : ℕ) → status ≡ DeviceFault (Read word) → FailsToRead words told word rb rn before now
 read_it words told after rb rn n k status output before now h w word e = read_to word h w e
 
-replace_to : {words : List (List ℕ)} {told after : Option Files} {rb rn n k : ℕ} {status : Status} {output : List ℕ} {before now : Option (List ℕ)} (word : ℕ) → Intended words told rb rn n k status output after → now ≡ appended before output → status ≡ DeviceFault (Replace word) → FailsToReplace words told after word n k before now
+replace_to : {words : List (List ℕ)} {told after : Option Files} {rb rn n k : ℕ} {status : Status} {output : List ℕ} {before now : Option (List ℕ)} (word : ℕ)
+    → Intended words told rb rn n k status output after → now ≡ appended before output → status ≡ DeviceFault (Replace word) → FailsToReplace words told after word n k before now
 replace_to word (answered o) w e = absurd (subst IsAnswer e (answers o))
 replace_to word (unread at name a b c d rose) w e = let k = sym a ∙ e in absurd cc
 replace_to {words} {told} {after} {before = before} word (unreplaced at name a b d rose) w e =
     let is : at ≡ word = let k = sym a ∙ e in cc in
     record { name = name; unreplaced_so = subst (λ v. IsUnreplaced words told v name after) is d; rose = rose; written = w ∙ ap (appended before) b }
 
-pub replace_it : (words : List (List ℕ)) (told after : Option Files) (rb rn n k : ℕ) (status : Status) (output : List ℕ) (before now : Option (List ℕ)) → Intended words told rb rn n k status output after → now ≡ appended before output → (word : ℕ) → status ≡ DeviceFault (Replace word) → FailsToReplace words told after word n k before now
+pub replace_it : (words : List (List ℕ)) (told after : Option Files) (rb rn n k : ℕ) (status : Status) (output : List ℕ) (before now : Option (List ℕ))
+    → Intended words told rb rn n k status output after → now ≡ appended before output → (word : ℕ) → status ≡ DeviceFault (Replace word) → FailsToReplace words told after word n k before now
 replace_it words told after rb rn n k status output before now h w word e = replace_to word h w e
 
 no_write : {words : List (List ℕ)} {told after : Option Files} {rb rn n k : ℕ} {status : Status} {output : List ℕ} → Intended words told rb rn n k status output after → status ≡ DeviceFault Write → ⊥
@@ -177,10 +186,12 @@ no_write (answered o) e = absurd (subst IsAnswer e (answers o))
 no_write (unread word name a b c d rose) e = let k = sym a ∙ e in absurd cc
 no_write (unreplaced word name a b d rose) e = let k = sym a ∙ e in absurd cc
 
-pub unwritten_it : (words : List (List ℕ)) (told after : Option Files) (rb rn n k o p : ℕ) (status : Status) (output : List ℕ) (before now : Option (List ℕ)) → Intended words told rb rn n k status output after → status ≡ DeviceFault Write → FailsToWrite words told after rb rn n k o p before now
+pub unwritten_it : (words : List (List ℕ)) (told after : Option Files) (rb rn n k o p : ℕ) (status : Status) (output : List ℕ) (before now : Option (List ℕ))
+    → Intended words told rb rn n k status output after → status ≡ DeviceFault Write → FailsToWrite words told after rb rn n k o p before now
 unwritten_it words told after rb rn n k o p status output before now h e = absurd (no_write h e)
 
-pub write_it : (words : List (List ℕ)) (told after : Option Files) (rb rn n k o p : ℕ) (status : Status) (output : List ℕ) (before now : Option (List ℕ)) → Intended words told rb rn n k status output after → Rose o p → IsPrefixAppended before now output → FailsToWrite words told after rb rn n k o p before now
+pub write_it : (words : List (List ℕ)) (told after : Option Files) (rb rn n k o p : ℕ) (status : Status) (output : List ℕ) (before now : Option (List ℕ))
+    → Intended words told rb rn n k status output after → Rose o p → IsPrefixAppended before now output → FailsToWrite words told after rb rn n k o p before now
 write_it words told after rb rn n k o p status output before now h r w = record { rose = r; status = status; output = output; intended = h; written = w }
 
 no_memory : {words : List (List ℕ)} {told after : Option Files} {rb rn n k : ℕ} {status : Status} {output : List ℕ} → Intended words told rb rn n k status output after → status ≡ Memory → ⊥
@@ -244,7 +255,8 @@ make_outcome (long_table command reports new at name a b c d names long) asks = 
 make_outcome (passed command reports new says c d f) asks = absurd (one_command d.begins.checks.check asks)
 make_outcome (made count asks is c) also = is.status_so
 
-pub makes_it : (words : List (List ℕ)) (told after : Option Files) (rb rn n k : ℕ) (status : Status) (output : List ℕ) → Intended words told rb rn n k status output after → IsAnswer status → (count : ℕ) → IsMake words count → status ≡ Warnings
+pub makes_it : (words : List (List ℕ)) (told after : Option Files) (rb rn n k : ℕ) (status : Status) (output : List ℕ) → Intended words told rb rn n k status output after → IsAnswer status
+    → (count : ℕ) → IsMake words count → status ≡ Warnings
 makes_it words told after rb rn n k status output (answered o) a count asks = make_outcome o asks
 makes_it words told after rb rn n k status output (unread word name b c d f rose) a count asks = absurd (subst IsAnswer b a)
 makes_it words told after rb rn n k status output (unreplaced word name b c f rose) a count asks = absurd (subst IsAnswer b a)
@@ -276,7 +288,8 @@ stays_it words told after rb rn n k status output h none is = stays h none is
 
 -- ---- a make without memory left
 
-pub unfinished_it : (words : List (List ℕ)) (told after : Option Files) (rb rn n k : ℕ) (status : Status) (output : List ℕ) → Intended words told rb rn n k status output after → (count : ℕ) → IsMake words count → status ≡ Memory → PutsFirst count told after
+pub unfinished_it : (words : List (List ℕ)) (told after : Option Files) (rb rn n k : ℕ) (status : Status) (output : List ℕ) → Intended words told rb rn n k status output after → (count : ℕ)
+    → IsMake words count → status ≡ Memory → PutsFirst count told after
 unfinished_it words told after rb rn n k status output h count asks e = absurd (no_memory h e)
 
 pub ruleset check_exits = (answers_it, usage_it, too_many_it, read_it, replace_it, unwritten_it, write_it, memory_it, possible_it, stays_it, unfinished_it)

@@ -19,8 +19,9 @@ use Rattle.table_keep.specs.Model.{Source, trees}
 use Rattle.analysis_sources.specs.declared.refusals.SourceFault.{SourceFault}
 use Rattle.analysis_sources.specs.Reading.{AreRead, RefusedAt, not_held, at_fault}
 use Rattle.analysis_sources.specs.Sources.{room, IsTextOf, IsSource, IsAtFault, Scanned}
+use Rattle.analysis_summaries.specs.Known.{module_names}
+use Rattle.analysis_answers.specs.ReadFiles.{HaveOwnNames}
 use Rattle.dialyze_command.specs.Making.{file_name, file_names, generated_files}
-use Rattle.dialyze_command.specs.ReadFiles.{HaveOwnNames, module_names}
 use Rattle.dialyze_command.proofs.MakeFiles.{file_at, file_name_once, held_file, never_missing, number_within, some_same}
 
 -- the name of a generated module

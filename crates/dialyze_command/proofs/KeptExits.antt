@@ -21,8 +21,10 @@ use Rattle.sound_laws_kept.specs.Laws.{AgainLaw, KeptLaw, FoundLaw, DigestsTell}
 use Rattle.sound_laws_kept.specs.Solving.{AreSources, IsWritten}
 use Rattle.sound_laws_kept.proofs.Names.{accepted_append, accepted_picked}
 use Rattle.sound_laws_kept.proofs.NothingWritten.{nothing_written}
+use Rattle.analysis_summaries.specs.Known.{module_names}
+use Rattle.analysis_answers.specs.ReadFiles.{HaveOwnNames}
 use Rattle.dialyze_command.specs.declared.status.Status.{Status}
-use Rattle.dialyze_command.specs.Outcome.{HaveOwnNames, module_names, IsBegun, empty, named, Intended, IsPassed}
+use Rattle.dialyze_command.specs.Outcome.{IsBegun, empty, named, Intended, IsPassed}
 use Rattle.dialyze_command.specs.Words.{AsksForCheck}
 use Rattle.dialyze_command.proofs.CheckExits.{passed_it}
 use Rattle.dialyze_command.specs.Laws.{BeganWith, IsFromScratch, Passed, NothingReportedFalse, WritesFromScratch, WritesNothingFalse, whole_of}
@@ -109,7 +111,8 @@ module _ (kept_law : KeptLaw) (again_law : AgainLaw) (found_law : FoundLaw) (who
     alone_so none =
         let M = passed.analyses.sources in
         let T = entries_so passed.analyses.begins.table in
-        let is = found_so [] M T (entries_so passed.new) [] passed.reports (record { accepted = tt; distinct = tt }) of_m (λ h s t e f g. no_source e) (subst (IsWritten [] [] []) (sym (no_entries passed.analyses.begins.begun)) empty_written) passed.analyses.written in
+        let is = found_so [] M T (entries_so passed.new) [] passed.reports (record { accepted = tt; distinct = tt }) of_m (λ h s t e f g. no_source e)
+        (subst (IsWritten [] [] []) (sym (no_entries passed.analyses.begins.begun)) empty_written) passed.analyses.written in
         subst (λ U. NothingReportedFalse U M passed.reports) (append-nil M) is
       where
         no_source : {s : Source} {X : Type 0} → None ≡ Some s → X
@@ -117,7 +120,7 @@ module _ (kept_law : KeptLaw) (again_law : AgainLaw) (found_law : FoundLaw) (who
 
         no_entries : IsBegun words (Some held) passed.command.plt passed.analyses.begins.table → entries_so passed.analyses.begins.table ≡ []
         no_entries (empty e f) = ap (map entry_so) f
-        no_entries (named word name bytes names holds spells) = let k = sym none ∙ names.given in absurd cc
+        no_entries (named word name names read) = let k = sym none ∙ names.given in absurd cc
 
     pub nothing_false : WritesNothingFalse words held after before now
     nothing_false = record {
@@ -129,13 +132,15 @@ module _ (kept_law : KeptLaw) (again_law : AgainLaw) (found_law : FoundLaw) (who
 
   -- ---- as the clauses say it
 
-  pub kept_it : (words : List (List ℕ)) (told after : Option Files) (rb rn n k : ℕ) (status : Status) (output : List ℕ) (before now : Option (List ℕ)) → Intended words told rb rn n k status output after → now ≡ appended before output → AsksForCheck words → IsPassed status
+  pub kept_it : (words : List (List ℕ)) (told after : Option Files) (rb rn n k : ℕ) (status : Status) (output : List ℕ) (before now : Option (List ℕ))
+      → Intended words told rb rn n k status output after → now ≡ appended before output → AsksForCheck words → IsPassed status
       → IfSome told (λ held. WritesFromScratch words held after before now)
   kept_it words None after rb rn n k status output before now h w asks is = tt
   kept_it words (Some held) after rb rn n k status output before now h w asks is =
       from_scratch words held after before now (passed_it words held after rb rn n k status output before now h w asks is)
 
-  pub sound_it : (words : List (List ℕ)) (told after : Option Files) (rb rn n k : ℕ) (status : Status) (output : List ℕ) (before now : Option (List ℕ)) → Intended words told rb rn n k status output after → now ≡ appended before output → AsksForCheck words → IsPassed status
+  pub sound_it : (words : List (List ℕ)) (told after : Option Files) (rb rn n k : ℕ) (status : Status) (output : List ℕ) (before now : Option (List ℕ))
+      → Intended words told rb rn n k status output after → now ≡ appended before output → AsksForCheck words → IsPassed status
       → IfSome told (λ held. WritesNothingFalse words held after before now)
   sound_it words None after rb rn n k status output before now h w asks is = tt
   sound_it words (Some held) after rb rn n k status output before now h w asks is =

@@ -1,5 +1,5 @@
 -- What a make gives, one step after another: each way out.
-use Rattle.std.proofs.Common.{◌≡◌, ℕ, ◌^◌, ◌<◌, ◌≤◌, List, [], ◌∷◌, length, map, refl, sym, ap, ap₂, ◌∙◌, subst, Option, Some, Result, Ok, Err, arith}
+use Rattle.std.proofs.Common.{◌≡◌, ℕ, ◌^◌, ◌<◌, ◌≤◌, List, [], length, map, refl, sym, ap, ap₂, ◌∙◌, subst, Option, Some, Result, Ok, Err, arith}
 use Rattle.std.specs.Prelude.{IfOk, OnErr}
 use Rattle.std.specs.List.{concat}
 use Rattle.std.proofs.lemmas.List.{length-map}
@@ -21,16 +21,17 @@ use Rattle.analysis.specs.declared.analysing.Fault.TheVariants.{Set}
 use Rattle.analysis.specs.Reports.{IsSetFault}
 use Rattle.analysis_sources.specs.Reading.{AreHeld, AreRead, TextFails}
 use Rattle.analysis_sources.specs.declared.reading.ReadFault.{ReadFault}
+use Rattle.analysis_answers.specs.ReadFiles.{HaveOwnNames}
+use Rattle.analysis_answers.proofs.AnswerExits.{own_so, trees_so}
 use Rattle.dialyze_command.specs.declared.answer.Answer.{Answer}
 use Rattle.dialyze_command.specs.declared.status.Status.TheVariants.{Warnings}
 use Rattle.dialyze_command.specs.Making.{file_name, file_names, generated_files, with_first, line_count, summary_line, IsSummary, PutsFirst}
 use Rattle.dialyze_command.specs.Outcome.{Intended, answered, unreplaced, made, of_generated}
 use Rattle.dialyze_command.specs.Words.{IsMake}
-use Rattle.dialyze_command.specs.ReadFiles.{HaveOwnNames}
 use Rattle.dialyze_command.specs.steps.Plans.{first_of, second_of}
 use Rattle.dialyze_command.specs.steps.Puts as p
 use Rattle.dialyze_command.proofs.MakeFiles.{generated_held, made_length}
-use Rattle.dialyze_command.proofs.PlanExits.{own_names, set_told}
+use Rattle.dialyze_command.proofs.PlanExits.{set_told}
 use Rattle.dialyze_command.proofs.WordExits.{one_make}
 
 -- ---- files that are put one after another
@@ -85,10 +86,6 @@ fails_there n fault texts small is fails =
 
 -- ---- what the analysis says of the modules
 
-trees_same : (sources : List HandedIn) → map (λ (s : HandedIn). tree_of s.checked) sources ≡ trees (sources_so sources)
-trees_same [] = refl
-trees_same (s ∷ ss) = ap (λ ts. tree_of s.checked ∷ ts) (trees_same ss)
-
 pub counted_it : (sources : List HandedIn) (table new : Table) (reports : List (List ℕ)) (modules functions : ℕ) (r : Result Answer Memory) → table.entries ≡ [] → modules ≡ length sources
     → ((j : ℕ) → j < length sources → StandsEarlier (map (λ (s : HandedIn). (module_of s.checked).name) sources) j → ⊥) → IsWritten (entries_so table) (sources_so sources) reports (entries_so new)
     → functions ≡ length (functions_of (map (λ (s : HandedIn). tree_of s.checked) sources)) → IfOk r (λ a. a.status ≡ Warnings) → IfOk r (λ a. a.output ≡ summary_line modules functions (line_count (concat reports)))
@@ -99,8 +96,8 @@ counted_it sources table new reports modules functions (Ok a) none is own writte
       reports = reports;
       new = entries_so new;
       status_so = s;
-      output_so = o ∙ ap₂ (λ k f. summary_line k f (line_count (concat reports))) (is ∙ sym (length-map sources source_so)) (count ∙ ap (λ ts. length (functions_of ts)) (trees_same sources));
-      names = own_names sources own;
+      output_so = o ∙ ap₂ (λ k f. summary_line k f (line_count (concat reports))) (is ∙ sym (length-map sources source_so)) (count ∙ ap (λ ts. length (functions_of ts)) (trees_so sources));
+      names = own_so sources own;
       written = subst (λ T. IsWritten T (sources_so sources) reports (entries_so new)) (ap (map entry_so) none) written;
     }
 

@@ -11,14 +11,13 @@ use Rattle.std.proofs.lemmas.Cmp.{nat_list_cmp_total}
 use Rattle.std.proofs.lemmas.List.{append_cancel_right}
 use Rattle.std.proofs.lemmas.List.FromFn.{length-map-range_with_len, get_or-map-range_with_len}
 use Rattle.std.proofs.lemmas.Option.{slice_get_within, slice_get-get_or}
-use Rattle.core_ast.specs.Model as m
 use Rattle.core_make.specs.Modules.{module_text, generated}
 use Rattle.da_shelf.specs.Told.{Files, replaced}
 use Rattle.table_keep.specs.Model.{Source}
 use Rattle.analysis_sources.proofs.FilesRead.{read_length}
 use Rattle.analysis_sources.specs.Reading.{AreHeld, IsMissingAt}
+use Rattle.analysis_answers.specs.ReadFiles.{ReadsAll}
 use Rattle.dialyze_command.specs.Making.{file_name, file_names, files_with, generated_files, with_first}
-use Rattle.dialyze_command.specs.ReadFiles.{ReadsAll}
 use Rattle.analysis_answers.proofs.PrintedNumbers.{decimal_once}
 
 -- ---- names

@@ -2,7 +2,6 @@
 use Rattle.std.proofs.Common.{◌≡◌, ◌≢◌, ℕ, ◌<◌, sym, ◌∙◌, ap, arith}
 use Rattle.table_file.specs.declared.faults.TableFault.{TableFault as FaultOfTable}
 use Rattle.analysis_sources.specs.declared.refusals.RefusalName.{RefusalName}
-use Rattle.analysis_sources.specs.declared.refusals.RefusalName.TheVariants as r
 use Rattle.analysis_sources.specs.declared.refusals.SourceFault.{SourceFault}
 use Rattle.analysis_sources.specs.Refusals.{refusal_number, missing}
 use Rattle.analysis_answers.proofs.FileRefusals.{by_number, tells}
@@ -38,26 +37,6 @@ one_fault_of v w f g e = sym (told_by_refused v f) ∙ ap told_by e ∙ told_by_
 pub one_word : (v w : ℕ) (f g : SourceFault) → refused v f ≡ refused w g → v ≡ w
 one_word v w f g e = ap word_by e
 
--- a source is refused by none of the numbers of the other refusals
-abbrev pub IsOther : ℕ → Type 0
-IsOther n = (n ≢ 14) × (n ≢ 24)
-
-pub not_other : (name : RefusalName) → IsOther (refusal_number name)
-not_other r.BadByte = (λ e. absurd (omega (arith, e)), λ e. absurd (omega (arith, e)))
-not_other r.OpenQuote = (λ e. absurd (omega (arith, e)), λ e. absurd (omega (arith, e)))
-not_other r.BadEscape = (λ e. absurd (omega (arith, e)), λ e. absurd (omega (arith, e)))
-not_other r.WideInteger = (λ e. absurd (omega (arith, e)), λ e. absurd (omega (arith, e)))
-not_other r.Syntax = (λ e. absurd (omega (arith, e)), λ e. absurd (omega (arith, e)))
-not_other r.TooDeep = (λ e. absurd (omega (arith, e)), λ e. absurd (omega (arith, e)))
-not_other r.Unbound = (λ e. absurd (omega (arith, e)), λ e. absurd (omega (arith, e)))
-not_other r.RepeatedVariable = (λ e. absurd (omega (arith, e)), λ e. absurd (omega (arith, e)))
-not_other r.UndefinedFunction = (λ e. absurd (omega (arith, e)), λ e. absurd (omega (arith, e)))
-not_other r.RepeatedFunction = (λ e. absurd (omega (arith, e)), λ e. absurd (omega (arith, e)))
-not_other r.BadExport = (λ e. absurd (omega (arith, e)), λ e. absurd (omega (arith, e)))
-not_other r.Degree = (λ e. absurd (omega (arith, e)), λ e. absurd (omega (arith, e)))
-not_other r.TooLong = (λ e. absurd (omega (arith, e)), λ e. absurd (omega (arith, e)))
-not_other r.Missing = (λ e. absurd (omega (arith, e)), λ e. absurd (omega (arith, e)))
-
 -- ---- a table's fault is told by its number
 
 abbrev pub table_number_by : Status → ℕ
@@ -81,20 +60,4 @@ mark Usage = 105
 
 -- a source is refused by none of the numbers of the other refusals
 pub mark_of : (name : RefusalName) → (refusal_number name < 27) × (refusal_number name ≢ 14) × (refusal_number name ≢ 24)
-mark_of name = (below name, (not_other name).0, (not_other name).1)
-  where
-    below : (name : RefusalName) → refusal_number name < 27
-    below r.BadByte = omega arith
-    below r.OpenQuote = omega arith
-    below r.BadEscape = omega arith
-    below r.WideInteger = omega arith
-    below r.Syntax = omega arith
-    below r.TooDeep = omega arith
-    below r.Unbound = omega arith
-    below r.RepeatedVariable = omega arith
-    below r.UndefinedFunction = omega arith
-    below r.RepeatedFunction = omega arith
-    below r.BadExport = omega arith
-    below r.Degree = omega arith
-    below r.TooLong = omega arith
-    below r.Missing = omega arith
+mark_of name = let told = tells name in (omega (arith, told.low), told.of_one, told.of_some)

@@ -1,36 +1,36 @@
 -- Two outcomes of the same words, where the same is held, are one: step after step the second can be no other.
-use Rattle.std.proofs.Common.{◌≡◌, inl, inr, ℕ, ◌+◌, List, [], sym, ◌∙◌, ap, ap₂, subst, Option, Some, None, true, false, IsTrue}
+use Rattle.std.proofs.Common.{◌≡◌, inl, inr, ℕ, ◌+◌, List, [], sym, ◌∙◌, ap, ap₂, subst, Option, Some, None, true, false}
 use Rattle.std.proofs.Common.{length as list_length}
 use Rattle.std.specs.Prelude.{slice_get, map}
-use Rattle.std.specs.List.{concat, list_all}
+use Rattle.std.specs.List.{concat}
 use Rattle.call_graph.specs.Calls.{functions_of}
-use Rattle.core_scope.specs.Sets.{FirstDuplicate}
 use Rattle.da_shelf.specs.Told.{Files, Holds, Lacks, replaced}
 use Rattle.table_file.specs.declared.tables.Table.{Table}
 use Rattle.table_file.specs.declared.faults.TableFault.{TableFault as FaultOfTable}
-use Rattle.table_file.specs.declared.faults.TableFault.TheVariants as t
-use Rattle.table_file.specs.Faults.{IsFirst}
-use Rattle.table_file.specs.Lengths.{has_short_types, is_short_table}
-use Rattle.table_file.specs.Spelling.{table_bytes}
+use Rattle.table_file.specs.Lengths.{is_short_table}
 use Rattle.table_keep.specs.Model.{Source, trees, entry_so, entries_so}
 use Rattle.sound_laws_kept.proofs.Names.{none_some, some_is}
 use Rattle.sound_laws_kept.specs.Laws.{OneAnalysisLaw, UseCalled}
 use Rattle.sound_laws_kept.specs.Solving.{IsWritten}
 use Rattle.analysis_sources.specs.declared.refusals.SourceFault.{SourceFault}
-use Rattle.analysis_sources.specs.Reading.{AreRead, RefusedAt}
+use Rattle.analysis_sources.specs.Reading.{RefusedAt}
 use Rattle.analysis_sources.specs.Refusals.{refusal_line, missing}
+use Rattle.analysis_answers.proofs.HeldOnce.{NoFault, NoneRefused, OnceSpelled, OneFault, OneList, OneRefusal}
+use Rattle.analysis_answers.proofs.HeldOnce.{not_both_held, not_read, not_repeated, one_fault, one_reading, one_repeated, one_table}
 use Rattle.analysis_answers.proofs.TableModels.{same_bytes, same_short}
+use Rattle.analysis_answers.specs.ReadFiles.{IsDuplicate, ReadsAll}
+use Rattle.analysis_answers.specs.Tables.{IsFaultOf}
 use Rattle.dialyze_command.specs.declared.status.Status.{Status}
 use Rattle.dialyze_command.specs.declared.status.Status.TheVariants.{Usage}
 use Rattle.dialyze_command.specs.declared.words.Command.{Command}
 use Rattle.dialyze_command.specs.Lines.{usage_line, refused, too_long, too_many, too_many_line, duplicate, duplicate_line, faulty_table, table_fault_line}
 use Rattle.dialyze_command.specs.Making.{with_first, line_count, summary_line, IsSummary}
 use Rattle.dialyze_command.specs.OneOutcome.{BeginsFitly, OneOutcomeLaw}
-use Rattle.dialyze_command.specs.Outcome.{ChecksTooMany, Names, NamesTable, IsBegun, empty, named, Begins, IsFaultOf, ReadsAll, HaveOwnNames, module_names, IsDuplicate, Analyses, Stores, nowhere, under}
+use Rattle.dialyze_command.specs.Outcome.{ChecksTooMany, Names, NamesTable, IsBegun, empty, named, Begins, Analyses, Stores, nowhere, under}
 use Rattle.dialyze_command.specs.Outcome.{SaysWhether, says_no, says_yes, Outcome, usage, many, no_table, bad_table, faulty, duplicate_module, long_table, passed, made}
 use Rattle.dialyze_command.specs.Words.{IsMake, IsNoCommand}
 use Rattle.dialyze_command.proofs.Causes as causes
-use Rattle.dialyze_command.proofs.Causes.{no_command_checks, not_many, no_make, one_word_there, one_name, one_held, not_both_held, lacking_begins, one_first, one_second, own_or_duplicate}
+use Rattle.dialyze_command.proofs.Causes.{no_command_checks, not_many, no_make, one_word_there, one_name, lacking_begins}
 use Rattle.dialyze_command.proofs.KeptExits.{are_sources}
 use Rattle.dialyze_command.proofs.UsedByEntries.{table_uses_called}
 use Rattle.dialyze_command.proofs.WordExits.{one_check, one_command, one_make}
@@ -98,38 +98,13 @@ one_end r e (ends_passed says d stores) (ends_passed says2 f stores2) =
 
 -- ---- the files of a make
 
-module _ (one_list : (held : Files) (files : List (List ℕ)) (xs ys : List Source) (a b : ℕ) → AreRead (Some held) 0 files xs a → AreRead (Some held) 0 files ys b → xs ≡ ys)
-    (one_refusal : (held : Files) (files : List (List ℕ)) (i j : ℕ) (f g : SourceFault) → RefusedAt (Some held) files i f → RefusedAt (Some held) files j g → (i ≡ j) × (f ≡ g))
-    (none_refused : (held : Files) (files : List (List ℕ)) (xs : List Source) (after i : ℕ) (f : SourceFault) → AreRead (Some held) 0 files xs after → RefusedAt (Some held) files i f → ⊥)
-    (once : (s t : Table) → IsTrue (list_all has_short_types s.entries) → IsTrue (list_all has_short_types t.entries) → table_bytes s ≡ table_bytes t → s ≡ t)
-    (fault_once : (f g : FaultOfTable) (bytes : List ℕ) → (f ≡ t.Memory → ⊥) → (g ≡ t.Memory → ⊥) → IsFirst f bytes → IsFirst g bytes → f ≡ g)
-    (no_fault : (f : FaultOfTable) (table : Table) → IsTrue (list_all has_short_types table.entries) → IsFirst f (table_bytes table) → f ≡ t.Memory)
-    (one_analysis : OneAnalysisLaw) where
-  read_once : {from : Files} {files : List (List ℕ)} {xs ys : List Source} → ReadsAll (Some from) files xs → ReadsAll (Some from) files ys → xs ≡ ys
-  read_once {from} {files} {xs} {ys} h k = one_list from files xs ys h.after k.after h.read k.read
-
-  refused_twice : {from : Files} {files : List (List ℕ)} {at : ℕ} {fault : SourceFault} {first second : ℕ} → RefusedAt (Some from) files at fault → IsDuplicate (Some from) files first second → ⊥
-  refused_twice {from} {files} {at} {fault} h k = none_refused from files k.sources k.read.after at fault k.read.read h
-
-  refused_read : {from : Files} {files : List (List ℕ)} {at : ℕ} {fault : SourceFault} {xs : List Source} → RefusedAt (Some from) files at fault → ReadsAll (Some from) files xs → ⊥
-  refused_read {from} {files} {at} {fault} {xs} h k = none_refused from files xs k.after at fault k.read h
-
-  twice_read : {from : Files} {files : List (List ℕ)} {first second : ℕ} {xs : List Source} → IsDuplicate (Some from) files first second → ReadsAll (Some from) files xs → HaveOwnNames (trees xs) → ⊥
-  twice_read {first = first} {second = second} h read own = own_or_duplicate (trees h.sources) first second (subst (λ M. HaveOwnNames (trees M)) (read_once read h.read) own) h.is
-
-  one_duplicate : {from : Files} {files : List (List ℕ)} {i j k l : ℕ} → IsDuplicate (Some from) files i j → IsDuplicate (Some from) files k l → (i ≡ k) × (j ≡ l)
-  one_duplicate {i = i} {j = j} {k = k} {l = l} h g =
-      let names = module_names (trees h.sources) in
-      let is : FirstDuplicate names k l = subst (λ M. FirstDuplicate (module_names (trees M)) k l) (read_once g.read h.read) g.is in
-      let second = one_second names i j k l h.is is in
-      (one_first names i j k h.is (subst (FirstDuplicate names k) (sym second) is), second)
-
+module _ (one_list : OneList) (one_refusal : OneRefusal) (none_refused : NoneRefused) (once : OnceSpelled) (fault_once : OneFault) (no_fault : NoFault) (one_analysis : OneAnalysisLaw) where
   nothing_used : (M : List Source) → UseCalled [] M
   nothing_used M h e u at = none_some at
 
   one_summary : {n : ℕ} {status other : Status} {output that : List ℕ} → IsSummary n status output → IsSummary n other that → (status ≡ other) × (output ≡ that)
   one_summary {n} h k =
-      let same : h.sources ≡ k.sources = read_once h.read k.read in
+      let same : h.sources ≡ k.sources = one_reading one_list h.read k.read in
       let written : IsWritten [] h.sources k.reports k.new = subst (λ M. IsWritten [] M k.reports k.new) (sym same) k.written in
       let one = one_analysis [] h.sources h.reports k.reports h.new k.new (are_sources h.sources h.accepted h.names) (nothing_used h.sources) h.written written in
       (h.status_so ∙ sym k.status_so, h.output_so ∙ ap₂ (λ M rs. summary_line n (list_length (functions_of (trees M))) (line_count (concat rs))) same one.0 ∙ sym k.output_so)
@@ -138,17 +113,16 @@ module _ (one_list : (held : Files) (files : List (List ℕ)) (xs ys : List Sour
 
   one_begun : {words : List (List ℕ)} {held : Files} {plt : Option ℕ} {s u : Table} → IsBegun words (Some held) plt s → IsBegun words (Some held) plt u → entries_so s ≡ entries_so u
   one_begun (empty a b) (empty c d) = ap (map entry_so) (b ∙ sym d)
-  one_begun (empty a b) (named word name bytes is holds spells) = given_none a is
-  one_begun (named word name bytes is holds spells) (empty a b) = given_none a is
-  one_begun {words} {held} {plt} {s} {u} (named word name bytes is holds spells) (named word2 name2 bytes2 is2 holds2 spells2) =
-      let same = one_held held (one_word_there words plt word word2 name name2 is is2).1 holds holds2 in
-      ap entries_so (once s u spells.short spells2.short (sym spells.bytes_so ∙ same ∙ spells2.bytes_so))
+  one_begun (empty a b) (named word name is read) = given_none a is
+  one_begun (named word name is read) (empty a b) = given_none a is
+  one_begun {words} {held} {plt} (named word name is read) (named word2 name2 is2 read2) =
+      ap entries_so (one_table once held (one_word_there words plt word word2 name name2 is is2).1 read read2)
 
   analysed_once : {words : List (List ℕ)} {held : Files} {command : Command} {reports others : List (List ℕ)} {new next : Table} → BeginsFitly words held
       → (a : Analyses words (Some held) command reports new) → (b : Analyses words (Some held) command others next) → (reports ≡ others) × (entries_so new ≡ entries_so next)
   analysed_once {words} {held} {command} {reports} {others} {new} {next} fit a b =
       let files = (one_check a.begins.checks.check b.begins.checks.check).1 in
-      let same : a.sources ≡ b.sources = read_once a.read (subst (λ fs. ReadsAll (Some held) fs b.sources) (sym files) b.read) in
+      let same : a.sources ≡ b.sources = one_reading one_list a.read (subst (λ fs. ReadsAll (Some held) fs b.sources) (sym files) b.read) in
       let table : entries_so a.begins.table ≡ entries_so b.begins.table = one_begun a.begins.begun b.begins.begun in
       let written = subst (λ T. IsWritten T a.sources others (entries_so next)) (sym table) (subst (λ M. IsWritten (entries_so b.begins.table) M others (entries_so next)) (sym same) b.written) in
       one_analysis (entries_so a.begins.table) a.sources reports others (entries_so new) (entries_so next) (are_sources a.sources a.accepted a.names)
@@ -187,17 +161,17 @@ module _ (one_list : (held : Files) (files : List (List ℕ)) (xs ys : List Sour
       let same = one_refusal held files at at2 fault fault2 h k in
       let name : file ≡ file2 = some_is (sym there ∙ ap (slice_get files) same.0 ∙ there2) in
       (a ∙ ap₂ (λ i e. refused (command.start + i) e) same.0 same.1 ∙ sym d, b ∙ ap₂ refusal_line name same.1 ∙ sym f, c ∙ sym g)
-  one_of_begun fit (file_refused at file fault a b c there h) (name_twice first second file2 that2 d f g i j k) = absurd (refused_twice h k)
-  one_of_begun fit (file_refused at file fault a b c there h) (analysed reports new d read ends) = absurd (refused_read h read)
-  one_of_begun fit (name_twice first second file that2 a b c d f h) (file_refused at file2 fault i j k there l) = absurd (refused_twice l h)
+  one_of_begun fit (file_refused at file fault a b c there h) (name_twice first second file2 that2 d f g i j k) = absurd (not_read none_refused h k.read)
+  one_of_begun fit (file_refused at file fault a b c there h) (analysed reports new d read ends) = absurd (not_read none_refused h read)
+  one_of_begun fit (name_twice first second file that2 a b c d f h) (file_refused at file2 fault i j k there l) = absurd (not_read none_refused l h.read)
   one_of_begun {files = files} {command = command} fit (name_twice first second file that2 a b c d f h) (name_twice first2 second2 file2 that3 i j k l m n) =
-      let same = one_duplicate h n in
+      let same = one_repeated one_list h n in
       let one : file ≡ file2 = some_is (sym d ∙ ap (slice_get files) same.1 ∙ l) in
       let two : that2 ≡ that3 = some_is (sym f ∙ ap (slice_get files) same.0 ∙ m) in
       (a ∙ ap₂ (λ v w. duplicate (command.start + w) (command.start + v)) same.0 same.1 ∙ sym i, b ∙ ap₂ duplicate_line one two ∙ sym j, c ∙ sym k)
-  one_of_begun fit (name_twice first second file that2 a b c d f h) (analysed reports new i read ends) = absurd (twice_read h read i.names)
-  one_of_begun fit (analysed reports new a read ends) (file_refused at file fault b c d there h) = absurd (refused_read h read)
-  one_of_begun fit (analysed reports new a read ends) (name_twice first second file that2 b c d f g h) = absurd (twice_read h read a.names)
+  one_of_begun fit (name_twice first second file that2 a b c d f h) (analysed reports new i read ends) = absurd (not_repeated one_list h read i.names)
+  one_of_begun fit (analysed reports new a read ends) (file_refused at file fault b c d there h) = absurd (not_read none_refused h read)
+  one_of_begun fit (analysed reports new a read ends) (name_twice first second file that2 b c d f g h) = absurd (not_repeated one_list h read a.names)
   one_of_begun fit (analysed reports new a read ends) (analysed others next b read2 ends2) =
       let same = analysed_once fit a b in
       one_end same.0 same.1 ends ends2
@@ -257,8 +231,7 @@ module _ (one_list : (held : Files) (files : List (List ℕ)) (xs ys : List Sour
   only_faulty {held = held} word name bytes fault h holds is (no_table at other a b c names k) = absurd (not_both_held held (sym (one_name names h).1) holds k)
   only_faulty {held = held} word name bytes fault h holds is (bad_table at name2 bytes2 fault2 a b c names holds2 is2) =
       let same = one_name names h in
-      let text : bytes2 ≡ bytes = one_held held same.1 holds2 holds in
-      let one : fault2 ≡ fault = fault_once fault2 fault bytes is2.some is.some (subst (IsFirst fault2) text is2.first) is.first in
+      let one : fault2 ≡ fault = one_fault fault_once held same.1 holds2 is2 holds is in
       (a ∙ ap faulty_table one, b ∙ ap₂ table_fault_line same.1 one, c)
   only_faulty word name bytes fault h holds is (faulty command files at file other a b c d f g) = absurd (begins_not h holds is d)
   only_faulty word name bytes fault h holds is (duplicate_module command files first second file other a b c d f g i) = absurd (begins_not h holds is d)

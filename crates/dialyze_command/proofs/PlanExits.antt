@@ -1,10 +1,10 @@
 -- What a run means to answer, and to put onto the shelf: each way out.
-use Rattle.std.proofs.Common.{◌≡◌, ℕ, ◌+◌, ◌<◌, ◌≤◌, ◌^◌, List, [], ◌∷◌, length, map, drop, get_or, Option, Some, None, Result, Ok, Err, inl, inr, refl, sym, ap, ◌∙◌, subst, arith}
+use Rattle.std.proofs.Common.{◌≡◌, ℕ, ◌+◌, ◌<◌, ◌≤◌, ◌^◌, List, [], length, map, drop, get_or, Option, Some, None, Result, Ok, Err, inl, inr, refl, sym, ap, ◌∙◌, subst, arith}
 use Rattle.std.specs.Prelude.{IfOk, IfSome, slice_get}
 use Rattle.std.specs.List.{concat}
 use Rattle.std.specs.Borrow.{Bor}
 use Rattle.std.proofs.lemmas.List.{length-map, length-drop}
-use Rattle.std.proofs.lemmas.Option.{slice_get_within, slice_get-get_or}
+use Rattle.std.proofs.lemmas.Option.{slice_get-get_or}
 use Rattle.type_kinds.specs.declared.memory.Memory.{Memory}
 use Rattle.core_ast.specs.Model as m
 use Rattle.core_scope.specs.Checked.{module_of}
@@ -24,10 +24,13 @@ use Rattle.analysis_sources.proofs.FilesRead.{read_length}
 use Rattle.analysis_sources.specs.declared.refusals.SourceFault.{SourceFault}
 use Rattle.analysis_sources.specs.declared.refusals.Device.TheVariants.{Read}
 use Rattle.analysis_sources.specs.declared.reading.ReadFault.TheVariants as read
-use Rattle.analysis_sources.specs.Reading.{AreRead, IsReached, RefusedAt, not_held, at_fault, Fails}
+use Rattle.analysis_sources.specs.Reading.{AreRead, IsReached, RefusedAt, Fails}
 use Rattle.analysis_sources.specs.Words.{texts}
 use Rattle.analysis_sources.specs.Refusals.{refusal_line}
 use Rattle.sound_laws_kept.proofs.Names.{some_is, accepted_sources}
+use Rattle.analysis_summaries.specs.Known.{module_names}
+use Rattle.analysis_answers.proofs.AnswerExits.{names_so, own_so}
+use Rattle.analysis_answers.proofs.FileWords.{failed_word, refused_name, refused_word}
 use Rattle.dialyze_command.specs.declared.answer.Answer.{Answer}
 use Rattle.dialyze_command.specs.declared.begin.Begun.{Begun}
 use Rattle.dialyze_command.specs.declared.begin.Begun.TheVariants.{Reads, Says}
@@ -37,11 +40,12 @@ use Rattle.dialyze_command.specs.declared.status.Status.{Status}
 use Rattle.dialyze_command.specs.declared.status.Status.TheVariants.{Usage, DeviceFault}
 use Rattle.dialyze_command.specs.declared.words.Command.{Command}
 use Rattle.dialyze_command.specs.Lines.{usage_line, refused, too_many, too_many_line, duplicate, duplicate_line, read_fault_line}
-use Rattle.dialyze_command.specs.Outcome.{Checks, Names, NamesTable, IsBegun, Begins, nowhere, HaveOwnNames, module_names, SaysWhether, Analyses, usage, many, no_table, bad_table, faulty, duplicate_module, long_table, passed, Intended, answered, unread, unreplaced, of_table, of_file}
+use Rattle.dialyze_command.specs.Outcome.{Checks, Names, NamesTable, IsBegun, Begins, nowhere, SaysWhether, Analyses, usage, many, no_table, bad_table, faulty, duplicate_module, long_table, passed, Intended}
+use Rattle.dialyze_command.specs.Outcome.{answered, unread, unreplaced, of_table, of_file}
 use Rattle.dialyze_command.specs.Words.{IsCheck, IsNoCheck, IsNoCommand, IsNoMake, most_files}
 use Rattle.dialyze_command.specs.steps.Plans as p
 use Rattle.dialyze_command.proofs.Places.{start_small, files_there, plt_within, out_within, plt_small, out_small}
-use Rattle.analysis_answers.proofs.Texts.{texts_long, texts_at, word_of, within_words}
+use Rattle.analysis_answers.proofs.Texts.{texts_long, texts_at, word_of}
 
 -- ---- words that are no check of files
 
@@ -85,7 +89,8 @@ module _ (ws : List (List ℕ)) (told : Option Files) (rb rn : ℕ) (command : C
     pub judged_plan : (M : List Source) (status : Status) (output : List ℕ) (made : Option NewTable) (after : ℕ) → AreRead told 0 files M after → AreAccepted (trees M) → files ≡ drop command.start ws
         → p.IsJudged ws command (entries_so table) M status output made → p.IsPlan ws told rb rn status output made
     judged_plan M status output made after read accepted same (p.names_one first second file other s o none f g h) =
-        p.answers none (λ n k. answered (duplicate_module command files first second file other s o refl begins_so (ap (λ fs. slice_get fs second) same ∙ f) (ap (λ fs. slice_get fs first) same ∙ g) (record { sources = M; read = record { after = after; read = read }; is = h })))
+        p.answers none (λ n k. answered (duplicate_module command files first second file other s o refl begins_so (ap (λ fs. slice_get fs second) same ∙ f)
+        (ap (λ fs. slice_get fs first) same ∙ g) (record { sources = M; read = record { after = after; read = read }; is = h })))
     judged_plan M status output made after read accepted same (p.analysed reports new names written h) = by h
       where
         analyses : Analyses ws told command reports new
@@ -97,7 +102,8 @@ module _ (ws : List (List ℕ)) (told : Option Files) (rb rn : ℕ) (command : C
         by (p.stored new_one says o some is) = p.stores command reports new new_one some analyses says o is
 
 -- a failed read is one of a longer time too
-pub plan_since : {ws : List (List ℕ)} {told : Option Files} {early rb rn : ℕ} {status : Status} {output : List ℕ} {made : Option NewTable} → early ≤ rb → p.IsPlan ws told rb rn status output made → p.IsPlan ws told early rn status output made
+pub plan_since : {ws : List (List ℕ)} {told : Option Files} {early rb rn : ℕ} {status : Status} {output : List ℕ} {made : Option NewTable} → early ≤ rb
+    → p.IsPlan ws told rb rn status output made → p.IsPlan ws told early rn status output made
 plan_since h (p.stores command reports new table some analyses says o is) = p.stores command reports new table some analyses says o is
 plan_since {ws} {told} {early} {rb} {rn} {status} {output} h (p.answers none means) = p.answers none (λ n k. since n k (means n k))
   where
@@ -106,12 +112,7 @@ plan_since {ws} {told} {early} {rb} {rn} {status} {output} h (p.answers none mea
     since n k (unread word name s o e is rose) = unread word name s o e is (rose_since early rb rn h rose)
     since n k (unreplaced word name s o is rose) = unreplaced word name s o is rose
 
--- modules that the code hands in are accepted
 -- ---- files that aren't read
-
-reached_file : {told : Option Files} {fs : List (List ℕ)} {at : ℕ} {fault : SourceFault} → RefusedAt told fs at fault → (file : List ℕ) × (slice_get fs at ≡ Some file)
-reached_file (not_held e h) = (h.file, h.reached.there)
-reached_file (at_fault h) = (h.file, h.reached.there)
 
 -- the words of a check, as the code has them
 module _ (words : List (Bor (List ℕ))) (command : Command) (checks : Checks (texts words) command (drop command.start (texts words))) where
@@ -142,28 +143,13 @@ module _ (words : List (Bor (List ℕ))) (command : Command) (checks : Checks (t
       omega (arith, read_length told 0 files (sources_so sources) h.0 h.1, length-map sources source_so, length-drop command.start (texts words), texts_long words, files_there checks.check)
 
   module _ (told : Option Files) (rb rn : ℕ) where
-    pub refused_within : (word : ℕ) (fault : SourceFault) → Fails told files command.start rb rn (read.Refused word fault) → word < length words
-    refused_within word fault h =
-        let f = reached_file h.2 in
-        let k = within_words words command.start h.0 (slice_get_within files h.0 f.0 f.1) in
-        let e = h.1 in
-        omega arith
-
-    pub failed_within : (word : ℕ) → Fails told files command.start rb rn (read.Failed word) → word < length words
-    failed_within word h =
-        let f = h.2 in
-        let k = within_words words command.start h.0 (slice_get_within files h.0 f.0 f.2.there) in
-        let e = h.1 in
-        omega arith
-
     module _ (table : Table) (begun : IsBegun (texts words) told command.plt table) where
       -- the word and the fault as the code names them
       pub refused_words : (word : ℕ) (fault : SourceFault) (v : ℕ) (f : SourceFault) (d : Bor (List ℕ)) (status : Status) (output : List ℕ) → Fails told files command.start rb rn (read.Refused word fault) → v ≡ word → f ≡ fault
           → status ≡ refused v f → output ≡ refusal_line (get_or words v d).now f → p.IsPlan (texts words) told rb rn status output None
       refused_words word fault v f d status output fails is same s o =
-          let file = reached_file fails.2 in
-          let there = texts_at words word d (refused_within word fault fails) in
-          let called : (get_or words word d).now ≡ file.0 = some_is (sym there ∙ ap (slice_get (texts words)) fails.1 ∙ word_of (texts words) command.start fails.0 ∙ file.1) in
+          let file = refused_name fails.2 in
+          let called = refused_word words command.start told rb rn word fault d fails in
           refused_plan (texts words) told rb rn command files checks table begun fails.0 file.0 fault status output fails.2 file.1
           (s ∙ ap (λ w. refused w f) (is ∙ fails.1) ∙ ap (refused (command.start + fails.0)) same)
           (o ∙ ap (λ w. refusal_line (get_or words w d).now f) is ∙ ap (λ n. refusal_line n f) called ∙ ap (refusal_line file.0) same)
@@ -171,11 +157,9 @@ module _ (words : List (Bor (List ℕ))) (command : Command) (checks : Checks (t
       pub unread_words : (word v : ℕ) (d : Bor (List ℕ)) (status : Status) (output : List ℕ) → Fails told files command.start rb rn (read.Failed word) → v ≡ word
           → status ≡ DeviceFault (Read v) → output ≡ read_fault_line (get_or words v d).now → p.IsPlan (texts words) told rb rn status output None
       unread_words word v d status output fails is s o =
-          let there = texts_at words word d (failed_within word fails) in
-          let called : (get_or words word d).now ≡ fails.2.0 = some_is (sym there ∙ ap (slice_get (texts words)) fails.1 ∙ word_of (texts words) command.start fails.0 ∙ fails.2.2.there) in
           unread_plan (texts words) told rb rn command files checks table begun fails.0 fails.2.1 fails.2.0 status output fails.2.2 fails.3
           (s ∙ ap (λ w. DeviceFault (Read w)) (is ∙ fails.1))
-          (o ∙ ap (λ w. read_fault_line (get_or words w d).now) is ∙ ap read_fault_line called)
+          (o ∙ ap (λ w. read_fault_line (get_or words w d).now) is ∙ ap read_fault_line (failed_word words command.start told rb rn word d fails))
 
       pub judged_words : (sources : List HandedIn) (r : Result CheckPlan Memory) → ((after : ℕ) × AreRead told 0 files (sources_so sources) after)
           → IfOk r (λ q. p.IsJudged (texts words) command (entries_so table) (sources_so sources) q.answer.status q.answer.output q.table)
@@ -186,26 +170,17 @@ module _ (words : List (Bor (List ℕ))) (command : Command) (checks : Checks (t
 
 -- ---- what the analysis says of the modules of sources
 
-names_same : (sources : List HandedIn) → map (λ (s : HandedIn). (module_of s.checked).name) sources ≡ module_names (trees (sources_so sources))
-names_same [] = refl
-names_same (s ∷ ss) = ap (λ ns. (module_of s.checked).name ∷ ns) (names_same ss)
-
-pub own_names : (sources : List HandedIn) → ((j : ℕ) → j < length sources → StandsEarlier (map (λ (s : HandedIn). (module_of s.checked).name) sources) j → ⊥) → HaveOwnNames (trees (sources_so sources))
-own_names sources own j h e =
-    own j (subst (λ n. j < n) (length-map (sources_so sources) (λ (s : Source). s.tree) ∙ length-map sources source_so) h)
-    (subst (λ ns. StandsEarlier ns j) (sym (names_same sources)) e)
-
 pub analysed_it : (ws : List (List ℕ)) (command : Command) (table new : Table) (sources : List HandedIn) (reports : List (List ℕ)) (r : Result CheckPlan Memory)
     → ((j : ℕ) → j < length sources → StandsEarlier (map (λ (s : HandedIn). (module_of s.checked).name) sources) j → ⊥) → IsWritten (entries_so table) (sources_so sources) reports (entries_so new)
     → IfOk r (λ q. p.IsMade ws command.out reports new q.answer.status q.answer.output q.table)
     → IfOk r (λ q. p.IsJudged ws command (entries_so table) (sources_so sources) q.answer.status q.answer.output q.table)
-analysed_it ws command table new sources reports (Ok q) own written made = p.analysed reports new (own_names sources own) written made
+analysed_it ws command table new sources reports (Ok q) own written made = p.analysed reports new (own_so sources own) written made
 analysed_it ws command table new sources reports (Err e) own written made = tt
 
 pub set_told : (sources : List HandedIn) (fault : SetFault) (first second : ℕ) → IsSetFault (map (λ (s : HandedIn). (module_of s.checked).name) sources) (Set fault)
     → first ≡ p.first_of fault → second ≡ p.second_of fault → FirstDuplicate (module_names (trees (sources_so sources))) first second
 set_told sources fault first second h e g =
-    subst (λ ns. FirstDuplicate ns first second) (names_same sources)
+    subst (λ ns. FirstDuplicate ns first second) (names_so sources)
     (subst (λ i. FirstDuplicate (map (λ (s : HandedIn). (module_of s.checked).name) sources) i second) (sym (e ∙ ap p.first_of h.2))
     (subst (FirstDuplicate (map (λ (s : HandedIn). (module_of s.checked).name) sources) h.0) (sym (g ∙ ap p.second_of h.2)) h.3))
 

@@ -31,7 +31,7 @@ alone words held names_none command files begins M read = by begins.begun
   where
     by : IsBegun words (Some held) command.plt begins.table → CallsWhatIsUsed (entries_so begins.table) M
     by (empty a none) = nothing_used begins.table M none
-    by (named word name bytes is holds spells) = absurd (names_none word name (record { command = command; files = files; checks = begins.checks; plt = is }))
+    by (named word name is read) = absurd (names_none word name (record { command = command; files = files; checks = begins.checks; plt = is }))
 
 pub of_sources : EntriesUseCalledLaw → OfSourcesLaw
 of_sources law words held with command files begins M read h s e u there at digest used =
@@ -70,7 +70,7 @@ module _ (words others : List (List ℕ)) (same : AskTheSame words others) where
       by : SameName words others command.plt same.other.plt → IsBegun words (Some held) command.plt h.table → IsBegun others (Some held) same.other.plt h.table
       by (neither a b) (empty c none) = empty b none
       by (one_name w that n k l) (empty c none) = given_none c k
-      by is (named word name bytes names holds spells) = let to = carried_names is names in named to.0 name bytes to.1 holds spells
+      by is (named word name names read) = let to = carried_names is names in named to.0 name to.1 read
 
   carried_analyses : {held : Files} {command : Command} {reports : List (List ℕ)} {new : Table} → Analyses words (Some held) command reports new → Analyses others (Some held) same.other reports new
   unfolding carried_begins

@@ -8,12 +8,14 @@ use Rattle.table_keep.specs.Model.{Source, trees}
 use Rattle.analysis_sources.specs.declared.refusals.RefusalName.{RefusalName}
 use Rattle.analysis_sources.specs.declared.refusals.RefusalName.TheVariants as r
 use Rattle.analysis_sources.specs.Reading.{HoldsAt, IsMissingAt}
+use Rattle.analysis_answers.specs.ReadFiles.{HaveOwnNames, IsDuplicate, ReadsAll}
+use Rattle.analysis_answers.specs.Tables.{IsFaultOf}
 use Rattle.dialyze_command.specs.declared.status.Status.{Status}
 use Rattle.dialyze_command.specs.declared.status.Status.TheVariants.{Clean, Warnings}
 use Rattle.dialyze_command.specs.declared.words.Command.{Command}
 use Rattle.dialyze_command.specs.Lines.{refused, too_long}
 use Rattle.dialyze_command.specs.Making.{file_names, generated_files}
-use Rattle.dialyze_command.specs.Outcome.{Names, NamesTable, Begins, IsFaultOf, ReadsAll, HaveOwnNames, IsDuplicate, Analyses}
+use Rattle.dialyze_command.specs.Outcome.{Names, NamesTable, Begins, Analyses}
 use Rattle.dialyze_command.specs.Words.{IsMake}
 
 -- What a run reads: a check the files that it names, of what is held, once the table is read, and the first of them is the word at the
@@ -38,28 +40,26 @@ pub record NamesBadTable (words : List (List ℕ)) (held : Files) (fault : Fault
   pub is : IsFaultOf bytes fault
 
 -- The word at this position names a file, what stands before it is read, it is held, and of its bytes, with the number that it may have,
--- this holds. Of a generated file, which is always read, no cause of a refusal does.
+-- this holds.
 pub record NamesSource (words : List (List ℕ)) (held : Files) (word : ℕ) (Is : (most : ℕ) → List ℕ → Type 0) : Type 0 where
-  pub from : Files
-  pub start : ℕ
+  pub command : Command
   pub files : List (List ℕ)
-  pub reads : Reads words held from start files
+  pub begins : Begins words (Some held) command files
   pub at : ℕ
-  pub place : word ≡ start + at
-  pub source : HoldsAt (Some from) files at Is
+  pub place : word ≡ command.start + at
+  pub source : HoldsAt (Some held) files at Is
 
 -- All files are read, and the module of that at the position `word` is the first that has the name of one before it, of which that
 -- at the position `other` is the earliest.
 pub record NamesTwice (words : List (List ℕ)) (held : Files) (word other : ℕ) : Type 0 where
-  pub from : Files
-  pub start : ℕ
+  pub command : Command
   pub files : List (List ℕ)
-  pub reads : Reads words held from start files
+  pub begins : Begins words (Some held) command files
   pub first : ℕ
   pub second : ℕ
-  pub place : word ≡ start + second
-  pub other_place : other ≡ start + first
-  pub duplicate_module : IsDuplicate (Some from) files first second
+  pub place : word ≡ command.start + second
+  pub other_place : other ≡ command.start + first
+  pub duplicate_module : IsDuplicate (Some held) files first second
 
 -- All files are read, as these sources, whose modules have names of their own.
 pub record NamesModules (words : List (List ℕ)) (held : Files) : Type 0 where

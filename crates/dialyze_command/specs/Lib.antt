@@ -1,7 +1,6 @@
 pub mod Words
 pub mod Codes
 pub mod Lines
-pub mod ReadFiles
 pub mod Making
 pub mod Outcome
 pub mod Causes

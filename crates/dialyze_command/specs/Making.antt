@@ -10,9 +10,9 @@ use Rattle.table_keep.specs.Model.{Source, Entry, trees}
 use Rattle.sound_laws.specs.Accepted.{AreAccepted}
 use Rattle.sound_laws_kept.specs.Solving.{IsWritten}
 use Rattle.analysis_sources.specs.Refusals.{line}
+use Rattle.analysis_answers.specs.ReadFiles.{HaveOwnNames, ReadsAll}
 use Rattle.dialyze_command.specs.declared.status.Status.{Status}
 use Rattle.dialyze_command.specs.declared.status.Status.TheVariants.{Warnings}
-use Rattle.dialyze_command.specs.ReadFiles.{ReadsAll, HaveOwnNames}
 
 -- ---- the files
 

@@ -8,11 +8,12 @@ use Rattle.da_shelf.specs.Told.{Files}
 use Rattle.table_keep.specs.Calls.{called_modules}
 use Rattle.table_keep.specs.Groups.{has}
 use Rattle.table_keep.specs.Model.{Source, Entry, source_of, entry_of, entries_so}
+use Rattle.analysis_answers.specs.ReadFiles.{ReadsAll}
 use Rattle.dialyze_command.specs.declared.status.Status.{Status}
 use Rattle.dialyze_command.specs.declared.words.Command.{Command}
 use Rattle.dialyze_command.specs.Codes.{code_of}
 use Rattle.dialyze_command.specs.Laws.{BeganWith}
-use Rattle.dialyze_command.specs.Outcome.{Names, NamesTable, Begins, ReadsAll, Outcome}
+use Rattle.dialyze_command.specs.Outcome.{Names, NamesTable, Begins, Outcome}
 use Rattle.dialyze_command.specs.Words.{IsCheck}
 
 -- ---- the table to begin with

@@ -1,14 +1,12 @@
 -- What a run answers: its status, its output, and what is held after it, by the words and by what is held before.
-use Rattle.std.specs.Prelude.{◌≡◌, ◌≢◌, ◌⊎◌, ℕ, ◌+◌, ◌<◌, ◌≤◌, List, [], length, slice_get, Option, Some, None, false, true, IsTrue}
-use Rattle.std.specs.List.{concat, list_all}
+use Rattle.std.specs.Prelude.{◌≡◌, ◌≢◌, ◌⊎◌, ℕ, ◌+◌, ◌<◌, ◌≤◌, List, [], length, slice_get, Option, Some, None, false, true}
+use Rattle.std.specs.List.{concat}
 use Rattle.core_make.specs.Modules.{module_text}
 use Rattle.da_shelf.specs.Counts.{Rose}
 use Rattle.da_shelf.specs.Told.{Files, Holds, Lacks, replaced, IsOldOrNew, appended, IsPrefixAppended}
 use Rattle.table_file.specs.declared.tables.Table.{Table}
 use Rattle.table_file.specs.declared.faults.TableFault.{TableFault as FaultOfTable}
-use Rattle.table_file.specs.declared.faults.TableFault.TheVariants as t
-use Rattle.table_file.specs.Faults.{IsFirst}
-use Rattle.table_file.specs.Lengths.{has_short_types, is_short_table}
+use Rattle.table_file.specs.Lengths.{is_short_table}
 use Rattle.table_file.specs.Spelling.{table_bytes}
 use Rattle.table_keep.specs.Model.{Source, trees, entries_so}
 use Rattle.sound_laws.specs.Accepted.{AreAccepted}
@@ -17,12 +15,13 @@ use Rattle.analysis_sources.specs.declared.refusals.SourceFault.{SourceFault}
 use Rattle.analysis_sources.specs.declared.refusals.Device.TheVariants.{Read, Replace, Write}
 use Rattle.analysis_sources.specs.Reading.{IsReached, RefusedAt}
 use Rattle.analysis_sources.specs.Refusals.{refusal_line, missing}
+use Rattle.analysis_answers.specs.ReadFiles.{HaveOwnNames, IsDuplicate, ReadsAll}
+use Rattle.analysis_answers.specs.Tables.{IsFaultOf, IsTableRead}
 use Rattle.dialyze_command.specs.declared.status.Status.{Status}
 use Rattle.dialyze_command.specs.declared.status.Status.TheVariants.{Clean, Refused, Warnings, TableFault, DeviceFault, Memory, Usage}
 use Rattle.dialyze_command.specs.declared.words.Command.{Command}
 use Rattle.dialyze_command.specs.Lines.{usage_line, refused, too_long, too_many, too_many_line, duplicate, duplicate_line, read_fault_line, replace_fault_line, faulty_table, table_fault_line}
 use Rattle.dialyze_command.specs.Making.{file_name, with_first, IsSummary}
-pub use Rattle.dialyze_command.specs.ReadFiles.{ReadsAll, HaveOwnNames, IsDuplicate, module_names}
 use Rattle.dialyze_command.specs.Words.{IsCheck, IsMake, IsNoCommand, most_files}
 
 -- ---- the words
@@ -53,26 +52,16 @@ pub record NamesTable (words : List (List ℕ)) (word : ℕ) (name : List ℕ) :
 
 -- ---- the table that a check begins with
 
--- The bytes are those of the table, whose types can be written.
-pub record Spells (table : Table) (bytes : List ℕ) : Type 0 where
-  pub bytes_so : bytes ≡ table_bytes table
-  pub short : IsTrue (list_all has_short_types table.entries)
-
 -- The table that a check begins with: the one whose bytes are held under the name of `--plt`, and without that option the empty one.
 pub data IsBegun (words : List (List ℕ)) (told : Option Files) (plt : Option ℕ) (table : Table) : Type 0 where
   empty : plt ≡ None → table.entries ≡ [] → IsBegun words told plt table
-  named : (word : ℕ) (name bytes : List ℕ) → Names words plt word name → Holds told name bytes → Spells table bytes → IsBegun words told plt table
+  named : (word : ℕ) (name : List ℕ) → Names words plt word name → IsTableRead told name table → IsBegun words told plt table
 
 -- The words ask for a check of these files, and the table that they name, if they name one, is read.
 pub record Begins (words : List (List ℕ)) (told : Option Files) (command : Command) (files : List (List ℕ)) : Type 0 where
   pub checks : Checks words command files
   pub table : Table
   pub begun : IsBegun words told command.plt table
-
--- The first fault of bytes that spell no table. A failed allocation is none.
-pub record IsFaultOf (bytes : List ℕ) (fault : FaultOfTable) : Type 0 where
-  pub first : IsFirst fault bytes
-  pub some : fault ≢ t.Memory
 
 -- ---- the analysis
 

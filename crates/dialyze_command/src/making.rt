@@ -4,8 +4,8 @@ ghost use Rattle.std.specs.List.{concat};
 ghost use Rattle.std.specs.String.{string_bytes};
 ghost use Rattle.core_make.specs.Modules.{generated};
 ghost use Rattle.table_keep.specs.Model.{sources_so, trees};
+ghost use Rattle.analysis_answers.specs.ReadFiles.{HaveOwnNames};
 ghost use Rattle.dialyze_command.specs.Making.{file_name, line_count, summary_line, IsSummary, PutsFirst};
-ghost use Rattle.dialyze_command.specs.ReadFiles.{HaveOwnNames};
 ghost use Rattle.dialyze_command.specs.Words.{most_modules};
 ghost use Rattle.dialyze_command.specs.steps.Puts.{IsCounted, IsMadeAs, IsPut, IsPutOne};
 

@@ -15,6 +15,9 @@ use Rattle.table_keep.specs.Model.{Source, Entry, trees, entries_so}
 use Rattle.sound_laws_kept.specs.Solving.{IsWritten}
 use Rattle.analysis_sources.specs.declared.refusals.Device.TheVariants.{Read, Replace}
 use Rattle.analysis_sources.specs.Refusals.{refusal_line, missing}
+use Rattle.analysis_summaries.specs.Known.{module_names}
+use Rattle.analysis_answers.specs.ReadFiles.{HaveOwnNames}
+use Rattle.analysis_answers.specs.Tables.{IsFaultOf, IsTableRead, Spells}
 use Rattle.dialyze_command.specs.declared.answer.Answer.{Answer}
 use Rattle.dialyze_command.specs.declared.begin.Begun.{Begun}
 use Rattle.dialyze_command.specs.declared.begin.Begun.TheVariants.{Reads, Says}
@@ -23,7 +26,7 @@ use Rattle.dialyze_command.specs.declared.status.Status.{Status}
 use Rattle.dialyze_command.specs.declared.status.Status.TheVariants.{DeviceFault}
 use Rattle.dialyze_command.specs.declared.words.Command.{Command}
 use Rattle.dialyze_command.specs.Lines.{duplicate, duplicate_line, refused, too_long, read_fault_line, replace_fault_line, faulty_table, table_fault_line}
-use Rattle.dialyze_command.specs.Outcome.{Names, Spells, IsBegun, IsFaultOf, HaveOwnNames, module_names, SaysWhether, Analyses, Intended}
+use Rattle.dialyze_command.specs.Outcome.{Names, IsBegun, SaysWhether, Analyses, Intended}
 
 -- ---- the table to begin with
 
@@ -44,7 +47,7 @@ IsOfBytes name bytes (Says answer) =
 
 -- The bytes that are held under the name spell the table, or this is answered.
 abbrev pub IsReadAs : (told : Option Files) (word : ℕ) (name : List ℕ) (reads reads_now : ℕ) → Begun → Type 0
-IsReadAs told word name reads reads_now (Reads table) = (bytes : List ℕ) × Holds told name bytes × Spells table bytes
+IsReadAs told word name reads reads_now (Reads table) = IsTableRead told name table
 IsReadAs told word name reads reads_now (Says answer) = IsTableFault told word name reads reads_now answer.status answer.output
 
 -- A check with this option begins with the table, or this is answered.

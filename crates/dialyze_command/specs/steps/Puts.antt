@@ -8,12 +8,12 @@ use Rattle.da_shelf.specs.Told.{Files, replaced, IsOldOrNew}
 use Rattle.table_keep.specs.Model.{Source, Entry, trees}
 use Rattle.sound_laws_kept.specs.Solving.{IsWritten}
 use Rattle.analysis_sources.specs.declared.refusals.Device.TheVariants.{Replace}
+use Rattle.analysis_answers.specs.ReadFiles.{HaveOwnNames}
 use Rattle.dialyze_command.specs.declared.answer.Answer.{Answer}
 use Rattle.dialyze_command.specs.declared.status.Status.{Status}
 use Rattle.dialyze_command.specs.declared.status.Status.TheVariants.{DeviceFault, Warnings}
 use Rattle.dialyze_command.specs.Lines.{replace_fault_line}
 use Rattle.dialyze_command.specs.Making.{file_name, with_first, line_count, summary_line, IsSummary}
-use Rattle.dialyze_command.specs.ReadFiles.{HaveOwnNames}
 
 -- What is answered where the shelf doesn't take the file of this number, and has counted it: it holds what it held under the name, or
 -- the text, whole.
