@@ -5,11 +5,12 @@ use Rattle.components.proofs.Bounded.{Decided}
 use Rattle.core_ast.specs.Model as m
 use Rattle.core_scan.specs.declared.token.Token.{Token}
 use Rattle.core_parse_grammar.specs.Grammar.{Part, a, first, the, Nonterminal, SaidBy, Said, Action, Way, ways, annotated_module}
-use Rattle.core_parse_grammar.specs.Spells.{Reads, token, node, part, ReadsOne, here, later, ReadsAll, none, one, SpellsTo}
+use Rattle.core_parse_grammar.specs.Spells.{Reads, token, node, part, ReadsOne, here, later, ReadsAll, none, one, SpellsTo, SpellsModule}
 use Rattle.core_parse_grammar.specs.Begins.{Prefixes, nothing, token_, node_, part_, PrefixesOne, here_, later_, PrefixesAll, none_, inside, whole, BeginsTo, Begins, depth_limit}
-use Rattle.core_reading_laws.specs.Tokens.{AreDecided, spelled, failed, sunk, begun}
+use Rattle.core_reading_laws.specs.Tokens.{AreDecided, spelled, failed, sunk, short, deeper}
 use Rattle.core_reading_laws.proofs.Fronts.{front_decided}
 use Rattle.core_reading_laws.proofs.Depths.{some_decided}
+use Rattle.core_reading_laws.proofs.AnyDepth.{module_decided}
 use Rattle.core_reading_laws.proofs.Wholes.{spelled_decided}
 
 -- ---- what is read whole is begun
@@ -55,9 +56,13 @@ begins_decided ts = elim (some_decided (the annotated_module ∷ []) ts) [
 
 -- ---- along the tokens
 
+at_end_of : (ts : List Token) → BeginsTo depth_limit ts → ((x : m.Module) → SpellsTo depth_limit ts x → ⊥) → Decided ((x : m.Module) × SpellsModule ts x) → AreDecided ts
+at_end_of ts h none_within (inl s) = deeper h s.0 s.1 none_within
+at_end_of ts h none_within (inr never) = short (record { begun = h; none = λ x s. never (x, s) })
+
 at_all : (ts : List Token) → BeginsTo depth_limit ts → Decided ((x : m.Module) × SpellsTo depth_limit ts x) → AreDecided ts
 at_all ts h (inl s) = spelled s.0 s.1
-at_all ts h (inr never) = begun h (λ x s. never (x, s))
+at_all ts h (inr never) = at_end_of ts h (λ x s. never (x, s)) (module_decided ts)
 
 at_fault : (before : List Token) (t : Token) (after : List Token) → BeginsTo depth_limit before → (BeginsTo depth_limit (before ++ t ∷ []) → ⊥) → Decided (Begins (before ++ t ∷ [])) → AreDecided (before ++ t ∷ after)
 at_fault before t after h deep (inl on) = sunk t.place (record { before = before; at = t; after = after; split = refl; place_is = refl; begun = h; goes_on = on; too_deep = deep })

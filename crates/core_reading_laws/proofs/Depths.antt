@@ -13,7 +13,7 @@ use Rattle.core_reading_laws.proofs.Fronts.{opens_in, opened, taken, begun, at_e
 
 module _ (d k : ℕ) (low : d ≤ k) where
   mutual
-    reads_deeper : (p : Part) (ts us : List Token) (x : SaidBy p) → Reads d p ts x us → Reads k p ts x us
+    pub reads_deeper : (p : Part) (ts us : List Token) (x : SaidBy p) → Reads d p ts x us → Reads k p ts x us
     reads_deeper (a c) [] us x h = elim h [ ]
     reads_deeper (first i c) [] us x h = elim h [ ]
     reads_deeper (a c) (t ∷ ts) us x (token e) = token e

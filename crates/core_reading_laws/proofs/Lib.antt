@@ -1,4 +1,5 @@
 mod AlongTokens
+mod AnyDepth
 mod Breaks
 mod Deciding
 mod Depths

@@ -15,14 +15,14 @@ use Rattle.core_reading_laws.proofs.Fronts.{not_deeper}
 
 module _ (deepest : ℕ) where
   -- the tokens are those of the parts one after another, and no more
-  data AllRead : List Part → List Token → Type 0 where
+  pub data AllRead : List Part → List Token → Type 0 where
     all_done : AllRead [] []
     and_more : {p : Part} {ps : List Part} {x : SaidBy p} {ts us : List Token} → Reads deepest p ts x us → AllRead ps us → AllRead (p ∷ ps) ts
 
   -- ---- each part takes a token
 
   mutual
-    no_part : (p : Part) (x : SaidBy p) (us : List Token) → Reads deepest p [] x us → ⊥
+    pub no_part : (p : Part) (x : SaidBy p) (us : List Token) → Reads deepest p [] x us → ⊥
     no_part (a c) x us h = elim h [ ]
     no_part (first d c) x us h = elim h [ ]
     no_part (the n) x us (part h) = no_way n (opens n) (ways n) (low_ways n) x us h
@@ -36,7 +36,7 @@ module _ (deepest : ℕ) where
     no_parts n k [] e f x us h = true≢false (sym e)
     no_parts n k (p ∷ ps) e f x us (one {x = y} {us = middle} r rs) = no_part p y middle r
 
-  ends : (ps : List Part) → Decided (AllRead ps [])
+  pub ends : (ps : List Part) → Decided (AllRead ps [])
   ends [] = inl all_done
   ends (p ∷ ps) = inr never
     where
@@ -69,21 +69,21 @@ module _ (deepest : ℕ) where
   read_way n (w ∷ ws) ps ts (inl h) = let k = all_apart n w.parts ps w.says ts h in (k.0, (k.1.0, (here k.1.1.0, k.1.1.1)))
   read_way n (w ∷ ws) ps ts (inr h) = let k = read_way n ws ps ts h in (k.0, (k.1.0, (later k.1.1.0, k.1.1.1)))
 
-  all_opens : (n : Nonterminal) (ps : List Part) (t : Token) (ts : List Token) → SomeWay n (λ qs. AllRead (qs ++ ps) (t ∷ ts)) (ways n) → AllRead (the n ∷ ps) (t ∷ ts)
+  pub all_opens : (n : Nonterminal) (ps : List Part) (t : Token) (ts : List Token) → SomeWay n (λ qs. AllRead (qs ++ ps) (t ∷ ts)) (ways n) → AllRead (the n ∷ ps) (t ∷ ts)
   all_opens n ps t ts h = let k = read_way n (ways n) ps (t ∷ ts) h in and_more (part k.1.1.0) k.1.1.1
 
-  all_opened : (n : Nonterminal) (ps : List Part) (t : Token) (ts : List Token) → AllRead (the n ∷ ps) (t ∷ ts) → SomeWay n (λ qs. AllRead (qs ++ ps) (t ∷ ts)) (ways n)
+  pub all_opened : (n : Nonterminal) (ps : List Part) (t : Token) (ts : List Token) → AllRead (the n ∷ ps) (t ∷ ts) → SomeWay n (λ qs. AllRead (qs ++ ps) (t ∷ ts)) (ways n)
   all_opened n ps t ts (and_more {x = v} {us = us} (part r) h) = way_read n (ways n) ps (t ∷ ts) us v r h
 
   -- ---- tokens
 
-  all_taken : (c : Sort) (t : Token) (ps : List Part) (ts : List Token) → AllRead (a c ∷ ps) (t ∷ ts) → (fits c (sort t) ≡ true) × AllRead ps ts
+  pub all_taken : (c : Sort) (t : Token) (ps : List Part) (ts : List Token) → AllRead (a c ∷ ps) (t ∷ ts) → (fits c (sort t) ≡ true) × AllRead ps ts
   all_taken c t ps ts (and_more (token e) h) = (e, h)
 
-  all_begun : (d : ℕ) (c : Sort) (t : Token) (ps : List Part) (ts : List Token) → AllRead (first d c ∷ ps) (t ∷ ts) → (fits c (sort t) ≡ true) × ((d ≤ deepest) × AllRead ps ts)
+  pub all_begun : (d : ℕ) (c : Sort) (t : Token) (ps : List Part) (ts : List Token) → AllRead (first d c ∷ ps) (t ∷ ts) → (fits c (sort t) ≡ true) × ((d ≤ deepest) × AllRead ps ts)
   all_begun d c t ps ts (and_more (node e low) h) = (e, (low, h))
 
-  nothing_left : (t : Token) (ts : List Token) → AllRead [] (t ∷ ts) → ⊥
+  pub nothing_left : (t : Token) (ts : List Token) → AllRead [] (t ∷ ts) → ⊥
   nothing_left t ts h = elim h [ ]
 
   all_follow : Follows AllRead (λ d. d ≤ deepest)
