@@ -19,7 +19,8 @@ module _ (ts : List ModuleText) (held : HeldNumbers) where
       ap (λ m. call_cmp (at m c.label c) d) h.module_so ∙ ap (λ l. call_cmp (at a.«module» l c) d) h.label_so
       ∙ ap (λ m. call_cmp (at a.«module» a.label c) (at m d.label d)) k.module_so ∙ ap (λ l. call_cmp (at a.«module» a.label c) (at b.«module» l d)) k.label_so
 
-  above : (a : AppliedValue) (c : AppliedCall) (found : List AppliedValue) (cs : List AppliedCall) → IsCallOf ts held a c → AllZip (IsCallOf ts held) found cs → AllByRecursion (λ b. application_cmp a b ≡ Less) found → AllByRecursion (λ d. call_cmp c d ≡ Less) cs
+  above : (a : AppliedValue) (c : AppliedCall) (found : List AppliedValue) (cs : List AppliedCall) → IsCallOf ts held a c → AllZip (IsCallOf ts held) found cs
+      → AllByRecursion (λ b. application_cmp a b ≡ Less) found → AllByRecursion (λ d. call_cmp c d ≡ Less) cs
   above a c [] [] h z up = tt
   above a c [] (d ∷ cs) h z up = absurd z
   above a c (b ∷ found) [] h z up = absurd z

@@ -31,7 +31,8 @@ found_anything : (o : Option Item) → anything_in o ≡ true → o ≡ Some Any
 found_anything None e = absurd cc
 found_anything (Some y) e = ap Some (anything_is y e)
 
-pub entered_anything : (ts : List ModuleText) (held : HeldNumbers) (p : FlowPlace) (n : ℕ) (numbers : List ℕ) (i x : ℕ) (got : Option (Bor Item)) (anything : Bool) → ((x : ℕ) → Contains numbers x ↔ HoldsNumber held p x) → i < length numbers → x ≡ get_or numbers i x
+pub entered_anything : (ts : List ModuleText) (held : HeldNumbers) (p : FlowPlace) (n : ℕ) (numbers : List ℕ) (i x : ℕ) (got : Option (Bor Item)) (anything : Bool)
+    → ((x : ℕ) → Contains numbers x ↔ HoldsNumber held p x) → i < length numbers → x ≡ get_or numbers i x
     → option_copied got ≡ item_at held x → anything ≡ anything_in (option_copied got) → anything ≡ true → AreEntered ts held p n l.Anything
 entered_anything ts held p n numbers i x got anything are within is item says so =
     any_function (x, (are x).0 (subst (Contains numbers) (sym is) (Contains-get_or numbers i x within)), found_anything (item_at held x) (ap anything_in (sym item) ∙ sym says ∙ so))

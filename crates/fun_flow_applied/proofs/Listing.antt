@@ -29,6 +29,7 @@ use Rattle.fun_flow_answers.specs.Answers as said
 use Rattle.fun_flow_answers.specs.Listed as listed
 use Rattle.fun_flow_answers.specs.Order.{call_cmp}
 use Rattle.fun_flow_numbers.specs.Held.{AreSetsOf, HeldNumbers}
+use Rattle.fun_flow_places.specs.Arities.{arity_of}
 use Rattle.fun_flow_places.specs.declared.places.FlowPlace.{FlowPlace}
 use Rattle.fun_flow_places.specs.declared.places.FlowRule.{FlowRule}
 use Rattle.fun_flow_places.specs.declared.places.FlowRule.TheVariants.{Holds as HoldsItem, Flows, Applies}
@@ -37,22 +38,18 @@ use Rattle.fun_flow_places.specs.declared.places.Item.TheVariants.{Anything, Clo
 use Rattle.fun_flow_places.proofs.TableLaws.{map_both}
 use Rattle.fun_flow_places.specs.declared.table.ModuleTable.{ModuleTable}
 use Rattle.fun_flow_places.specs.Tables.{IsTableOf}
+use Rattle.fun_flow_places.proofs.TableLaws.{name_among}
 use Rattle.fun_flow_places.specs.Naming.{AreRulesOf, item_named, module_names, name_of, place_named, rule_named}
 use Rattle.fun_flow_applied.specs.declared.applications.AppliedValue.{AppliedValue}
 use Rattle.fun_flow_applied.specs.declared.module_text.ModuleText.{ModuleText}
 use Rattle.fun_flow_applied.specs.steps.Applications.{AreApplications, application_in}
 use Rattle.fun_flow_applied.specs.steps.Calls.{IsCallOf}
-use Rattle.fun_flow_applied.specs.steps.Entering.{AreEntered, IsListedAt, any_function, arity_of, closure_in, function_in, listed_in, only_these, target_in}
+use Rattle.fun_flow_applied.specs.steps.Entering.{AreEntered, IsListedAt, any_function, closure_in, function_in, listed_in, only_these, target_in}
 use Rattle.fun_flow_applied.specs.steps.Texts.{AreTextsOf, IsTextOf, name_at, name_of as definition_name}
 use Rattle.fun_flow_applied.proofs.CallOrder.{calls_ascend}
 use Rattle.fun_flow_applied.proofs.Zipped.{zip_among, zip_from, zip_left, zip_right}
 
 -- ---- the position of a module
-
-name_there : (U : Program) (h : ℕ) (x : m.Module) → slice_get U h ≡ Some x → Contains (module_names U) x.name
-name_there [] h x e = absurd cc
-name_there (p ∷ U) zero x e = let same : p ≡ x = cc in subst (λ z. Contains (p.name ∷ module_names U) z.name) same (contains_first p.name (module_names U))
-name_there (p ∷ U) (suc h) x e = contains_later p.name x.name (module_names U) (name_there U h x e)
 
 position_is : (U : Program) (h : ℕ) (x : m.Module) → Distinct (module_names U) → slice_get U h ≡ Some x → listed.position_of U x.name ≡ h
 position_is [] h x apart e = absurd cc
@@ -60,7 +57,7 @@ position_is (p ∷ U) zero x apart e =
     let same : p ≡ x = cc in
     ap (λ b. if b then zero else suc (listed.position_of U x.name)) (ap (λ z. same_atom z.name x.name) same ∙ (bytes_decides x.name x.name).1 refl)
 position_is (p ∷ U) (suc h) x apart e =
-    ap (λ b. if b then zero else suc (listed.position_of U x.name)) (not_same p.name x.name (λ is. apart.0 (subst (Contains (module_names U)) (sym is) (name_there U h x e))))
+    ap (λ b. if b then zero else suc (listed.position_of U x.name)) (not_same p.name x.name (λ is. apart.0 (subst (Contains (module_names U)) (sym is) (name_among U h x e))))
     ∙ ap suc (position_is U h x apart.1 e)
 
 -- ---- rules that stand for others
@@ -227,7 +224,8 @@ module _ (there : There) (past : Past) (one : One) (U : Program) (apart : Distin
 -- ---- from modules
 
 -- an application that is found is of a module whose text is known
-pub within_texts : {S : Type 0} (f : S → Checked) (mods : List S) (n : ℕ) (rules : List FlowRule) (found : List AppliedValue) (texts : List ModuleText) → n ≡ length mods → AreApplications n rules found → AreTextsOf (map (λ s. tree_of (f s)) mods) texts
+pub within_texts : {S : Type 0} (f : S → Checked) (mods : List S) (n : ℕ) (rules : List FlowRule) (found : List AppliedValue) (texts : List ModuleText) → n ≡ length mods
+    → AreApplications n rules found → AreTextsOf (map (λ s. tree_of (f s)) mods) texts
     → (a : AppliedValue) → Contains found a → a.«module» < length texts
 within_texts f mods n rules found texts many applications are a has =
     let r = applications.each a has in

@@ -43,7 +43,8 @@ module _ {A B : Type 0} (R : A → B → Type 0) where
       (subst (λ ws. AllZip R ws new) (ap (λ v. take i xs ++ v ∷ []) is ∙ sym (take-suc xs i x within)) (subst (AllZip R (take i xs ++ x ∷ [])) (sym pushed) (zip_push (take i xs) now x y before r)))
 
 -- the same where the first list is made of another one
-pub mapped_round : {S A B : Type 0} (R : A → B → Type 0) (f : S → A) (xs : List S) (i : ℕ) (x : S) (now new : List B) (y : B) → i < length xs → x ≡ get_or xs i x → AllZip R (map f (take i xs)) now → new ≡ now ++ y ∷ [] → {a : A} → a ≡ f x → R a y
+pub mapped_round : {S A B : Type 0} (R : A → B → Type 0) (f : S → A) (xs : List S) (i : ℕ) (x : S) (now new : List B) (y : B) → i < length xs → x ≡ get_or xs i x
+    → AllZip R (map f (take i xs)) now → new ≡ now ++ y ∷ [] → {a : A} → a ≡ f x → R a y
     → AllZip R (map f (take (i + 1) xs)) new
 mapped_round R f xs i x now new y within is before pushed {a} same r =
     subst (λ n. AllZip R (map f (take n xs)) new) {x = suc i} {y = i + 1} (omega arith)

@@ -2,7 +2,7 @@
 ghost use Rattle.std.specs.Prelude.{◌≡◌, ◌++◌, [], option_copied, slice_get, OnOk, IfOk};
 ghost use Rattle.std.specs.List.{cons_option};
 ghost use Rattle.fun_flow_answers.specs.declared.target.Target.TheVariants.{Name};
-ghost use Rattle.fun_flow_applied.specs.steps.Entering.{AreEntered, anything_in, arity_of, closure_in, is_anything, item_in, listed_in, target_in};
+ghost use Rattle.fun_flow_applied.specs.steps.Entering.{AreEntered, anything_in, closure_in, is_anything, item_in, listed_in, target_in};
 
 use crate::module_text::{ModuleText, line_at};
 use core_ast::FunName;
@@ -72,7 +72,7 @@ fn add_listed(
 ) -> Result<(), Memory>
     ensures { OnOk result (found.new.items ≡ found.old.items ++ cons_option (listed_in texts.now arity item.now) []) }
 {
-    if arity_of(item) != arity {
+    if item.arity() != arity {
         return Ok(());
     }
     match target_of(alloc, texts, item)? {
@@ -81,17 +81,6 @@ fn add_listed(
             Ok(()) => Ok(()),
             Err(_) => Err(Memory),
         },
-    }
-}
-
-// How many arguments a function takes.
-fn arity_of(item: &Item) -> usize
-    ensures { result ≡ arity_of item.now }
-{
-    match item {
-        Item::Anything => 0,
-        Item::Closure(_, _, arity) => *arity,
-        Item::External(_, name) => name.arity as usize,
     }
 }
 

@@ -6,6 +6,7 @@ use Rattle.type_lattice_model.specs.Values.{Local}
 use Rattle.core_ast.specs.declared.syntax.FunName.{FunName}
 use Rattle.core_meaning.specs.Programs.{Program, Found, found}
 use Rattle.core_scope.specs.Names.{Distinct}
+use Rattle.fun_flow_places.specs.Arities.{arity_of}
 use Rattle.fun_flow_places.specs.declared.places.FlowPlace.{FlowPlace}
 use Rattle.fun_flow_places.specs.declared.places.FlowPlace.TheVariants.{Returned}
 use Rattle.fun_flow_places.specs.declared.places.FlowRule.{FlowRule}
@@ -22,7 +23,7 @@ use Rattle.fun_flow_solver.specs.declared.problem.Gives.{Gives}
 use Rattle.fun_flow_solver.specs.declared.problem.Gives.TheVariants.{Nothing, Body, Unknown}
 use Rattle.fun_flow_solver.specs.Holds.{entered_of, given_by}
 use Rattle.fun_flow_numbers.specs.declared.numbering.RuleNumbering.{RuleNumbering}
-use Rattle.fun_flow_numbers.specs.steps.Numbering.{GivesFound, IsKnown, IsNumbering, IsReturned, arity_of}
+use Rattle.fun_flow_numbers.specs.steps.Numbering.{GivesFound, IsKnown, IsNumbering, IsReturned}
 use Rattle.fun_flow_numbers.specs.steps.Numbers.{AreApart}
 
 -- What is given over numbers is what the program's item gives: the result of a function that is entered, and whether nothing is known.
@@ -98,5 +99,6 @@ module _ (U : Program) (apart : Distinct (module_names U)) (table : ModuleTable)
       (closure_agrees h l arity count k.gives k.so (nat_eq arity count))
   agrees once x (External home f) count at =
       let k = is.known x (External home f) at in
-      subst (λ z. Agrees U n.places z (s.entered U count (item_named U (External home f))) (s.is_unknown U count (item_named U (External home f)))) (sym (entered_known x (External home f) count k (not_first x (External home f) at (λ e. absurd cc))))
+      subst (λ z. Agrees U n.places z (s.entered U count (item_named U (External home f))) (s.is_unknown U count (item_named U (External home f))))
+      (sym (entered_known x (External home f) count k (not_first x (External home f) at (λ e. absurd cc))))
       (external_agrees home f k.gives k.so.0 (k.so.1 U apart of) k.so.2 (nat_eq f.arity count))

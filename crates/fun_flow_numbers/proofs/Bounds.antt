@@ -2,6 +2,7 @@
 use Rattle.std.proofs.Common.{◌≡◌, ℕ, ◌<◌, ◌≤◌, Bool, true, false, List, length, Option, Some, None, slice_get, refl, sym, ap, ◌∙◌, nat_eq, if◌then◌else◌, arith}
 use Rattle.std.proofs.lemmas.Option.{slice_get_within}
 use Rattle.type_kinds.proofs.Lists.{item_at}
+use Rattle.fun_flow_places.specs.Arities.{arity_of}
 use Rattle.fun_flow_places.specs.declared.places.FlowPlace.{FlowPlace}
 use Rattle.fun_flow_places.specs.declared.places.FlowPlace.TheVariants.{Part, Returned}
 use Rattle.fun_flow_places.specs.declared.places.FlowRule.{FlowRule}
@@ -15,7 +16,7 @@ use Rattle.fun_flow_solver.specs.declared.problem.Gives.TheVariants.{Nothing, Bo
 use Rattle.fun_flow_solver.specs.declared.problem.Known.{Known}
 use Rattle.fun_flow_solver.specs.Holds.{IsBelow, entered_of, given_by}
 use Rattle.fun_flow_numbers.specs.declared.numbering.RuleNumbering.{RuleNumbering}
-use Rattle.fun_flow_numbers.specs.steps.Numbering.{GivesFor, GivesFound, IsNumbering, arity_of}
+use Rattle.fun_flow_numbers.specs.steps.Numbering.{GivesFor, GivesFound, IsNumbering}
 
 found_within : (ps : List FlowPlace) (f : FoundFunction) (g : Gives) (r : ℕ) → g ≡ Body r → GivesFound ps f g → r < length ps
 found_within ps BuiltIn g r e i = absurd cc

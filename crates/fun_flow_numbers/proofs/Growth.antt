@@ -4,6 +4,7 @@ use Rattle.std.proofs.lemmas.List.{length_push}
 use Rattle.std.proofs.lemmas.List.Elements.{Contains-append_left, Contains-push, Contains-push_cases}
 use Rattle.std.specs.Global.{Vec}
 use Rattle.type_kinds.proofs.Lists.{contains_none, get_last}
+use Rattle.fun_flow_places.specs.Arities.{arity_of}
 use Rattle.fun_flow_places.specs.declared.places.FlowPlace.{FlowPlace}
 use Rattle.fun_flow_places.specs.declared.places.FlowPlace.TheVariants.{Part, Returned}
 use Rattle.fun_flow_places.specs.declared.places.Item.{Item}
@@ -20,7 +21,7 @@ use Rattle.fun_flow_solver.specs.declared.problem.Gives.TheVariants.{Nothing, Bo
 use Rattle.fun_flow_solver.specs.declared.problem.Known.{Known}
 use Rattle.fun_flow_solver.specs.declared.problem.Pair.{Pair}
 use Rattle.fun_flow_numbers.specs.declared.numbering.RuleNumbering.{RuleNumbering}
-use Rattle.fun_flow_numbers.specs.steps.Numbering.{AddsItem, GivesFor, GivesFound, IsApplication, IsFlow, IsKnown, IsNumbering, IsReturned, IsStart, Keeps, Stands, arity_of}
+use Rattle.fun_flow_numbers.specs.steps.Numbering.{AddsItem, GivesFor, GivesFound, IsApplication, IsFlow, IsKnown, IsNumbering, IsReturned, IsStart, Keeps, Stands}
 use Rattle.fun_flow_numbers.specs.steps.Numbers.{KeepsNumbers}
 
 -- ---- lists
@@ -77,7 +78,8 @@ module _ (table : ModuleTable) where
       stands_grows (Flows p q) i = (i.0, subst (λ v. Contains v.items i.0) (sym flows) i.1, flow_grows i.0 p q i.2)
       stands_grows (Applies p n h l) i = (i.0, subst (λ v. Contains v.items i.0) (sym applications) i.1, application_grows i.0 p n h l i.2)
 
-      grows : (rules : List FlowRule) → length new.problem.items.items ≡ length new.items → ((x : ℕ) (y : Item) → slice_get new.items x ≡ Some y → IsKnown table new.places new.problem.items.items x y) → IsNumbering table rules old → IsNumbering table rules new
+      grows : (rules : List FlowRule) → length new.problem.items.items ≡ length new.items
+          → ((x : ℕ) (y : Item) → slice_get new.items x ≡ Some y → IsKnown table new.places new.problem.items.items x y) → IsNumbering table rules old → IsNumbering table rules new
       grows rules counted known is =
           record {
             zeroth = items 0 Anything is.zeroth;
@@ -98,7 +100,8 @@ module _ (table : ModuleTable) where
       (λ x y e. known_grows old.places new.places old.problem.items.items new.problem.items.items x y k.places (λ i z f. ap (λ v. slice_get v.items.items i) k.problem ∙ f) (is.known x y (ap (λ l. slice_get l x) (sym k.items) ∙ e)))
       is
 
-  pub numbering_item : (rules : List FlowRule) (old mid new : RuleNumbering) (y : Item) (n : ℕ) (g : Gives) → Keeps old mid → GivesFor table mid.places y g → n ≡ arity_of y → AddsItem mid new y n g → IsNumbering table rules old → IsNumbering table rules new
+  pub numbering_item : (rules : List FlowRule) (old mid new : RuleNumbering) (y : Item) (n : ℕ) (g : Gives) → Keeps old mid → GivesFor table mid.places y g → n ≡ arity_of y
+      → AddsItem mid new y n g → IsNumbering table rules old → IsNumbering table rules new
   numbering_item rules old mid new y n g kept gives arity a before =
       let is : IsNumbering table rules mid = numbering_kept rules old mid kept before in
       let k : Known = record { arity = n; gives = g } in
@@ -120,7 +123,8 @@ module _ (table : ModuleTable) where
       is
 
   -- the first item, where nothing was met
-  pub numbering_begins : (old new : RuleNumbering) → old.items ≡ [] → old.problem.items.items ≡ [] → old.problem.starts.items ≡ [] → old.problem.flows.items ≡ [] → old.problem.applications.items ≡ [] → AddsItem old new Anything 0 Unknown → IsNumbering table [] new
+  pub numbering_begins : (old new : RuleNumbering) → old.items ≡ [] → old.problem.items.items ≡ [] → old.problem.starts.items ≡ [] → old.problem.flows.items ≡ []
+      → old.problem.applications.items ≡ [] → AddsItem old new Anything 0 Unknown → IsNumbering table [] new
   numbering_begins old new items known starts flows applications a =
       let all_items : new.items ≡ Anything ∷ [] = a.items ∙ ap (λ l. l ++ Anything ∷ []) items in
       let k : Known = record { arity = 0; gives = Unknown } in

@@ -69,7 +69,8 @@ module _ (U : Program) (apart : Distinct (module_names U)) (table : ModuleTable)
 
   start_sound : (p : FlowPlace) (x : Item) → Contains (first_rule ∷ rules) (Holds p x) → t.Holds U (place_named U p) (item_named U x)
   start_sound p x c = elim (contains_cases first_rule (Holds p x) rules c) [
-    | inl first ↦ (let both : Holds Anywhere Anything ≡ Holds p x = first in let at : Anywhere ≡ p = cc in let of_it : Anything ≡ x = cc in subst (λ z. t.Holds U (place_named U z) (item_named U x)) at (subst (λ z. t.Holds U s.anywhere (item_named U z)) of_it t.may_any))
+    | inl first ↦ (let both : Holds Anywhere Anything ≡ Holds p x = first in let at : Anywhere ≡ p = cc in let of_it : Anything ≡ x = cc in
+        subst (λ z. t.Holds U (place_named U z) (item_named U x)) at (subst (λ z. t.Holds U s.anywhere (item_named U z)) of_it t.may_any))
     | inr later ↦ t.may_hold (stated (Holds p x) later)
   ]
 

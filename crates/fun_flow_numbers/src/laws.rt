@@ -8,7 +8,8 @@ ghost use Rattle.fun_flow_places.specs.Naming.{module_names, name_of};
 /// Among modules with distinct names the name at a position tells the position. Where a module has the position,
 /// it has that name; past the last module, none has it.
 pub fn names_and_positions()
-    ensures there { (U : Program) (h : ℕ) (x : m.Module) → Distinct (module_names U) → slice_get U h ≡ Some x → (name_of U h ≡ x.name) × (module_named U (name_of U h) ≡ Some x) }
+    ensures there { (U : Program) (h : ℕ) (x : m.Module) → Distinct (module_names U) → slice_get U h ≡ Some x
+        → (name_of U h ≡ x.name) × (module_named U (name_of U h) ≡ Some x) }
     ensures past { (U : Program) (h : ℕ) → slice_get U h ≡ None → module_named U (name_of U h) ≡ None }
     ensures one { (U : Program) (h k : ℕ) → Distinct (module_names U) → name_of U h ≡ name_of U k → h ≡ k }
 {}

@@ -2,7 +2,7 @@
 ghost use Rattle.std.specs.Prelude.{◌≡◌, List, [], ◌∷◌, ◌++◌, Contains, Some, slice_get, IfOk, OnOk};
 ghost use Rattle.fun_flow_places.specs.declared.places.FlowRule.{FlowRule};
 ghost use Rattle.fun_flow_places.specs.declared.places.FlowRule.TheVariants.{Holds, Flows, Applies};
-ghost use Rattle.fun_flow_numbers.specs.steps.Numbering.{AddsItem, GivesFor, GivesFound, IsNumbering, Keeps, arity_of, first_rule};
+ghost use Rattle.fun_flow_numbers.specs.steps.Numbering.{AddsItem, GivesFor, GivesFound, IsNumbering, Keeps, first_rule};
 
 use crate::numbered::Numbered;
 use fun_flow_places::{FlowPlace, FlowRule, FoundFunction, Item, ModuleTable};
@@ -26,17 +26,6 @@ fn small(number: usize) -> Result<u32, Memory>
     match u32::try_from(number) {
         Ok(small) => Ok(small),
         Err(_) => Err(Memory),
-    }
-}
-
-// How many arguments a function takes; of anything it isn't asked.
-fn arity_of(item: &Item) -> usize
-    ensures { result ≡ arity_of item.now }
-{
-    match item {
-        Item::Anything => 0,
-        Item::Closure(_, _, arity) => *arity,
-        Item::External(_, name) => name.arity as usize,
     }
 }
 
@@ -106,7 +95,7 @@ impl RuleNumbering {
         }
         let gives = self.gives_of(table, item)?;
         let copy = copy_of(self.alloc, item)?;
-        self.add_item(copy, arity_of(item), gives)
+        self.add_item(copy, item.arity(), gives)
     }
 
     // What applying an item gives.
@@ -146,7 +135,8 @@ impl RuleNumbering {
         place: FlowPlace,
         item: &Item,
     ) -> Result<(), Memory>
-        ensures { OnOk result ((rules : List FlowRule) → IsNumbering table.now rules self.old → IsNumbering table.now (rules ++ Holds place item.now ∷ []) self.new) }
+        ensures { OnOk result ((rules : List FlowRule) → IsNumbering table.now rules self.old
+            → IsNumbering table.now (rules ++ Holds place item.now ∷ []) self.new) }
     {
         let item = self.item(table, item)?;
         self.start(place, item)
@@ -154,7 +144,8 @@ impl RuleNumbering {
 
     // A place holds the item of a number.
     fn start(&mut self, place: FlowPlace, item: u32) -> Result<(), Memory>
-        ensures { OnOk result ((table : ModuleTable) (rules : List FlowRule) (x : Item) → slice_get self.old.items item ≡ Some x → IsNumbering table rules self.old → IsNumbering table (rules ++ Holds place x ∷ []) self.new) }
+        ensures { OnOk result ((table : ModuleTable) (rules : List FlowRule) (x : Item) → slice_get self.old.items item ≡ Some x
+            → IsNumbering table rules self.old → IsNumbering table (rules ++ Holds place x ∷ []) self.new) }
     {
         let place = self.place(place)?;
         match self.problem.starts.push(Pair { place, item }) {
@@ -165,7 +156,8 @@ impl RuleNumbering {
 
     // What one place holds another one holds.
     fn add_flow(&mut self, from: FlowPlace, to: FlowPlace) -> Result<(), Memory>
-        ensures { OnOk result ((table : ModuleTable) (rules : List FlowRule) → IsNumbering table rules self.old → IsNumbering table (rules ++ Flows from to ∷ []) self.new) }
+        ensures { OnOk result ((table : ModuleTable) (rules : List FlowRule) → IsNumbering table rules self.old
+            → IsNumbering table (rules ++ Flows from to ∷ []) self.new) }
     {
         let from = self.place(from)?;
         let to = self.place(to)?;
@@ -183,7 +175,8 @@ impl RuleNumbering {
         home: usize,
         label: u32,
     ) -> Result<(), Memory>
-        ensures { OnOk result ((table : ModuleTable) (rules : List FlowRule) → IsNumbering table rules self.old → IsNumbering table (rules ++ Applies operator count home label ∷ []) self.new) }
+        ensures { OnOk result ((table : ModuleTable) (rules : List FlowRule) → IsNumbering table rules self.old
+            → IsNumbering table (rules ++ Applies operator count home label ∷ []) self.new) }
     {
         let operator = self.place(operator)?;
         let place = self.place(FlowPlace::Part(home, label, 0))?;

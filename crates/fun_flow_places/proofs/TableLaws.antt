@@ -51,7 +51,7 @@ name_position p xs x there innermost = last_name p xs x there (ap (λ n. list_an
 
 -- ---- modules by their names
 
-name_among : (U : Program) (p : ℕ) (q : m.Module) → slice_get U p ≡ Some q → Contains (module_names U) q.name
+pub name_among : (U : Program) (p : ℕ) (q : m.Module) → slice_get U p ≡ Some q → Contains (module_names U) q.name
 name_among [] p q e = absurd cc
 name_among (r ∷ U) zero q e = let same : r ≡ q = cc in subst (λ z. Contains (r.name ∷ module_names U) z.name) same (contains_first r.name (module_names U))
 name_among (r ∷ U) (suc p) q e = contains_later r.name q.name (module_names U) (name_among U p q e)

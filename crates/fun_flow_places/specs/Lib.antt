@@ -1,3 +1,4 @@
 pub mod Bindings
 pub mod Naming
 pub mod Tables
+pub mod Arities

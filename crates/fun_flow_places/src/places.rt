@@ -1,3 +1,6 @@
+ghost use Rattle.std.specs.Prelude.{◌≡◌};
+ghost use Rattle.fun_flow_places.specs.Arities.{arity_of};
+
 use core_ast::FunName;
 use type_kinds::Atom;
 
@@ -25,6 +28,19 @@ pub enum Item {
     Closure(usize, u32, usize),
     /// A function by its module's name and its own.
     External(Atom, FunName),
+}
+
+impl Item {
+    /// How many arguments the function takes; 0 for anything.
+    pub fn arity(&self) -> usize
+        ensures { result ≡ arity_of self.now }
+    {
+        match self {
+            Item::Anything => 0,
+            Item::Closure(_, _, arity) => *arity,
+            Item::External(_, name) => name.arity as usize,
+        }
+    }
 }
 
 /// A rule of a text.

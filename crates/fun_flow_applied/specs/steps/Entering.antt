@@ -7,18 +7,13 @@ use Rattle.fun_flow_answers.specs.declared.target.Target.TheVariants.{Fun, Name}
 use Rattle.fun_flow_answers.specs.declared.target.ListedTargets.{ListedTargets}
 use Rattle.fun_flow_answers.specs.declared.target.ListedTargets.TheVariants as l
 use Rattle.fun_flow_answers.specs.Order.{target_cmp}
+use Rattle.fun_flow_places.specs.Arities.{arity_of}
 use Rattle.fun_flow_places.specs.declared.places.FlowPlace.{FlowPlace}
 use Rattle.fun_flow_places.specs.declared.places.Item.{Item}
 use Rattle.fun_flow_places.specs.declared.places.Item.TheVariants.{Anything, Closure, External}
 use Rattle.fun_flow_numbers.specs.Held.{HeldNumbers, HoldsNumber, item_at}
 use Rattle.fun_flow_applied.specs.declared.module_text.ModuleText.{ModuleText}
 use Rattle.fun_flow_applied.specs.steps.Texts.{name_at}
-
--- how many arguments a function takes
-abbrev pub arity_of : Item → ℕ
-arity_of Anything = 0
-arity_of (Closure home l n) = n
-arity_of (External home f) = f.arity
 
 -- a definition by its name, and every other function as a fun
 abbrev pub function_in : (position label : ℕ) → ModuleText → Option FunName → Target

@@ -4,6 +4,7 @@ use Rattle.type_kinds.specs.declared.atom.Atom.{Atom}
 use Rattle.core_ast.specs.declared.syntax.FunName.{FunName}
 use Rattle.core_meaning.specs.Programs.{Program}
 use Rattle.core_scope.specs.Names.{Distinct}
+use Rattle.fun_flow_places.specs.Arities.{arity_of}
 use Rattle.fun_flow_places.specs.declared.places.FlowPlace.{FlowPlace}
 use Rattle.fun_flow_places.specs.declared.places.FlowPlace.TheVariants.{Anywhere, Part, Returned}
 use Rattle.fun_flow_places.specs.declared.places.Item.{Item}
@@ -27,12 +28,6 @@ use Rattle.fun_flow_numbers.specs.steps.Numbers.{KeepsNumbers}
 -- anything is anywhere
 abbrev pub first_rule : FlowRule
 first_rule = Holds Anywhere Anything
-
--- how many arguments a function takes; of anything it isn't asked
-abbrev pub arity_of : Item → ℕ
-arity_of Anything = 0
-arity_of (Closure h label arity) = arity
-arity_of (External home f) = f.arity
 
 -- ---- what is known of items
 

@@ -12,7 +12,8 @@ use Rattle.fun_flow_applied.proofs.applications.applications.Goals as goal
 
 pub loop-rule-preserved : goal.loop-rule-preserved
 loop-rule-preserved c =
-    kept_round (application_in c.args.modules) c.args.rules.now c.loop-rule.rule-index c.rule-item.result c.loop-rule.found.items c.add_application.new.found.items c.loop-rule-test.true c.rule-item.is c.loop-rule.invariant c.in_ok-add_application.ensures
+    kept_round (application_in c.args.modules) c.args.rules.now c.loop-rule.rule-index c.rule-item.result c.loop-rule.found.items c.add_application.new.found.items c.loop-rule-test.true
+    c.rule-item.is c.loop-rule.invariant c.in_ok-add_application.ensures
 
 pub returns : goal.returns
 returns c =

@@ -32,7 +32,10 @@ returns g c =
     let found = c.as_slice-4.result.now in
     IfOk-weaker c.calls_of.result (λ calls. AllZip (IsCallOf texts c.in_ok-sets.sets) found calls) (λ calls. AreCalls U calls)
     (λ calls zipped.
-    applied_so c.names_and_positions.ensures.there c.names_and_positions.ensures.past c.names_and_positions.ensures.one g.S.AsChecked.stands_for mods c.requires.distinct rules c.in_ok-rules.ensures c.in_ok-table.table c.in_ok-table.ensures c.in_ok-sets.sets
+    applied_so c.names_and_positions.ensures.there c.names_and_positions.ensures.past c.names_and_positions.ensures.one g.S.AsChecked.stands_for mods c.requires.distinct rules
+    c.in_ok-rules.ensures c.in_ok-table.table c.in_ok-table.ensures c.in_ok-sets.sets
     (subst (λ rs. (U : Program) → Distinct (module_names U) → IsTableOf U c.in_ok-table.table → AreRulesOf U rs → AreSetsOf U c.in_ok-sets.sets) c.as_slice.ensures c.in_ok-sets.ensures) texts
-    (subst (AreTextsOf U) (sym c.as_slice-3.ensures.value) c.in_ok-texts.ensures) (length mods) refl found (subst (λ rs. AreApplications (length mods) rs found) c.as_slice-2.ensures (subst (AreApplications (length mods) c.as_slice-2.result.now) (sym c.as_slice-4.ensures.value) c.in_ok-found.ensures)) calls zipped)
+    (subst (AreTextsOf U) (sym c.as_slice-3.ensures.value) c.in_ok-texts.ensures) (length mods) refl found
+    (subst (λ rs. AreApplications (length mods) rs found) c.as_slice-2.ensures
+    (subst (AreApplications (length mods) c.as_slice-2.result.now) (sym c.as_slice-4.ensures.value) c.in_ok-found.ensures)) calls zipped)
     c.calls_of.ensures

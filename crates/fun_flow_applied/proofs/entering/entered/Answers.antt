@@ -12,7 +12,8 @@ pub returns-then-anything : goal.returns-then-anything
 returns-then-anything c =
     let xs = c.held-held.result.now in
     let i = c.loop-number.number-index in
-    entered_anything c.args.texts.now c.args.sets.now c.args.operator.now c.args.arity xs i _ c.item.result c.in_ok-anything.anything c.held-held.ensures c.loop-number-test.true (get_or_default xs i _ _ c.loop-number-test.true) c.item.ensures
+    entered_anything c.args.texts.now c.args.sets.now c.args.operator.now c.args.arity xs i _ c.item.result c.in_ok-anything.anything c.held-held.ensures c.loop-number-test.true
+    (get_or_default xs i _ _ c.loop-number-test.true) c.item.ensures
     c.in_ok-anything.ensures.anything c.if-anything.true
 
 pub loop-number-preserved : goal.loop-number-preserved

@@ -16,7 +16,8 @@ loop-rule-preserved c =
 
 pub solve-requires-clause-below : goal.solve-requires-clause-below
 solve-requires-clause-below c =
-    below c.args.table.now (first_rule ∷ take c.loop-rule.rule-index c.args.rules.now) c.loop-rule.numbering c.in-Ok.count (omega (arith, c.len.ensures.count, c.max.ensures, c.max-most.ensures, c.in-Ok.ensures)) (omega (arith, c.len-2.ensures.count, c.max.ensures, c.max-most.ensures, c.in-Ok.ensures)) c.loop-rule.invariant
+    below c.args.table.now (first_rule ∷ take c.loop-rule.rule-index c.args.rules.now) c.loop-rule.numbering c.in-Ok.count
+    (omega (arith, c.len.ensures.count, c.max.ensures, c.max-most.ensures, c.in-Ok.ensures)) (omega (arith, c.len-2.ensures.count, c.max.ensures, c.max-most.ensures, c.in-Ok.ensures)) c.loop-rule.invariant
 
 pub returns : goal.returns
 returns c = λ U apart of all.

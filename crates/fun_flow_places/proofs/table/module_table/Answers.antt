@@ -15,6 +15,8 @@ loop-source-preserved g c = (
 
 pub returns : goal.returns
 returns g c = record {
-  names = listed_all (λ s. (tree_of (g.S.AsChecked.stands_for s)).name) c.loop-source.table.names _ c.args.mods.now c.loop-source.source-index (let t = c.loop-source-test.false in omega arith) c.loop-source.invariant.0 ∙ map_both (λ s. tree_of (g.S.AsChecked.stands_for s)) (λ p. p.name) c.args.mods.now;
-  exports = listed_all (λ s. exports_of (tree_of (g.S.AsChecked.stands_for s))) c.loop-source.table.exports _ c.args.mods.now c.loop-source.source-index (let t = c.loop-source-test.false in omega arith) c.loop-source.invariant.1 ∙ map_both (λ s. tree_of (g.S.AsChecked.stands_for s)) exports_of c.args.mods.now;
+  names = listed_all (λ s. (tree_of (g.S.AsChecked.stands_for s)).name) c.loop-source.table.names _ c.args.mods.now c.loop-source.source-index (let t = c.loop-source-test.false in
+      omega arith) c.loop-source.invariant.0 ∙ map_both (λ s. tree_of (g.S.AsChecked.stands_for s)) (λ p. p.name) c.args.mods.now;
+  exports = listed_all (λ s. exports_of (tree_of (g.S.AsChecked.stands_for s))) c.loop-source.table.exports _ c.args.mods.now c.loop-source.source-index (let t = c.loop-source-test.false in
+      omega arith) c.loop-source.invariant.1 ∙ map_both (λ s. tree_of (g.S.AsChecked.stands_for s)) exports_of c.args.mods.now;
 }
