@@ -1,8 +1,8 @@
 //! The program: `run_over` on the words, the files and the output of the host.
 #![tactic(auto)]
 
-use analysis_answers::{RunStatus, STACK_SIZE, host_words};
-use da_shelf::{FileShelf, OpenGate, StdoutSink};
+use analysis_answers::{STACK_SIZE, host_devices, host_words};
+use da_shelf::OpenGate;
 use dia_session_command::run_over;
 use std::alloc::Global;
 use std::process::ExitCode;
@@ -35,17 +35,13 @@ fn main(rt: HostRuntime) -> ExitCode {
     }
 }
 
-// Carries the command out on files and the standard output.
 fn run<R: Threads + Wait + Sync + Files + Print>(
     rt: &R,
     alloc: Global,
     words: &Vec<String>,
 ) -> ExitCode {
-    let Ok(mut shelf) = FileShelf::new(rt, alloc) else {
-        return ExitCode::from(RunStatus::Memory.code());
-    };
-    let Ok(mut out) = StdoutSink::new(rt) else {
-        return ExitCode::from(RunStatus::Memory.code());
-    };
-    run_over(rt, alloc, words, &mut shelf, &mut out, &OpenGate)
+    match host_devices(rt, alloc) {
+        Ok((mut shelf, mut out)) => run_over(rt, alloc, words, &mut shelf, &mut out, &OpenGate),
+        Err(status) => ExitCode::from(status.code()),
+    }
 }
