@@ -1,6 +1,7 @@
 mod Bodies
 mod Cells
 mod Chains
+mod Examples
 mod Levels
 mod PlainWays
 mod Rows
