@@ -1,5 +1,5 @@
 -- Where the options of a check end.
-use Rattle.std.specs.Prelude.{◌≡◌, ◌≢◌, ℕ, ◌+◌, ◌≤◌, List, [], ◌∷◌, ◌++◌, length, take}
+use Rattle.std.specs.Prelude.{◌≡◌, ◌≢◌, ℕ, ◌+◌, ◌≤◌, List, [], ◌++◌, length, take}
 use Rattle.dialyze_command.specs.declared.words.Command.{Command}
 use Rattle.dialyze_command.specs.declared.words.OptionName.{OptionName}
 use Rattle.dialyze_command.specs.Words.{AreFiles, AreOptions, Adds, option_word}
