@@ -14,7 +14,7 @@ use crate::alike::alike;
 use crate::lines::{each_line, line};
 use crate::openings::openings;
 use crate::solved::typings;
-use case_files::{Step, steps_of};
+use case_files::{CaseStep, steps_of};
 use da_shelf::MemShelf;
 use std::alloc::Global;
 use std::sync::Wait;
@@ -55,7 +55,7 @@ fn empty_shelf(alloc: Global) -> MemShelf {
 fn play<R: Threads + Wait + Sync>(
     rt: &R,
     alloc: Global,
-    step: &Step,
+    step: &CaseStep,
     shelf: &mut MemShelf,
     out: &mut Bytes,
 ) -> Result<(), Memory> {

@@ -9,5 +9,5 @@ mod steps;
 mod words;
 
 pub use named::named_texts;
-pub use steps::{Step, steps_of};
+pub use steps::{CaseStep, steps_of};
 pub use words::words_of;

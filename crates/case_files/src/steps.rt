@@ -4,14 +4,14 @@ use type_kinds::{List, Memory};
 /// A step of a case: its first word, the rest of its line, and the lines below, the last of them without its end. The step `case` begins
 /// a case, and has its name.
 #[derive(Clone, Copy)]
-pub struct Step<'a> {
+pub struct CaseStep<'a> {
     pub what: &'a str,
     pub rest: &'a str,
     pub lines: &'a str,
 }
 
 /// The steps of the cases of a text, in its order.
-pub fn steps_of(alloc: Global, text: &str) -> Result<List<Step<'_>>, Memory> {
+pub fn steps_of(alloc: Global, text: &str) -> Result<List<CaseStep<'_>>, Memory> {
     let mut steps = List::new(alloc);
     for case in text.split("\n== ").skip(1) {
         add_case(case, &mut steps)?;
@@ -19,10 +19,10 @@ pub fn steps_of(alloc: Global, text: &str) -> Result<List<Step<'_>>, Memory> {
     Ok(steps)
 }
 
-fn add_case<'a>(case: &'a str, steps: &mut List<Step<'a>>) -> Result<(), Memory> {
+fn add_case<'a>(case: &'a str, steps: &mut List<CaseStep<'a>>) -> Result<(), Memory> {
     let mut parts = case.split("\n-- ");
     if let Some(name) = parts.next() {
-        steps.add(Step {
+        steps.add(CaseStep {
             what: "case",
             rest: name,
             lines: "",
@@ -34,10 +34,10 @@ fn add_case<'a>(case: &'a str, steps: &mut List<Step<'a>>) -> Result<(), Memory>
     Ok(())
 }
 
-fn step_of(text: &str) -> Step<'_> {
+fn step_of(text: &str) -> CaseStep<'_> {
     let (line, lines) = parted(text, '\n');
     let (what, rest) = parted(line, ' ');
-    Step { what, rest, lines }
+    CaseStep { what, rest, lines }
 }
 
 // What stands before the first such character, and behind it.

@@ -12,7 +12,7 @@ use crate::built_ins::{append_other, append_row};
 use crate::callees::append_callees;
 use crate::narrowed::append_narrowed;
 use crate::solved::{append_solved, append_visits};
-use case_files::{Step, steps_of};
+use case_files::{CaseStep, steps_of};
 use std::alloc::Global;
 use type_kinds::{Bytes, Memory};
 
@@ -31,14 +31,14 @@ fn play_text(alloc: Global, text: &str, out: &mut Bytes) -> Result<(), Memory> {
     answer
 }
 
-fn play_steps(alloc: Global, steps: &[Step], out: &mut Bytes) -> Result<(), Memory> {
+fn play_steps(alloc: Global, steps: &[CaseStep], out: &mut Bytes) -> Result<(), Memory> {
     for step in steps {
         play(alloc, step, out)?;
     }
     Ok(())
 }
 
-fn play(alloc: Global, step: &Step, out: &mut Bytes) -> Result<(), Memory> {
+fn play(alloc: Global, step: &CaseStep, out: &mut Bytes) -> Result<(), Memory> {
     let lines = step.lines;
     match step.what {
         "case" => append_case(step.rest, out),

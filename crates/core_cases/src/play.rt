@@ -21,7 +21,7 @@ use crate::calls::append_over;
 use crate::graphs::{append_count, append_graph};
 use crate::rows::{TextFrame, frame_of, play_rows};
 use crate::token_changes::append_changed;
-use case_files::{Step, steps_of};
+use case_files::{CaseStep, steps_of};
 use std::alloc::Global;
 use type_kinds::{Bytes, List, Memory};
 
@@ -45,7 +45,7 @@ fn play_text(alloc: Global, text: &str, out: &mut Bytes) -> Result<(), Memory> {
 // The texts of modules are those of the case.
 fn play_steps(
     alloc: Global,
-    steps: &[Step],
+    steps: &[CaseStep],
     texts: &mut List<Bytes>,
     out: &mut Bytes,
 ) -> Result<(), Memory> {
@@ -73,7 +73,7 @@ fn append_name(name: &str, out: &mut Bytes) -> Result<(), Memory> {
 
 fn play(
     alloc: Global,
-    step: &Step,
+    step: &CaseStep,
     frame: TextFrame,
     texts: &[Bytes],
     out: &mut Bytes,

@@ -2,7 +2,7 @@
 use crate::faults::append_place;
 use crate::reading::{append_checked, append_printed, append_read, append_tree};
 use crate::tokens::{append_fit, append_sorts, append_tokens};
-use case_files::Step;
+use case_files::CaseStep;
 use core_scan::end_place;
 use hex::decode;
 use std::alloc::Global;
@@ -29,7 +29,7 @@ pub fn frame_of(lines: &str) -> TextFrame<'_> {
 /// Appends what a step gives of each of its texts.
 pub fn play_rows(
     alloc: Global,
-    step: &Step,
+    step: &CaseStep,
     frame: TextFrame,
     out: &mut Bytes,
 ) -> Result<(), Memory> {

@@ -23,7 +23,7 @@ use crate::held::{
 };
 use crate::programs::CaseProgram;
 use crate::runs::{run, run_counted, run_failing};
-use case_files::{Step, steps_of};
+use case_files::{CaseStep, steps_of};
 use da_shelf::MemShelf;
 use std::alloc::Global;
 use std::sync::Wait;
@@ -60,7 +60,7 @@ fn play_text<R: Threads + Wait + Sync>(
 fn play<R: Threads + Wait + Sync>(
     rt: &R,
     alloc: Global,
-    step: &Step,
+    step: &CaseStep,
     shelf: &mut MemShelf,
     out: &mut Bytes,
 ) -> Result<(), Memory> {
@@ -103,7 +103,7 @@ fn failing_program_of(what: &str) -> Option<CaseProgram> {
 // A step that runs nothing.
 fn play_on_shelf(
     alloc: Global,
-    step: &Step,
+    step: &CaseStep,
     shelf: &mut MemShelf,
     out: &mut Bytes,
 ) -> Result<(), Memory> {

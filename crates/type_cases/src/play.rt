@@ -44,7 +44,7 @@ use crate::numbers::{append_bits, append_listed};
 use crate::rows::{append_kind, append_row};
 use crate::sets::append_atoms;
 use crate::threads::append_held;
-use case_files::{Step, steps_of};
+use case_files::{CaseStep, steps_of};
 use hex::decode;
 use std::alloc::Global;
 use std::thread::Threads;
@@ -73,7 +73,7 @@ fn play_text<R: Threads>(rt: &R, alloc: Global, text: &str, out: &mut Bytes) -> 
 fn play_steps<R: Threads>(
     rt: &R,
     alloc: Global,
-    steps: &[Step],
+    steps: &[CaseStep],
     out: &mut Bytes,
 ) -> Result<(), Memory> {
     for step in steps {
@@ -88,7 +88,7 @@ fn play_steps<R: Threads>(
     Ok(())
 }
 
-fn play<R: Threads>(rt: &R, alloc: Global, step: &Step, out: &mut Bytes) -> Result<(), Memory> {
+fn play<R: Threads>(rt: &R, alloc: Global, step: &CaseStep, out: &mut Bytes) -> Result<(), Memory> {
     if step.what == "agree" {
         return append_agreement(alloc, step.lines, out);
     }
@@ -106,7 +106,7 @@ fn play<R: Threads>(rt: &R, alloc: Global, step: &Step, out: &mut Bytes) -> Resu
 fn append_line<R: Threads>(
     rt: &R,
     alloc: Global,
-    step: &Step,
+    step: &CaseStep,
     line: &str,
     out: &mut Bytes,
 ) -> Result<(), Memory> {
@@ -123,7 +123,12 @@ fn append_line<R: Threads>(
     out.append(b"\n")
 }
 
-fn append_bytes(alloc: Global, step: &Step, digits: &str, out: &mut Bytes) -> Result<(), Memory> {
+fn append_bytes(
+    alloc: Global,
+    step: &CaseStep,
+    digits: &str,
+    out: &mut Bytes,
+) -> Result<(), Memory> {
     let Ok(bytes) = decode(alloc, digits.as_bytes()) else {
         return Err(Memory);
     };
