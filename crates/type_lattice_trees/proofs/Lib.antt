@@ -8,4 +8,5 @@ mod Nodes
 mod PositionLaws
 mod Plains
 mod Projections
+mod TagWalks
 pub mod Views

@@ -5,7 +5,9 @@ ghost use Rattle.type_lattice_model.specs.Laws.{BelowBy};
 ghost use Rattle.type_lattice_model.specs.Shapes.{tags, sizes};
 ghost use Rattle.type_lattice_trees.specs.View.{view, Fits, row_view, tags_view, body_view, sizes_view, tuples_view, cell_view, parts_view, RowFits, TagsFit, BodyFits, SizesFit, TuplesFit, CellFits, PartsFit};
 
-use crate::node::{BodyOf, CellOf, Node, PartsOf, SizeOf, TagOf, TuplesOf, find_size, rest_after};
+use crate::node::{
+    BodyOf, CellOf, Node, PartsOf, SizeOf, TagOf, TuplesOf, find_size, find_tag_from, rest_after,
+};
 use type_kinds::Shared;
 
 /// Whether each value of the first type is one of the second.
@@ -85,7 +87,10 @@ fn leq_body(level: u32, a: &BodyOf<Node>, b: &BodyOf<Node>) -> bool
             BodyOf::Product(other) => leq_row(level, row.as_slice(), other.as_slice()),
             BodyOf::Tags(_) => false,
         },
-        BodyOf::Tags(tags) => leq_tags(level, tags.as_slice(), b),
+        BodyOf::Tags(tags) => match b {
+            BodyOf::Product(_) => leq_tags(level, tags.as_slice(), b),
+            BodyOf::Tags(others) => leq_both_tags(level, tags.as_slice(), others.as_slice()),
+        },
     }
 }
 
@@ -104,6 +109,25 @@ fn leq_tags(level: u32, a: &[TagOf<Node>], b: &BodyOf<Node>) -> bool
                 }
             }
         }
+    }
+    true
+}
+
+// The same of the tags of two bodies. Both ascend, so each tag is sought behind the one before it.
+#[cycle(inclusion)]
+fn leq_both_tags(level: u32, a: &[TagOf<Node>], b: &[TagOf<Node>]) -> bool
+    requires { (n : ℕ) × (TagsFit level n a.now × TagsFit level n b.now) }
+    ensures { IsTrue result ↔ BelowBy (HasBody (HasAt level)) (Some (tags (tags_view level a.now))) (Some (tags (tags_view level b.now))) }
+{
+    let mut from = 0;
+    for tag in a {
+        let Some(at) = find_tag_from(b, from, tag.atom.get()) else {
+            return false;
+        };
+        if !leq_row(level, tag.rest.as_slice(), b[at].rest.as_slice()) {
+            return false;
+        }
+        from = at + 1;
     }
     true
 }

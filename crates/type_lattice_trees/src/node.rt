@@ -1,4 +1,4 @@
-ghost use Rattle.std.specs.Prelude.{◌≡◌, ℕ, suc, [], ◌∷◌, ◌++◌, IfOk, IfSome, IsTrue, option_map, ◌↔◌};
+ghost use Rattle.std.specs.Prelude.{◌≡◌, ◌<◌, ℕ, suc, [], ◌∷◌, ◌++◌, length, drop, slice_get, Some, None, IfOk, IfSome, IfNone, IsTrue, option_map, ◌↔◌};
 ghost use Rattle.std.specs.Option.{option_copied};
 ghost use Rattle.std.specs.Ordering.{nat_cmp};
 ghost use Rattle.type_lattice_model.specs.Operations.{ops, parts_is_none, parts_any, row_at, is_only_atoms as only_atoms_there};
@@ -170,6 +170,21 @@ pub fn find_tag<'a>(tags: &'a [TagOf<Node>], atom: &Atom) -> Option<&'a [Shared<
     for tag in tags {
         if tag.atom.get().is(atom) {
             return Some(tag.rest.as_slice());
+        }
+    }
+    None
+}
+
+/// Where the tag of an atom stands, from a position on.
+#[tactic(auto, using(crate::proofs::Nodes::tag_passed))]
+pub fn find_tag_from(tags: &[TagOf<Node>], from: usize, atom: &Atom) -> Option<usize>
+    ensures within { IfSome result (λ at. at < length tags.now) }
+    ensures found { IfSome result (λ at. option_map (λ t. t.atom) (slice_get tags.now at) ≡ Some atom.now) }
+    ensures missing { IfNone result ((d : ℕ) → find name_cmp (tags_view d (drop from tags.now)) atom.now ≡ None) }
+{
+    for at in from..tags.len() {
+        if tags[at].atom.get().is(atom) {
+            return Some(at);
         }
     }
     None

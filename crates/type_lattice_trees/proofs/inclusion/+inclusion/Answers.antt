@@ -1,8 +1,14 @@
-use Rattle.std.proofs.Common.{◌≡◌, true, arith, refl, sym, subst}
+use Rattle.std.proofs.Common.{◌≡◌, true, None, arith, refl, sym, subst}
 use Rattle.type_kinds.proofs.Truths.{refuted, granted}
-use Rattle.type_lattice_trees.specs.View.{RowFits}
+use Rattle.type_kinds_sets.specs.Names.{name_cmp}
+use Rattle.type_lattice_model.specs.Tables.{find}
+use Rattle.type_lattice_trees.specs.declared.node.BodyOf.TheVariants as of_body
+use Rattle.type_lattice_trees.specs.View.{tags_view, RowFits}
 use Rattle.type_lattice_trees.proofs.Views.{of_above, part_fits}
-use Rattle.type_lattice_trees.proofs.Inclusions.{SizeBelow, failed, one_item_more, below_any, any_not_below, parts_tell, plain_below, cell_below, tuples_tell, some_cell_not_below, free_not_below, elements_tell, position_below, product_not_below, each_tag_below, tag_below, rest_fits, after_fits, tag_absent, tag_tells, each_size_below, size_below, size_fits, found_fits, size_absent, size_tells, all_not_below}
+use Rattle.type_lattice_trees.proofs.Inclusions.{TagBelow, SizeBelow, failed, one_item_more, below_any, any_not_below, parts_tell, plain_below, cell_below, tuples_tell, some_cell_not_below, free_not_below, elements_tell, position_below, product_not_below, each_tag_below, tag_below, rest_fits, after_fits, tag_absent, tag_tells, each_size_below, size_below, size_fits, found_fits, size_absent, size_tells, all_not_below}
+use Rattle.type_lattice_trees.proofs.JoinLaws.{tags_of_bodies}
+use Rattle.type_lattice_trees.proofs.PositionLaws.{Behind, atom_of}
+use Rattle.type_lattice_trees.proofs.TagWalks.{left_more, tag_missing, tag_there, same_tag, rest_there}
 use Rattle.type_lattice_trees.proofs.inclusion.+inclusion.Goals as goal
 
 -- ---- types
@@ -63,8 +69,15 @@ leq_body-returns-in-Product-b t c = rw (c.in-Product.is, c.in-Product-b.is, ← 
 pub leq_body-returns-in-Tags-b : goal.leq_body-returns-in-Tags-b
 leq_body-returns-in-Tags-b t c = refuted (product_not_below _ _ _ _ _ _ c.in-Product.is c.in-Tags-b.is c.requires.1.0 c.requires.1.1)
 
-pub leq_body-returns-in-Tags : goal.leq_body-returns-in-Tags
-leq_body-returns-in-Tags t c = rw (c.in-Tags.is, ← c.as_slice-in-Tags.ensures) c.leq_tags.ensures
+pub leq_body-returns-in-Product-b-2 : goal.leq_body-returns-in-Product-b-2
+leq_body-returns-in-Product-b-2 t c = rw (c.in-Tags.is, ← c.as_slice-in-Product-b-2.ensures) c.leq_tags.ensures
+
+pub leq_body-leq_both_tags-requires : goal.leq_body-leq_both_tags-requires
+leq_body-leq_both_tags-requires t c =
+    (omega (arith, c.decreases), tags_of_bodies _ _ _ _ _ _ _ _ c.requires.1.0 c.requires.1.1 c.in-Tags.is c.in-Tags-b-2.is c.as_slice-in-Tags-b-2.ensures c.as_slice-in-Tags-b-2-2.ensures)
+
+pub leq_body-returns-in-Tags-b-2 : goal.leq_body-returns-in-Tags-b-2
+leq_body-returns-in-Tags-b-2 t c = rw (c.in-Tags.is, c.in-Tags-b-2.is, ← c.as_slice-in-Tags-b-2.ensures, ← c.as_slice-in-Tags-b-2-2.ensures) c.leq_both_tags.ensures
 
 -- ---- tags
 
@@ -86,6 +99,40 @@ leq_tags-returns-then-not-leq_row t c =
 
 pub leq_tags-returns : goal.leq_tags-returns
 leq_tags-returns t c = granted (each_tag_below c.args.level c.args.b.now _ _ c.loop-tag-test.false c.loop-tag.invariant)
+
+-- ---- the tags of two bodies
+
+pub leq_both_tags-returns-in_default : goal.leq_both_tags-returns-in_default
+leq_both_tags-returns-in_default t c =
+    let fit = rest_fits _ _ _ c.requires.1.0 _ _ c.loop-tag-test.true c.tag-item.is in
+    let behind = subst (λ a. Behind name_cmp atom_of a c.args.b.now c.loop-tag.from) (sym c.get.ensures) (c.loop-tag.invariant.1 c.loop-tag.tag-index c.tag-item.result (omega arith) c.loop-tag-test.true c.tag-item.is) in
+    let missing = tag_missing c.args.level _ _ _ behind (c.in_default.ensures.missing c.args.level) in
+    refuted (λ h. tag_absent c.args.level c.requires.0 (of_body.Tags c.args.b.now) c.tag-item.result fit (subst (λ a. None ≡ find name_cmp (tags_view c.args.level c.args.b.now) a) c.get.ensures missing) (tag_below c.args.level (of_body.Tags c.args.b.now) _ _ c.requires.1.0 h _ _ c.loop-tag-test.true c.tag-item.is))
+
+pub leq_both_tags-leq_row-requires : goal.leq_both_tags-leq_row-requires
+leq_both_tags-leq_row-requires t c =
+    let fit = rest_fits _ _ _ c.requires.1.0 _ _ c.loop-tag-test.true c.tag-item.is in
+    let there = rest_there _ _ _ _ _ _ c.requires.1.1 c.in-Some.ensures.within c.index-b-at.is c.as_slice-in-loop-tag.ensures in
+    (omega (arith, c.decreases), (c.requires.0, (subst (RowFits c.args.level c.requires.0) (sym c.as_slice.ensures) fit, there)))
+
+pub leq_both_tags-returns-then-not-leq_row : goal.leq_both_tags-returns-then-not-leq_row
+leq_both_tags-returns-then-not-leq_row t c =
+    let same = same_tag _ _ _ _ _ c.in-Some.ensures.within c.index-b-at.is c.in-Some.ensures.found c.get.ensures in
+    let there = tag_there c.args.level _ _ _ _ _ _ c.requires.1.1 c.in-Some.ensures.within c.index-b-at.is c.as_slice-in-loop-tag.ensures same in
+    let tells = tag_tells c.args.level (of_body.Tags c.args.b.now) c.tag-item.result _ _ _ c.as_slice.ensures there c.leq_row.ensures in
+    refuted (λ h. failed _ tells c.if-not-leq_row.true (tag_below c.args.level (of_body.Tags c.args.b.now) _ _ c.requires.1.0 h _ _ c.loop-tag-test.true c.tag-item.is))
+
+pub leq_both_tags-loop-tag-preserved : goal.leq_both_tags-loop-tag-preserved
+leq_both_tags-loop-tag-preserved t c =
+    let same = same_tag _ _ _ _ _ c.in-Some.ensures.within c.index-b-at.is c.in-Some.ensures.found c.get.ensures in
+    let there = tag_there c.args.level _ _ _ _ _ _ c.requires.1.1 c.in-Some.ensures.within c.index-b-at.is c.as_slice-in-loop-tag.ensures same in
+    let tells = tag_tells c.args.level (of_body.Tags c.args.b.now) c.tag-item.result _ _ _ c.as_slice.ensures there c.leq_row.ensures in (
+      one_item_more (TagBelow c.args.level (of_body.Tags c.args.b.now)) _ _ _ c.loop-tag-test.true c.tag-item.is c.loop-tag.invariant.0 (tells.0 c.if-not-leq_row.false),
+      left_more _ _ _ _ _ _ _ _ c.requires.1.0 c.requires.1.1 c.loop-tag-test.true c.tag-item.is c.in-Some.ensures.within c.index-b-at.is same,
+    )
+
+pub leq_both_tags-returns : goal.leq_both_tags-returns
+leq_both_tags-returns t c = granted (each_tag_below c.args.level (of_body.Tags c.args.b.now) _ _ c.loop-tag-test.false c.loop-tag.invariant.0)
 
 -- ---- sizes
 
