@@ -2,6 +2,7 @@ mod CutTrees
 pub mod Inclusions
 mod JoinLaws
 pub mod Lifts
+mod LowTrees
 pub mod MadeTrees
 pub mod MeetViews
 mod Nodes

@@ -1,3 +1,4 @@
 pub mod Positions
 pub mod Plains
 pub mod View
+pub mod LowTrees

@@ -6,17 +6,32 @@ ghost use Rattle.type_lattice_model.specs.Operations.{ops};
 ghost use Rattle.type_lattice_model.specs.Tables.{mapped};
 ghost use Rattle.type_lattice_trees.specs.View.{view, Fits, row_view, tags_view, body_view, sizes_view, tuples_view, cell_view, parts_view, EachNode, EachTag, EachInBody, EachSize, EachInTuples, EachInCell, RowFits, TagsFit, BodyFits, SizesFit, TuplesFit, CellFits, PartsFit};
 
+use crate::copies::copy;
 use crate::joins::elements_of_tags;
+use crate::low::is_low;
 use crate::node::{BodyOf, CellOf, Node, PartsOf, SizeOf, TagOf, TuplesOf, made};
 use std::alloc::Global;
 use type_kinds::{List, Memory, Shared};
 use type_kinds_sets::SharedList;
 
-/// The least type of level `to` that has the values of a type of level `from`. For level 0 the type
-/// has to have a value.
+/// The least type of level `to` that has the values of a type of level `from`: the type itself, which is shared then, where it is low
+/// enough. For level 0 the type has to have a value.
+pub fn cut(alloc: Global, from: u32, to: u32, t: &Node) -> Result<Node, Memory>
+    requires fits { Fits from t.now }
+    requires filled { (1 ≤ to) ⊎ ((ops from).is_none (view from t.now) ≡ false) }
+    ensures fits { IfOk result (λ c. Fits to c) }
+    ensures value { IfOk result (λ c. view to c ≡ levels.cut from to (view from t.now)) }
+{
+    if is_low(to, t) {
+        return copy(t);
+    }
+    cut_high(alloc, from, to, t)
+}
+
+// The same of a type that is made anew.
 #[cycle(cuts)]
 #[tactic(auto, using(crate::proofs::Views::any_fits, crate::proofs::Views::of_above, crate::proofs::CutTrees::any_cut, crate::proofs::CutTrees::zero_cut, crate::proofs::CutTrees::of_cut))]
-pub fn cut(alloc: Global, from: u32, to: u32, t: &Node) -> Result<Node, Memory>
+fn cut_high(alloc: Global, from: u32, to: u32, t: &Node) -> Result<Node, Memory>
     requires fits { Fits from t.now }
     requires filled { (1 ≤ to) ⊎ ((ops from).is_none (view from t.now) ≡ false) }
     ensures fits { IfOk result (λ c. Fits to c) }
@@ -67,28 +82,26 @@ fn cut_cell(
     match cell {
         None => Ok(None),
         Some(c) => {
-            let element = cut(alloc, from, to, c.element.get())?;
             Ok(Some(CellOf {
-                element: Shared::new(alloc, element)?,
+                element: cut_element(alloc, from, to, &c.element)?,
                 is_proper: c.is_proper,
             }))
         }
     }
 }
 
-// The same of an element: every value is shared.
+// The same of an element: one that is low enough is shared.
 #[cycle(cuts)]
-#[tactic(auto, using(crate::proofs::Views::any_fits, crate::proofs::CutTrees::any_cut))]
 fn cut_element(alloc: Global, from: u32, to: u32, t: &Shared<Node>) -> Result<Shared<Node>, Memory>
     requires fits { Fits from t.now }
     requires filled { (1 ≤ to) ⊎ ((ops from).is_none (view from t.now) ≡ false) }
     ensures fits { IfOk result (λ c. Fits to c) }
     ensures value { IfOk result (λ c. view to c ≡ levels.cut from to (view from t.now)) }
 {
-    if let Node::Any = t.get() {
+    if is_low(to, t.get()) {
         return t.share();
     }
-    Shared::new(alloc, cut(alloc, from, to, t.get())?)
+    Shared::new(alloc, cut_high(alloc, from, to, t.get())?)
 }
 
 #[cycle(cuts)]

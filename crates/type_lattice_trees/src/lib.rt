@@ -6,6 +6,7 @@ mod copies;
 mod cuts;
 mod inclusion;
 mod joins;
+mod low;
 mod makers;
 mod meets;
 mod node;

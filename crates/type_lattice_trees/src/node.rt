@@ -204,9 +204,9 @@ pub fn made(parts: PartsOf<Node>) -> Node
     }
 }
 
-// Whether every value is there.
+/// Whether every value is there.
 #[tactic(auto, using(crate::proofs::Nodes::open_cell, crate::proofs::Nodes::full_parts))]
-fn is_full(parts: &PartsOf<Node>) -> bool
+pub fn is_full(parts: &PartsOf<Node>) -> bool
     ensures { (d : ℕ) → PartsFit d parts.now → IsTrue result ↔ (parts_view d parts.now ≡ parts_any (ops d)) }
 {
     if !parts.plain.is_all() {

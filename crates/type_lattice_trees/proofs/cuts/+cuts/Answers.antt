@@ -3,8 +3,8 @@ use Rattle.type_lattice_trees.proofs.Views.{of_above, part_fits}
 use Rattle.type_lattice_trees.proofs.CutTrees.{cut_parts_fit, tags_of, tags_stand_above, product_fits, element_fits, rest_fits}
 use Rattle.type_lattice_trees.proofs.cuts.+cuts.Goals as goal
 
-pub cut-cut_parts-requires : goal.cut-cut_parts-requires
-cut-cut_parts-requires t c = (omega (arith, of_above c.args.t.now c.in-Of.parts c.in-Of.is c.args.from c.requires.fits), part_fits _ _ c.in-Of.is _ _ c.requires.fits refl)
+pub cut_high-cut_parts-requires : goal.cut_high-cut_parts-requires
+cut_high-cut_parts-requires t c = (omega (arith, of_above c.args.t.now c.in-Of.parts c.in-Of.is c.args.from c.requires.fits), part_fits _ _ c.in-Of.is _ _ c.requires.fits refl)
 
 pub cut_body-cut_tags-requires : goal.cut_body-cut_tags-requires
 cut_body-cut_tags-requires t c = (omega (arith, c.decreases), tags_of _ _ _ _ c.in-Tags.is c.as_slice-then-to-gt0.ensures c.requires)

@@ -6,8 +6,8 @@ use Rattle.type_lattice_model.specs.Tables.{mapped}
 use Rattle.type_lattice_trees.specs.View.{Fits, row_view, tags_view, sizes_view, EachNode, EachTag, EachSize}
 use Rattle.type_lattice_trees.proofs.cuts.+cuts.Given as goal
 
-abbrev pub decreases-cut : goal.decreases-cut
-decreases-cut l = 10 * l.from
+abbrev pub decreases-cut_high : goal.decreases-cut_high
+decreases-cut_high l = 10 * l.from
 
 abbrev pub decreases-cut_element : goal.decreases-cut_element
 decreases-cut_element l = 10 * l.from + 1
