@@ -1,5 +1,5 @@
 -- The least type of another level, on the trees of the code.
-use Rattle.std.proofs.Common.{[], ◌≡◌, ◌⊎◌, inl, inr, ℕ, zero, suc, ◌-◌, ◌<◌, ◌≤◌, true, false, List, ◌∷◌, length, Some, refl, sym, ap, ◌∙◌, subst, true≢false, arith}
+use Rattle.std.proofs.Common.{[], ◌≡◌, ◌⊎◌, inl, inr, ℕ, zero, suc, ◌-◌, ◌<◌, ◌≤◌, true, false, List, ◌∷◌, map, replicate, ◌+◌, length, Some, refl, sym, ap, ◌∙◌, subst, true≢false, arith}
 use Rattle.std.specs.Prelude.{not, slice_index_or}
 use Rattle.type_lattice_model.specs.Tables.{mapped}
 use Rattle.type_lattice_model.specs.Shapes.{TypeAt, product, tags}
@@ -17,8 +17,9 @@ use Rattle.type_lattice_trees.specs.declared.node.BodyOf.{BodyOf}
 use Rattle.type_lattice_trees.specs.declared.node.BodyOf.TheVariants.{Tags}
 use Rattle.type_lattice_trees.specs.declared.node.TagOf.{TagOf}
 use Rattle.type_lattice_trees.specs.View.{view, row_view, tags_view, body_view, tuples_view, cell_view, parts_view, Fits, EachNode, EachInTuples, EachInCell, RowFits, TagsFit, BodyFits, SizesFit, PartsFit}
-use Rattle.type_lattice_trees.proofs.Views.{view_any, view_of, of_above, one_more, each_at}
-use Rattle.type_lattice_trees.proofs.Inclusions.{rest_fits as rest_of_tag, size_fits}
+use Rattle.type_lattice_trees.proofs.Views.{any_fits, view_any, view_of, of_above, one_more, each_at}
+use Rattle.type_lattice_trees.proofs.Inclusions.{row_length, rest_fits as rest_of_tag, size_fits}
+use Rattle.type_lattice_trees.proofs.Projections.{tags_filled}
 
 -- ---- every value, cut
 
@@ -40,6 +41,31 @@ at_zero e x h = ap not h
 pub zero_cut : (t n : Node) (e d : ℕ) → n ≡ v.Any → d ≡ 0 → (1 ≤ d) ⊎ ((ops e).is_none (view e t) ≡ false) → view d n ≡ cut e d (view e t)
 zero_cut t n e d q z (inl h) = absurd (omega arith)
 zero_cut t n e d q z (inr h) = view_any n q d ∙ subst (λ x. (ops x).any ≡ cut e x (view e t)) (sym z) (sym (at_zero e (view e t) h))
+
+-- ---- rows at level 0
+
+cut_zero_row : (e : ℕ) (es : List (TypeAt e)) → AreElements (NormalAt e) (ops e) es → map (cut e 0) es ≡ replicate (length es) (ops 0).any
+cut_zero_row e [] k = refl
+cut_zero_row e (x ∷ xs) k = λ i. at_zero e x k.0.1 i ∷ cut_zero_row e xs k.1 i
+
+view_every : (d n : ℕ) → row_view d (replicate n v.Any) ≡ replicate n (ops d).any
+view_every d zero = refl
+view_every d (suc n) = λ i. view_any v.Any refl d i ∷ view_every d n i
+
+-- as many times every value as there are types
+every_for : (e n : ℕ) (es : List (TypeAt e)) (us : List Node) → NormalRow (NormalAt e) (ops e) n (Some es) → us ≡ replicate n v.Any → row_view 0 us ≡ map (cut e 0) es
+every_for e n es us k q = ap (row_view 0) q ∙ view_every 0 n ∙ ap (λ m. replicate m (ops 0).any) (sym k.0) ∙ sym (cut_zero_row e es k.1)
+
+pub every_row : (e d : ℕ) (row us : List Node) → ((n : ℕ) × RowFits e n row) → d ≡ 0 → us ≡ replicate (length row) v.Any → row_view d us ≡ row_lower (cut e d) (ops e) (ops d) (row_view e row)
+every_row e zero row us k z q = every_for e k.0 (row_view e row) us k.1.normal (q ∙ ap (λ m. replicate m v.Any) (row_length e k.0 row k.1))
+every_row e (suc d) row us k z q = absurd (omega (arith, z))
+
+each_every : (d n : ℕ) → EachNode (Fits d) (replicate n v.Any)
+each_every d zero = tt
+each_every d (suc n) = (any_fits v.Any refl d, each_every d n)
+
+pub every_fits : (d n : ℕ) (us : List Node) → us ≡ replicate n v.Any → EachNode (Fits d) us
+every_fits d n us q = subst (EachNode (Fits d)) (sym q) (each_every d n)
 
 -- ---- parts, cut
 
@@ -93,21 +119,13 @@ tags_both d b ts e k = tags_fit d k.0 ts (subst (BodyFits d k.0) e k.1)
 pub tags_of : (d : ℕ) (b : BodyOf Node) (ts us : List (TagOf Node)) → b ≡ Tags ts → us ≡ ts → ((n : ℕ) × BodyFits d n b) → (m : ℕ) × TagsFit d m us
 tags_of d b ts us e f k = subst (λ z. (m : ℕ) × TagsFit d m z) (sym f) (tags_both d b ts e k).0
 
-pub tags_stand_above : (d : ℕ) (b : BodyOf Node) (ts : List (TagOf Node)) → b ≡ Tags ts → ((n : ℕ) × BodyFits d n b) → 0 < d
-tags_stand_above d b ts e k = (tags_both d b ts e k).1
-
-pub product_fits : (d : ℕ) (b : BodyOf Node) (ts us : List (TagOf Node)) (r s : List Node) → b ≡ Tags ts → us ≡ ts → s ≡ r → ((n : ℕ) × BodyFits d n b) → row_view d r ≡ elements (ops d) (tags (tags_view d us)) → EachNode (Fits d) r → (m : ℕ) × RowFits d m s
-product_fits d b ts us r s e u t k q f =
-    let l : BodyFits d k.0 (Tags ts) = subst (BodyFits d k.0) e k.1 in
-    (k.0, subst (RowFits d k.0) (sym t) (record { normal = subst (λ x. NormalRow (NormalAt d) (ops d) k.0 (Some x)) (sym q) (elements_normal (level_laws d) k.0 (tags (tags_view d us)) (subst (λ z. BodyFits d k.0 (Tags z)) (sym u) l).normal); each = f }))
-
 -- tags stay tags where there can be some, and else become a product
 module _ (e d : ℕ) where
   pub tags_kept : (b : BodyOf Node) (ts us : List (TagOf Node)) → b ≡ Tags ts → 0 < d → tags_view d us ≡ mapped (row_lower (cut e d) (ops e) (ops d)) (tags_view e ts) → tags (tags_view d us) ≡ body_lower (cut e d) (ops e) (ops d) (body_view e b)
   tags_kept b ts us x h q = grind (arith, above_tags)
 
-  pub tags_lost : (b : BodyOf Node) (ts : List (TagOf Node)) (r s : List Node) → b ≡ Tags ts → d ≤ 0 → row_view e r ≡ elements (ops e) (tags (tags_view e ts)) → row_view d s ≡ row_lower (cut e d) (ops e) (ops d) (row_view e r) → product (row_view d s) ≡ body_lower (cut e d) (ops e) (ops d) (body_view e b)
-  tags_lost b ts r s x h p q = grind (arith, no_tags)
+  tags_lost : (ts : List (TagOf Node)) (r : List (TypeAt d)) → d ≤ 0 → r ≡ row_lower (cut e d) (ops e) (ops d) (elements (ops e) (tags (tags_view e ts))) → product r ≡ body_lower (cut e d) (ops e) (ops d) (tags (tags_view e ts))
+  tags_lost ts r h p = grind (arith, no_tags)
 
 -- ---- the items of lists
 
@@ -121,6 +139,23 @@ element_fits d e ns k i x h q = grind (arith, each_at, elements_at)
 
 pub rest_fits : (d : ℕ) (ts : List (TagOf Node)) → ((n : ℕ) × TagsFit d n ts) → (i : ℕ) (x : TagOf Node) (r : List Node) → i < length ts → x ≡ slice_index_or ts i x → r ≡ x.rest → (m : ℕ) × RowFits d m r
 rest_fits d ts k i x r h e f = (k.0, subst (RowFits d k.0) (sym f) (rest_of_tag d k.0 ts k.1 i x h e))
+
+pub tags_filled_there : (d : ℕ) (b : BodyOf Node) (ts us : List (TagOf Node)) → b ≡ Tags ts → us ≡ ts → ((n : ℕ) × BodyFits d n b) → 0 < length us
+tags_filled_there d b ts us e f k = let g = tags_of d b ts us e f k in tags_filled d g.0 us g.1
+
+-- at level 0 a body of tags is a product of one element more than what follows its first tag
+pub every_body : (e d : ℕ) (b : BodyOf Node) (ts us : List (TagOf Node)) (t : TagOf Node) (rest r : List Node) → b ≡ Tags ts → us ≡ ts
+    → ((n : ℕ) × BodyFits e n b) → d ≤ 0 → 0 < length us → t ≡ slice_index_or us 0 t
+    → rest ≡ (slice_index_or us 0 t).rest → r ≡ replicate (length rest + 1) v.Any → product (row_view d r) ≡ body_lower (cut e d) (ops e) (ops d) (body_view e b)
+every_body e (suc d) b ts us t rest r p q k z l h f g = absurd (omega (arith, z))
+every_body e zero b ts us t rest r p q k z l h f g = subst (λ x. product (row_view 0 r) ≡ body_lower (cut e 0) (ops e) (ops 0) (body_view e x)) (sym p) (at k.0 (subst (BodyFits e k.0) p k.1))
+  where
+    at : (n : ℕ) → BodyFits e n (Tags ts) → product (row_view 0 r) ≡ body_lower (cut e 0) (ops e) (ops 0) (tags (tags_view e ts))
+    at zero j = absurd j.normal
+    at (suc m) j =
+        let fit : TagsFit e m us = subst (TagsFit e m) (sym q) (record { normal = j.normal.0; each = j.each }) in
+        let len : length rest + 1 ≡ suc m = omega (arith, row_length e m t.rest (rest_of_tag e m us fit 0 t l h), ap length f, ap (λ (x : TagOf Node). length x.rest) h) in
+        tags_lost e 0 ts (row_view 0 r) z (every_for e (suc m) (elements (ops e) (tags (tags_view e ts))) r (elements_normal (level_laws e) (suc m) (tags (tags_view e ts)) j.normal) (g ∙ ap (λ i. replicate i v.Any) len))
 
 pub body_fits : (d : ℕ) (ss : List (SizeOf Node)) → SizesFit d ss → (i : ℕ) (x : SizeOf Node) → i < length ss → x ≡ slice_index_or ss i x → (n : ℕ) × BodyFits d n x.body
 body_fits d ss k i x h e = (x.size, size_fits d ss k i x h e)

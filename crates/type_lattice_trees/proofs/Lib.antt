@@ -1,3 +1,4 @@
+mod BottomRows
 mod CutTrees
 pub mod Inclusions
 mod JoinLaws

@@ -75,7 +75,8 @@ module _ {A K X : Type 0} {R : K → K → Ordering} (o : IsTotalOrder R) (same 
 abbrev pub LeftBehind : List (TagOf Node) → ℕ → List (TagOf Node) → ℕ → Type 0
 LeftBehind a i b from = (k : ℕ) (t : TagOf Node) → i ≤ k → k < length a → t ≡ slice_index_or a k t → Behind name_cmp atom_of t.atom b from
 
-pub left_more : (d n : ℕ) (a b : List (TagOf Node)) (i at : ℕ) (s u : TagOf Node) → TagsFit d n a → TagsFit d n b → i < length a → s ≡ slice_index_or a i s → at < length b → u ≡ slice_index_or b at u → u.atom ≡ s.atom → LeftBehind a (i + 1) b (at + 1)
+pub left_more : (d n : ℕ) (a b : List (TagOf Node)) (i at : ℕ) (s u : TagOf Node) → TagsFit d n a → TagsFit d n b
+    → i < length a → s ≡ slice_index_or a i s → at < length b → u ≡ slice_index_or b at u → u.atom ≡ s.atom → LeftBehind a (i + 1) b (at + 1)
 left_more d n a b i at s u f g lt e within is q =
     λ k t le less there.
     behind_item name_total name_same (tag_entry d) t.atom b at u g.normal.0 within is
@@ -84,7 +85,8 @@ left_more d n a b i at s u f g lt e within is q =
 pub tag_missing : (d : ℕ) (b : List (TagOf Node)) (from : ℕ) (a : Name) → Behind name_cmp atom_of a b from → find name_cmp (tags_view d (drop from b)) a ≡ None → None ≡ find name_cmp (tags_view d b) a
 tag_missing d b from a h g = sym (found_behind name_total name_same (tag_entry d) a b from h ∙ g)
 
-pub tag_there : (d n : ℕ) (b : List (TagOf Node)) (at : ℕ) (u : TagOf Node) (ys : List Node) (a : Name) → TagsFit d n b → at < length b → u ≡ slice_index_or b at u → ys ≡ (slice_index_or b at u).rest → u.atom ≡ a → Some (row_view d ys) ≡ find name_cmp (tags_view d b) a
+pub tag_there : (d n : ℕ) (b : List (TagOf Node)) (at : ℕ) (u : TagOf Node) (ys : List Node) (a : Name) → TagsFit d n b → at < length b
+    → u ≡ slice_index_or b at u → ys ≡ (slice_index_or b at u).rest → u.atom ≡ a → Some (row_view d ys) ≡ find name_cmp (tags_view d b) a
 tag_there d n b at u ys a g lt e f q =
     ap (λ r. Some (row_view d r)) (f ∙ sym (ap (λ (x : TagOf Node). x.rest) e))
     ∙ sym (subst (λ x. find name_cmp (tags_view d b) x ≡ Some (row_view d u.rest)) q (found_item name_total name_same (tag_entry d) b at u g.normal.0 lt e))
@@ -93,7 +95,8 @@ pub tag_read : (b : List (TagOf Node)) (at : ℕ) (x : TagOf Node) → at < leng
 tag_read b at x lt = ap (option_map atom_of) (slice_get-get_or b at x lt)
 
 -- the tag at the place that was found is that of the atom
-pub same_tag : (b : List (TagOf Node)) (at : ℕ) (u : TagOf Node) (a q : Name) → at < length b → u ≡ slice_index_or b at u → option_map atom_of (slice_get b at) ≡ Some a → a ≡ q → u.atom ≡ q
+pub same_tag : (b : List (TagOf Node)) (at : ℕ) (u : TagOf Node) (a q : Name) → at < length b → u ≡ slice_index_or b at u
+    → option_map atom_of (slice_get b at) ≡ Some a → a ≡ q → u.atom ≡ q
 same_tag b at u a q lt e h k = ap atom_of e ∙ same_Some _ _ (sym (tag_read b at u lt) ∙ h) ∙ k
 
 pub rest_there : (d n : ℕ) (b : List (TagOf Node)) (at : ℕ) (u : TagOf Node) (ys : List Node) → TagsFit d n b → at < length b → u ≡ slice_index_or b at u → ys ≡ (slice_index_or b at u).rest → RowFits d n ys

@@ -1,13 +1,13 @@
 //! The least type of a level that contains a type.
-ghost use Rattle.std.specs.Prelude.{◌≡◌, ◌⊎◌, ℕ, false, ◌≤◌, IfOk};
+ghost use Rattle.std.specs.Prelude.{◌≡◌, ◌⊎◌, ℕ, false, ◌≤◌, replicate, IfOk};
 ghost use Rattle.type_lattice_model.specs.Cut.{row_lower, cell_lower, body_lower, tuples_lower, parts_lower};
 ghost use Rattle.type_lattice_model.specs.Cut as levels;
 ghost use Rattle.type_lattice_model.specs.Operations.{ops};
 ghost use Rattle.type_lattice_model.specs.Tables.{mapped};
+ghost use Rattle.type_lattice_trees.specs.declared.node.Node.TheVariants.{Any};
 ghost use Rattle.type_lattice_trees.specs.View.{view, Fits, row_view, tags_view, body_view, sizes_view, tuples_view, cell_view, parts_view, EachNode, EachTag, EachInBody, EachSize, EachInTuples, EachInCell, RowFits, TagsFit, BodyFits, SizesFit, TuplesFit, CellFits, PartsFit};
 
 use crate::copies::copy;
-use crate::joins::elements_of_tags;
 use crate::low::is_low;
 use crate::node::{BodyOf, CellOf, Node, PartsOf, SizeOf, TagOf, TuplesOf, made};
 use std::alloc::Global;
@@ -104,7 +104,21 @@ fn cut_element(alloc: Global, from: u32, to: u32, t: &Shared<Node>) -> Result<Sh
     Shared::new(alloc, cut_high(alloc, from, to, t.get())?)
 }
 
+// As many elements, each of them every value, which is shared.
+fn every_value(alloc: Global, len: usize) -> Result<SharedList<Shared<Node>>, Memory>
+    ensures { IfOk result (λ row. row ≡ replicate len Any) }
+{
+    let every = Shared::new(alloc, Node::Any)?;
+    let mut out = List::new(alloc);
+    for _ in 0..len {
+        out.add(every.share()?)?;
+    }
+    SharedList::new(alloc, out)
+}
+
+// At level 0 each element is every value, whatever it was.
 #[cycle(cuts)]
+#[tactic(auto, using(crate::proofs::CutTrees::every_row, crate::proofs::CutTrees::every_fits))]
 fn cut_row(
     alloc: Global,
     from: u32,
@@ -115,6 +129,9 @@ fn cut_row(
     ensures value { IfOk result (λ c. row_view to c ≡ row_lower (levels.cut from to) (ops from) (ops to) (row_view from row.now)) }
     ensures each { IfOk result (λ c. EachNode (Fits to) c) }
 {
+    if to == 0 {
+        return every_value(alloc, row.len());
+    }
     let mut out = List::new(alloc);
     for element in row {
         let cut = cut_element(alloc, from, to, element)?;
@@ -145,7 +162,7 @@ fn cut_tags(
 
 // Tags become a product where there can be none.
 #[cycle(cuts)]
-#[tactic(auto, using(crate::proofs::CutTrees::tags_kept, crate::proofs::CutTrees::tags_lost))]
+#[tactic(auto, using(crate::proofs::CutTrees::tags_kept, crate::proofs::CutTrees::tags_filled_there, crate::proofs::CutTrees::every_fits))]
 fn cut_body(alloc: Global, from: u32, to: u32, body: &BodyOf<Node>) -> Result<BodyOf<Node>, Memory>
     requires { (n : ℕ) × BodyFits from n body.now }
     ensures value { IfOk result (λ c. body_view to c ≡ body_lower (levels.cut from to) (ops from) (ops to) (body_view from body.now)) }
@@ -158,8 +175,8 @@ fn cut_body(alloc: Global, from: u32, to: u32, body: &BodyOf<Node>) -> Result<Bo
                 let tags = cut_tags(alloc, from, to, tags.as_slice())?;
                 return Ok(BodyOf::Tags(SharedList::new(alloc, tags)?));
             }
-            let row = elements_of_tags(alloc, from, tags.as_slice())?;
-            Ok(BodyOf::Product(cut_row(alloc, from, to, row.as_slice())?))
+            let rest = tags.as_slice()[0].rest.as_slice();
+            Ok(BodyOf::Product(every_value(alloc, rest.len() + 1)?))
         }
     }
 }

@@ -62,13 +62,16 @@ fn leq_cell(level: u32, a: &Option<CellOf<Node>>, b: &Option<CellOf<Node>>) -> b
     }
 }
 
-// Whether each type of a product is below the one at its position.
+// Whether each type of a product is below the one at its position. At level 0 each is every value.
 #[cycle(inclusion)]
-#[tactic(auto, using(type_kinds::proofs::Truths::granted, crate::proofs::Inclusions::row_below))]
+#[tactic(auto, using(type_kinds::proofs::Truths::granted, crate::proofs::Inclusions::row_below, crate::proofs::BottomRows::bottom_below))]
 pub fn leq_row(level: u32, a: &[Shared<Node>], b: &[Shared<Node>]) -> bool
     requires { (n : ℕ) × (RowFits level n a.now × RowFits level n b.now) }
     ensures { IsTrue result ↔ BelowBy (HasRow (HasAt level)) (Some (row_view level a.now)) (Some (row_view level b.now)) }
 {
+    if level == 0 {
+        return true;
+    }
     for i in 0..a.len() {
         if !leq(level, a[i].get(), b[i].get()) {
             return false;
@@ -77,11 +80,15 @@ pub fn leq_row(level: u32, a: &[Shared<Node>], b: &[Shared<Node>]) -> bool
     true
 }
 
+// At level 0 both are as many times every value, and nothing is read.
 #[cycle(inclusion)]
 fn leq_body(level: u32, a: &BodyOf<Node>, b: &BodyOf<Node>) -> bool
     requires { (n : ℕ) × (BodyFits level n a.now × BodyFits level n b.now) }
     ensures { IsTrue result ↔ BelowBy (HasBody (HasAt level)) (Some (body_view level a.now)) (Some (body_view level b.now)) }
 {
+    if level == 0 {
+        return true;
+    }
     match a {
         BodyOf::Product(row) => match b {
             BodyOf::Product(other) => leq_row(level, row.as_slice(), other.as_slice()),

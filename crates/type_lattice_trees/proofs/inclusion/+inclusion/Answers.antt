@@ -6,6 +6,7 @@ use Rattle.type_lattice_trees.specs.declared.node.BodyOf.TheVariants as of_body
 use Rattle.type_lattice_trees.specs.View.{tags_view, RowFits}
 use Rattle.type_lattice_trees.proofs.Views.{of_above, part_fits}
 use Rattle.type_lattice_trees.proofs.Inclusions.{TagBelow, SizeBelow, failed, one_item_more, below_any, any_not_below, parts_tell, plain_below, cell_below, tuples_tell, some_cell_not_below, free_not_below, elements_tell, position_below, product_not_below, each_tag_below, tag_below, rest_fits, after_fits, tag_absent, tag_tells, each_size_below, size_below, size_fits, found_fits, size_absent, size_tells, all_not_below}
+use Rattle.type_lattice_trees.proofs.BottomRows.{bottom_bodies}
 use Rattle.type_lattice_trees.proofs.JoinLaws.{tags_of_bodies}
 use Rattle.type_lattice_trees.proofs.PositionLaws.{Behind, atom_of}
 use Rattle.type_lattice_trees.proofs.TagWalks.{left_more, tag_missing, tag_there, same_tag, rest_there}
@@ -63,6 +64,9 @@ leq_row-returns-then-not-leq t c =
 
 -- ---- the tuples of one size
 
+pub leq_body-returns-then-level-eq0 : goal.leq_body-returns-then-level-eq0
+leq_body-returns-then-level-eq0 t c = granted (bottom_bodies c.args.level c.requires.0 c.args.a.now c.args.b.now c.if-level-eq0.true c.requires.1.0 c.requires.1.1)
+
 pub leq_body-returns-in-Product-b : goal.leq_body-returns-in-Product-b
 leq_body-returns-in-Product-b t c = rw (c.in-Product.is, c.in-Product-b.is, ← c.as_slice.ensures, ← c.as_slice-in-Product-b.ensures) c.leq_row.ensures
 
@@ -107,7 +111,8 @@ leq_both_tags-returns-in_default t c =
     let fit = rest_fits _ _ _ c.requires.1.0 _ _ c.loop-tag-test.true c.tag-item.is in
     let behind = subst (λ a. Behind name_cmp atom_of a c.args.b.now c.loop-tag.from) (sym c.get.ensures) (c.loop-tag.invariant.1 c.loop-tag.tag-index c.tag-item.result (omega arith) c.loop-tag-test.true c.tag-item.is) in
     let missing = tag_missing c.args.level _ _ _ behind (c.in_default.ensures.missing c.args.level) in
-    refuted (λ h. tag_absent c.args.level c.requires.0 (of_body.Tags c.args.b.now) c.tag-item.result fit (subst (λ a. None ≡ find name_cmp (tags_view c.args.level c.args.b.now) a) c.get.ensures missing) (tag_below c.args.level (of_body.Tags c.args.b.now) _ _ c.requires.1.0 h _ _ c.loop-tag-test.true c.tag-item.is))
+    let absent = subst (λ a. None ≡ find name_cmp (tags_view c.args.level c.args.b.now) a) c.get.ensures missing in
+    refuted (λ h. tag_absent c.args.level c.requires.0 (of_body.Tags c.args.b.now) c.tag-item.result fit absent (tag_below c.args.level (of_body.Tags c.args.b.now) _ _ c.requires.1.0 h _ _ c.loop-tag-test.true c.tag-item.is))
 
 pub leq_both_tags-leq_row-requires : goal.leq_both_tags-leq_row-requires
 leq_both_tags-leq_row-requires t c =
