@@ -119,7 +119,7 @@ module _ (T : List Entry) (M : List Source) (are : AreSources M) (known : Callee
   not_in : (h : Atom) → is_candidate T M h ≡ false → is_in M h ≡ false
   not_in h none = false_from_ne_true (is_in M h) (λ e. clash (is_candidate T M h) (in_candidate h e) none)
 
-  -- a module that is handed in and has no kept entry was solved
+  -- a module that is passed and has no kept entry was solved
   was_solved : (s : Source) → Contains M s → entry_of K s.tree.name ≡ None → has changed s.tree.name ≡ true
   was_solved s has_s none = by (has changed s.tree.name) refl
     where

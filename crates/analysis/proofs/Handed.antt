@@ -1,4 +1,4 @@
--- Modules that are handed in, as sources: accepted, with distinct names, and each defines what it exports.
+-- Modules that are passed, as sources: accepted, with distinct names, and each defines what it exports.
 use Rattle.std.proofs.Common.{◌≡◌, ℕ, zero, suc, ◌<◌, true, List, [], ◌∷◌, inl, inr, map, length, slice_get, Some, Contains, refl, sym, ap, ◌∙◌, subst, arith}
 use Rattle.std.specs.Prelude.{option_map}
 use Rattle.std.proofs.lemmas.Bool.{cases_lt}

@@ -30,7 +30,7 @@ use table_keep::{GroupList, GroupMember, Source, groups, unchanged};
 use type_kinds::{Atom, Bytes, List, Memory};
 
 /// What is decided of groups: what is known of functions, the names of the groups that aren't kept, and for each module that
-/// is handed in the lines of its report, if it was solved.
+/// is passed the lines of its report, if it was solved.
 #[derive(Drop)]
 pub struct Decided {
     pub known: Summaries,
@@ -45,7 +45,7 @@ struct Wave {
     todo: Names<Atom>,
 }
 
-/// Decides all groups of modules that are handed in and of entries.
+/// Decides all groups of modules that are passed and of entries.
 pub fn decide_all<R: Threads + Wait + Sync, G: Gate + Sync>(
     rt: &R,
     alloc: Global,

@@ -75,7 +75,7 @@ module _ (one_list : OneList) {held : Files} {files : List (List ℕ)} where
   pub one_reading : {M N : List Source} → ReadsAll (Some held) files M → ReadsAll (Some held) files N → M ≡ N
   one_reading {M} {N} h k = one_list held files M N h.after k.after h.read k.read
 
-  -- modules with names of their own have no two of one name
+  -- modules with names of their own have no two with the same name
   pub not_repeated : {first second : ℕ} {M : List Source} → IsDuplicate (Some held) files first second → ReadsAll (Some held) files M → HaveOwnNames (trees M) → ⊥
   not_repeated {first = first} {second = second} h read own = own_names (trees h.sources) first second (subst (λ N. HaveOwnNames (trees N)) (one_reading read h.read) own) h.is
 

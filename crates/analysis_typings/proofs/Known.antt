@@ -56,7 +56,7 @@ whole_has xs accepted apart around known w x among f has =
       | inr none ↦ absurd (true≢false (sym (member_all xs x f among has) ∙ none))
     ])
 
--- each function of modules that are handed in has a summary
+-- each function of modules that are passed has a summary
 pub all_have : {S : Type 0} (f : S → Checked) (ss : List S) (around known : Callees) → ((j : ℕ) → j < length ss → StandsEarlier (map (λ s. (module_of (f s)).name) ss) j → ⊥)
     → IsWholeOver around (map (λ s. tree_of (f s)) ss) known → (x : m.Module) → Contains (map (λ s. tree_of (f s)) ss) x → (g : FunName) → Contains (defined_names x.defs) g → HasSummary (known x.name g)
 all_have f ss around known apart w = whole_has (map (λ s. tree_of (f s)) ss) (accepted_all f ss) (apart_all f ss apart) around known w

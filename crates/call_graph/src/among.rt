@@ -110,7 +110,7 @@ fn add_calls<S: AsFunction>(
 
 /// Which of some functions call which: in the body of one, at any depth, the other's name is applied, with any number of
 /// arguments, or it is called by literal module and name, whether its module exports it or not. A call into the module
-/// `erlang` is none, and of functions of one name the last is called. The functions are numbered from 0, in their order.
+/// `erlang` is none, and of functions with the same name the last is called. The functions are numbered from 0, in their order.
 ///
 /// `Memory`: allocation failed, there are 2^32 functions or more, or a call has as many arguments.
 pub fn calls_among<S: AsFunction>(alloc: Global, functions: &[S]) -> Result<CallsAmong, Memory>

@@ -21,11 +21,11 @@ pub record HeldFile : Type 0 where
 abbrev pub Held : Type 0
 Held = List HeldFile
 
--- a file of this name with a source that is handed in
+-- a file of this name with a source that is passed
 abbrev pub held_file : (name : List ℕ) → HandedIn → HeldFile
 held_file name source = record { file = name; source = source_so source; length = source.length }
 
--- what an engine holds, which contracts see as the names of files with the sources that were handed in
+-- what an engine holds, which contracts see as the names of files with the sources that were passed
 abbrev pub held_by : List (List ℕ × HandedIn) → Held
 held_by files = map (λ (p : List ℕ × HandedIn). held_file p.0 p.1) files
 

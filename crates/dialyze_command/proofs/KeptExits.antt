@@ -39,14 +39,14 @@ are_sources M accepted own = record {
   distinct = none_earlier (module_names (trees M)) (λ j h e. own j (subst (λ n. j < n) (length-map (trees M) (λ (y : m.Module). y.name)) h) e);
 }
 
--- ---- the program of what is handed in and of kept sources
+-- ---- the program of what is passed and of kept sources
 
 name_among : (M : List Source) (s : Source) (k : ℕ) → k < length M → slice_index_or M k s ≡ s → Contains (module_names (trees M)) s.tree.name
 name_among [] s k h e = absurd (omega (arith, h))
 name_among (x ∷ M) s zero h e = (0, omega arith, ap (λ y. y.tree.name) e)
 name_among (x ∷ M) s (suc k) h e = let r = name_among M s k (omega (arith, h)) e in (suc r.0, omega (arith, r.1), r.2)
 
--- a module that is handed in has its name in the program
+-- a module that is passed has its name in the program
 has_module : (M xs : List Source) (s : Source) → Distinct (module_names (trees M)) → (k : ℕ) → k < length M → slice_index_or M k s ≡ s → HasModule (trees (M ++ xs)) s.tree
 has_module [] xs s d k h e = absurd (omega (arith, h))
 has_module (x ∷ M) xs s d zero h e =

@@ -52,7 +52,7 @@ stored_calls x u there =
     ap (has x.calls) (sym (ap (λ (v : Called × Callee). v.0.0) w.2)) ∙ has_is_item x.calls w.0.home
     ∙ (and_parts (has_name x.calls w.0.home) (not (has_name x.group w.0.home)) out).0
 
--- so only of what is handed in something is asked
+-- so only of what is passed something is asked
 pub table_uses_called : (t : Table) (M : List Source) → CallsWhatIsUsed (entries_so t) M → UseCalled (entries_so t) M
 table_uses_called t M fits h e u at old there = by (source_of M h) refl
   where

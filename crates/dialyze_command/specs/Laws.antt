@@ -24,19 +24,19 @@ pub record Passed (words : List (List ℕ)) (held : Files) (after : Option Files
   pub stored : Stores words command new (Some held) after
 
 -- The table that the check began with is that of these sources, as this program writes it: it is what an analysis of them from the empty
--- table gives. And among them and what is handed in, two texts of one module have different digests.
+-- table gives. And among them and what is passed, two texts of one module have different digests.
 pub record BeganWith (Src M : List Source) (T : List Entry) : Type 0 where
   pub sources : AreSources Src
   pub reports : List (List ℕ)
   pub table : IsWritten [] Src reports T
   pub digests : DigestsTell Src M
 
--- what is handed in, and the sources of kept entries that aren't handed in
+-- what is passed, and the sources of kept entries that aren't passed
 abbrev pub whole_of : {T : List Entry} {M : List Source} {reports : List (List ℕ)} {new : List Entry} → IsWritten T M reports new → List Source → List Source
 whole_of {T} {M} w Src = with_kept (kept w.known T M w.groups) M Src
 
 -- There is an analysis of the program from the empty table, whose new table is this one and whose first reports are these: those of the
--- program's first sources, which are handed in. And it is so with every such analysis.
+-- program's first sources, which are passed. And it is so with every such analysis.
 pub record IsFromScratch (program M : List Source) (reports : List (List ℕ)) (new : List Entry) : Type 0 where
   pub all : List (List ℕ)
   pub scratch : IsWritten [] program all new
@@ -53,14 +53,14 @@ pub record NothingReportedFalse (program M : List Source) (reports : List (List 
   pub sound : (s : Source) → Contains M s → NothingFalse (trees program) found.known s.tree
   pub tied : (s : Source) → Contains M s → AreTiedLines s.tree (lines s.tree.name)
 
--- The check wrote what an analysis from scratch gives, of what is handed in and of the kept sources: where its table was that of some
+-- The check wrote what an analysis from scratch gives, of what is passed and of the kept sources: where its table was that of some
 -- sources, for these.
 pub record WritesFromScratch (words : List (List ℕ)) (held : Files) (after : Option Files) (written_before written_now : Option (List ℕ)) : Type 0 where
   pub passed : Passed words held after written_before written_now
   pub kept_so : (Src : List Source) → BeganWith Src passed.analyses.sources (entries_so passed.analyses.begins.table)
       → IsFromScratch (whole_of passed.analyses.written Src) passed.analyses.sources passed.reports (entries_so passed.new)
 
--- The check wrote nothing false: without a table to begin with, of a run of what is handed in; and with the table of some sources,
+-- The check wrote nothing false: without a table to begin with, of a run of what is passed; and with the table of some sources,
 -- of a run of that and of the kept sources.
 pub record WritesNothingFalse (words : List (List ℕ)) (held : Files) (after : Option Files) (written_before written_now : Option (List ℕ)) : Type 0 where
   pub passed : Passed words held after written_before written_now

@@ -18,7 +18,7 @@ use Rattle.dialyze_command.specs.Words.{IsCheck}
 
 -- ---- the table to begin with
 
--- A text that is handed in and has the digest of its entry calls the module of each function that the entry uses.
+-- A text that is passed and has the digest of its entry calls the module of each function that the entry uses.
 abbrev pub CallsWhatIsUsed : (T : List Entry) (M : List Source) → Type 0
 CallsWhatIsUsed T M = (h : Atom) (s : Source) (e : Entry) (u : Called × Callee) → source_of M h ≡ Some s → entry_of T h ≡ Some e → s.digest ≡ e.digest → Contains e.used u
     → has (called_modules s.tree) u.0.0 ≡ true

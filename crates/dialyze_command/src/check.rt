@@ -75,7 +75,7 @@ pub fn dialyze<R: Threads + Wait + Sync, F: Shelf, K: Sink, G: Gate + Sync>(
     // The headline: the status, the bytes written and what is held afterwards are those of the words and of what was held.
     ensures outcome { IsAnswer result → IfSome (F.held shelf.old) (λ held. Answers (texts words.now) held (F.held shelf.new) result (K.written out.old) (K.written out.new)) }
 
-    // With the table of some sources, they are those of an analysis from scratch, of what is handed in and of the kept sources.
+    // With the table of some sources, they are those of an analysis from scratch, of what is passed and of the kept sources.
     ensures kept { AsksForCheck (texts words.now) → IsPassed result → IfSome (F.held shelf.old) (λ held. WritesFromScratch (texts words.now) held (F.held shelf.new) (K.written out.old) (K.written out.new)) }
 
     // Nothing that is reported is false of a run.

@@ -8,7 +8,7 @@ use table_file::table_laws;
 /// The words and what is held have one status and one output, and one thing is held afterwards; for two checks of the same
 /// files with the same names of tables the output is one, whatever their numbers of workers. So it is without a table to
 /// begin with, and with the table of some sources; and with every other, but where an entry with the digest of a text that is
-/// handed in uses a function of a module that this text doesn't call.
+/// passed uses a function of a module that this text doesn't call.
 pub fn one_outcome()
     ensures one { OneOutcomeLaw }
     ensures workers { SameOutcomeLaw }

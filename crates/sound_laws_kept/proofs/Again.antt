@@ -1,5 +1,5 @@
 -- The new table of an analysis with the table of some sources is again the table of sources: from the empty table it is written of what is
--- handed in and of the kept sources.
+-- passed and of the kept sources.
 use Rattle.std.proofs.Common.{ℕ, List, [], map, true, refl, sym, ◌∙◌}
 use Rattle.type_kinds.proofs.Lists.{contains_none}
 use Rattle.table_keep.specs.Groups.{IsGroups}

@@ -77,7 +77,7 @@ module _ (Src : List Source) (T : List Entry) (S V : Groups) (R : Results) (is :
         is_written = some_is (sym at ∙ entry_by h ∙ ap (λ o. made_of o (group_of V h) K (R h)) there);
       }
 
-  -- an entry calls what its source calls, and so what is handed in under its name with the same digest does
+  -- an entry calls what its source calls, and so what is passed under its name with the same digest does
   pub entry_calls : (M : List Source) → DigestsTell Src M → (h : Atom) (e : Entry) → entry_of T h ≡ Some e → is_old (source_of M h) e ≡ true
       → (from : FromSource Src V K R h e) → calls_of T M h ≡ called_modules from.source.tree
   entry_calls M tell h e at old from = by (source_of M h) refl

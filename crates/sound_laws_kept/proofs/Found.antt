@@ -1,4 +1,4 @@
--- What is reported with the table of some sources is found by what is known of the functions of what is handed in and of the kept
+-- What is reported with the table of some sources is found by what is known of the functions of what is passed and of the kept
 -- sources.
 use Rattle.std.proofs.Common.{ℕ, not, ◌&&◌, List, []}
 use Rattle.std.proofs.lemmas.List.Elements.{Contains-append_left}

@@ -1,4 +1,4 @@
--- The analysis with the table of some sources: what stands in the end is the solution of what is handed in and of the kept sources.
+-- The analysis with the table of some sources: what stands in the end is the solution of what is passed and of the kept sources.
 use Rattle.std.proofs.Common.{◌≡◌, ℕ, suc, Bool, true, false, cond, not, ◌||◌, ◌&&◌, List, [], Contains, inl, inr, Option, Some, None, refl, sym, ap, ap₂, ◌∙◌, subst}
 use Rattle.std.specs.Cmp.Lexicographic.{bytes_decides}
 use Rattle.std.proofs.lemmas.Bool.{and_parts, and_from, or_left, or_right, or_cases, not_from_false, not-true, false_from_ne_true}
@@ -24,12 +24,12 @@ use Rattle.sound_laws_kept.proofs.Entries.{FromSource, made_same}
 use Rattle.sound_laws_kept.proofs.Scratch as scratch
 use Rattle.sound_laws_kept.proofs.Scratch.{IsSolution, picked_is, is_in_of, node_of, candidate_in, calls_named, calls_home}
 
--- Two analyses write the same: the same entries under each name, and the same results of what is handed in.
+-- Two analyses write the same: the same entries under each name, and the same results of what is passed.
 pub record AreSame (T : List Entry) (M U : List Source) (g n u v : Groups) (R Q : Results) : Type 0 where
   pub entries : (h : Atom) → new_entry R T M g n h ≡ new_entry Q [] U u v h
   pub results : (h : Atom) → is_in M h ≡ true → R h ≡ Q h
 
--- The table of sources Src, with groups S of these, groups V of its modules and what is known then; what is handed in; and its groups and
+-- The table of sources Src, with groups S of these, groups V of its modules and what is known then; what is passed; and its groups and
 -- what is known now.
 module _ (solves : Solves) (carries : Carries solves) (gives_one : GivesOne solves) (gives_parts : GivesParts solves) (Src M : List Source) (T : List Entry) (are_src : AreSources Src) (are_m : AreSources M)
     (tell : DigestsTell Src M) (S V : Groups) (RS : Results) (of_src : IsAnalysisBy solves [] Src S V RS) (entries : (h : Atom) → entry_of T h ≡ new_entry RS [] Src S V h)
@@ -59,7 +59,7 @@ module _ (solves : Solves) (carries : Carries solves) (gives_one : GivesOne solv
   entry_source : (h : Atom) (e : Entry) → entry_of T h ≡ Some e → FromSource Src V KS RS h e
   entry_source = entries_of.entry_source Src T S V RS of_src.candidates entries
 
-  -- ---- what is handed in, and the kept sources
+  -- ---- what is passed, and the kept sources
 
   abbrev pub joins : Atom → Bool
   joins h = not (is_in M h) && is_kept_now h
@@ -135,7 +135,7 @@ module _ (solves : Solves) (carries : Carries solves) (gives_one : GivesOne solv
       folds.kept_is R T M g x (graphs.member_is_node (is_candidate T M) (calls_of T M) g is (g.number h) x in_it)
       ∙ ap (is_kept R T M g) (graphs.member_number (is_candidate T M) (calls_of T M) g is (g.number h) x in_it) ∙ kept_number h e
 
-  -- what is there is handed in or kept
+  -- what is there is passed or kept
   pub there_by : (h : Atom) → is_in U h ≡ true → is_kept_now h ≡ false → is_in M h ≡ true
   there_by h e k = by (is_in M h) refl
     where
@@ -279,7 +279,7 @@ module _ (solves : Solves) (carries : Carries solves) (gives_one : GivesOne solv
       handed_source : (x : Atom) → is_in xs x ≡ true → source_of xs x ≡ source_of U x
       handed_source x e = let from = from_handed x e in picked_there (has (group_of g h)) M x from.0 ∙ sym (handed_there x from.1)
 
-      -- a name of the group among what is there is handed in
+      -- a name of the group among what is there is passed
       member_handed : (x : Atom) → p x ≡ true → is_in xs x ≡ true
       member_handed x e =
           let up = group_up h x in_u e in

@@ -144,7 +144,7 @@ accepted_picked p (s ∷ ss) are = by (p s.tree.name) (accepted_picked p ss are.
     by true rest = (are.0, rest)
     by false rest = rest
 
--- sources that are handed in are accepted by their type
+-- sources that are passed are accepted by their type
 pub accepted_sources : (ss : List HandedIn) → AreAccepted (trees (sources_so ss))
 accepted_sources [] = tt
 accepted_sources (s ∷ ss) = ((s.checked, refl), accepted_sources ss)

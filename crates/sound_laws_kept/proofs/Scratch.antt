@@ -23,7 +23,7 @@ pub record IsSolution (solves : Solves) (U : List Source) (u : Groups) (K : Stan
   pub inside : (h : Atom) (f : FunName) → is_in U h ≡ true → K h f ≡ callee_among (R h).exports f
   pub solved : (h : Atom) → is_in U h ≡ true → solves (picked (has (group_of u h)) U) K R
 
--- ---- without a table the candidates are what is handed in
+-- ---- without a table the candidates are what is passed
 
 or_false : (b : Bool) → (b || false) ≡ b
 or_false true = refl

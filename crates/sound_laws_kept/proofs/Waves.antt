@@ -329,7 +329,7 @@ module _ (R : Results) (T : List Entry) (M : List Source) (sources : AreSources 
           by true e = picked_there (has w.todo) M x (all_in_todo x e)
           by false e = refl
 
-      -- what stands of a candidate that the group calls outside of what it has handed in
+      -- what stands of a candidate that the group calls outside of its members that are passed
       called_same : (c : Called) → is_in (picked member now) c.0 ≡ false → is_candidate T M c.0 ≡ true → (g.number c.0 < m) ⊎ (m ≤ g.number c.0) → g.number c.0 ≤ m
           → After c.0 c.1 ≡ Fold m c.0 c.1
       called_same c out node (inl less) no_more = wave_ends c.0 c.1 ∙ stood m c.0 c.1 (omega (arith, low)) less

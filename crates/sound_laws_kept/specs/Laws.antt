@@ -17,12 +17,12 @@ use Rattle.sound_laws_kept.specs.Written.{with_kept}
 use Rattle.sound_laws_kept.specs.Solving.{IsResult, IsSolved, IsWritten, AreSources}
 use Rattle.sound_laws_kept.specs.Waves.{wave_from, to_solve, IsWave}
 
--- Two texts of one module have different digests: that SHA-256 tells apart the texts that are handed in and those of the table.
+-- Two texts of one module have different digests: that SHA-256 tells apart the texts that are passed and those of the table.
 abbrev pub DigestsTell : (Src M : List Source) → Type 0
 DigestsTell Src M = (h : Atom) (s t : Source) → source_of Src h ≡ Some s → source_of M h ≡ Some t → s.digest ≡ t.digest → s ≡ t
 
 -- The law of the kept table: where a table is that of some sources, the reports and the new table are those that an analysis from
--- the empty table gives of what is handed in and of the kept sources.
+-- the empty table gives of what is passed and of the kept sources.
 abbrev pub KeptLaw : Type 0
 KeptLaw = (Src M : List Source) (T new scratch : List Entry) (before reports all : List (List ℕ)) → AreSources Src → AreSources M → DigestsTell Src M → IsWritten [] Src before T
     → (w : IsWritten T M reports new) → IsWritten [] (with_kept (kept w.known T M w.groups) M Src) all scratch
@@ -34,7 +34,7 @@ abbrev pub AgainLaw : Type 0
 AgainLaw = (Src M : List Source) (T new : List Entry) (before reports : List (List ℕ)) → AreSources Src → AreSources M → DigestsTell Src M → IsWritten [] Src before T
     → (w : IsWritten T M reports new) → (all : List (List ℕ)) × IsWritten [] (with_kept (kept w.known T M w.groups) M Src) all new
 
--- What an entry uses is of modules that its text calls: where that text is handed in, by its digest, or no text of its name is.
+-- What an entry uses is of modules that its text calls: where that text is passed, by its digest, or no text of its name is.
 abbrev pub UseCalled : (T : List Entry) (M : List Source) → Type 0
 UseCalled T M = (h : Atom) (e : Entry) (u : Called × Callee) → entry_of T h ≡ Some e → is_old (source_of M h) e ≡ true → Contains e.used u → has (calls_of T M h) u.0.0 ≡ true
 
@@ -73,7 +73,7 @@ abbrev pub WholeLaw : Type 0
 WholeLaw = (M : List Source) (reports : List (List ℕ)) (new : List Entry) (known : Callees) → AreSources M → (w : IsWritten [] M reports new) → IsWholeOf (trees M) known
     → (s : Source) → Contains M s → IsResult known s.tree (w.known s.tree.name)
 
--- What is reported is found by what is known of the functions of a whole program: of what is handed in and of the kept sources, where the
+-- What is reported is found by what is known of the functions of a whole program: of what is passed and of the kept sources, where the
 -- table is that of some sources. So nothing that is reported is false of a run of that program.
 pub record AreFound (U M : List Source) (lines : Atom → List ℕ) : Type 0 where
   pub known : Callees

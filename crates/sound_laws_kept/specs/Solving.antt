@@ -32,7 +32,7 @@ pub record AreSources (M : List Source) : Type 0 where
   pub accepted : AreAccepted (trees M)
   pub distinct : Distinct (module_names (trees M))
 
--- The written analysis: what is known of each module by groups, the report on each module that is handed in, in this order, and a new
+-- The written analysis: what is known of each module by groups, the report on each module that is passed, in this order, and a new
 -- table, which rises by name.
 pub record IsWritten (T : List Entry) (M : List Source) (reports : List (List ℕ)) (new : List Entry) : Type 0 where
   pub groups : Groups

@@ -84,7 +84,7 @@ module _ (R : Results) (T : List Entry) (M : List Source) (g : Groups) where
   SolvedBetween solves n k = (m : ℕ) → n ≤ m → m < k → is_kept R T M g m ≡ false → solves (handed M g m) (stands R T M g m) R
 
   -- A wave that begins with what stands when n groups are decided ends with what stands when more are, and its groups are solved as
-  -- they are one after another. What it is to solve is what is handed in of its groups that aren't kept.
+  -- they are one after another. What it is to solve is what is passed of its groups that aren't kept.
   pub record IsWave (solves : Solves) (n : ℕ) (w : Wave) : Type 0 where
     pub more : n < w.next
     pub low : w.next ≤ g.count

@@ -6,7 +6,7 @@ use Rattle.table_keep.specs.Made.{made}
 use Rattle.table_keep.specs.Groups.{Groups, IsGroups, group_of}
 use Rattle.table_keep.specs.Kept.{Solves, Standing, Results, AreResults, is_candidate, calls_of, kept, is_new, finally}
 
--- the entry of a module that was solved, if it is handed in
+-- the entry of a module that was solved, if it is passed
 abbrev pub made_of : Option Source → (group : List Atom) → Standing → Result → Option Entry
 made_of None group K r = None
 made_of (Some s) group K r = Some (made s group K r)
@@ -32,6 +32,6 @@ pub record IsTableBy (solves : Solves) (Src : List Source) (T : List Entry) : Ty
   pub analysis : IsAnalysisBy solves [] Src groups new_groups results
   pub entries : (h : Atom) → entry_of T h ≡ new_entry results [] Src groups new_groups h
 
--- what is handed in, and the sources of kept entries that aren't handed in
+-- what is passed, and the sources of kept entries that aren't passed
 abbrev pub with_kept : (kept : Atom → Bool) → (M Src : List Source) → List Source
 with_kept kept M Src = M ++ picked (λ h. not (is_in M h) && kept h) Src

@@ -32,7 +32,7 @@ pub fn table_is_of_sources()
 }
 
 /// What is reported with the table of some sources is found by what is known of the functions of a whole program: of
-/// what is handed in and of the kept sources.
+/// what is passed and of the kept sources.
 pub fn reports_are_found()
     ensures { FoundLaw }
 {

@@ -1,4 +1,4 @@
--- What is known of each module, made group by group: an unchanged group has what its entries say, and of every other what is handed in is
+-- What is known of each module, made group by group: an unchanged group has what its entries say, and of every other what is passed is
 -- solved over what stands by then.
 use Rattle.std.proofs.Common.{◌≡◌, ℕ, zero, suc, ◌<◌, ◌≤◌, Bool, true, false, cond, List, Option, Some, None, refl, sym, ap, ◌∙◌, subst, inl, inr, arith}
 use Rattle.std.proofs.lemmas.Bool.{cases_lt, false_from_ne_true}

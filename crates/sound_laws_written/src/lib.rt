@@ -1,4 +1,4 @@
-//! There is an analysis of modules that are handed in, with any table.
+//! There is an analysis of modules that are passed, with any table.
 #![tactic(auto)]
 
 mod laws;

@@ -32,14 +32,14 @@ abbrev pub callee_among : List (FunName × Summary) → FunName → Callee
 callee_among [] f = Undefined
 callee_among (x ∷ xs) f = cond (same_name f x.0) (Known x.1) (callee_among xs f)
 
--- ---- the graph of a table and of sources that are handed in
+-- ---- the graph of a table and of sources that are passed
 
 abbrev pub calls_by : Option Source → Option Entry → List Atom
 calls_by (Some s) e = called_modules s.tree
 calls_by None (Some e) = e.calls
 calls_by None None = []
 
--- a name is a candidate where it is handed in or has an entry; it calls by its text, or else by its entry
+-- a name is a candidate where it is passed or has an entry; it calls by its text, or else by its entry
 module _ (T : List Entry) (M : List Source) where
   abbrev pub is_candidate : Atom → Bool
   is_candidate h = is_in M h || is_there (entry_of T h)
@@ -49,7 +49,7 @@ module _ (T : List Entry) (M : List Source) where
 
 -- ---- one group
 
--- the text is not handed in, or is the one of the entry
+-- the text is not passed, or is the one of the entry
 abbrev pub is_old : Option Source → Entry → Bool
 is_old None e = true
 is_old (Some s) e = pointwise nat_eq s.digest e.digest
@@ -67,7 +67,7 @@ abbrev pub all_unchanged : List Entry → List Source → (group : List Atom) �
 all_unchanged T M group K [] = true
 all_unchanged T M group K (h ∷ hs) = entry_stands group K (source_of M h) (entry_of T h) && all_unchanged T M group K hs
 
--- A group is unchanged: each member has an entry, none is handed in with another digest, each has this group, and each function
+-- A group is unchanged: each member has an entry, none is passed with another digest, each has this group, and each function
 -- that an entry uses is what stands now.
 abbrev pub unchanged : List Entry → List Source → (group : List Atom) → Standing → Bool
 unchanged T M group K = all_unchanged T M group K group
@@ -83,7 +83,7 @@ with_entries T group K h f = cond (has group h) (callee_by (entry_of T h) f) (K 
 abbrev pub with_results : List Source → Results → Standing → Standing
 with_results xs R K h f = cond (is_in xs h) (callee_among (R h).exports f) (K h f)
 
--- the members of a group that are handed in
+-- the members of a group that are passed
 abbrev pub handed : List Source → Groups → ℕ → List Source
 handed M g n = picked (has (g.members n)) M
 
@@ -91,7 +91,7 @@ handed M g n = picked (has (g.members n)) M
 
 -- R: what is known of each module that is solved
 module _ (R : Results) (T : List Entry) (M : List Source) (g : Groups) where
-  -- what stands when a group was decided, where this stood: its entries, or what its members that are handed in have now
+  -- what stands when a group was decided, where this stood: its entries, or what its members that are passed have now
   abbrev pub decided : ℕ → Standing → Standing
   decided n K = cond (unchanged T M (g.members n) K) (with_entries T (g.members n) K) (with_results (handed M g n) R K)
 
@@ -121,7 +121,7 @@ abbrev pub Solves : Type 1
 Solves = List Source → Standing → Results → Type 0
 
 -- What is known is what the groups give one after another: of a kept module what its entry says, and of every other what it has
--- solved among the members of its group that are handed in, over what stands then.
+-- solved among the members of its group that are passed, over what stands then.
 pub record AreResults (solves : Solves) (T : List Entry) (M : List Source) (g : Groups) (R : Results) : Type 0 where
   pub of_entry : (h : Atom) (e : Entry) → kept R T M g h ≡ true → entry_of T h ≡ Some e → R h ≡ e.result
   pub solved : (n : ℕ) → n < g.count → is_kept R T M g n ≡ false → solves (handed M g n) (stands R T M g n) R

@@ -15,7 +15,7 @@ use Rattle.table_file.specs.declared.tables.Table.{Table}
 
 -- ---- sources
 
--- A module that is handed in: its tree, and the digest of its text.
+-- A module that is passed: its tree, and the digest of its text.
 pub record Source : Type 0 where
   pub tree : m.Module
   pub digest : List ℕ
@@ -39,7 +39,7 @@ abbrev pub is_there : {A : Type 0} → Option A → Bool
 is_there None = false
 is_there (Some x) = true
 
--- whether a module of this name is handed in
+-- whether a module of this name is passed
 abbrev pub is_in : List Source → Atom → Bool
 is_in sources h = is_there (source_of sources h)
 

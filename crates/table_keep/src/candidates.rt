@@ -1,4 +1,4 @@
-//! The modules that are handed in and those that have an entry.
+//! The modules that are passed and those that have an entry.
 ghost use Rattle.std.specs.Prelude.{◌≡◌, ℕ, ◌<◌, ◌^◌, [], cond, length, None, Some, IsTrue, IfOk, OnOk, List};
 ghost use Rattle.indexmap.specs.IndexMap.{get, keys};
 ghost use Rattle.core_scope.specs.Names.{same_atom};
@@ -13,7 +13,7 @@ use std::alloc::Global;
 use table_file::{Entry, Table};
 use type_kinds::{Atom, Memory};
 
-/// Where a module stands among those that are handed in and among the entries.
+/// Where a module stands among those that are passed and among the entries.
 #[derive(Clone, Copy, Debug)]
 pub struct Positions {
     pub source: Option<u32>,
@@ -23,7 +23,7 @@ pub struct Positions {
 /// Modules by name, with their positions. A look-up is one in a hash table.
 pub type Candidates = IndexMap<Atom, Positions>;
 
-/// The modules that are handed in and those that have an entry, rising by name. `Memory`: allocation failed, or there are 2^32 of
+/// The modules that are passed and those that have an entry, rising by name. `Memory`: allocation failed, or there are 2^32 of
 /// them or more.
 pub fn candidates(alloc: Global, table: &Table, sources: &[Source]) -> Result<Candidates, Memory>
     requires distinct { (j : ℕ) → j < length sources.now → StandsEarlier (source_names sources.now) j → ⊥ }
@@ -41,7 +41,7 @@ pub fn candidates(alloc: Global, table: &Table, sources: &[Source]) -> Result<Ca
     Ok(found)
 }
 
-// Adds the modules that are handed in.
+// Adds the modules that are passed.
 fn add_sources(alloc: Global, found: &mut Candidates, sources: &[Source]) -> Result<(), Memory>
     requires distinct { (j : ℕ) → j < length sources.now → StandsEarlier (source_names sources.now) j → ⊥ }
     requires none { (q : Name) → get same_atom found.old q ≡ None }

@@ -1,4 +1,4 @@
-//! The groups of modules that call one another: of those that are handed in and of those that have an entry.
+//! The groups of modules that call one another: of those that are passed and of those that have an entry.
 ghost use Rattle.std.specs.Prelude.{◌≡◌, ℕ, ◌<◌, Some, Contains, length, map, slice_get, IfOk};
 ghost use Rattle.indexmap.specs.IndexMap.{keys};
 ghost use Rattle.components.specs.Numbering as numbering;
@@ -37,7 +37,7 @@ impl GroupList {
     }
 }
 
-/// The groups of the modules that are handed in and of those that have an entry. One that is handed in calls by its text, any other by
+/// The groups of the modules that are passed and of those that have an entry. One that is passed calls by its text, any other by
 /// its entry. `Memory`: allocation failed, or there are 2^32 of them or more.
 pub fn groups(alloc: Global, table: &Table, sources: &[Source]) -> Result<GroupList, Memory>
     requires distinct { (j : ℕ) → j < length sources.now → StandsEarlier (map (λ s. (module_of s.checked).name) sources.now) j → ⊥ }

@@ -20,7 +20,7 @@ use std::alloc::Global;
 use table_file::Table;
 use type_kinds::{Atom, Memory};
 
-/// The graph of candidates, whose nodes are their places. One that is handed in calls by its text, any other by its entry.
+/// The graph of candidates, whose nodes are their places. One that is passed calls by its text, any other by its entry.
 pub fn module_graph(
     alloc: Global,
     found: &Candidates,
@@ -91,7 +91,7 @@ fn add_calls_at(
     }
 }
 
-// Adds pairs from a module that is handed in.
+// Adds pairs from a module that is passed.
 fn add_calls_by(
     alloc: Global,
     graph: &mut Graph,

@@ -1,4 +1,4 @@
-//! Modules that are handed in.
+//! Modules that are passed.
 ghost use Rattle.core_scope.specs.Checked.{tree_of};
 ghost use Rattle.table_keep.specs.Few.{HasAtMost};
 

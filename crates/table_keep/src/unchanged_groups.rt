@@ -17,7 +17,7 @@ use cons_tree::{Callee, Summaries};
 use table_file::{Entry, Table, Used};
 use type_kinds::Atom;
 
-/// Whether a group is unchanged: each of its members has an entry, none is handed in with another digest, each entry has this group,
+/// Whether a group is unchanged: each of its members has an entry, none is passed with another digest, each entry has this group,
 /// and each function that an entry uses is what stands now. Takes no memory.
 pub fn unchanged(
     table: &Table,

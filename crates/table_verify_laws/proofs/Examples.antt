@@ -64,7 +64,7 @@ module _ (x : m.Module) (k : Mark) (xs : List VarName) (t : m.Tree) (digest : Li
   other_module : known_by certificate (source ∷ []) (codes "e") f ≡ Unknown
   other_module = refl
 
-  -- a table of a module that isn't handed in breaks the first rule
+  -- a table of a module that isn't passed breaks the first rule
   not_handed_in : Breaks (entry_with [] ∷ []) certificate [] same_modules (codes "r")
   not_handed_in keeps = none_some (keeps (in_table (entry_with []) refl)).source_there
 

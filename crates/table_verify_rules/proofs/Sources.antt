@@ -1,4 +1,4 @@
--- Sources that are handed in, their names, and the entries under these.
+-- Sources that are passed, their names, and the entries under these.
 use Rattle.std.proofs.Common.{◌≡◌, ℕ, zero, suc, ◌<◌, Bool, true, false, cond, ◌||◌, List, [], ◌∷◌, Contains, length, map, get_or, slice_get, Option, Some, None, refl, sym, ap, ◌∙◌, subst, true≢false}
 use Rattle.std.specs.Prelude.{MatchOption, Result, Ok, Err, option_map}
 use Rattle.std.specs.List.Sorted.{IsBinarySearchResult, IsSearchInRange}
@@ -53,7 +53,7 @@ handed ss own = record {
   distinct = subst Distinct (names_so ss) (none_earlier (names_of ss) (λ j low. own j (subst (λ n. j < n) (length-map ss (λ s. (module_of s.checked).name)) low)));
 }
 
--- the modules of what is handed in
+-- the modules of what is passed
 abbrev pub handed_trees : List HandedIn → List m.Module
 handed_trees ss = map (λ s. tree_of s.checked) ss
 

@@ -19,7 +19,7 @@ use Rattle.typer_lines.specs.Lines.{IsTyping, typing_line}
 abbrev pub typings_in : (home : Atom) → List FunName → List Summary → List Typing
 typings_in home fs ss = map (λ p. record { home = home; name = p.0; sig = p.1.strict }) (zip fs ss)
 
--- those of all modules, in the order in which they are handed in
+-- those of all modules, in the order in which they are passed
 abbrev pub typings_of : List m.Module → List (List Summary) → List Typing
 typings_of xs found = flat_map (λ p. typings_in p.0.name (defined_names p.0.defs) p.1) (zip xs found)
 

@@ -43,7 +43,7 @@ pub record AreReported (todo : List Atom) (M : List Source) (known : Callees) (b
   pub others : (i : ℕ) (s : Source) → slice_get M i ≡ Some s → has todo s.tree.name ≡ false → slice_get after i ≡ slice_get before i
 
 -- So many groups are decided as they are one after another: this is known of functions, these names are in groups that aren't kept,
--- and each module of these that is handed in has the lines of its report.
+-- and each module of these that is passed has the lines of its report.
 pub record IsDecided (T : List Entry) (M : List Source) (g : Groups) (n : ℕ) (known : Callees) (changed : List Atom) (lines : List (List ℕ)) : Type 0 where
   pub results : Results
   pub low : n ≤ g.count

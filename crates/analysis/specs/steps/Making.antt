@@ -22,7 +22,7 @@ abbrev pub IsMade : Source → (group : List Atom) → Callees → (lines : Opti
 IsMade s group known lines entry =
     (r : Result) × (entry ≡ Some (made s group (seen known) r)) × AreSummarized known s.tree.name (exported s.tree) r.exports × (lines ≡ Some r.lines)
 
--- The entries of the new table: those that are kept, and one for each other module that is handed in.
+-- The entries of the new table: those that are kept, and one for each other module that is passed.
 pub record AreNew (K : List Entry) (M : List Source) (known : Callees) (lines : List (List ℕ)) (entry : Atom → Option Entry) : Type 0 where
   pub groups : Groups
   pub grouped : IsGroups (is_candidate K M) (calls_of K M) groups

@@ -1,4 +1,4 @@
--- Where modules stand among those that are handed in and among those that have an entry, by name.
+-- Where modules stand among those that are passed and among those that have an entry, by name.
 use Rattle.std.specs.Prelude.{ℕ, suc, cond, Option, Some, None, List, [], ◌∷◌, map}
 use Rattle.std.specs.Option.{option_map}
 use Rattle.type_kinds.specs.declared.atom.Atom.{Atom}
@@ -28,7 +28,7 @@ abbrev pub source_in : Option Positions → Option ℕ
 source_in None = None
 source_in (Some p) = p.source
 
--- the names of the modules that are handed in, and of those that have an entry
+-- the names of the modules that are passed, and of those that have an entry
 abbrev pub source_names : List Source → List Atom
 source_names sources = map (λ s. (module_of s.checked).name) sources
 
