@@ -9,8 +9,8 @@ use Rattle.analysis_answers.specs.declared.run_status.RunStatus.{RunStatus}
 use Rattle.analysis_answers.specs.declared.run_status.RunStatus.TheVariants as s
 use Rattle.analysis_answers.specs.Lines.{read_fault_line}
 use Rattle.dia_session_engine.specs.Held.{Held}
-use Rattle.dia_session_command.specs.declared.carrying.LineFault.{LineFault}
-use Rattle.dia_session_command.specs.declared.carrying.LineFault.TheVariants.{Memory, Unread, Unwritten}
+use Rattle.dia_session_command.specs.declared.carrying.SessionFault.{SessionFault}
+use Rattle.dia_session_command.specs.declared.carrying.SessionFault.TheVariants.{Memory, Unread, Unwritten}
 use Rattle.dia_session_command.specs.declared.script.ScriptLine.{ScriptLine}
 use Rattle.dia_session_command.specs.Script.{Request, request_so}
 use Rattle.dia_session_command.specs.Session.{Gives, GiveAll}
@@ -79,14 +79,14 @@ means_since : (told : Option Files) (held : Held) (r : Request) (early reads now
 means_since told held r early reads now output low (of_line after g) = of_line after g
 means_since told held r early reads now output low (of_fault file a b c) = of_fault file a b (rose_since early reads now low c)
 
-pub fails_since : (told : Option Files) (held : Held) (r : Request) (early reads now first faults last : ℕ) (written was after : Option (List ℕ)) (fault : LineFault) → early ≤ reads → first ≤ faults → was ≡ written
+pub fails_since : (told : Option Files) (held : Held) (r : Request) (early reads now first faults last : ℕ) (written was after : Option (List ℕ)) (fault : SessionFault) → early ≤ reads → first ≤ faults → was ≡ written
     → LineFails told held r reads now faults last was after fault → LineFails told held r early now first last written after fault
 fails_since told held r early reads now first faults last written was after Memory low least same h = h ∙ same
 fails_since told held r early reads now first faults last written was after Unread low least same h = (h.0, h.1, rose_since early reads now low h.2, subst (λ w. after ≡ appended w (read_fault_line h.0)) same h.3)
 fails_since told held r early reads now first faults last written was after Unwritten low least same h =
     (h.0, means_since told held r early reads now h.0 low h.1, rose_since first faults last least h.2, subst (λ w. IsPrefixAppended w after h.0) same h.3)
 
-pub ends_at : (told mid : Option Files) (ls : List ScriptLine) (i : ℕ) (d : ScriptLine) (held : Held) (early reads now first faults last : ℕ) (written was after : Option (List ℕ)) (fault : LineFault) (status : RunStatus)
+pub ends_at : (told mid : Option Files) (ls : List ScriptLine) (i : ℕ) (d : ScriptLine) (held : Held) (early reads now first faults last : ℕ) (written was after : Option (List ℕ)) (fault : SessionFault) (status : RunStatus)
     → i < length ls → mid ≡ told → AreCarried told (requests (take i ls)) held written was → early ≤ reads → first ≤ faults
     → LineFails mid held (request_so (get_or ls i d)) reads now faults last was after fault → status ≡ status_at (i + 1) fault → IsCarried told (requests ls) early now first last written after status
 ends_at told mid ls i d held early reads now first faults last written was after fault status low m h a b fails s = ends (record {

@@ -13,9 +13,9 @@ use Rattle.analysis_answers.specs.declared.run_status.RunStatus.{RunStatus}
 use Rattle.analysis_answers.specs.declared.run_status.RunStatus.TheVariants.{Done, DeviceFault, Memory, Usage}
 use Rattle.analysis_answers.specs.FileRuns.{refused, IsAnswer}
 use Rattle.analysis_answers.specs.Lines.{read_fault_line}
-use Rattle.dia_session_command.specs.declared.carrying.LineFault.{LineFault}
-use Rattle.dia_session_command.specs.declared.carrying.LineFault.TheVariants.{Unread, Unwritten}
-use Rattle.dia_session_command.specs.declared.carrying.LineFault.TheVariants as f
+use Rattle.dia_session_command.specs.declared.carrying.SessionFault.{SessionFault}
+use Rattle.dia_session_command.specs.declared.carrying.SessionFault.TheVariants.{Unread, Unwritten}
+use Rattle.dia_session_command.specs.declared.carrying.SessionFault.TheVariants as f
 use Rattle.dia_session_command.specs.Causes.{LacksScript, HasLongScript, HasBadLine, HasGoodScript, of_missing, of_length, of_line, IsPossible}
 use Rattle.dia_session_command.specs.Lines.{bad_line}
 use Rattle.dia_session_command.specs.Script.{Request, IsScript, IsBadLine}
@@ -44,7 +44,7 @@ says_answer : {answer status : RunStatus} {output : List ℕ} {a b : ℕ} {befor
 says_answer (whole e w) is = (e, w)
 says_answer (broken e rose p) is = absurd (subst IsAnswer e is)
 
-fault_answers : (number : ℕ) (fault : LineFault) → IsAnswer (status_at number fault) → ⊥
+fault_answers : (number : ℕ) (fault : SessionFault) → IsAnswer (status_at number fault) → ⊥
 fault_answers number f.Memory h = h
 fault_answers number Unread h = h
 fault_answers number Unwritten h = h
@@ -119,7 +119,7 @@ module _ (words : List (List ℕ)) (told : Option Files) (reads now first last :
   read_it (of_script script word named (carries bytes requests r i (done e output held give w))) number is = let k = sym e ∙ is in absurd cc
   read_it (of_script script word named (carries bytes requests r i (ends h))) number is = by h.fault (sym h.status_so ∙ is) h.is
     where
-      by : (fault : LineFault) → status_at (suc (length h.first)) fault ≡ DeviceFault (Read number) → LineFails told h.held h.request reads now first last (appended before h.output) after fault → Fails number
+      by : (fault : SessionFault) → status_at (suc (length h.first)) fault ≡ DeviceFault (Read number) → LineFails told h.held h.request reads now first last (appended before h.output) after fault → Fails number
       by f.Memory e fails = absurd cc
       by Unwritten e fails = absurd cc
       by Unread e fails =
@@ -167,7 +167,7 @@ module _ (words : List (List ℕ)) (told : Option Files) (reads now first last :
           session.of_fault (suc (length h.first))
           (file_unread h.first h.rest file h.output refl (subst (λ x. CarriesFirst words told h.first (x ∷ h.rest) h.output) q those) (ap (λ x. h.output ++ x) o)) rose
 
-      by : (fault : LineFault) → status_at (suc (length h.first)) fault ≡ DeviceFault Write → LineFails told h.held h.request reads now first last (appended before h.output) after fault → Breaks
+      by : (fault : SessionFault) → status_at (suc (length h.first)) fault ≡ DeviceFault Write → LineFails told h.held h.request reads now first last (appended before h.output) after fault → Breaks
       by f.Memory e fails = absurd cc
       by Unread e fails = absurd cc
       by Unwritten e fails =
@@ -185,7 +185,7 @@ module _ (words : List (List ℕ)) (told : Option Files) (reads now first last :
   memory_it (of_script script word named (carries bytes requests r i (done e output held give w))) is = let k = sym e ∙ is in absurd cc
   memory_it (of_script script word named (carries bytes requests r i (ends h))) is = by h.fault (sym h.status_so ∙ is) h.is
     where
-      by : (fault : LineFault) → status_at (suc (length h.first)) fault ≡ Memory → LineFails told h.held h.request reads now first last (appended before h.output) after fault → StopsShort words told before after
+      by : (fault : SessionFault) → status_at (suc (length h.first)) fault ≡ Memory → LineFails told h.held h.request reads now first last (appended before h.output) after fault → StopsShort words told before after
       by f.Memory e fails = at_line h.first (h.request ∷ h.rest) h.output (carries_first script word bytes requests named r i h) fails
       by Unread e fails = absurd cc
       by Unwritten e fails = absurd cc
@@ -209,7 +209,7 @@ module _ (words : List (List ℕ)) (told : Option Files) (reads now first last :
   possible_it (of_script script word named (carries bytes requests r i (done e output held give w))) = subst (IsPossible words) (sym e) tt
   possible_it (of_script script word named (carries bytes requests r i (ends h))) = subst (IsPossible words) (sym h.status_so) (by h.fault)
     where
-      by : (fault : LineFault) → IsPossible words (status_at (suc (length h.first)) fault)
+      by : (fault : SessionFault) → IsPossible words (status_at (suc (length h.first)) fault)
       by f.Memory = tt
       by Unread = tt
       by Unwritten = tt

@@ -7,10 +7,10 @@ use Rattle.std.specs.Cmp.Lexicographic.{pointwise, bytes_decides}
 use Rattle.analysis_sources.specs.Words.{texts}
 use Rattle.analysis_answers.proofs.Texts.{texts_long}
 use Rattle.analysis_answers.specs.Words.{IsFile, most_workers}
-use Rattle.dia_session_command.specs.declared.words.Command.{Command}
+use Rattle.dia_session_command.specs.declared.words.SessionCommand.{SessionCommand}
 use Rattle.dia_session_command.specs.Words.{IsCommand, by_itself, by_workers, IsNoCommand, NamesScript}
 
-abbrev pub IsTold : List (Bor (List ℕ)) → Option Command → Type 0
+abbrev pub IsTold : List (Bor (List ℕ)) → Option SessionCommand → Type 0
 IsTold ws r = MatchOption r (IsNoCommand (texts ws)) (λ c. IsCommand (texts ws) c.workers c.script.now c.word)
 
 abbrev first_word : List (List ℕ) → List ℕ
@@ -31,11 +31,11 @@ no_such ws one three script word (n, by_itself e a b c) = one (sym (texts_long w
 no_such ws one three script word (n, by_workers e a b c d) = three (sym (texts_long ws) ∙ ap (λ xs. length xs) e)
 
 -- a script stands at this place, and so many workers are asked for
-abbrev pub IsWith : (workers : ℕ) (script : List ℕ) (word : ℕ) → Option Command → Type 0
+abbrev pub IsWith : (workers : ℕ) (script : List ℕ) (word : ℕ) → Option SessionCommand → Type 0
 IsWith workers script word r =
     MatchOption r (IsFile script → ⊥) (λ c. (c.workers ≡ workers) × (c.script.now ≡ script) × (c.word ≡ word) × IsFile script)
 
-pub one_told : (w : Bor (List ℕ)) (r : Option Command) → IsWith 1 w.now 0 r → IsTold (w ∷ []) r
+pub one_told : (w : Bor (List ℕ)) (r : Option SessionCommand) → IsWith 1 w.now 0 r → IsTold (w ∷ []) r
 one_told w None h = none
   where
     none : IsNoCommand (w.now ∷ [])
@@ -54,7 +54,7 @@ module _ (o n w : Bor (List ℕ)) where
   no_number none script word (k, by_itself e a b c) = let l : 3 ≡ 1 = ap (λ xs. length xs) e in absurd (omega (arith, l))
   no_number none script word (k, by_workers e a b c d) = none k a b (ap second_word e)
 
-  three_told : (workers : ℕ) (r : Option Command) → o.now ≡ codes "--workers" → n.now ≡ decimal workers → 1 ≤ workers → workers ≤ most_workers
+  three_told : (workers : ℕ) (r : Option SessionCommand) → o.now ≡ codes "--workers" → n.now ≡ decimal workers → 1 ≤ workers → workers ≤ most_workers
       → IsWith workers w.now 2 r → IsTold (o ∷ n ∷ w ∷ []) r
   three_told workers None option number least most h = none
     where
@@ -72,7 +72,7 @@ same_word word other e = (bytes_decides word other).0 (by (pointwise nat_eq word
     by true e = refl
     by false e = absurd (true≢false (sym e))
 
-pub three_so : (ws : List (Bor (List ℕ))) (d : Bor (List ℕ)) (workers : ℕ) (r : Option Command) → 3 ≤ length ws → length ws < 4
+pub three_so : (ws : List (Bor (List ℕ))) (d : Bor (List ℕ)) (workers : ℕ) (r : Option SessionCommand) → 3 ≤ length ws → length ws < 4
     → false ≡ not (pointwise nat_eq (get_or ws 0 d).now (codes "--workers")) → ((get_or ws 1 d).now ≡ decimal workers) × (1 ≤ workers) × (workers ≤ most_workers)
     → IsWith workers (get_or ws 2 d).now 2 r → IsTold ws r
 three_so (o ∷ n ∷ w ∷ []) d workers r a b option number h = three_told o n w workers r (same_word o.now (codes "--workers") option) number.0 number.1 number.2 h

@@ -32,7 +32,7 @@ pub struct LineAnswer {
 
 /// Why a session ends before the last line.
 #[derive(Clone, Copy, Debug, PartialEq, Eq)]
-pub enum LineFault {
+pub enum SessionFault {
     /// There is no memory left.
     Memory,
     /// The shelf failed to read the file that the line replaces.
@@ -103,13 +103,13 @@ fn carry_all<R: Threads + Wait + Sync, F: Shelf, K: Sink, G: Gate + Sync>(
 }
 
 // The status of a session that ends at the line of this number.
-fn status_at(number: u32, fault: LineFault) -> RunStatus
+fn status_at(number: u32, fault: SessionFault) -> RunStatus
     ensures { result ≡ status_at number fault }
 {
     match fault {
-        LineFault::Memory => RunStatus::Memory,
-        LineFault::Unread => RunStatus::DeviceFault(Device::Read(number)),
-        LineFault::Unwritten => RunStatus::DeviceFault(Device::Write),
+        SessionFault::Memory => RunStatus::Memory,
+        SessionFault::Unread => RunStatus::DeviceFault(Device::Read(number)),
+        SessionFault::Unwritten => RunStatus::DeviceFault(Device::Write),
     }
 }
 
@@ -123,7 +123,7 @@ fn carry_line<R: Threads + Wait + Sync, F: Shelf, K: Sink, G: Gate + Sync>(
     shelf: &mut F,
     out: &mut K,
     gate: &G,
-) -> Result<(), LineFault>
+) -> Result<(), SessionFault>
     requires least { 1 ≤ workers }
     requires most { workers ≤ 64 }
     ensures ok { OnOk result (IsCarriedOut (F.held shelf.old) (held_by engine.old) (request_so line.now) (held_by engine.new)
@@ -136,13 +136,13 @@ fn carry_line<R: Threads + Wait + Sync, F: Shelf, K: Sink, G: Gate + Sync>(
 {
     let answer = match answer_to(rt, alloc, line, workers, engine, shelf, gate) {
         Ok(answer) => answer,
-        Err(Memory) => return Err(LineFault::Memory),
+        Err(Memory) => return Err(SessionFault::Memory),
     };
     if let Err(SinkFault::Failed) = give(out, answer.output.as_slice()) {
-        return Err(LineFault::Unwritten);
+        return Err(SessionFault::Unwritten);
     }
     if answer.unread {
-        return Err(LineFault::Unread);
+        return Err(SessionFault::Unread);
     }
     Ok(())
 }

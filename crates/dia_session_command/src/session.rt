@@ -14,7 +14,7 @@ ghost use Rattle.dia_session_command.specs.steps.Ending.{Ends, EndsScript, IsSai
 use crate::carrying::carry_out;
 use crate::lines::refuse_line;
 use crate::script::{ScriptFault, script_lines};
-use crate::words::{Command, command_of};
+use crate::words::{SessionCommand, command_of};
 use analysis_answers::{RunAnswer, RunStatus, refuse, unread, usage};
 use analysis_sources::{Device, LONGEST_SOURCE, MISSING, TOO_LONG};
 use da_shelf::{Gate, Shelf, ShelfFault, Sink, SinkFault, give};
@@ -107,7 +107,7 @@ fn ended<R: Threads + Wait + Sync, F: Shelf, K: Sink, G: Gate + Sync>(
 fn run<R: Threads + Wait + Sync, F: Shelf, K: Sink, G: Gate + Sync>(
     rt: &R,
     alloc: Global,
-    command: Command<'_>,
+    command: SessionCommand<'_>,
     shelf: &mut F,
     out: &mut K,
     gate: &G,
@@ -162,7 +162,7 @@ fn read_script<F: Shelf>(
 fn carry_script<R: Threads + Wait + Sync, F: Shelf, K: Sink, G: Gate + Sync>(
     rt: &R,
     alloc: Global,
-    command: Command<'_>,
+    command: SessionCommand<'_>,
     bytes: &[u8],
     shelf: &mut F,
     out: &mut K,

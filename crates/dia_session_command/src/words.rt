@@ -8,7 +8,7 @@ use analysis_answers::{MOST_WORKERS, is_file, number_of};
 
 /// What the words ask for.
 #[derive(Clone, Copy, Debug)]
-pub struct Command<'a> {
+pub struct SessionCommand<'a> {
     /// How many workers, from 1 to 64.
     pub workers: u32,
     /// The name of the script.
@@ -18,7 +18,7 @@ pub struct Command<'a> {
 }
 
 /// What the words ask for, if they are a command: a script, with the option `--workers` before it or without.
-pub fn command_of<'a>(words: &[&'a str]) -> Option<Command<'a>>
+pub fn command_of<'a>(words: &[&'a str]) -> Option<SessionCommand<'a>>
     ensures { MatchOption result (IsNoCommand (texts words.now)) (λ c. IsCommand (texts words.now) c.workers c.script.now c.word) }
 {
     match words {
@@ -37,12 +37,12 @@ pub fn command_of<'a>(words: &[&'a str]) -> Option<Command<'a>>
 }
 
 // The command of so many workers, if the word at this position is the name of a file.
-fn with_script<'a>(workers: u32, script: &'a str, word: u32) -> Option<Command<'a>>
+fn with_script<'a>(workers: u32, script: &'a str, word: u32) -> Option<SessionCommand<'a>>
     ensures { MatchOption result (IsFile script.now → ⊥)
         (λ c. (c.workers ≡ workers) × (c.script.now ≡ script.now) × (c.word ≡ word) × IsFile script.now) }
 {
     if is_file(script) {
-        Some(Command {
+        Some(SessionCommand {
             workers,
             script,
             word,

@@ -9,8 +9,8 @@ use Rattle.analysis_answers.specs.declared.run_status.RunStatus.TheVariants as s
 use Rattle.analysis_answers.specs.Lines.{read_fault_line}
 use Rattle.dia_session_engine.specs.Held.{Held}
 use Rattle.dia_session_command.specs.declared.carrying.LineAnswer.{LineAnswer}
-use Rattle.dia_session_command.specs.declared.carrying.LineFault.{LineFault}
-use Rattle.dia_session_command.specs.declared.carrying.LineFault.TheVariants.{Memory, Unread, Unwritten}
+use Rattle.dia_session_command.specs.declared.carrying.SessionFault.{SessionFault}
+use Rattle.dia_session_command.specs.declared.carrying.SessionFault.TheVariants.{Memory, Unread, Unwritten}
 use Rattle.dia_session_command.specs.Script.{Request}
 use Rattle.dia_session_command.specs.Script.Request.{to_replace}
 use Rattle.dia_session_command.specs.Session.{Gives, GiveAll}
@@ -35,7 +35,7 @@ pub data MeansLine (told : Option Files) (before : Held) (r : Request) (reads re
   of_fault : (file : List ℕ) → r ≡ to_replace file → output ≡ read_fault_line file → Rose reads reads_now → MeansLine told before r reads reads_now output
 
 -- Why a session ends at a line, and what was written of it.
-abbrev pub LineFails : (told : Option Files) (before : Held) (r : Request) (reads reads_now sink_before sink_now : ℕ) (written written_now : Option (List ℕ)) → LineFault → Type 0
+abbrev pub LineFails : (told : Option Files) (before : Held) (r : Request) (reads reads_now sink_before sink_now : ℕ) (written written_now : Option (List ℕ)) → SessionFault → Type 0
 LineFails told before r reads reads_now sink_before sink_now written written_now Memory = written_now ≡ written
 LineFails told before r reads reads_now sink_before sink_now written written_now Unread =
     (file : List ℕ) × (r ≡ to_replace file) × Rose reads reads_now × (written_now ≡ appended written (read_fault_line file))
@@ -45,7 +45,7 @@ LineFails told before r reads reads_now sink_before sink_now written written_now
 -- ---- all lines
 
 -- the status of a session that ends at the line of this number
-abbrev pub status_at : (number : ℕ) → LineFault → RunStatus
+abbrev pub status_at : (number : ℕ) → SessionFault → RunStatus
 status_at number Memory = s.Memory
 status_at number Unread = DeviceFault (Read number)
 status_at number Unwritten = DeviceFault Write
@@ -59,7 +59,7 @@ pub record EndsAt (told : Option Files) (requests : List Request) (reads reads_n
   pub output : List ℕ
   pub held : Held
   pub give : GiveAll told [] first output held
-  pub fault : LineFault
+  pub fault : SessionFault
   pub status_so : status ≡ status_at (suc (length first)) fault
   pub is : LineFails told held request reads reads_now sink_before sink_now (appended written output) written_now fault
 
