@@ -1,5 +1,5 @@
 //! The analysis of modules together with a table between runs, by any number of workers.
-ghost use Rattle.std.specs.Prelude.{◌≡◌, ℕ, ◌<◌, ◌≤◌, ◌^◌, length, map, IfOk, IfErr, OnOk};
+ghost use Rattle.std.specs.Prelude.{◌≡◌, ℕ, ◌<◌, ◌≤◌, ◌^◌, [], length, map, IfOk, IfErr, OnOk};
 ghost use Rattle.core_scope.specs.Checked.{module_of, tree_of};
 ghost use Rattle.core_scope.specs.Sets.{StandsEarlier};
 ghost use Rattle.call_graph.specs.Calls.{functions_of};
@@ -11,6 +11,7 @@ ghost use Rattle.analysis.specs.steps.Deciding.{AreDecided};
 
 use crate::new_table::{new_entries, reports_of};
 use crate::waves::{Decided, decide_all};
+use analysis_crew::{CompMemo, discard_any, empty_memo};
 use core_scope::{SetFault, check_set};
 use da_shelf::Gate;
 use std::alloc::Global;
@@ -61,10 +62,74 @@ pub fn analyse<R: Threads + Wait + Sync, G: Gate + Sync>(
     ensures functions { IfOk result (λ analysis. analysis.functions ≡ length (functions_of (map (λ s. tree_of s.checked) sources.now))) }
     ensures set { IfErr result (IsSetFault (map (λ s. (module_of s.checked).name) sources.now)) }
 {
+    let mut memo = None;
+    let analysis = analysis_with(rt, alloc, sources, table, &mut memo, workers, gate);
+    discard_any(memo);
+    analysis
+}
+
+/// Analyses modules together as `analyse` with the empty table, where a component isn't solved whose output the memo has: that of
+/// the same part from the same outputs of those that it calls. The answer is the same whatever the memo has. It comes with the
+/// memo of the components of these modules. Behind a fault there is no memo any more.
+///
+/// `Set`: two modules have the same name.
+pub fn analyse_with<R: Threads + Wait + Sync, G: Gate + Sync>(
+    rt: &R,
+    alloc: Global,
+    sources: &[Source],
+    memo: CompMemo,
+    workers: u32,
+    gate: &G,
+) -> Result<(Analysis, CompMemo), Fault>
+    requires few { length sources.now < 2 ^ 32 }
+    requires least { 1 ≤ workers }
+    requires most { workers ≤ 64 }
+    ensures distinct { OnOk result ((j : ℕ) → j < length sources.now → StandsEarlier (map (λ s. (module_of s.checked).name) sources.now) j → ⊥) }
+    ensures written { IfOk result (λ both. IsWritten [] (sources_so sources.now) both.0.reports (entries_so both.0.table)) }
+    ensures functions { IfOk result (λ both. both.0.functions ≡ length (functions_of (map (λ s. tree_of s.checked) sources.now))) }
+    ensures set { IfErr result (IsSetFault (map (λ s. (module_of s.checked).name) sources.now)) }
+{
+    let table = Table::empty(alloc);
+    let mut memo = Some(memo);
+    match analysis_with(rt, alloc, sources, &table, &mut memo, workers, gate) {
+        Ok(analysis) => Ok((analysis, memo_in(alloc, memo))),
+        Err(fault) => {
+            discard_any(memo);
+            Err(fault)
+        }
+    }
+}
+
+// The memo, and an empty one, if there is none.
+fn memo_in(alloc: Global, memo: Option<CompMemo>) -> CompMemo {
+    match memo {
+        Some(memo) => memo,
+        None => empty_memo(alloc),
+    }
+}
+
+// Analyses modules together, with a table and perhaps with a memo.
+fn analysis_with<R: Threads + Wait + Sync, G: Gate + Sync>(
+    rt: &R,
+    alloc: Global,
+    sources: &[Source],
+    table: &Table,
+    memo: &mut Option<CompMemo>,
+    workers: u32,
+    gate: &G,
+) -> Result<Analysis, Fault>
+    requires few { length sources.now < 2 ^ 32 }
+    requires least { 1 ≤ workers }
+    requires most { workers ≤ 64 }
+    ensures distinct { OnOk result ((j : ℕ) → j < length sources.now → StandsEarlier (map (λ s. (module_of s.checked).name) sources.now) j → ⊥) }
+    ensures written { IfOk result (λ analysis. IsWritten (entries_so table.now) (sources_so sources.now) analysis.reports (entries_so analysis.table)) }
+    ensures functions { IfOk result (λ analysis. analysis.functions ≡ length (functions_of (map (λ s. tree_of s.checked) sources.now))) }
+    ensures set { IfErr result (IsSetFault (map (λ s. (module_of s.checked).name) sources.now)) }
+{
     if let Err(fault) = check_set(sources) {
         return Err(Fault::Set(fault));
     }
-    match analysis_of(rt, alloc, sources, table, workers, gate) {
+    match analysis_of(rt, alloc, sources, table, memo, workers, gate) {
         Ok(analysis) => Ok(analysis),
         Err(Memory) => Err(Fault::Memory),
     }
@@ -91,6 +156,7 @@ fn analysis_of<R: Threads + Wait + Sync, G: Gate + Sync>(
     alloc: Global,
     sources: &[Source],
     table: &Table,
+    memo: &mut Option<CompMemo>,
     workers: u32,
     gate: &G,
 ) -> Result<Analysis, Memory>
@@ -101,7 +167,7 @@ fn analysis_of<R: Threads + Wait + Sync, G: Gate + Sync>(
     ensures functions { IfOk result (λ analysis. analysis.functions ≡ length (functions_of (map (λ s. tree_of s.checked) sources.now))) }
 {
     let functions = functions_count(sources)?;
-    let decided = decide_all(rt, alloc, sources, table, workers, gate)?;
+    let decided = decide_all(rt, alloc, sources, table, memo, workers, gate)?;
     let written = write(alloc, sources, table, &decided);
     discard_decided(decided);
     let Written { reports, table } = written?;

@@ -12,5 +12,5 @@ mod solving;
 mod stopping;
 mod waves;
 
-pub use analysing::{Analysis, Fault, analyse};
+pub use analysing::{Analysis, Fault, analyse, analyse_with};
 pub use certificate::whole;

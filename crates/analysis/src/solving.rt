@@ -11,7 +11,7 @@ ghost use Rattle.analysis.specs.steps.Reporting.{AreKept, IsReportOn};
 
 use crate::reporting::made_by_workers;
 use crate::reports::report_on;
-use analysis_crew::solve_modules_parallel;
+use analysis_crew::{CompMemo, solve_modules_with};
 use cons_tree::Summaries;
 use core_scope::{AsChecked, Checked, Names};
 use da_shelf::Gate;
@@ -56,7 +56,8 @@ fn add_chosen<'a>(
     todo: &Names<Atom>,
     list: &mut List<Chosen<'a>>,
 ) -> Result<(), Memory>
-    ensures { OnOk result (map (λ c. source_so c.source.now) list.new ≡ map (λ c. source_so c.source.now) list.old ++ picked (has todo.now) (source_so source.now ∷ [])) }
+    ensures { OnOk result (map (λ c. source_so c.source.now) list.new
+        ≡ map (λ c. source_so c.source.now) list.old ++ picked (has todo.now) (source_so source.now ∷ [])) }
 {
     if todo.has(&source.checked.module().name) {
         list.add(Chosen { source })
@@ -65,7 +66,8 @@ fn add_chosen<'a>(
     }
 }
 
-/// Solves the modules of these names by the workers, over what is known of all others, and reports on each. `Memory` if
+/// Solves the modules of these names by the workers, over what is known of all others, and reports on each. What a memo, if
+/// there is one, has of their components isn't solved, and the memo is that of their components then. `Memory` if
 /// allocation fails, or where they have 2^32 functions or more.
 pub fn solve_wave<R: Threads + Wait + Sync, G: Gate + Sync>(
     rt: &R,
@@ -74,6 +76,7 @@ pub fn solve_wave<R: Threads + Wait + Sync, G: Gate + Sync>(
     todo: &Names<Atom>,
     known: &mut Summaries,
     lines: &mut List<Bytes>,
+    memo: &mut Option<CompMemo>,
     workers: u32,
     gate: &G,
 ) -> Result<(), Memory>
@@ -86,7 +89,7 @@ pub fn solve_wave<R: Threads + Wait + Sync, G: Gate + Sync>(
 {
     let list = all_chosen(alloc, sources, todo)?;
     let workers = if list.is_empty() { 1 } else { workers };
-    solve_modules_parallel(rt, alloc, list.as_slice(), known, workers, gate)?;
+    solve_modules_with(rt, alloc, list.as_slice(), known, memo, workers, gate)?;
     let wanted = positions(alloc, sources, todo)?;
     let made = made_by_workers(rt, alloc, sources, known, wanted.as_slice(), workers)?;
     report_on_all(alloc, sources, todo, known, made, lines)
@@ -137,7 +140,8 @@ fn report_at(
     requires within { at < length lines.old }
     requires made { IfSome was (λ text. IsReportOn (found known.now) (source_so source.now) text) }
     ensures counted { OnOk result (length lines.new ≡ length lines.old) }
-    ensures reported { OnOk result (has todo.now (tree_of source.now.checked).name ≡ true → IsReported (found known.now) (tree_of source.now.checked) (slice_get lines.new at)) }
+    ensures reported { OnOk result (has todo.now (tree_of source.now.checked).name ≡ true
+        → IsReported (found known.now) (tree_of source.now.checked) (slice_get lines.new at)) }
     ensures stays { OnOk result (has todo.now (tree_of source.now.checked).name ≡ false → lines.new ≡ lines.old) }
     ensures others { OnOk result ((i : ℕ) → (i ≡ at → ⊥) → slice_get lines.new i ≡ slice_get lines.old i) }
 {

@@ -16,6 +16,7 @@ ghost use Rattle.analysis.specs.steps.Deciding.{seen, wave_so, AddsBoth, AreDeci
 use crate::entering::enter_group;
 use crate::solving::solve_wave;
 use crate::stopping::stops;
+use analysis_crew::CompMemo;
 use cons_tree::Summaries;
 use core_scope::Names;
 use da_shelf::Gate;
@@ -45,12 +46,13 @@ struct Wave {
     todo: Names<Atom>,
 }
 
-/// Decides all groups of modules that are passed and of entries.
+/// Decides all groups of modules that are passed and of entries. The memo, if there is one, is that of the last wave then.
 pub fn decide_all<R: Threads + Wait + Sync, G: Gate + Sync>(
     rt: &R,
     alloc: Global,
     sources: &[Source],
     table: &Table,
+    memo: &mut Option<CompMemo>,
     workers: u32,
     gate: &G,
 ) -> Result<Decided, Memory>
@@ -75,6 +77,7 @@ pub fn decide_all<R: Threads + Wait + Sync, G: Gate + Sync>(
             &list,
             next,
             &mut decided,
+            memo,
             workers,
             gate,
         )?;
@@ -91,18 +94,22 @@ fn decide_wave<R: Threads + Wait + Sync, G: Gate + Sync>(
     list: &GroupList,
     first: u32,
     decided: &mut Decided,
+    memo: &mut Option<CompMemo>,
     workers: u32,
     gate: &G,
 ) -> Result<u32, Memory>
     requires distinct { (j : ℕ) → j < length sources.now → StandsEarlier (map (λ s. (module_of s.checked).name) sources.now) j → ⊥ }
-    requires groups { IsGroups (is_candidate (entries_so table.now) (sources_so sources.now)) (calls_of (entries_so table.now) (sources_so sources.now)) (groups_in (lists_of list.now)) }
+    requires groups { IsGroups (is_candidate (entries_so table.now) (sources_so sources.now)) (calls_of (entries_so table.now) (sources_so sources.now))
+        (groups_in (lists_of list.now)) }
     requires made_for { IsListOf table.now sources.now list.now }
     requires below { first < length (lists_of list.now) }
-    requires decided { IsDecided (entries_so table.now) (sources_so sources.now) (groups_in (lists_of list.now)) first (found decided.old.known) decided.old.changed decided.old.lines }
+    requires decided { IsDecided (entries_so table.now) (sources_so sources.now) (groups_in (lists_of list.now)) first
+        (found decided.old.known) decided.old.changed decided.old.lines }
     requires least { 1 ≤ workers }
     requires most { workers ≤ 64 }
     ensures more { IfOk result (λ next. first < next) }
-    ensures decided { IfOk result (λ next. IsDecided (entries_so table.now) (sources_so sources.now) (groups_in (lists_of list.now)) next (found decided.new.known) decided.new.changed decided.new.lines) }
+    ensures decided { IfOk result (λ next. IsDecided (entries_so table.now) (sources_so sources.now) (groups_in (lists_of list.now)) next
+        (found decided.new.known) decided.new.changed decided.new.lines) }
 {
     waves_are_groups();
     stands_rests();
@@ -125,6 +132,7 @@ fn decide_wave<R: Threads + Wait + Sync, G: Gate + Sync>(
         &wave.todo,
         &mut decided.known,
         &mut decided.lines,
+        memo,
         workers,
         gate,
     )?;
@@ -143,9 +151,11 @@ fn wave_from(
 ) -> Result<Wave, Memory>
     requires made_for { IsListOf table.now sources.now list.now }
     requires low { first ≤ length (lists_of list.now) }
-    ensures wave { IfOk result (λ wave. wave_so wave.next (found known.new) wave.todo ≡ wave_from (entries_so table.now) (sources_so sources.now) (groups_in (lists_of list.now)) first (seen (found known.old))) }
+    ensures wave { IfOk result (λ wave. wave_so wave.next (found known.new) wave.todo
+        ≡ wave_from (entries_so table.now) (sources_so sources.now) (groups_in (lists_of list.now)) first (seen (found known.old))) }
     ensures changed { IfOk result (λ wave. changed.new ≡ changed.old ++ wave.todo) }
-    ensures others { OnOk result ((h : Atom) (f : FunName) → IsBefore (groups_in (lists_of list.now)) first h → found known.new h f ≡ found known.old h f) }
+    ensures others { OnOk result ((h : Atom) (f : FunName) → IsBefore (groups_in (lists_of list.now)) first h
+        → found known.new h f ≡ found known.old h f) }
 {
     let mut todo = Names::new(alloc);
     for group in first..list.count() {
@@ -175,9 +185,11 @@ fn decide_group(
 ) -> Result<(), Memory>
     requires made_for { IsListOf table.now sources.now list.now }
     requires below { group < length (lists_of list.now) }
-    ensures wave { OnOk result (wave_so (suc group) (found known.new) todo.new ≡ with_group (entries_so table.now) (sources_so sources.now) (groups_in (lists_of list.now)) (wave_so group (found known.old) todo.old)) }
+    ensures wave { OnOk result (wave_so (suc group) (found known.new) todo.new
+        ≡ with_group (entries_so table.now) (sources_so sources.now) (groups_in (lists_of list.now)) (wave_so group (found known.old) todo.old)) }
     ensures changed { OnOk result (AddsBoth todo.old todo.new changed.old changed.new) }
-    ensures others { OnOk result ((h : Atom) (f : FunName) → IsBefore (groups_in (lists_of list.now)) group h → found known.new h f ≡ found known.old h f) }
+    ensures others { OnOk result ((h : Atom) (f : FunName) → IsBefore (groups_in (lists_of list.now)) group h
+        → found known.new h f ≡ found known.old h f) }
 {
     let members = list.members(group).as_slice();
     if unchanged(table, sources, list, group, known) {

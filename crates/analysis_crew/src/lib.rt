@@ -7,8 +7,10 @@ mod entering;
 mod fixed;
 mod laws;
 mod lists;
+mod memo;
 mod parts;
 mod solving;
 
 pub use laws::outputs_are_summaries;
-pub use solving::solve_modules_parallel;
+pub use memo::{CompMemo, discard_any, discard_memo, empty_memo};
+pub use solving::{solve_modules_parallel, solve_modules_with};

@@ -120,6 +120,3 @@ pub fn work_of(
     let parts = all_parts(alloc, first, members, outside, &lists, comps)?;
     CompWork::new(alloc, parts, callees)
 }
-
-/// Drops a work.
-pub fn discard_work(_work: CompWork) {}

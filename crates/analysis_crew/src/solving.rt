@@ -16,7 +16,8 @@ ghost use Rattle.analysis_crew.specs.steps.Making.{AreOutputsOf};
 use crate::crew::outputs_by;
 use crate::entering::enter_all;
 use crate::laws::outputs_are_summaries;
-use crate::parts::{discard_work, work_of};
+use crate::memo::{CompMemo, discard_any};
+use crate::parts::work_of;
 use analysis_summaries::{all_members, close_modules, discard_members};
 use call_graph::{OutsideCall, all_calls, outside_laws};
 use comp_rounds::{CompOut, Member};
@@ -48,6 +49,29 @@ pub fn solve_modules_parallel<R: Threads + Wait + Sync, G: Gate + Sync, S: AsChe
     ensures known { OnOk result (IsWholeOver (found known.old) (map (λ s. tree_of (S.stands_for s)) mods.now) (found known.new)) }
     ensures functions { IfOk result (λ functions. functions ≡ length (functions_of (map (λ s. tree_of (S.stands_for s)) mods.now))) }
 {
+    let mut memo = None;
+    let functions = solve_modules_with(rt, alloc, mods, known, &mut memo, workers, gate);
+    discard_any(memo);
+    functions
+}
+
+/// The same, where a component isn't solved whose output the memo has, if there is one: that of the same part from the same
+/// outputs. The memo is then that of all components that the workers finished. After `Memory` there may be none any more.
+pub fn solve_modules_with<R: Threads + Wait + Sync, G: Gate + Sync, S: AsChecked>(
+    rt: &R,
+    alloc: Global,
+    mods: &[S],
+    known: &mut Summaries,
+    memo: &mut Option<CompMemo>,
+    workers: u32,
+    gate: &G,
+) -> Result<u32, Memory>
+    requires distinct { (j : ℕ) → j < length mods.now → StandsEarlier (map (λ s. (module_of (S.stands_for s)).name) mods.now) j → ⊥ }
+    requires least { 1 ≤ workers }
+    requires most { workers ≤ 64 }
+    ensures known { OnOk result (IsWholeOver (found known.old) (map (λ s. tree_of (S.stands_for s)) mods.now) (found known.new)) }
+    ensures functions { IfOk result (λ functions. functions ≡ length (functions_of (map (λ s. tree_of (S.stands_for s)) mods.now))) }
+{
     let calls = all_calls(alloc, mods)?;
     let comps = components(alloc, &calls.graph)?;
     solve_by(
@@ -57,6 +81,7 @@ pub fn solve_modules_parallel<R: Threads + Wait + Sync, G: Gate + Sync, S: AsChe
         &calls.outside,
         &comps,
         known,
+        memo,
         workers,
         gate,
     )?;
@@ -71,12 +96,14 @@ fn solve_by<R: Threads + Wait + Sync, G: Gate + Sync, S: AsChecked>(
     outside: &List<List<OutsideCall>>,
     comps: &Comps,
     known: &mut Summaries,
+    memo: &mut Option<CompMemo>,
     workers: u32,
     gate: &G,
 ) -> Result<(), Memory>
     requires distinct { (j : ℕ) → j < length mods.now → StandsEarlier (map (λ s. (module_of (S.stands_for s)).name) mods.now) j → ⊥ }
     requires numbering { IsNumberingOf (map (λ s. tree_of (S.stands_for s)) mods.now) comps.now }
-    requires outside { outside.now ≡ map (outside_of (map (λ s. tree_of (S.stands_for s)) mods.now)) (functions_of (map (λ s. tree_of (S.stands_for s)) mods.now)) }
+    requires outside { outside.now ≡ map (outside_of (map (λ s. tree_of (S.stands_for s)) mods.now))
+        (functions_of (map (λ s. tree_of (S.stands_for s)) mods.now)) }
     requires least { 1 ≤ workers }
     requires most { workers ≤ 64 }
     ensures { OnOk result (found known.new ≡ known_over (found known.old) (map (λ s. tree_of (S.stands_for s)) mods.now) comps.now) }
@@ -85,7 +112,9 @@ fn solve_by<R: Threads + Wait + Sync, G: Gate + Sync, S: AsChecked>(
     outside_laws();
     close_modules(mods, known)?;
     let members = all_members(alloc, mods)?;
-    let done = solve_members(rt, alloc, &members, outside, comps, known, workers, gate);
+    let done = solve_members(
+        rt, alloc, &members, outside, comps, known, memo, workers, gate,
+    );
     discard_members(members);
     done
 }
@@ -98,16 +127,20 @@ fn solve_members<R: Threads + Wait + Sync, G: Gate + Sync>(
     outside: &List<List<OutsideCall>>,
     comps: &Comps,
     known: &mut Summaries,
+    memo: &mut Option<CompMemo>,
     workers: u32,
     gate: &G,
 ) -> Result<(), Memory>
     requires numbering { IsNumbering comps.now }
-    requires summaries { (outputs : List CompOut) → AreOutputsOf (map function_of members.now) (found known.old) outside.now comps.now outputs → AreSummariesOf (found known.old) (map function_of members.now) comps.now outputs }
+    requires summaries { (outputs : List CompOut) → AreOutputsOf (map function_of members.now) (found known.old) outside.now comps.now outputs
+        → AreSummariesOf (found known.old) (map function_of members.now) comps.now outputs }
     requires least { 1 ≤ workers }
     requires most { workers ≤ 64 }
     ensures { OnOk result (found known.new ≡ after_components (found known.old) (map function_of members.now) comps.now comps.now.count) }
 {
-    let outputs = outputs_of(rt, alloc, known, members, outside, comps, workers, gate)?;
+    let outputs = outputs_of(
+        rt, alloc, known, members, outside, comps, memo, workers, gate,
+    )?;
     enter_all(alloc, members, comps, &outputs, known)
 }
 
@@ -119,6 +152,7 @@ fn outputs_of<R: Threads + Wait + Sync, G: Gate + Sync>(
     members: &List<Member>,
     outside: &List<List<OutsideCall>>,
     comps: &Comps,
+    memo: &mut Option<CompMemo>,
     workers: u32,
     gate: &G,
 ) -> Result<List<Shared<CompOut>>, Memory>
@@ -128,7 +162,5 @@ fn outputs_of<R: Threads + Wait + Sync, G: Gate + Sync>(
     ensures { IfOk result (λ outputs. AreOutputsOf (map function_of members.now) (found first.now) outside.now comps.now outputs) }
 {
     let work = work_of(alloc, first, members, outside, comps)?;
-    let outputs = outputs_by(rt, alloc, &work, workers, gate);
-    discard_work(work);
-    outputs
+    outputs_by(rt, alloc, work, memo, workers, gate)
 }

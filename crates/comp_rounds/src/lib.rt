@@ -9,6 +9,7 @@ mod equality;
 mod inference;
 mod laws;
 mod members;
+mod part_numbers;
 mod parts;
 mod rounds;
 mod signatures;

@@ -1,14 +1,17 @@
 //! Files that are held, and reports on them.
-ghost use Rattle.std.specs.Prelude.{◌≡◌, ℕ, ◌<◌, ◌≤◌, List as ListOf, ◌++◌, ◌∷◌, [], false, length, map, position, slice_get, Some, IfNone, IfOk, IfErr, OnErr, OnOk};
+ghost use Rattle.std.specs.Prelude.{◌≡◌, ℕ, ◌<◌, ◌≤◌, List as ListOf, ◌++◌, ◌∷◌, [], false, length};
+ghost use Rattle.std.specs.Prelude.{map, position, slice_get, Some, IfNone, IfOk, IfErr, OnErr, OnOk};
 ghost use Rattle.std.specs.List.{list_any};
 ghost use Rattle.std.specs.Str.{bytes_eq};
 ghost use Rattle.std.specs.String.{string_bytes};
 ghost use Rattle.analysis.specs.Reports.{IsSetFault};
-ghost use Rattle.dia_session_engine.specs.Held.{AreReportsOn, HoldsOwnNames, IsPutFault, MayHold, files_in, held_by, held_file, is_held, sources_in, with_file, without};
+ghost use Rattle.dia_session_engine.specs.Held.{AreReportsOn, HoldsOwnNames, IsPutFault, MayHold, files_in};
+ghost use Rattle.dia_session_engine.specs.Held.{held_by, held_file, is_held, sources_in, with_file, without};
 ghost use Rattle.dia_session_engine.specs.steps.Holding.{HasPlace};
 
-use analysis::{Analysis, Fault, analyse};
+use analysis::{Analysis, Fault, analyse_with};
 use analysis_answers::MOST_FILES;
+use analysis_crew::{CompMemo, discard_memo, empty_memo};
 use analysis_sources::MOST_BYTES;
 use da_shelf::Gate;
 use indexmap::IndexSet;
@@ -16,18 +19,18 @@ use std::alloc::Global;
 use std::marker::Model;
 use std::sync::Wait;
 use std::thread::Threads;
-use table_file::Table;
 use table_keep::{Source, discard_source};
 use type_kinds::{Bytes, List, Memory};
 
 /// Files with their sources, in the order in which they were added. Contracts see the list of the files. A file is found by the hash of
-/// its name.
+/// its name. With them is kept what was solved for the last answer, so that the next is found sooner.
 #[derive(Drop)]
 pub struct Engine {
     alloc: Global,
     names: IndexSet<String>,
     sources: Vec<Source>,
     bytes: u64,
+    memo: CompMemo,
 }
 
 impl Model for Engine {
@@ -67,6 +70,7 @@ impl Engine {
             names: IndexSet::new(alloc),
             sources: Vec::new(alloc),
             bytes: 0,
+            memo: empty_memo(alloc),
         }
     }
 
@@ -120,7 +124,8 @@ impl Engine {
     // Puts a source into the place of a file.
     fn replace(&mut self, at: usize, source: Source)
         requires { HasPlace (held_by self.old) at source.length }
-        ensures { (file : ListOf ℕ) → position (bytes_eq file) (files_in (held_by self.old)) ≡ Some at → held_by self.new ≡ with_file (held_by self.old) (held_file file source) }
+        ensures { (file : ListOf ℕ) → position (bytes_eq file) (files_in (held_by self.old)) ≡ Some at
+            → held_by self.new ≡ with_file (held_by self.old) (held_file file source) }
     {
         let length = source.length;
         let before = std::mem::replace(&mut self.sources[at], source);
@@ -179,18 +184,21 @@ impl Engine {
         ensures set { IfErr result (IsSetFault (map (λ s. s.tree.name) (sources_in (held_by self.old)))) }
         ensures held { self.new ≡ self.old }
     {
-        let table = Table::empty(self.alloc);
-        match analyse(
-            rt,
-            self.alloc,
-            self.sources.as_slice(),
-            &table,
-            workers,
-            gate,
-        ) {
-            Ok(analysis) => Ok(reports_of(analysis)),
+        let memo = std::mem::replace(&mut self.memo, empty_memo(self.alloc));
+        match analyse_with(rt, self.alloc, self.sources.as_slice(), memo, workers, gate) {
+            Ok((analysis, memo)) => {
+                self.keep(memo);
+                Ok(reports_of(analysis))
+            }
             Err(fault) => Err(fault),
         }
+    }
+
+    // Keeps a memo for the next answer.
+    fn keep(&mut self, memo: CompMemo)
+        ensures { self.new ≡ self.old }
+    {
+        discard_memo(std::mem::replace(&mut self.memo, memo));
     }
 
     /// The name of the file at a place.
@@ -212,7 +220,8 @@ fn reports_of(analysis: Analysis) -> List<Bytes>
 
 /// Drops an engine, with all that it holds.
 pub fn discard_engine(engine: Engine) {
-    let Engine { sources, .. } = engine;
+    let Engine { sources, memo, .. } = engine;
+    discard_memo(memo);
     let mut sources = sources;
     while let Some(source) = sources.pop() {
         discard_source(source);

@@ -1,11 +1,11 @@
-ghost use Rattle.std.specs.Prelude.{◌≡◌, ℕ, ◌<◌, ◌≤◌, ◌↔◌, IsTrue, IfOk, OnErr, IfSome, IfNone, length};
+ghost use Rattle.std.specs.Prelude.{◌≡◌, ℕ, List, ◌<◌, ◌≤◌, ◌↔◌, IsTrue, IfOk, OnErr, IfSome, IfNone, length};
 
 use crate::agenda::Agenda;
 use crate::event::Event;
 use crate::fill::{all_waiting, callees_of, parts_of};
 use crate::job::{Done, Job, Take};
 use crate::looks::Looks;
-use crate::progress::{Progress, called_at, is_out_at, outputs, set_progress};
+use crate::progress::{Progress, called_at, done_at, is_out_at, outputs, set_progress};
 use crate::same::{are_outputs, same_part, solved_from};
 use crate::work::Work;
 use std::alloc::Global;
@@ -38,7 +38,14 @@ impl<W: Work> Model for Board<W> {
 
     ghost view = { λ b. record { parts = b.parts; callees = b.callees; progress = b.progress; stopped = b.stopped; journal = b.journal.items } };
 
-    ghost invariant = { λ b. IsSound W.written (record { parts = b.parts; callees = b.callees; progress = b.progress; stopped = b.stopped; journal = b.journal.items }) × (left b.progress b.stopped ≤ b.journal.spare) × Tracks b.callees (standings_of b.progress) b.agenda.callers b.agenda.counts b.agenda.unfinished b.agenda.ready };
+    ghost invariant = { λ b. IsSound W.written (record {
+      parts = b.parts;
+      callees = b.callees;
+      progress = b.progress;
+      stopped = b.stopped;
+      journal = b.journal.items;
+    }) × (left b.progress b.stopped ≤ b.journal.spare)
+        × Tracks b.callees (standings_of b.progress) b.agenda.callers b.agenda.counts b.agenda.unfinished b.agenda.ready };
 }
 
 impl<W: Work> Board<W> {
@@ -137,6 +144,28 @@ impl<W: Work> Board<W> {
                 called_at(&self.callees, c),
                 &done.job.inputs,
             )
+    }
+
+    /// How many components there are. Takes no memory.
+    pub fn count(&self) -> u32
+        ensures { result ≡ length self.now.parts }
+    {
+        self.parts.len() as u32
+    }
+
+    /// The part, the inputs and the output of a component: `None` exactly where it isn't done. Takes
+    /// no memory.
+    pub fn entry(
+        &self,
+        component: u32,
+    ) -> Option<(&Shared<W::Part>, &List<Shared<W::Out>>, &Shared<W::Out>)>
+        ensures some { IfSome result (λ it. IsEntry self.now component it.0.now it.1.now it.2.now) }
+        ensures none { IfNone result ((part : W.Part) (inputs : List W.Out) (output : W.Out) → IsEntry self.now component part inputs output → ⊥) }
+        ensures written { IfSome result (λ it. it.2.now ≡ W.written it.0.now it.1.now) }
+    {
+        let c = component as usize;
+        let (inputs, output) = done_at(self.progress.as_slice(), c)?;
+        Some((self.parts.at(c), inputs, output))
     }
 
     /// The output of a component that was solved from this part and these inputs: `None` exactly

@@ -13,7 +13,8 @@ pub struct Job<W: Work> {
     pub inputs: List<Shared<W::Out>>,
 }
 
-/// A solved job: its output is the written one of its part and inputs. Only `Job::run` makes one.
+/// A solved job: its output is the written one of its part and inputs. Only `Job::run` makes one, and a memo
+/// out of the entries of a board.
 #[derive(Drop)]
 pub struct Done<W: Work> {
     pub(crate) job: Job<W>,

@@ -1,4 +1,4 @@
-ghost use Rattle.std.specs.Prelude.{◌≡◌, ◌↔◌, ◌∷◌, [], ◌<◌, IsTrue, IfOk, length, slice_get, slice_set, MatchOption};
+ghost use Rattle.std.specs.Prelude.{◌≡◌, List, ◌↔◌, ◌∷◌, [], ◌<◌, IsTrue, IfOk, length, slice_get, slice_set, MatchOption};
 ghost use Rattle.summary_board.specs.BoardValue.{published, outputs_of};
 ghost use Rattle.summary_board.specs.Machine.{called};
 
@@ -31,6 +31,20 @@ pub fn output_at<O>(progress: &[Progress<O>], c: usize) -> Option<&Shared<O>>
     match progress.get(c) {
         Some(at) => match at {
             Progress::Done(_, output) => Some(output),
+            _ => None,
+        },
+        None => None,
+    }
+}
+
+/// The inputs and the output of a component, if it is done.
+pub fn done_at<O>(progress: &[Progress<O>], c: usize) -> Option<(&List<Shared<O>>, &Shared<O>)>
+    ensures { MatchOption result ((inputs : List O) (output : O) → slice_get progress.now c ≡ Some (Progress.Done inputs output)
+        → ⊥) (λ it. slice_get progress.now c ≡ Some (Progress.Done it.0.now it.1.now)) }
+{
+    match progress.get(c) {
+        Some(at) => match at {
+            Progress::Done(inputs, output) => Some((inputs, output)),
             _ => None,
         },
         None => None,

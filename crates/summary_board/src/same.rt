@@ -1,4 +1,4 @@
-ghost use Rattle.std.specs.Prelude.{◌≡◌, ◌↔◌, IsTrue, IfSome, IfNone, slice_get};
+ghost use Rattle.std.specs.Prelude.{◌≡◌, ◌↔◌, true, IsTrue, IfSome, IfNone, slice_get};
 ghost use Rattle.summary_board.specs.BoardValue.{outputs_of};
 
 use crate::progress::{Progress, output_at};
@@ -19,19 +19,27 @@ fn same_out<W: Work>(a: &W::Out, b: &W::Out) -> bool
     a == b
 }
 
-// Whether two lists have the same outputs in the same order.
-fn same_outs<W: Work>(a: &[Shared<W::Out>], b: &[Shared<W::Out>]) -> bool
+/// Whether two lists have the same items in the same order.
+pub fn same_items<O: Eq>(a: &[Shared<O>], b: &[Shared<O>]) -> bool
+    requires { (x y : O) → O.eq x y ≡ true → x ≡ y }
     ensures { IsTrue result ↔ (a.now ≡ b.now) }
 {
     if a.len() != b.len() {
         return false;
     }
     for i in 0..a.len() {
-        if !same_out::<W>(a[i].get(), b[i].get()) {
+        if a[i].get() != b[i].get() {
             return false;
         }
     }
     true
+}
+
+// Whether two lists have the same outputs in the same order.
+fn same_outs<W: Work>(a: &[Shared<W::Out>], b: &[Shared<W::Out>]) -> bool
+    ensures { IsTrue result ↔ (a.now ≡ b.now) }
+{
+    same_items(a, b)
 }
 
 /// Whether the inputs are the outputs that are published for these components.

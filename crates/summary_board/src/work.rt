@@ -34,6 +34,10 @@ pub trait Work {
         requires { c < count_of self.now }
         ensures { result.now ≡ callees_of self.now c };
 
+    /// A number by which a memo finds what was solved of a part. It depends on the part alone. Nothing is claimed of it: of
+    /// parts that share a number a memo keeps one, and what it doesn't find is solved again.
+    fn part_number(part: &Self::Part) -> u64;
+
     /// The written output of a part, from the outputs of its callees.
     fn solve(
         &self,

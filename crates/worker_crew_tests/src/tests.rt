@@ -6,7 +6,7 @@ use std::alloc::Global;
 use std::process::Abort;
 use std::sync::Wait;
 use std::thread::Threads;
-use summary_board::{Board, Done, Event, Job, Take, Work, assemble};
+use summary_board::{Board, Done, Event, Job, Memo, MemoWork, Take, Work, assemble};
 use type_kinds::{List, Memory, Shared};
 use worker_crew::run_crew;
 
@@ -216,4 +216,93 @@ fn nine_outputs_or_no_memory(rt: HostRuntime) {
         Ok(count) => assert!(rt; count == 9),
         Err(Memory) => {}
     }
+}
+
+// What three workers leave of a work that looks into a memo.
+fn worked<R: Threads + Wait + Abort + Sync>(
+    rt: &R,
+    alloc: Global,
+    work: &MemoWork<Chains>,
+) -> Board<MemoWork<Chains>> {
+    let board = Board::new(alloc, work).expect(rt, "memory");
+    run_crew(rt, work, board, 3, &OpenGate).expect(rt, "memory")
+}
+
+// Nine components in three chains, with a memo of nothing.
+fn nine(rt: &impl Abort, alloc: Global) -> MemoWork<Chains> {
+    let chains = Chains::new(alloc, 9, 3).expect(rt, "memory");
+    MemoWork::new(chains, Memo::new(alloc))
+}
+
+// The same work with what this board has as its memo.
+fn again(
+    rt: &impl Abort,
+    alloc: Global,
+    work: MemoWork<Chains>,
+    board: &Board<MemoWork<Chains>>,
+) -> MemoWork<Chains> {
+    let memo = Memo::of(alloc, board).expect(rt, "memory");
+    let (chains, _) = work.into_parts();
+    MemoWork::new(chains, memo)
+}
+
+#[test]
+fn what_the_memo_has_is_not_solved_again(rt: HostRuntime) {
+    let alloc = rt.alloc();
+    let work = nine(&rt, alloc);
+    let board = worked(&rt, alloc, &work);
+    assert!(rt; work.work().solves() == 9);
+    let work = again(&rt, alloc, work, &board);
+    drop(board);
+    let board = worked(&rt, alloc, &work);
+    assert!(rt; work.work().solves() == 9);
+    let outputs = assemble(alloc, &work, &board).expect(&rt, "memory");
+    assert!(rt; outputs.len() == 9 && are_outputs(outputs.as_slice()));
+    drop(outputs);
+    drop(board);
+    drop(work);
+}
+
+// The output of a part whose only input this is.
+fn solved_of(
+    rt: &impl Abort,
+    alloc: Global,
+    work: &MemoWork<Chains>,
+    part: u32,
+    input: u32,
+) -> u32 {
+    let mut inputs = List::new(alloc);
+    let input = Shared::new(alloc, input).expect(rt, "memory");
+    inputs.add(input).expect(rt, "memory");
+    *work.solve(&part, &inputs).expect(rt, "memory").get()
+}
+
+// The fifth component begins no chain: its input is the number of the fourth.
+#[test]
+fn other_inputs_are_solved(rt: HostRuntime) {
+    let alloc = rt.alloc();
+    let work = nine(&rt, alloc);
+    let board = worked(&rt, alloc, &work);
+    let work = again(&rt, alloc, work, &board);
+    drop(board);
+    assert!(rt; solved_of(&rt, alloc, &work, 4, 3) == 3);
+    assert!(rt; work.work().solves() == 9);
+    assert!(rt; solved_of(&rt, alloc, &work, 4, 8) == 8);
+    assert!(rt; work.work().solves() == 10);
+    drop(work);
+}
+
+#[test]
+fn an_entry_is_found_by_part_and_inputs(rt: HostRuntime) {
+    let alloc = rt.alloc();
+    let none: List<Shared<u32>> = List::new(alloc);
+    let work = nine(&rt, alloc);
+    let board = worked(&rt, alloc, &work);
+    let memo = Memo::of(alloc, &board).expect(&rt, "memory");
+    drop(board);
+    drop(work);
+    assert!(rt; memo.find(&3, &none).map(|output| *output.get()) == Some(3));
+    assert!(rt; memo.find(&4, &none).is_none());
+    assert!(rt; memo.find(&9, &none).is_none());
+    drop(memo);
 }

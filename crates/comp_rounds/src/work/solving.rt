@@ -7,6 +7,7 @@ ghost use Rattle.comp_rounds.specs.Works.{callees_of, no_part, parts_of};
 
 use super::CompWork;
 use crate::component::solve_component;
+use crate::part_numbers::number_of;
 use crate::parts::{CompOut, CompPart};
 use summary_board::Work;
 use type_kinds::{List, Memory, Shared};
@@ -34,6 +35,10 @@ impl Work for CompWork {
 
     fn callees(&self, c: u32) -> &List<u32> {
         &self.callees.as_slice()[c as usize]
+    }
+
+    fn part_number(part: &CompPart) -> u64 {
+        number_of(part)
     }
 
     fn solve(

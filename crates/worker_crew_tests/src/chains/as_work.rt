@@ -31,6 +31,10 @@ impl Work for Chains {
         &self.callees.as_slice()[c as usize]
     }
 
+    fn part_number(part: &u32) -> u64 {
+        u64::from(*part)
+    }
+
     fn solve(&self, part: &u32, inputs: &List<Shared<u32>>) -> Result<Shared<u32>, Memory> {
         self.solves.fetch_add(1, Ordering::SeqCst);
         if self.refused == Some(*part) {

@@ -9,8 +9,8 @@ use Rattle.analysis.specs.declared.solving.Chosen.{Chosen}
 use Rattle.analysis.proofs.Handed.{are_sources, chosen_apart, chosen_trees}
 use Rattle.analysis.proofs.solving.solve_wave.Goals as goal
 
-pub solve_modules_parallel-requires-clause-distinct : goal.solve_modules_parallel-requires-clause-distinct
-solve_modules_parallel-requires-clause-distinct g c κs within =
+pub solve_modules_with-requires-clause-distinct : goal.solve_modules_with-requires-clause-distinct
+solve_modules_with-requires-clause-distinct g c κs within =
     chosen_apart (λ (k : Chosen). k.source.now) c.as_slice.result.now (picked (has c.args.todo.now) (sources_so c.args.sources.now))
     (ap (map (λ (k : Chosen). source_so k.source.now)) c.as_slice.ensures ∙ c.in_ok-list.ensures)
     (are_picked (has c.args.todo.now) (sources_so c.args.sources.now) (are_sources c.args.sources.now c.requires.distinct)).distinct
@@ -20,6 +20,6 @@ returns-clause-known g c =
     let list : map (λ (k : Chosen). source_so k.source.now) c.as_slice.result.now ≡ picked (has c.args.todo.now) (sources_so c.args.sources.now) =
     ap (map (λ (k : Chosen). source_so k.source.now)) c.as_slice.ensures ∙ c.in_ok-list.ensures in
     always c.report_on_all.result
-    (subst (λ xs. IsWholeOver (found c.args.known.now) xs (found c.solve_modules_parallel.new.known))
+    (subst (λ xs. IsWholeOver (found c.args.known.now) xs (found c.solve_modules_with.new.known))
     (chosen_trees (λ (k : Chosen). k.source.now) c.as_slice.result.now ∙ ap trees list)
-    c.in_ok-solve_modules_parallel.ensures.known)
+    c.in_ok-solve_modules_with.ensures.known)

@@ -1,5 +1,5 @@
 use Rattle.std.proofs.Common.{◌≡◌, take, length}
-use Rattle.summary_board.proofs.same.same_outs.Given as goal
+use Rattle.summary_board.proofs.same.same_items.Given as goal
 
 abbrev pub invariant-loop-i : goal.invariant-loop-i
 invariant-loop-i g l = (take l.i l.a ≡ take l.i l.b) × (length l.a ≡ length l.b)
