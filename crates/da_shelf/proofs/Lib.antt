@@ -1,4 +1,5 @@
 pub mod CountLaws
 mod Examples
 mod Search
+pub mod ToldReads
 mod Written

@@ -13,18 +13,23 @@ raised count = min (count + 1) last_count
 abbrev pub Rose : ℕ → ℕ → Type 0
 Rose before now = (before < now) ⊎ (now ≡ last_count)
 
--- How often reading and replacing files failed.
-pub record FaultCounts : Type 0 where
+-- How many reads of files there were, and how often reading and replacing failed.
+pub record FileCounts : Type 0 where
+  pub reads : ℕ
   pub read_faults : ℕ
   pub replace_faults : ℕ
 
-abbrev pub no_faults : FaultCounts
-no_faults = record { read_faults = 0; replace_faults = 0 }
+abbrev pub no_counts : FileCounts
+no_counts = record { reads = 0; read_faults = 0; replace_faults = 0 }
+
+-- after one more read
+abbrev pub after_one_read : FileCounts → FileCounts
+after_one_read counts = record counts { reads = raised counts.reads }
 
 -- after one more read that failed
-abbrev pub after_failed_read : FaultCounts → FaultCounts
-after_failed_read counts = record counts { read_faults = raised counts.read_faults }
+abbrev pub after_failed_read : FileCounts → FileCounts
+after_failed_read counts = record counts { reads = raised counts.reads; read_faults = raised counts.read_faults }
 
 -- after one more replace that failed
-abbrev pub after_failed_replace : FaultCounts → FaultCounts
+abbrev pub after_failed_replace : FileCounts → FileCounts
 after_failed_replace counts = record counts { replace_faults = raised counts.replace_faults }

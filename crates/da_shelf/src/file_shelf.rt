@@ -1,6 +1,7 @@
 ghost use Rattle.std.specs.Prelude.{◌≡◌, ◌↔◌, ◌^◌, ◌≤◌, List, ◌++◌, None, IfOk, IfSome, IsErrOf, vec_len};
 ghost use Rattle.std.specs.IoError.{error_kind};
-ghost use Rattle.da_shelf.specs.Counts.{FaultCounts, no_faults, after_failed_read, after_failed_replace};
+ghost use Rattle.da_shelf.specs.Counts.{no_counts, after_one_read, after_failed_read, after_failed_replace};
+ghost use Rattle.da_shelf.specs.Reads.{IsFileRead};
 
 use crate::second_file::replace_file;
 use crate::shelf::{Shelf, ShelfFault};
@@ -14,33 +15,35 @@ use type_kinds::Memory;
 // A file longer than this, 1 GiB, is a failed read.
 const LONGEST_FILE: usize = 1 << 30;
 
-/// The files of the host, where a name is a path. Contracts see the counts of failed reads and of
-/// failed replaces, and not what the files hold. It keeps the runtime and the allocator that it is
-/// made with.
+/// The files of the host, where a name is a path. Contracts see the counts of reads, of failed reads
+/// and of failed replaces, and not what the files hold. It keeps the runtime and the allocator that it
+/// is made with.
 #[derive(Drop)]
 pub struct FileShelf<R> {
     rt: R,
     alloc: Global,
+    reads: u64,
     read_faults: u64,
     replace_faults: u64,
 }
 
 impl<R> Model for FileShelf<R> {
-    ghost use Rattle.da_shelf.specs.Counts.{FaultCounts};
+    ghost use Rattle.da_shelf.specs.Counts.{FileCounts};
 
-    ghost Value = { FaultCounts };
+    ghost Value = { FileCounts };
 
-    ghost view = { λ it. record { read_faults = it.read_faults; replace_faults = it.replace_faults } };
+    ghost view = { λ it. record { reads = it.reads; read_faults = it.read_faults; replace_faults = it.replace_faults } };
 }
 
 impl<R> FileShelf<R> {
-    /// The files, of which no read and no replace has failed yet.
+    /// The files, of which none is read yet, and no replace has failed.
     pub fn new(rt: R, alloc: Global) -> Result<FileShelf<R>, Memory>
-        ensures { IfOk result (λ shelf. shelf ≡ no_faults) }
+        ensures { IfOk result (λ shelf. shelf ≡ no_counts) }
     {
         Ok(FileShelf {
             rt,
             alloc,
+            reads: 0,
             read_faults: 0,
             replace_faults: 0,
         })
@@ -49,6 +52,10 @@ impl<R> FileShelf<R> {
 
 impl<R: Files> Shelf for FileShelf<R> {
     ghost held = { λ _. None };
+
+    ghost told = { λ before now read. IsFileRead before now read };
+
+    ghost reads = { λ shelf. shelf.reads };
 
     ghost read_faults = { λ shelf. shelf.read_faults };
 
@@ -61,10 +68,11 @@ impl<R: Files> Shelf for FileShelf<R> {
     fn read(&mut self, name: &str) -> Result<Vec<u8>, ShelfFault>
         ensures length { IfOk result (λ bytes. vec_len bytes ≤ 2 ^ 30) }
         ensures failed { IsErrOf result ShelfFault.Failed → self.new ≡ after_failed_read self.old }
-        ensures working { ¬ (IsErrOf result ShelfFault.Failed) → self.new ≡ self.old }
+        ensures working { ¬ (IsErrOf result ShelfFault.Failed) → self.new ≡ after_one_read self.old }
         ensures replaces { self.new.replace_faults ≡ self.old.replace_faults }
         ensures counted { self.old.read_faults ≤ self.new.read_faults }
     {
+        self.reads = self.reads.saturating_add(1);
         let answer = read_file(&self.rt, self.alloc, name);
         if let Err(ShelfFault::Failed) = &answer {
             self.read_faults = self.read_faults.saturating_add(1);

@@ -1,6 +1,7 @@
 ghost use Rattle.std.specs.Prelude.{◌≡◌, ◌↔◌, ◌≤◌, IfOk, OnOk, OnErr, IsErrOf, IsTrue, Some, None, option_copied};
 ghost use Rattle.std.specs.FinMap.{get};
 ghost use Rattle.da_shelf.specs.Counts.{raised};
+ghost use Rattle.da_shelf.specs.Reads.{IsMemoryRead};
 ghost use Rattle.da_shelf.specs.ShelfState.{empty_shelf, holding, read_fails, after_read, replace_fails, after_replace};
 
 use crate::listed::is_listed;
@@ -94,6 +95,10 @@ impl MemShelf {
 
 impl Shelf for MemShelf {
     ghost held = { λ shelf. Some shelf.held };
+
+    ghost told = { λ before now read. IsMemoryRead before now read };
+
+    ghost reads = { λ shelf. shelf.reads };
 
     ghost read_faults = { λ shelf. shelf.read_faults };
 
