@@ -60,6 +60,12 @@ Fails told files first faults_before faults_now (Failed word) =
     (at : ℕ) × (word ≡ first + at) × ((file : List ℕ) × (before : ℕ) × IsReached told files at file before) × Rose faults_before faults_now
 Fails told files first faults_before faults_now Memory = Unit {0}
 
+-- These are the names of the files up to the one that the fault names, in their order.
+abbrev pub AreUpTo : (first : ℕ) (files names : List (List ℕ)) → ReadFault → Type 0
+AreUpTo first files names (Refused word fault) = (at : ℕ) × (word ≡ first + at) × (names ≡ take (at + 1) files)
+AreUpTo first files names (Failed word) = (at : ℕ) × (word ≡ first + at) × (names ≡ take (at + 1) files)
+AreUpTo first files names Memory = Unit {0}
+
 -- ---- texts
 
 -- The files are held, and what they hold are these texts.

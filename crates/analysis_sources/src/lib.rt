@@ -7,7 +7,9 @@ mod reading;
 mod refusals;
 mod source;
 
-pub use laws::{one_reading, one_reading_of_files, spelled_module_is_read};
+pub use laws::{
+    module_or_fault, one_reading, one_reading_of_files, read_or_refused, spelled_module_is_read,
+};
 pub use reading::{ReadFault, discard_sources, read_sources, sources_of};
 pub use refusals::{Device, MISSING, Refusal, RefusalName, SourceFault, TOO_LONG};
 pub use source::{LONGEST_SOURCE, MOST_BYTES, SourceError, accepted, room_after};

@@ -1,9 +1,11 @@
 //! Files are read one after another, each wholly before the next: its bytes, tokens, tree and scopes.
-ghost use Rattle.std.specs.Prelude.{◌≡◌, ℕ, ◌+◌, ◌-◌, ◌<◌, ◌≤◌, ◌^◌, List, ◌++◌, ◌∷◌, [], length, map, drop, slice_index_or, Option, IfOk, IfErr, OnOk, OnErr};
+ghost use Rattle.std.specs.Prelude.{◌≡◌, ℕ, ◌+◌, ◌-◌, ◌<◌, ◌≤◌, ◌^◌, List, ◌++◌, ◌∷◌, [], length};
+ghost use Rattle.std.specs.Prelude.{map, drop, slice_index_or, Option, IfOk, IfErr, OnOk, OnErr};
 ghost use Rattle.da_shelf.specs.Counts.{Rose};
+ghost use Rattle.da_shelf.specs.Reads.{IsTold};
 ghost use Rattle.da_shelf.specs.Told.{Files, Holds};
 ghost use Rattle.table_keep.specs.Model.{source_so, sources_so};
-ghost use Rattle.analysis_sources.specs.Reading.{AreHeld, AreRead, Fails, TextFails, bytes_of};
+ghost use Rattle.analysis_sources.specs.Reading.{AreHeld, AreRead, AreUpTo, Fails, TextFails, bytes_of};
 ghost use Rattle.analysis_sources.specs.Sources.{room, IsTextOf};
 ghost use Rattle.analysis_sources.specs.Words.{texts};
 ghost use Rattle.analysis_sources.specs.steps.ReadingSteps.{FailsBytes, FailsOne, IsReadAs};
@@ -37,6 +39,7 @@ pub fn discard_sources(sources: List<Source>) {
 
 /// Reads the files that the words from the position `first` on name, each wholly before the next, and gives
 /// their sources in this order, each with the count of its bytes. A source may have 16 MiB, and all that were read 64 MiB together.
+/// Behind a file that isn't read to a source none is read.
 ///
 /// `Refused`: this file is the first that isn't held, or whose bytes are too many or the source of no module.
 /// `Failed`: the shelf failed at this file, and has counted it; all before it were read.
@@ -50,7 +53,14 @@ pub fn read_sources<F: Shelf>(
     requires few { length words.now < 2 ^ 32 }
     ensures sources { IfOk result (λ sources. (after : ℕ) × AreRead (F.held shelf.old) 0 (drop first (texts words.now)) (sources_so sources) after) }
     ensures lengths { IfOk result (λ sources. AreRead (F.held shelf.old) 0 (drop first (texts words.now)) (sources_so sources) (bytes_of sources)) }
-    ensures fault { IfErr result (λ fault. Fails (F.held shelf.old) (drop first (texts words.now)) first (F.read_faults shelf.old) (F.read_faults shelf.new) fault) }
+    ensures told { IfOk result (λ sources.
+        IsTold F.told shelf.old shelf.new (drop first (texts words.now))
+        (λ held. AreRead held 0 (drop first (texts words.now)) (sources_so sources) (bytes_of sources))) }
+    ensures fault { IfErr result (λ fault. Fails (F.held shelf.old) (drop first (texts words.now)) first (F.read_faults shelf.old)
+        (F.read_faults shelf.new) fault) }
+    ensures told_fault { IfErr result (λ fault. (names : List (List ℕ)) × AreUpTo first (drop first (texts words.now)) names fault ×
+        IsTold F.told shelf.old shelf.new names
+        (λ held. Fails held (drop first (texts words.now)) first (F.read_faults shelf.old) (F.read_faults shelf.new) fault)) }
     ensures held { F.held shelf.new ≡ F.held shelf.old }
     ensures replaces { F.replace_faults shelf.new ≡ F.replace_faults shelf.old }
     ensures counted { F.read_faults shelf.old ≤ F.read_faults shelf.new }
@@ -78,7 +88,13 @@ fn read_all<F: Shelf>(
     requires few { first + length files.now < 2 ^ 32 }
     requires empty { sources.old ≡ [] }
     ensures sources { OnOk result (AreRead (F.held shelf.old) 0 (texts files.now) (sources_so sources.new) (bytes_of sources.new)) }
+    ensures told { OnOk result (
+        IsTold F.told shelf.old shelf.new (texts files.now)
+        (λ held. AreRead held 0 (texts files.now) (sources_so sources.new) (bytes_of sources.new))) }
     ensures fault { IfErr result (λ fault. Fails (F.held shelf.old) (texts files.now) first (F.read_faults shelf.old) (F.read_faults shelf.new) fault) }
+    ensures told_fault { IfErr result (λ fault. (names : List (List ℕ)) × AreUpTo first (texts files.now) names fault ×
+        IsTold F.told shelf.old shelf.new names
+        (λ held. Fails held (texts files.now) first (F.read_faults shelf.old) (F.read_faults shelf.new) fault)) }
     ensures held { F.held shelf.new ≡ F.held shelf.old }
     ensures replaces { F.replace_faults shelf.new ≡ F.replace_faults shelf.old }
     ensures counted { F.read_faults shelf.old ≤ F.read_faults shelf.new }
@@ -97,7 +113,8 @@ fn read_all<F: Shelf>(
 /// `Refused`: the text of this number is the first that has too many bytes or is the source of no module. It never answers `Failed`.
 pub fn sources_of(alloc: Global, texts: &[Bytes]) -> Result<List<Source>, ReadFault>
     requires few { length texts.now < 2 ^ 32 }
-    ensures sources { IfOk result (λ sources. (told : Option Files) (files : List (List ℕ)) → AreHeld told files texts.now → (after : ℕ) × AreRead told 0 files (sources_so sources) after) }
+    ensures sources { IfOk result (λ sources. (told : Option Files) (files : List (List ℕ)) → AreHeld told files texts.now
+        → (after : ℕ) × AreRead told 0 files (sources_so sources) after) }
     ensures fault { IfErr result (λ fault. (told : Option Files) (files : List (List ℕ)) → AreHeld told files texts.now → TextFails told files fault) }
 {
     let mut sources = List::new(alloc);
@@ -115,7 +132,8 @@ pub fn sources_of(alloc: Global, texts: &[Bytes]) -> Result<List<Source>, ReadFa
 fn add_sources(alloc: Global, texts: &[Bytes], sources: &mut List<Source>) -> Result<(), ReadFault>
     requires few { length texts.now < 2 ^ 32 }
     requires empty { sources.old ≡ [] }
-    ensures sources { OnOk result ((told : Option Files) (files : List (List ℕ)) → AreHeld told files texts.now → (after : ℕ) × AreRead told 0 files (sources_so sources.new) after) }
+    ensures sources { OnOk result ((told : Option Files) (files : List (List ℕ)) → AreHeld told files texts.now
+        → (after : ℕ) × AreRead told 0 files (sources_so sources.new) after) }
     ensures fault { IfErr result (λ fault. (told : Option Files) (files : List (List ℕ)) → AreHeld told files texts.now → TextFails told files fault) }
 {
     let mut before = 0;
@@ -152,7 +170,11 @@ fn read_source<F: Shelf>(
     requires { before ≤ MOST_BYTES }
     ensures source { IfOk result (λ source. IsReadAs (F.held shelf.old) file.now before source) }
     ensures bounded { IfOk result (λ source. before + source.length ≤ MOST_BYTES) }
+    ensures told { IfOk result (λ source. IsTold F.told shelf.old shelf.new (file.now ∷ []) (λ held. IsReadAs held file.now before source)) }
     ensures fault { IfErr result (FailsOne (F.held shelf.old) file.now word before (F.read_faults shelf.old) (F.read_faults shelf.new)) }
+    ensures told_fault { IfErr result (λ fault.
+        IsTold F.told shelf.old shelf.new (file.now ∷ [])
+        (λ held. FailsOne held file.now word before (F.read_faults shelf.old) (F.read_faults shelf.new) fault)) }
     ensures held { F.held shelf.new ≡ F.held shelf.old }
     ensures replaces { F.replace_faults shelf.new ≡ F.replace_faults shelf.old }
     ensures counted { F.read_faults shelf.old ≤ F.read_faults shelf.new }

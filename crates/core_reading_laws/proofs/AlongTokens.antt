@@ -6,12 +6,13 @@ use Rattle.core_ast.specs.Model as m
 use Rattle.core_scan.specs.declared.token.Token.{Token}
 use Rattle.core_parse_grammar.specs.Grammar.{Part, a, first, the, Nonterminal, SaidBy, Said, Action, Way, ways, annotated_module}
 use Rattle.core_parse_grammar.specs.Spells.{Reads, token, node, part, ReadsOne, here, later, ReadsAll, none, one, SpellsTo, SpellsModule}
-use Rattle.core_parse_grammar.specs.Begins.{Prefixes, nothing, token_, node_, part_, PrefixesOne, here_, later_, PrefixesAll, none_, inside, whole, BeginsTo, Begins, depth_limit}
-use Rattle.core_reading_laws.specs.Tokens.{AreDecided, spelled, failed, sunk, short, deeper}
+use Rattle.core_parse_grammar.specs.Begins.{Prefixes, nothing, token_, node_, part_, PrefixesOne, here_, later_, PrefixesAll, none_, inside, whole, BeginsTo, Begins, depth_limit, IsModule}
+use Rattle.core_reading_laws.specs.Tokens.{AreDecided, spelled, failed, sunk, short}
 use Rattle.core_reading_laws.proofs.Fronts.{front_decided}
 use Rattle.core_reading_laws.proofs.Depths.{some_decided}
 use Rattle.core_reading_laws.proofs.AnyDepth.{module_decided}
-use Rattle.core_reading_laws.proofs.Wholes.{spelled_decided}
+use Rattle.core_reading_laws.proofs.OneReading.{one_module}
+use Rattle.core_reading_laws.proofs.Extending.{spelled_within}
 
 -- ---- what is read whole is begun
 
@@ -56,20 +57,19 @@ begins_decided ts = elim (some_decided (the annotated_module ∷ []) ts) [
 
 -- ---- along the tokens
 
-at_end_of : (ts : List Token) → BeginsTo depth_limit ts → ((x : m.Module) → SpellsTo depth_limit ts x → ⊥) → Decided ((x : m.Module) × SpellsModule ts x) → AreDecided ts
-at_end_of ts h none_within (inl s) = deeper h s.0 s.1 none_within
-at_end_of ts h none_within (inr never) = short (record { begun = h; none = λ x s. never (x, s) })
+is_module : (ts : List Token) (x : m.Module) → SpellsTo depth_limit ts x → IsModule ts x
+is_module ts x h = record { spelled = h; alone = λ y k. one_module ts y x k (depth_limit, h) }
 
-at_all : (ts : List Token) → BeginsTo depth_limit ts → Decided ((x : m.Module) × SpellsTo depth_limit ts x) → AreDecided ts
-at_all ts h (inl s) = spelled s.0 s.1
-at_all ts h (inr never) = at_end_of ts h (λ x s. never (x, s)) (module_decided ts)
+at_end_of : (ts : List Token) → BeginsTo depth_limit ts → Decided ((x : m.Module) × SpellsModule ts x) → AreDecided ts
+at_end_of ts h (inl s) = let k = spelled_within depth_limit ts s.0 h s.1 in spelled k.0 (is_module ts k.0 k.1)
+at_end_of ts h (inr never) = short (record { begun = h; none = λ x s. never (x, s) })
 
 at_fault : (before : List Token) (t : Token) (after : List Token) → BeginsTo depth_limit before → (BeginsTo depth_limit (before ++ t ∷ []) → ⊥) → Decided (Begins (before ++ t ∷ [])) → AreDecided (before ++ t ∷ after)
 at_fault before t after h deep (inl on) = sunk t.place (record { before = before; at = t; after = after; split = refl; place_is = refl; begun = h; goes_on = on; too_deep = deep })
 at_fault before t after h deep (inr bad) = failed t.place (record { before = before; at = t; after = after; split = refl; place_is = refl; begun = h; first_bad = bad })
 
 along : (before after : List Token) → BeginsTo depth_limit before → AreDecided (before ++ after)
-along before [] h = subst AreDecided (sym (append-nil before)) (at_all before h (spelled_decided depth_limit before))
+along before [] h = subst AreDecided (sym (append-nil before)) (at_end_of before h (module_decided before))
 along before (t ∷ after) h = elim (within_decided (before ++ t ∷ [])) [
   | inl more ↦ subst AreDecided (append_assoc before (t ∷ []) after) (along (before ++ t ∷ []) after more)
   | inr deep ↦ at_fault before t after h deep (begins_decided (before ++ t ∷ []))

@@ -12,7 +12,7 @@ use Rattle.core_reading_laws.proofs.Deciding.{SomeWay, Follows, decided}
 use Rattle.core_reading_laws.proofs.Depths.{reads_deeper}
 use Rattle.core_reading_laws.proofs.Wholes.{AllRead, all_done, and_more, no_part, nothing_left, all_taken, all_begun, all_opens, all_opened}
 
-all_deeper : (d k : ℕ) → d ≤ k → (ps : List Part) (ts : List Token) → AllRead d ps ts → AllRead k ps ts
+pub all_deeper : (d k : ℕ) → d ≤ k → (ps : List Part) (ts : List Token) → AllRead d ps ts → AllRead k ps ts
 all_deeper d k low [] ts all_done = all_done
 all_deeper d k low (p ∷ ps) ts (and_more {x = x} {us = us} r h) = and_more (reads_deeper d k low p ts us x r) (all_deeper d k low ps us h)
 
@@ -49,7 +49,7 @@ wholes_follow = record {
   taken = λ c t ps ts h. let k = all_taken h.0 c t ps ts h.1 in (k.0, (h.0, k.1));
   begins = begins_deep;
   begun = λ d c t ps ts h. let k = all_begun h.0 d c t ps ts h.1 in (k.0, (tt, (h.0, k.1.1)));
-  opens_in = λ n ps t ts h. let k = one_depth n (ways n) ps (t ∷ ts) h in (k.0, all_opens k.0 n ps t ts k.1);
+  opens_in = λ n ps t ts h. let k = one_depth n (ways n) ps (t ∷ ts) h in (k.0, all_opens k.0 n ps (t ∷ ts) k.1);
   opened = λ n ps t ts h. some_depth n h.0 (ways n) ps (t ∷ ts) (all_opened h.0 n ps t ts h.1);
 }
 

@@ -1,8 +1,16 @@
 mod AlongTokens
 mod AnyDepth
+mod Apart
 mod Breaks
+mod CodeTrees
 mod Deciding
 mod Depths
+mod Derived
+mod Extending
+mod Fine
 mod Fronts
+mod OneReading
+mod OneRest
 mod Ranks
+mod Symbols
 mod Wholes

@@ -1,7 +1,6 @@
 -- Whether tokens spell a module whose nodes are at most so deep is decided.
 use Rattle.std.proofs.Common.{◌≡◌, inl, inr, ℕ, ◌≤◌, true, List, [], ◌∷◌, ◌++◌, refl, sym, true≢false}
 use Rattle.std.proofs.lemmas.Bool.{and_parts}
-use Rattle.components.proofs.Bounded.{Decided}
 use Rattle.core_ast.specs.Model as m
 use Rattle.core_scan.specs.declared.token.Token.{Token}
 use Rattle.core_scan.specs.declared.sort.Sort.{Sort}
@@ -10,8 +9,7 @@ use Rattle.core_parse_grammar.specs.Grammar.{Part, a, first, the, Nonterminal, S
 use Rattle.core_parse_grammar.specs.Labels.{numbered}
 use Rattle.core_parse_grammar.specs.Spells.{Reads, token, node, part, ReadsOne, here, later, ReadsAll, none, one, SpellsTo}
 use Rattle.core_reading_laws.proofs.Ranks.{opens, begins_low, all_low, low_ways}
-use Rattle.core_reading_laws.proofs.Deciding.{SomeWay, Follows, decided}
-use Rattle.core_reading_laws.proofs.Fronts.{not_deeper}
+use Rattle.core_reading_laws.proofs.Deciding.{SomeWay}
 
 module _ (deepest : ℕ) where
   -- the tokens are those of the parts one after another, and no more
@@ -35,13 +33,6 @@ module _ (deepest : ℕ) where
     no_parts : (n : Nonterminal) (k : ℕ) (ps : List Part) → begins_low k ps ≡ true → (f : Action ps (Said n)) (x : Said n) (us : List Token) → ReadsAll deepest n ps f [] x us → ⊥
     no_parts n k [] e f x us h = true≢false (sym e)
     no_parts n k (p ∷ ps) e f x us (one {x = y} {us = middle} r rs) = no_part p y middle r
-
-  pub ends : (ps : List Part) → Decided (AllRead ps [])
-  ends [] = inl all_done
-  ends (p ∷ ps) = inr never
-    where
-      never : AllRead (p ∷ ps) [] → ⊥
-      never (and_more {x = x} {us = us} r h) = no_part p x us r
 
   -- ---- a nonterminal is one of its ways
 
@@ -69,8 +60,8 @@ module _ (deepest : ℕ) where
   read_way n (w ∷ ws) ps ts (inl h) = let k = all_apart n w.parts ps w.says ts h in (k.0, (k.1.0, (here k.1.1.0, k.1.1.1)))
   read_way n (w ∷ ws) ps ts (inr h) = let k = read_way n ws ps ts h in (k.0, (k.1.0, (later k.1.1.0, k.1.1.1)))
 
-  pub all_opens : (n : Nonterminal) (ps : List Part) (t : Token) (ts : List Token) → SomeWay n (λ qs. AllRead (qs ++ ps) (t ∷ ts)) (ways n) → AllRead (the n ∷ ps) (t ∷ ts)
-  all_opens n ps t ts h = let k = read_way n (ways n) ps (t ∷ ts) h in and_more (part k.1.1.0) k.1.1.1
+  pub all_opens : (n : Nonterminal) (ps : List Part) (ts : List Token) → SomeWay n (λ qs. AllRead (qs ++ ps) ts) (ways n) → AllRead (the n ∷ ps) ts
+  all_opens n ps ts h = let k = read_way n (ways n) ps ts h in and_more (part k.1.1.0) k.1.1.1
 
   pub all_opened : (n : Nonterminal) (ps : List Part) (t : Token) (ts : List Token) → AllRead (the n ∷ ps) (t ∷ ts) → SomeWay n (λ qs. AllRead (qs ++ ps) (t ∷ ts)) (ways n)
   all_opened n ps t ts (and_more {x = v} {us = us} (part r) h) = way_read n (ways n) ps (t ∷ ts) us v r h
@@ -86,24 +77,5 @@ module _ (deepest : ℕ) where
   pub nothing_left : (t : Token) (ts : List Token) → AllRead [] (t ∷ ts) → ⊥
   nothing_left t ts h = elim h [ ]
 
-  all_follow : Follows AllRead (λ d. d ≤ deepest)
-  all_follow = record {
-    ends = ends;
-    deep = not_deeper deepest;
-    nothing = nothing_left;
-    takes = λ c t ps ts e h. and_more (token e) h;
-    taken = all_taken;
-    begins = λ d c t ps ts e low h. and_more (node e low) h;
-    begun = all_begun;
-    opens_in = all_opens;
-    opened = all_opened;
-  }
-
-  spelled_by : (ts : List Token) → AllRead (the annotated_module ∷ []) ts → (x : m.Module) × SpellsTo deepest ts x
+  pub spelled_by : (ts : List Token) → AllRead (the annotated_module ∷ []) ts → (x : m.Module) × SpellsTo deepest ts x
   spelled_by ts (and_more {x = says} r all_done) = (numbered says, record { says = says; reads = r; labels = refl })
-
-  pub spelled_decided : (ts : List Token) → Decided ((x : m.Module) × SpellsTo deepest ts x)
-  spelled_decided ts = elim (decided all_follow ts (the annotated_module ∷ [])) [
-    | inl h ↦ inl (spelled_by ts h)
-    | inr never ↦ inr (λ h. never (and_more h.1.reads all_done))
-  ]

@@ -3,21 +3,18 @@ use Rattle.std.specs.Prelude.{◌≡◌, ◌⊎◌, List, []}
 use Rattle.type_kinds.specs.declared.place.Place.{Place}
 use Rattle.core_ast.specs.Model as m
 use Rattle.core_scan.specs.declared.token.Token.{Token}
-use Rattle.core_parse_grammar.specs.Begins.{BeginsTo, depth_limit, FailsAt, SinksAt, TooShort}
-use Rattle.core_parse_grammar.specs.Spells.{SpellsTo, SpellsModule}
+use Rattle.core_parse_grammar.specs.Begins.{FailsAt, SinksAt, TooShort, IsModule}
 use Rattle.core_scope.specs.declared.fault.Break.{Break}
 use Rattle.core_scope.specs.Accepted.{FirstBreak}
 use Rattle.core_scope.specs.Breaks.{module_breaks}
 
--- The tokens spell a module without a node too deep; or one of them is the first up to which no module's tokens go, or the first at
--- which a node too deep begins; or all of them begin a module without a node too deep, and they spell none, or spell one with a node
--- too deep alone.
+-- The tokens spell a module without a node too deep, and no other; or one of them is the first up to which no module's tokens go, or the
+-- first at which a node too deep begins; or all of them begin a module without a node too deep, and they spell none.
 pub data AreDecided (ts : List Token) : Type 0 where
-  spelled : (x : m.Module) → SpellsTo depth_limit ts x → AreDecided ts
+  spelled : (x : m.Module) → IsModule ts x → AreDecided ts
   failed : (place : Place) → FailsAt ts place → AreDecided ts
   sunk : (place : Place) → SinksAt ts place → AreDecided ts
   short : TooShort ts → AreDecided ts
-  deeper : BeginsTo depth_limit ts → (x : m.Module) → SpellsModule ts x → ((y : m.Module) → SpellsTo depth_limit ts y → ⊥) → AreDecided ts
 
 -- A module breaks no rule, or has a first break.
 abbrev pub SomeFirstBreak : Type 0

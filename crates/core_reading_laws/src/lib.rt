@@ -3,4 +3,4 @@
 
 mod laws;
 
-pub use laws::{a_first_break, tokens_are_decided};
+pub use laws::{a_first_break, every_accepted, one_module_of_tokens, tokens_are_decided};

@@ -2,7 +2,6 @@
 use Rattle.std.proofs.Common.{◌≡◌, ◌≢◌, ◌↔◌, ◌⊎◌, inl, inr, ℕ, ◌+◌, ◌<◌, ◌≤◌, List, refl, sym, ◌∙◌, ap, ap₂, subst, Option, Some, None, arith}
 use Rattle.std.proofs.Common.{length as list_length}
 use Rattle.std.specs.Prelude.{IfSome, slice_get}
-use Rattle.core_ast.specs.Model as m
 use Rattle.core_scan.specs.declared.token.ScanFault.{ScanFault}
 use Rattle.core_scan.specs.declared.token.ScanFault.TheVariants as s
 use Rattle.core_parse_grammar.specs.declared.fault.ParseFault.{ParseFault}
@@ -203,7 +202,8 @@ missing_named (file_refused h) = as_file h.command h.files h.at h.place h.begins
 missing_named (table_long e h) = let k : 26 ≡ 25 = ap (λ f. refusal_number f.name) e in absurd (omega (arith, k))
 
 -- of a file, where this isn't a missing one, nor a table's
-source_named : {words : List (List ℕ)} {held : Files} {word : ℕ} {fault : SourceFault} → (step_of fault.name ≡ holding → ⊥) → (fault ≡ too_long_fault → ⊥) → RefusedAs words held word fault → RefusedHere words held word fault
+source_named : {words : List (List ℕ)} {held : Files} {word : ℕ} {fault : SourceFault} → (step_of fault.name ≡ holding → ⊥) → (fault ≡ too_long_fault → ⊥) → RefusedAs words held word fault
+    → RefusedHere words held word fault
 source_named away short (table_missing name e names lacks) = absurd (away (ap (λ f. step_of f.name) e))
 source_named away short (file_refused h) = h
 source_named away short (table_long e h) = absurd (short e)

@@ -12,5 +12,9 @@ mod GeneratedTexts
 mod PlanExits
 mod ReportExits
 mod StoreExits
+mod SomeAnswer
+mod SomeCommand
+mod SomeOutcome
+mod ToldExits
 mod UsedByEntries
 mod WordExits

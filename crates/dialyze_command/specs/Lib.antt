@@ -6,6 +6,9 @@ pub mod Outcome
 pub mod Causes
 pub mod Laws
 pub mod OneOutcome
+pub mod Reads
 pub mod Reported
 pub mod Runs
+pub mod SomeAnswer
+pub mod SomeOutcome
 pub mod steps

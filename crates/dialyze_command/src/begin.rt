@@ -1,6 +1,8 @@
 //! The table that a check begins with.
-ghost use Rattle.std.specs.Prelude.{◌≡◌, ◌≤◌, ◌<◌, ◌^◌, length, IfOk, IfSome};
+ghost use Rattle.std.specs.Prelude.{◌≡◌, ◌≤◌, ◌<◌, ◌^◌, [], ◌∷◌, length, IfOk, IfSome};
+ghost use Rattle.da_shelf.specs.Reads.{IsTold};
 ghost use Rattle.analysis_sources.specs.Words.{texts};
+ghost use Rattle.dialyze_command.specs.Reads.{table_named};
 ghost use Rattle.dialyze_command.specs.steps.Plans.{IsBegunAs, IsOfBytes, IsReadAs};
 
 use crate::answer::{Answer, bad_table, refuse, unread};
@@ -27,6 +29,8 @@ pub fn table_to_begin<F: Shelf>(
     requires within { IfSome plt (λ word. word < length words.now) }
     requires few { IfSome plt (λ word. word < 2 ^ 32) }
     ensures begun { IfOk result (λ b. IsBegunAs (texts words.now) (F.held shelf.old) plt (F.read_faults shelf.old) (F.read_faults shelf.new) b) }
+    ensures told { IfOk result (λ b. IsTold F.told shelf.old shelf.new (table_named (texts words.now) plt)
+        (λ held. IsBegunAs (texts words.now) held plt (F.read_faults shelf.old) (F.read_faults shelf.new) b)) }
     ensures held { F.held shelf.new ≡ F.held shelf.old }
     ensures counted { F.read_faults shelf.old ≤ F.read_faults shelf.new }
     ensures replaces { F.replace_faults shelf.new ≡ F.replace_faults shelf.old }
@@ -45,6 +49,8 @@ fn named_table<F: Shelf>(
     shelf: &mut F,
 ) -> Result<Begun, Memory>
     ensures read { IfOk result (λ b. IsReadAs (F.held shelf.old) word name.now (F.read_faults shelf.old) (F.read_faults shelf.new) b) }
+    ensures told { IfOk result (λ b. IsTold F.told shelf.old shelf.new (name.now ∷ [])
+        (λ held. IsReadAs held word name.now (F.read_faults shelf.old) (F.read_faults shelf.new) b)) }
     ensures held { F.held shelf.new ≡ F.held shelf.old }
     ensures counted { F.read_faults shelf.old ≤ F.read_faults shelf.new }
     ensures replaces { F.replace_faults shelf.new ≡ F.replace_faults shelf.old }

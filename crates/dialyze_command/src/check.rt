@@ -9,10 +9,14 @@ ghost use Rattle.analysis_sources.specs.Words.{texts};
 ghost use Rattle.dialyze_command.specs.Making.{PutsFirst};
 ghost use Rattle.dialyze_command.specs.Words.{AsksForCheck, IsMake, IsNoCommand, IsNoMake};
 ghost use Rattle.dialyze_command.specs.Lines.{refused, too_long, too_many, duplicate, faulty_table};
-ghost use Rattle.dialyze_command.specs.Outcome.{Answers, ChecksTooMany, FailsToRead, FailsToReplace, FailsToWrite, Intended, IsAnswer, IsPassed, IsPossible, StoresNothing};
-ghost use Rattle.dialyze_command.specs.Causes.{NamesMissing, NamesBadTable, NamesSource, NamesLongTable, NamesTwice, NamesModules, IsAnalysed, tokens, grammar, scopes, step_of};
+ghost use Rattle.dialyze_command.specs.Outcome.{Answers, ChecksTooMany, FailsToRead, FailsToReplace, FailsToWrite};
+ghost use Rattle.dialyze_command.specs.Outcome.{Intended, IsAnswer, IsPassed, IsPossible, StoresNothing};
+ghost use Rattle.dialyze_command.specs.Causes.{NamesMissing, NamesBadTable, NamesSource, NamesLongTable, NamesTwice};
+ghost use Rattle.dialyze_command.specs.Causes.{NamesModules, IsAnalysed, tokens, grammar, scopes, step_of};
 ghost use Rattle.dialyze_command.specs.Laws.{WritesFromScratch, WritesNothingFalse};
+ghost use Rattle.dialyze_command.specs.Reads.{AnswersAsTold};
 ghost use Rattle.dialyze_command.specs.Reported.{Reports, ComesOf};
+ghost use Rattle.dialyze_command.specs.steps.ToldPlans.{RunIntended};
 
 use crate::answer::Answer;
 use crate::laws::one_outcome;
@@ -73,32 +77,56 @@ pub fn dialyze<R: Threads + Wait + Sync, F: Shelf, K: Sink, G: Gate + Sync>(
     gate: &G,
 ) -> Status
     // The headline: the status, the bytes written and what is held afterwards are those of the words and of what was held.
-    ensures outcome { IsAnswer result → IfSome (F.held shelf.old) (λ held. Answers (texts words.now) held (F.held shelf.new) result (K.written out.old) (K.written out.new)) }
+    ensures outcome { IsAnswer result → IfSome (F.held shelf.old)
+        (λ held. Answers (texts words.now) held (F.held shelf.new) result (K.written out.old) (K.written out.new)) }
+
+    // Over every shelf, of real files too: the run reads what it has to and no more, and status and output are those of what was read.
+    ensures told { IsAnswer result →
+        AnswersAsTold F.told F.reads shelf.old shelf.new (texts words.now) result (K.written out.old) (K.written out.new) }
 
     // With the table of some sources, they are those of an analysis from scratch, of what is passed and of the kept sources.
-    ensures kept { AsksForCheck (texts words.now) → IsPassed result → IfSome (F.held shelf.old) (λ held. WritesFromScratch (texts words.now) held (F.held shelf.new) (K.written out.old) (K.written out.new)) }
+    ensures kept { AsksForCheck (texts words.now) → IsPassed result
+        → IfSome (F.held shelf.old) (λ held. WritesFromScratch (texts words.now) held (F.held shelf.new) (K.written out.old) (K.written out.new)) }
 
     // Nothing that is reported is false of a run.
-    ensures sound { AsksForCheck (texts words.now) → IsPassed result → IfSome (F.held shelf.old) (λ held. WritesNothingFalse (texts words.now) held (F.held shelf.new) (K.written out.old) (K.written out.new)) }
+    ensures sound { AsksForCheck (texts words.now) → IsPassed result
+        → IfSome (F.held shelf.old) (λ held. WritesNothingFalse (texts words.now) held (F.held shelf.new) (K.written out.old) (K.written out.new)) }
 
     // When each answer comes.
     ensures usage { IsAnswer result → (result ≡ Status.Usage) ↔ IsNoCommand (texts words.now) }
     ensures too_many { IsAnswer result → (result ≡ too_many) ↔ ChecksTooMany (texts words.now) }
-    ensures missing { IsAnswer result → IfSome (F.held shelf.old) (λ held. (word : ℕ) → (result ≡ refused word missing) ↔ NamesMissing (texts words.now) held word) }
-    ensures bad_table { IsAnswer result → IfSome (F.held shelf.old) (λ held. (fault : FaultOfTable) → fault ≢ table_fault.Memory → (result ≡ faulty_table fault) ↔ NamesBadTable (texts words.now) held fault) }
-    ensures too_long { IsAnswer result → IfSome (F.held shelf.old) (λ held. (word : ℕ) → NamesSource (texts words.now) held word (λ most bytes. IsTooLong most bytes too_long) → result ≡ refused word too_long) }
-    ensures only_too_long { IsAnswer result → IfSome (F.held shelf.old) (λ held. (word : ℕ) → result ≡ refused word too_long → NamesSource (texts words.now) held word (λ most bytes. IsTooLong most bytes too_long) ⊎ NamesLongTable (texts words.now) held word) }
-    ensures not_scanned { IsAnswer result → IfSome (F.held shelf.old) (λ held. (word : ℕ) (fault : SourceFault) → step_of fault.name ≡ tokens → (result ≡ refused word fault) ↔ NamesSource (texts words.now) held word (λ most bytes. IsNotScanned most bytes fault)) }
-    ensures not_parsed { IsAnswer result → IfSome (F.held shelf.old) (λ held. (word : ℕ) (fault : SourceFault) → step_of fault.name ≡ grammar → (result ≡ refused word fault) ↔ NamesSource (texts words.now) held word (λ most bytes. IsNotParsed most bytes fault)) }
-    ensures not_accepted { IsAnswer result → IfSome (F.held shelf.old) (λ held. (word : ℕ) (fault : SourceFault) → step_of fault.name ≡ scopes → (result ≡ refused word fault) ↔ NamesSource (texts words.now) held word (λ most bytes. IsNotAccepted most bytes fault)) }
-    ensures duplicate { IsAnswer result → IfSome (F.held shelf.old) (λ held. (word other : ℕ) → (result ≡ duplicate word other) ↔ NamesTwice (texts words.now) held word other) }
-    ensures checked { IsAnswer result → IfSome (F.held shelf.old) (λ held. IsAnalysed (texts words.now) held result ↔ NamesModules (texts words.now) held) }
-    ensures clean { IsAnswer result → IfSome (F.held shelf.old) (λ held. ComesOf (texts words.now) held (result ≡ Status.Clean) (Reports (texts words.now) held (λ lines. lines ≡ []))) }
-    ensures warned { IsAnswer result → IfSome (F.held shelf.old) (λ held. ComesOf (texts words.now) held (result ≡ Status.Warnings) (Reports (texts words.now) held (λ lines. lines ≢ []) ⊎ ((count : ℕ) × IsMake (texts words.now) count))) }
+    ensures missing { IsAnswer result → IfSome (F.held shelf.old) (λ held. (word : ℕ)
+        → (result ≡ refused word missing) ↔ NamesMissing (texts words.now) held word) }
+    ensures bad_table { IsAnswer result → IfSome (F.held shelf.old) (λ held. (fault : FaultOfTable) → fault ≢ table_fault.Memory
+        → (result ≡ faulty_table fault) ↔ NamesBadTable (texts words.now) held fault) }
+    ensures too_long { IsAnswer result → IfSome (F.held shelf.old) (λ held. (word : ℕ)
+        → NamesSource (texts words.now) held word (λ most bytes. IsTooLong most bytes too_long) → result ≡ refused word too_long) }
+    ensures only_too_long { IsAnswer result → IfSome (F.held shelf.old) (λ held. (word : ℕ) → result ≡ refused word too_long
+        → NamesSource (texts words.now) held word (λ most bytes. IsTooLong most bytes too_long) ⊎ NamesLongTable (texts words.now) held word) }
+    ensures not_scanned { IsAnswer result → IfSome (F.held shelf.old) (λ held. (word : ℕ) (fault : SourceFault) → step_of fault.name ≡ tokens
+        → (result ≡ refused word fault) ↔ NamesSource (texts words.now) held word (λ most bytes. IsNotScanned most bytes fault)) }
+    ensures not_parsed { IsAnswer result → IfSome (F.held shelf.old) (λ held. (word : ℕ) (fault : SourceFault) → step_of fault.name ≡ grammar
+        → (result ≡ refused word fault) ↔ NamesSource (texts words.now) held word (λ most bytes. IsNotParsed most bytes fault)) }
+    ensures not_accepted { IsAnswer result → IfSome (F.held shelf.old) (λ held. (word : ℕ) (fault : SourceFault) → step_of fault.name ≡ scopes
+        → (result ≡ refused word fault) ↔ NamesSource (texts words.now) held word (λ most bytes. IsNotAccepted most bytes fault)) }
+    ensures duplicate { IsAnswer result → IfSome (F.held shelf.old) (λ held. (word other : ℕ)
+        → (result ≡ duplicate word other) ↔ NamesTwice (texts words.now) held word other) }
+    ensures checked { IsAnswer result → IfSome (F.held shelf.old) (λ held. IsAnalysed (texts words.now) held result
+        ↔ NamesModules (texts words.now) held) }
+    ensures clean { IsAnswer result → IfSome (F.held shelf.old)
+        (λ held. ComesOf (texts words.now) held (result ≡ Status.Clean) (Reports (texts words.now) held (λ lines. lines ≡ []))) }
+    ensures warned { IsAnswer result → IfSome (F.held shelf.old)
+        (λ held. ComesOf (texts words.now) held (result ≡ Status.Warnings) (Reports (texts words.now) held (λ lines. lines ≢ [])
+        ⊎ ((count : ℕ) × IsMake (texts words.now) count))) }
     ensures makes { IsAnswer result → (count : ℕ) → IsMake (texts words.now) count → result ≡ Status.Warnings }
-    ensures read { (word : ℕ) → result ≡ Status.DeviceFault (Device.Read word) → FailsToRead (texts words.now) (F.held shelf.old) word (F.read_faults shelf.old) (F.read_faults shelf.new) (K.written out.old) (K.written out.new) }
-    ensures replace { (word : ℕ) → result ≡ Status.DeviceFault (Device.Replace word) → FailsToReplace (texts words.now) (F.held shelf.old) (F.held shelf.new) word (F.replace_faults shelf.old) (F.replace_faults shelf.new) (K.written out.old) (K.written out.new) }
-    ensures write { result ≡ Status.DeviceFault Device.Write → FailsToWrite (texts words.now) (F.held shelf.old) (F.held shelf.new) (F.read_faults shelf.old) (F.read_faults shelf.new) (F.replace_faults shelf.old) (F.replace_faults shelf.new) (K.faults out.old) (K.faults out.new) (K.written out.old) (K.written out.new) }
+    ensures read { (word : ℕ) → result ≡ Status.DeviceFault (Device.Read word)
+        → FailsToRead (texts words.now) (F.held shelf.old) word (F.read_faults shelf.old) (F.read_faults shelf.new) (K.written out.old) (K.written out.new) }
+    ensures replace { (word : ℕ) → result ≡ Status.DeviceFault (Device.Replace word)
+        → FailsToReplace (texts words.now) (F.held shelf.old) (F.held shelf.new) word (F.replace_faults shelf.old) (F.replace_faults shelf.new)
+        (K.written out.old) (K.written out.new) }
+    ensures write { result ≡ Status.DeviceFault Device.Write
+        → FailsToWrite (texts words.now) (F.held shelf.old) (F.held shelf.new) (F.read_faults shelf.old) (F.read_faults shelf.new)
+        (F.replace_faults shelf.old) (F.replace_faults shelf.new) (K.faults out.old) (K.faults out.new) (K.written out.old) (K.written out.new) }
     ensures memory { result ≡ Status.Memory → K.written out.new ≡ K.written out.old }
     ensures possible { IsPossible (texts words.now) result }
 
@@ -106,7 +134,8 @@ pub fn dialyze<R: Threads + Wait + Sync, F: Shelf, K: Sink, G: Gate + Sync>(
     ensures held { IsNoMake (texts words.now) → StoresNothing result → F.held shelf.new ≡ F.held shelf.old }
 
     // What stands of a make that had no memory left: the first of its files.
-    ensures unfinished { (count : ℕ) → IsMake (texts words.now) count → result ≡ Status.Memory → PutsFirst count (F.held shelf.old) (F.held shelf.new) }
+    ensures unfinished { (count : ℕ) → IsMake (texts words.now) count → result ≡ Status.Memory
+        → PutsFirst count (F.held shelf.old) (F.held shelf.new) }
 {
     one_reading_of_files();
     table_laws();
@@ -134,7 +163,10 @@ fn answered<R: Threads + Wait + Sync, F: Shelf, G: Gate + Sync>(
     shelf: &mut F,
     gate: &G,
 ) -> Result<Answer, Memory>
-    ensures intended { IfOk result (λ a. Intended (texts words.now) (F.held shelf.old) (F.read_faults shelf.old) (F.read_faults shelf.new) (F.replace_faults shelf.old) (F.replace_faults shelf.new) a.status a.output (F.held shelf.new)) }
+    ensures intended { IfOk result (λ a. Intended (texts words.now) (F.held shelf.old) (F.read_faults shelf.old) (F.read_faults shelf.new)
+        (F.replace_faults shelf.old) (F.replace_faults shelf.new) a.status a.output (F.held shelf.new)) }
+    ensures told { IfOk result (λ a. RunIntended F.told F.reads shelf.old shelf.new (texts words.now)
+        (F.read_faults shelf.old) (F.read_faults shelf.new) (F.replace_faults shelf.old) (F.replace_faults shelf.new) a.status a.output) }
     ensures memory { OnErr result (IsNoMake (texts words.now) → F.held shelf.new ≡ F.held shelf.old) }
     ensures unfinished { OnErr result ((count : ℕ) → IsMake (texts words.now) count → PutsFirst count (F.held shelf.old) (F.held shelf.new)) }
 {
@@ -154,7 +186,10 @@ fn checked<R: Threads + Wait + Sync, F: Shelf, G: Gate + Sync>(
     gate: &G,
 ) -> Result<Answer, Memory>
     requires { IsNoMake (texts words.now) }
-    ensures intended { IfOk result (λ a. Intended (texts words.now) (F.held shelf.old) (F.read_faults shelf.old) (F.read_faults shelf.new) (F.replace_faults shelf.old) (F.replace_faults shelf.new) a.status a.output (F.held shelf.new)) }
+    ensures intended { IfOk result (λ a. Intended (texts words.now) (F.held shelf.old) (F.read_faults shelf.old) (F.read_faults shelf.new)
+        (F.replace_faults shelf.old) (F.replace_faults shelf.new) a.status a.output (F.held shelf.new)) }
+    ensures told { IfOk result (λ a. RunIntended F.told F.reads shelf.old shelf.new (texts words.now)
+        (F.read_faults shelf.old) (F.read_faults shelf.new) (F.replace_faults shelf.old) (F.replace_faults shelf.new) a.status a.output) }
     ensures memory { OnErr result (F.held shelf.new ≡ F.held shelf.old) }
 {
     let plan = intended(rt, alloc, words, shelf, gate)?;

@@ -13,6 +13,6 @@ mod store;
 mod words;
 
 pub use check::dialyze;
-pub use laws::one_outcome;
+pub use laws::{one_outcome, some_answer, some_outcome};
 pub use running::run_over;
 pub use status::Status;

@@ -38,6 +38,7 @@ pub fn made<R: Threads + Wait + Sync, F: Shelf, G: Gate + Sync>(
     ensures made { IfOk result (λ a. IsMadeAs count (F.held shelf.old) (F.held shelf.new) (F.replace_faults shelf.old) (F.replace_faults shelf.new) a) }
     ensures memory { OnErr result (PutsFirst count (F.held shelf.old) (F.held shelf.new)) }
     ensures reads { F.read_faults shelf.new ≡ F.read_faults shelf.old }
+    ensures no_read { F.reads shelf.new ≡ F.reads shelf.old }
 {
     let texts = make(alloc, count)?;
     match put_all(alloc, count, texts.as_slice(), shelf) {
@@ -59,6 +60,7 @@ fn put_all<F: Shelf>(
     ensures put { IfOk result (λ found. IsPut count (F.held shelf.old) (F.held shelf.new) (F.replace_faults shelf.old) (F.replace_faults shelf.new) found) }
     ensures memory { OnErr result (PutsFirst count (F.held shelf.old) (F.held shelf.new)) }
     ensures reads { F.read_faults shelf.new ≡ F.read_faults shelf.old }
+    ensures no_read { F.reads shelf.new ≡ F.reads shelf.old }
 {
     for number in 0..count {
         let text = texts[number as usize].as_slice();
@@ -78,9 +80,11 @@ fn put_one<F: Shelf>(
     text: &[u8],
     shelf: &mut F,
 ) -> Result<Option<Answer>, Memory>
-    ensures put { IfOk result (λ found. IsPutOne number text.now (F.held shelf.old) (F.held shelf.new) (F.replace_faults shelf.old) (F.replace_faults shelf.new) found) }
+    ensures put { IfOk result (λ found. IsPutOne number text.now (F.held shelf.old) (F.held shelf.new) (F.replace_faults shelf.old)
+        (F.replace_faults shelf.new) found) }
     ensures memory { OnErr result (F.held shelf.new ≡ F.held shelf.old) }
     ensures reads { F.read_faults shelf.new ≡ F.read_faults shelf.old }
+    ensures no_read { F.reads shelf.new ≡ F.reads shelf.old }
     ensures counted { F.replace_faults shelf.old ≤ F.replace_faults shelf.new }
 {
     let name = name_of(alloc, number)?;

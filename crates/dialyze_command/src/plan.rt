@@ -6,6 +6,7 @@ ghost use Rattle.dialyze_command.specs.Lines.{duplicate, duplicate_line};
 ghost use Rattle.dialyze_command.specs.Outcome.{Checks, IsBegun};
 ghost use Rattle.dialyze_command.specs.Words.{IsNoMake};
 ghost use Rattle.dialyze_command.specs.steps.Plans.{IsJudged, IsMade, IsNewAs, IsPlan, first_of, second_of};
+ghost use Rattle.dialyze_command.specs.steps.ToldPlans.{CheckPlanned, FilesPlanned};
 
 use crate::answer::{Answer, duplicate, refuse, reported, too_many, unread, usage};
 use crate::begin::{Begun, table_to_begin};
@@ -47,7 +48,10 @@ pub fn intended<R: Threads + Wait + Sync, F: Shelf, G: Gate + Sync>(
     gate: &G,
 ) -> Result<CheckPlan, Memory>
     requires { IsNoMake (texts words.now) }
-    ensures plan { IfOk result (λ p. IsPlan (texts words.now) (F.held shelf.old) (F.read_faults shelf.old) (F.read_faults shelf.new) p.answer.status p.answer.output p.table) }
+    ensures plan { IfOk result (λ p. IsPlan (texts words.now) (F.held shelf.old) (F.read_faults shelf.old)
+        (F.read_faults shelf.new) p.answer.status p.answer.output p.table) }
+    ensures told { IfOk result (λ p. CheckPlanned F.told shelf.old shelf.new (texts words.now)
+        (F.read_faults shelf.old) (F.read_faults shelf.new) p.answer.status p.answer.output p.table) }
     ensures within { IfOk result (λ p. IfSome p.table (λ t. t.word < length words.now)) }
     ensures held { F.held shelf.new ≡ F.held shelf.old }
     ensures counted { F.read_faults shelf.old ≤ F.read_faults shelf.new }
@@ -80,7 +84,10 @@ fn planned<R: Threads + Wait + Sync, F: Shelf, G: Gate + Sync>(
     gate: &G,
 ) -> Result<CheckPlan, Memory>
     requires checks { Checks (texts words.now) command (drop command.start (texts words.now)) }
-    ensures plan { IfOk result (λ p. IsPlan (texts words.now) (F.held shelf.old) (F.read_faults shelf.old) (F.read_faults shelf.new) p.answer.status p.answer.output p.table) }
+    ensures plan { IfOk result (λ p. IsPlan (texts words.now) (F.held shelf.old) (F.read_faults shelf.old)
+        (F.read_faults shelf.new) p.answer.status p.answer.output p.table) }
+    ensures told { IfOk result (λ p. CheckPlanned F.told shelf.old shelf.new (texts words.now)
+        (F.read_faults shelf.old) (F.read_faults shelf.new) p.answer.status p.answer.output p.table) }
     ensures within { IfOk result (λ p. IfSome p.table (λ t. t.word < length words.now)) }
     ensures held { F.held shelf.new ≡ F.held shelf.old }
     ensures counted { F.read_faults shelf.old ≤ F.read_faults shelf.new }
@@ -108,7 +115,11 @@ fn with_table<R: Threads + Wait + Sync, F: Shelf, G: Gate + Sync>(
 ) -> Result<CheckPlan, Memory>
     requires checks { Checks (texts words.now) command (drop command.start (texts words.now)) }
     requires begun { IsBegun (texts words.now) (F.held shelf.old) command.plt table.now }
-    ensures plan { IfOk result (λ p. IsPlan (texts words.now) (F.held shelf.old) (F.read_faults shelf.old) (F.read_faults shelf.new) p.answer.status p.answer.output p.table) }
+    ensures plan { IfOk result (λ p. IsPlan (texts words.now) (F.held shelf.old) (F.read_faults shelf.old)
+        (F.read_faults shelf.new) p.answer.status p.answer.output p.table) }
+    ensures told { IfOk result (λ p. FilesPlanned F.told shelf.old shelf.new (texts words.now)
+        command (drop command.start (texts words.now)) table.now
+        (F.read_faults shelf.old) (F.read_faults shelf.new) p.answer.status p.answer.output p.table) }
     ensures within { IfOk result (λ p. IfSome p.table (λ t. t.word < length words.now)) }
     ensures held { F.held shelf.new ≡ F.held shelf.old }
     ensures counted { F.read_faults shelf.old ≤ F.read_faults shelf.new }
@@ -146,7 +157,8 @@ fn judge<R: Threads + Wait + Sync, G: Gate + Sync>(
 ) -> Result<CheckPlan, Memory>
     requires checks { Checks (texts words.now) command (drop command.start (texts words.now)) }
     requires whole { command.start + length sources ≡ length words.now }
-    ensures judged { IfOk result (λ p. IsJudged (texts words.now) command (entries_so table.now) (sources_so sources) p.answer.status p.answer.output p.table) }
+    ensures judged { IfOk result (λ p. IsJudged (texts words.now) command (entries_so table.now)
+        (sources_so sources) p.answer.status p.answer.output p.table) }
     ensures within { IfOk result (λ p. IfSome p.table (λ t. t.word < length words.now)) }
 {
     let plan = judged(rt, alloc, words, command, sources.as_slice(), table, gate);
@@ -166,7 +178,8 @@ fn judged<R: Threads + Wait + Sync, G: Gate + Sync>(
 ) -> Result<CheckPlan, Memory>
     requires checks { Checks (texts words.now) command (drop command.start (texts words.now)) }
     requires whole { command.start + length sources.now ≡ length words.now }
-    ensures judged { IfOk result (λ p. IsJudged (texts words.now) command (entries_so table.now) (sources_so sources.now) p.answer.status p.answer.output p.table) }
+    ensures judged { IfOk result (λ p. IsJudged (texts words.now) command (entries_so table.now)
+        (sources_so sources.now) p.answer.status p.answer.output p.table) }
     ensures within { IfOk result (λ p. IfSome p.table (λ t. t.word < length words.now)) }
 {
     match analyse(rt, alloc, sources, table, command.worker_count(), gate) {
@@ -213,7 +226,8 @@ fn twins(
     requires second { start + second < length words.now }
     requires few { length words.now < 2 ^ 32 }
     ensures status { IfOk result (λ p. p.answer.status ≡ duplicate (start + second) (start + first)) }
-    ensures output { IfOk result (λ p. (file other : List ℕ) → slice_get (drop start (texts words.now)) second ≡ Some file → slice_get (drop start (texts words.now)) first ≡ Some other → p.answer.output ≡ duplicate_line file other) }
+    ensures output { IfOk result (λ p. (file other : List ℕ) → slice_get (drop start (texts words.now)) second ≡ Some file
+        → slice_get (drop start (texts words.now)) first ≡ Some other → p.answer.output ≡ duplicate_line file other) }
     ensures table { IfOk result (λ p. p.table ≡ None) }
 {
     let file = words[(start + second) as usize];

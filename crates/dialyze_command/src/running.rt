@@ -4,6 +4,8 @@ ghost use Rattle.std.specs.String.{string_bytes};
 ghost use Rattle.std.specs.Process.{exit_status};
 ghost use Rattle.dialyze_command.specs.declared.status.Status.{Status as TheStatus};
 ghost use Rattle.dialyze_command.specs.Codes.{code_of};
+ghost use Rattle.dialyze_command.specs.Outcome.{IsAnswer};
+ghost use Rattle.dialyze_command.specs.Reads.{AnswersAsTold};
 ghost use Rattle.dialyze_command.specs.Runs.{IsRun};
 
 use crate::check::dialyze;
@@ -28,7 +30,13 @@ pub fn run_over<R: Threads + Wait + Sync, F: Shelf, K: Sink, G: Gate + Sync>(
     out: &mut K,
     gate: &G,
 ) -> ExitCode
-    ensures { (status : TheStatus) × IsRun (map string_bytes words.now.items) (F.held shelf.old) (F.held shelf.new) (F.read_faults shelf.old) (F.read_faults shelf.new) (F.replace_faults shelf.old) (F.replace_faults shelf.new) (K.faults out.old) (K.faults out.new) status (K.written out.old) (K.written out.new) × (exit_status result ≡ code_of status) }
+    ensures { (status : TheStatus)
+        × IsRun (map string_bytes words.now.items) (F.held shelf.old) (F.held shelf.new)
+        (F.read_faults shelf.old) (F.read_faults shelf.new) (F.replace_faults shelf.old) (F.replace_faults shelf.new)
+        (K.faults out.old) (K.faults out.new) status (K.written out.old) (K.written out.new)
+        × (IsAnswer status →
+        AnswersAsTold F.told F.reads shelf.old shelf.new (map string_bytes words.now.items) status (K.written out.old) (K.written out.new))
+        × (exit_status result ≡ code_of status) }
 {
     let status = status_of(rt, alloc, words, shelf, out, gate);
     ExitCode::from(status.code())
@@ -43,7 +51,11 @@ fn status_of<R: Threads + Wait + Sync, F: Shelf, K: Sink, G: Gate + Sync>(
     out: &mut K,
     gate: &G,
 ) -> Status
-    ensures { IsRun (map string_bytes words.now.items) (F.held shelf.old) (F.held shelf.new) (F.read_faults shelf.old) (F.read_faults shelf.new) (F.replace_faults shelf.old) (F.replace_faults shelf.new) (K.faults out.old) (K.faults out.new) result (K.written out.old) (K.written out.new) }
+    ensures run { IsRun (map string_bytes words.now.items) (F.held shelf.old) (F.held shelf.new)
+        (F.read_faults shelf.old) (F.read_faults shelf.new) (F.replace_faults shelf.old) (F.replace_faults shelf.new)
+        (K.faults out.old) (K.faults out.new) result (K.written out.old) (K.written out.new) }
+    ensures told { IsAnswer result →
+        AnswersAsTold F.told F.reads shelf.old shelf.new (map string_bytes words.now.items) result (K.written out.old) (K.written out.new) }
 {
     match texts_of(alloc, words) {
         Ok(texts) => dialyze(rt, alloc, texts.as_slice(), shelf, out, gate),

@@ -14,9 +14,11 @@ use type_kinds::Memory;
 /// memory; where it has none, it holds what it held.
 pub fn stored<F: Shelf>(words: &[&str], plan: CheckPlan, shelf: &mut F) -> Result<Answer, Memory>
     requires { IfSome plan.table (λ t. t.word < length words.now) }
-    ensures stored { IfOk result (λ a. IsStored (texts words.now) (F.held shelf.old) (F.held shelf.new) (F.replace_faults shelf.old) (F.replace_faults shelf.new) plan.answer plan.table a) }
+    ensures stored { IfOk result (λ a. IsStored (texts words.now) (F.held shelf.old) (F.held shelf.new) (F.replace_faults shelf.old)
+        (F.replace_faults shelf.new) plan.answer plan.table a) }
     ensures memory { OnErr result (F.held shelf.new ≡ F.held shelf.old) }
     ensures reads { F.read_faults shelf.new ≡ F.read_faults shelf.old }
+    ensures no_read { F.reads shelf.new ≡ F.reads shelf.old }
 {
     let CheckPlan { answer, table } = plan;
     match table {
@@ -32,9 +34,11 @@ fn put<F: Shelf>(
     answer: Answer,
     shelf: &mut F,
 ) -> Result<Answer, Memory>
-    ensures put { IfOk result (λ a. IsPutAs name.now (F.held shelf.old) (F.held shelf.new) (F.replace_faults shelf.old) (F.replace_faults shelf.new) answer table a) }
+    ensures put { IfOk result (λ a. IsPutAs name.now (F.held shelf.old) (F.held shelf.new) (F.replace_faults shelf.old)
+        (F.replace_faults shelf.new) answer table a) }
     ensures memory { OnErr result (F.held shelf.new ≡ F.held shelf.old) }
     ensures reads { F.read_faults shelf.new ≡ F.read_faults shelf.old }
+    ensures no_read { F.reads shelf.new ≡ F.reads shelf.old }
 {
     match shelf.replace(name, table.bytes.as_slice()) {
         Ok(()) => Ok(answer),

@@ -1,4 +1,6 @@
+mod Fit
 mod GroupByGroup
+mod Held
 mod NewTable
 mod Solved
 mod Written

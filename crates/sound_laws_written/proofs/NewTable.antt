@@ -102,6 +102,17 @@ abbrev table_of : (Atom → Option Entry) → List Atom → List Entry
 table_of f [] = []
 table_of f (x ∷ xs) = and_entry (f x) (table_of f xs)
 
+entry_from : (f : Atom → Option Entry) (xs : List Atom) (e : Entry) → Contains (table_of f xs) e → (h : Atom) × (f h ≡ Some e)
+entry_from f [] e there = absurd (contains_none e there)
+entry_from f (x ∷ xs) e there = by (f x) refl there (entry_from f xs e)
+  where
+    by : (o : Option Entry) → f x ≡ o → Contains (and_entry o (table_of f xs)) e → (Contains (table_of f xs) e → (h : Atom) × (f h ≡ Some e)) → (h : Atom) × (f h ≡ Some e)
+    by None q there rest = rest there
+    by (Some d) q there rest = elim (contains_cases d e (table_of f xs) there) [
+      | inl same ↦ (x, q ∙ ap Some same)
+      | inr more ↦ rest more
+    ]
+
 module _ (f : Atom → Option Entry) (named : (h : Atom) (e : Entry) → f h ≡ Some e → e.name ≡ h) where
   found : (xs : List Atom) (h : Atom) → entry_of (table_of f xs) h ≡ cond (has xs h) (f h) None
   found [] h = refl
@@ -226,6 +237,10 @@ module _ (R : Results) (T : List Entry) (M : List Source) (g : Groups) (is : IsG
             so : (b : Bool) → cond b (entry h) None ≡ entry h
             so true = refl
             so false = sym (no_entry h e)
+
+    pub entries_from : (e : Entry) → Contains entries e → (h : Atom) × (entry h ≡ Some e)
+    unfolding entries
+    entries_from e there = entry_from entry sorted e there
 
     pub entries_rise : IsTrue (rises is_name_before (names_of entries))
     unfolding entries

@@ -5,7 +5,7 @@ use Rattle.type_kinds.proofs.Lists.{contains_none, contains_first, contains_late
 use Rattle.type_kinds.specs.declared.atom.Atom.{Atom}
 use Rattle.core_ast.specs.Model as m
 use Rattle.core_ast.specs.declared.syntax.FunName.{FunName}
-use Rattle.core_scope.specs.Breaks.{module_breaks}
+use Rattle.core_scope.specs.Accepted.{IsAccepted}
 use Rattle.core_scope.specs.Checked.{is_accepted}
 use Rattle.core_scope.specs.Names.{Distinct, has_function}
 use Rattle.core_scope.proofs.NameLaws.{has_contained}
@@ -33,11 +33,11 @@ use Rattle.sound_laws_kept.proofs.Shown.{exported_so}
 
 -- ---- what is exported is known
 
-sound_of : (xs : List m.Module) → AreAccepted xs → (x : m.Module) → Contains xs x → module_breaks x ≡ []
-sound_of [] are x has = absurd (contains_none x has)
-sound_of (y ∷ xs) are x has = elim (contains_cases y x xs has) [
-  | inl same ↦ subst (λ z. module_breaks z ≡ []) (are.0.1 ∙ same) (is_accepted are.0.0).sound
-  | inr more ↦ sound_of xs are.1 x more
+pub accepted_of : (xs : List m.Module) → AreAccepted xs → (x : m.Module) → Contains xs x → IsAccepted x
+accepted_of [] are x has = absurd (contains_none x has)
+accepted_of (y ∷ xs) are x has = elim (contains_cases y x xs has) [
+  | inl same ↦ subst IsAccepted (are.0.1 ∙ same) (is_accepted are.0.0)
+  | inr more ↦ accepted_of xs are.1 x more
 ]
 
 known_by : (known : Callees) (g : Function) (s : Summary) → g.exported ≡ true → known g.home g.name ≡ callee_of g s → known g.home g.name ≡ Known s
@@ -47,7 +47,7 @@ module _ (xs : List m.Module) (accepted : AreAccepted xs) (apart : Distinct (mod
   export_known : (x : m.Module) → Contains xs x → (f : FunName) → Contains (exported x) f → IsKnown (known x.name f)
   export_known x there f has =
       let export : has_function x.exports f ≡ true = has_contained x.exports f ((exported_exactly x f).0 has) in
-      let in_module = member_named (functions_at x) x.name f (from_member x.name x.exports x.defs f (exports_defined x (sound_of xs accepted x there) f export)) in
+      let in_module = member_named (functions_at x) x.name f (from_member x.name x.exports x.defs f (exports_defined x (accepted_of xs accepted x there).sound f export)) in
       let g = in_module.function in
       let n = is.number g.home g.name in
       let solved = known_some known (is.component n) (summaries known (is.component n)) (is.known_so n) g (is.all g (all_there xs x g there in_module.there)) in

@@ -1,6 +1,7 @@
-//! The law, as a function that does nothing: who calls it has its clauses.
-ghost use Rattle.sound_laws_written.specs.Laws.{SomeAnalysisLaw};
+//! The laws, as functions that do nothing: who calls one has its clauses.
+ghost use Rattle.sound_laws_written.specs.Laws.{SomeAnalysisLaw, SomeTableLaw};
 
+use comp_rounds::rounds_laws;
 use sound_laws_kept::stands_rests;
 use sound_laws_outside::some_is_known;
 use table_keep::some_groups;
@@ -15,4 +16,16 @@ pub fn an_analysis()
     some_is_known();
     a_text();
     stands_rests();
+}
+
+/// There is one with any table that the program can hold, where the digests of the modules' texts have 32 bytes, and its new entries
+/// are those of a table that the program can hold.
+pub fn a_written_table()
+    ensures { SomeTableLaw }
+{
+    some_groups();
+    some_is_known();
+    a_text();
+    stands_rests();
+    rounds_laws();
 }

@@ -3,4 +3,4 @@
 
 mod laws;
 
-pub use laws::an_analysis;
+pub use laws::{a_written_table, an_analysis};

@@ -23,5 +23,6 @@ loop-number-preserved g c = record {
       (subst (IsPutOne c.loop-number.number c.as_slice-text.result.now (g.F.Shelf.held c.loop-number.shelf) (g.F.Shelf.held c.put_one.new.shelf) (g.F.Shelf.replace_faults c.loop-number.shelf) (g.F.Shelf.replace_faults c.put_one.new.shelf))
       c.in-Ok-None.field-0-is c.in-Ok-None.ensures.put);
   reads = c.in-Ok-None.ensures.reads ∙ c.loop-number.invariant.reads;
+  no_read = c.in-Ok-None.ensures.no_read ∙ c.loop-number.invariant.no_read;
   counted = omega (arith, c.loop-number.invariant.counted, c.in-Ok-None.ensures.counted);
 }

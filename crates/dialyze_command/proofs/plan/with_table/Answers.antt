@@ -1,9 +1,11 @@
-use Rattle.std.proofs.Common.{ℕ, ◌<◌, drop, length, sym, subst, arith}
-use Rattle.analysis_sources.specs.Reading.{Fails}
+use Rattle.std.proofs.Common.{ℕ, List, ◌<◌, drop, length, sym, subst, arith}
+use Rattle.analysis_sources.specs.Reading.{AreUpTo, Fails}
 use Rattle.analysis_sources.specs.Words.{texts}
 use Rattle.analysis_answers.proofs.FileWords.{failed_within, refused_within}
 use Rattle.dialyze_command.proofs.Places.{start_small}
 use Rattle.dialyze_command.proofs.PlanExits.{few_words, whole_words, judged_words, refused_words, unread_words}
+use Rattle.dialyze_command.proofs.ToldExits.{judged_told, refused_told, unread_told}
+use Rattle.da_shelf.specs.Reads.{IsTold}
 use Rattle.dialyze_command.proofs.plan.with_table.Goals as goal
 
 pub overflow_cast-command : goal.overflow_cast-command
@@ -50,4 +52,27 @@ returns-in_ok-answer-in-Err-Failed-clause-plan g c =
     c.in_ok-answer-in-Err-Failed.answer.status c.in_ok-answer-in-Err-Failed.answer.output
     (subst (Fails (g.F.Shelf.held c.args.shelf.now) (drop c.args.command.start (texts c.args.words.now)) c.args.command.start (g.F.Shelf.read_faults c.args.shelf.now)
     (g.F.Shelf.read_faults c.read_sources.new.shelf)) c.in-Err-Failed.field-0-is c.in-Err-Failed.ensures.fault)
+    c.in-Err-Failed.word-is c.in_ok-answer-in-Err-Failed.ensures.status c.in_ok-answer-in-Err-Failed.ensures.output
+
+pub returns-in-Ok-clause-told : goal.returns-in-Ok-clause-told
+returns-in-Ok-clause-told g c =
+    judged_told g.F.Shelf.told c.args.shelf.now c.read_sources.new.shelf c.args.words.now c.args.command c.requires.checks c.args.table.now (g.F.Shelf.read_faults c.args.shelf.now) (g.F.Shelf.read_faults c.read_sources.new.shelf)
+    c.in-Ok.sources c.judge.result c.in-Ok.ensures.told c.judge.ensures.judged
+
+pub returns-in_ok-answer-in-Err-Refused-clause-told : goal.returns-in_ok-answer-in-Err-Refused-clause-told
+returns-in_ok-answer-in-Err-Refused-clause-told g c =
+    let files = drop c.args.command.start (texts c.args.words.now) in
+    refused_told g.F.Shelf.told c.args.shelf.now c.read_sources.new.shelf c.args.words.now c.args.command c.requires.checks c.args.table.now (g.F.Shelf.read_faults c.args.shelf.now) (g.F.Shelf.read_faults c.read_sources.new.shelf)
+    c.in-Err-Refused.word c.in-Err-Refused.fault _ _ _ c.in_ok-answer-in-Err-Refused.answer.status c.in_ok-answer-in-Err-Refused.answer.output
+    (subst (λ f. (names : List (List ℕ)) × AreUpTo c.args.command.start files names f × IsTold g.F.Shelf.told c.args.shelf.now c.read_sources.new.shelf names
+    (λ held. Fails held files c.args.command.start (g.F.Shelf.read_faults c.args.shelf.now) (g.F.Shelf.read_faults c.read_sources.new.shelf) f)) c.in-Err-Refused.field-0-is c.in-Err-Refused.ensures.told_fault)
+    c.in-Err-Refused.word-is c.in-Err-Refused.fault-is c.in_ok-answer-in-Err-Refused.ensures.status c.in_ok-answer-in-Err-Refused.ensures.output
+
+pub returns-in_ok-answer-in-Err-Failed-clause-told : goal.returns-in_ok-answer-in-Err-Failed-clause-told
+returns-in_ok-answer-in-Err-Failed-clause-told g c =
+    let files = drop c.args.command.start (texts c.args.words.now) in
+    unread_told g.F.Shelf.told c.args.shelf.now c.read_sources.new.shelf c.args.words.now c.args.command c.requires.checks c.args.table.now (g.F.Shelf.read_faults c.args.shelf.now) (g.F.Shelf.read_faults c.read_sources.new.shelf)
+    c.in-Err-Failed.word _ _ c.in_ok-answer-in-Err-Failed.answer.status c.in_ok-answer-in-Err-Failed.answer.output
+    (subst (λ f. (names : List (List ℕ)) × AreUpTo c.args.command.start files names f × IsTold g.F.Shelf.told c.args.shelf.now c.read_sources.new.shelf names
+    (λ held. Fails held files c.args.command.start (g.F.Shelf.read_faults c.args.shelf.now) (g.F.Shelf.read_faults c.read_sources.new.shelf) f)) c.in-Err-Failed.field-0-is c.in-Err-Failed.ensures.told_fault)
     c.in-Err-Failed.word-is c.in_ok-answer-in-Err-Failed.ensures.status c.in_ok-answer-in-Err-Failed.ensures.output
