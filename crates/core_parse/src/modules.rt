@@ -1,13 +1,15 @@
 ghost use Rattle.std.specs.Prelude.{◌≡◌, ◌+◌, ◌^◌, ◌<◌, ◌≤◌, length, IfOk, IfErr};
 ghost use Rattle.core_ast.specs.Tree.{module_tree};
 ghost use Rattle.core_parse_grammar.specs.Begins.{IsModule, Refused};
-ghost use Rattle.core_parse_grammar.specs.Grammar.{the, many, noted_, annotated_module as annotated_module_part, «module» as module_part, attribute as attribute_part, constant};
+ghost use Rattle.core_parse_grammar.specs.Grammar.{the, many, noted_, annotated_module as annotated_module_part};
+ghost use Rattle.core_parse_grammar.specs.Grammar.{«module» as module_part, attribute as attribute_part, constant};
 ghost use Rattle.core_parse_grammar.specs.Faults.{Refuses};
 ghost use Rattle.core_parse_grammar.specs.Readings.{ReadsAnnotatedConstant, ReadsAttribute, ReadsAttributes, ReadsHeader, ReadsBareModule, ReadsModule};
 ghost use Rattle.core_parse_grammar.specs.Weights.{weight};
 
 use core_ast::{FunDef, FunName, Module, discard_module};
-use core_parse_forms::definitions::{ReadDefinitions, definitions};
+use core_parse_forms::Read;
+use core_parse_forms::definitions::definitions;
 use core_parse_grammar::annotations::annotation;
 use core_parse_grammar::constants::constant;
 use core_parse_grammar::fault::{ParseFault, PartFault};
@@ -108,8 +110,8 @@ fn bare_module<'a>(alloc: Global, tokens: &'a [Token]) -> Result<ReadModule<'a>,
         Ok(name) => name,
         Err(Memory) => return Err(PartFault::Memory),
     };
-    let ReadDefinitions {
-        items,
+    let Read {
+        value: items,
         rest,
         label: _,
     } = match definitions(alloc, header.rest, Sort::End, 1, 0) {

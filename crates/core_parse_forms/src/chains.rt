@@ -6,7 +6,8 @@ ghost use Rattle.core_parse_grammar.specs.Faults.{Starts, Refuses};
 ghost use Rattle.core_parse_grammar.specs.Readings.{chain_sort, opens_chain, ReadsOtherExpression};
 ghost use Rattle.core_parse_grammar.specs.Weights.{weight};
 
-use crate::expressions::{ReadExpression, expression};
+use crate::expressions::expression;
+use crate::macros::{Read, found, node, read};
 use core_ast::{Expr, Step, discard_steps};
 use core_parse_grammar::annotations::annotation;
 use core_parse_grammar::boxes::{added, discard, discard_step, noted_step, pushed};
@@ -24,20 +25,6 @@ use type_kinds::{Boxed, List, Memory};
 pub struct Frame {
     pub step: Boxed<Step>,
     pub noted: bool,
-}
-
-/// A step of a chain, and what follows it.
-pub struct ReadStep<'a> {
-    pub step: Boxed<Step>,
-    pub rest: &'a [Token],
-    pub label: u32,
-}
-
-/// The steps of a chain, the first of them first, and what follows them.
-pub struct ReadSteps<'a> {
-    pub frames: List<Frame>,
-    pub rest: &'a [Token],
-    pub label: u32,
 }
 
 /// The steps of a chain, the first of them first, and its last expression, and what follows it.
@@ -121,16 +108,15 @@ pub fn chain<'a>(
     ensures shorter { IfOk result (λ r. length r.rest.now < length tokens.now) }
     ensures err { IfErr result (λ e. Refuses (other_expression depth) tokens.now e) }
 {
-    let ReadSteps {
-        frames,
-        rest,
-        label: next_label,
-    } = match steps(alloc, tokens, first, depth, label) {
-        Ok(found) => found,
-        Err(fault) => return Err(fault),
-    };
+    read!(frames, rest, next_label in steps(alloc, tokens, first, depth, label));
     match expression(alloc, rest, depth, next_label) {
-        Ok(ReadExpression { expr, rest, label }) => Ok(ReadChain {
+        Ok(
+            Read {
+                value: expr,
+                rest,
+                label,
+            },
+        ) => Ok(ReadChain {
             frames,
             last: expr,
             rest,
@@ -152,7 +138,7 @@ pub fn closed<'a>(
     depth: u32,
     label: u32,
     chain: Result<ReadChain<'a>, PartFault>,
-) -> Result<ReadExpression<'a>, PartFault>
+) -> Result<Read<'a, Boxed<Expr>>, PartFault>
     requires shallow { depth ≤ 400 }
     requires starts { Starts tokens.now first.token.now first.sort first.place first.rest.now }
     requires sort { chain_sort first.sort ≡ true }
@@ -160,7 +146,7 @@ pub fn closed<'a>(
     requires labels { IfOk chain (λ r. r.label + weight r.rest.now ≤ label + weight tokens.now) }
     requires shorter { IfOk chain (λ r. length r.rest.now < length tokens.now) }
     requires refuses { IfErr chain (λ e. Refuses (other_expression depth) tokens.now e) }
-    ensures ok { IfOk result (λ r. ReadsOtherExpression depth label tokens.now (tree r.expr) r.rest.now r.label) }
+    ensures ok { IfOk result (λ r. ReadsOtherExpression depth label tokens.now (tree r.value) r.rest.now r.label) }
     ensures labels { IfOk result (λ r. r.label + weight r.rest.now ≤ label + weight tokens.now) }
     ensures shorter { IfOk result (λ r. length r.rest.now < length tokens.now) }
     ensures err { IfErr result (λ e. Refuses (other_expression depth) tokens.now e) }
@@ -170,10 +156,7 @@ pub fn closed<'a>(
         last,
         rest,
         label: next_label,
-    } = match chain {
-        Ok(found) => found,
-        Err(fault) => return Err(fault),
-    };
+    } = found!(chain);
     let mut left = rest;
     let mut done: List<Step> = List::new(alloc);
     while let Some(frame) = frames.pop() {
@@ -205,14 +188,11 @@ pub fn closed<'a>(
         }
     }
     let steps = reversed(done);
-    match nodes::chain(alloc, mark(label, first.place), steps, last) {
-        Ok(expr) => Ok(ReadExpression {
-            expr,
-            rest: left,
-            label: next_label,
-        }),
-        Err(Memory) => Err(PartFault::Memory),
-    }
+    node!(
+        nodes::chain(alloc, mark(label, first.place), steps, last),
+        left,
+        next_label
+    )
 }
 
 // Steps, the last first.
@@ -233,53 +213,41 @@ fn steps<'a>(
     first: First<'a>,
     depth: u32,
     label: u32,
-) -> Result<ReadSteps<'a>, PartFault>
+) -> Result<Read<'a, List<Frame>>, PartFault>
     requires shallow { depth ≤ 400 }
     requires labels { label + weight tokens.now < 2 ^ 32 }
     requires starts { Starts tokens.now first.token.now first.sort first.place first.rest.now }
     requires shorter { length first.rest.now + 1 ≡ length tokens.now }
     requires lighter { weight first.rest.now + 2 ≤ weight tokens.now }
     requires sort { chain_sort first.sort ≡ true }
-    ensures ok { IfOk result (λ r. ReadsSteps depth label first.entry.place tokens.now r.frames r.rest.now r.label) }
+    ensures ok { IfOk result (λ r. ReadsSteps depth label first.entry.place tokens.now r.value r.rest.now r.label) }
     ensures labels { IfOk result (λ r. r.label + weight r.rest.now ≤ label + weight tokens.now) }
     ensures shorter { IfOk result (λ r. length r.rest.now < length tokens.now) }
     ensures last { IfOk result (λ r. opens_chain r.rest.now ≡ false) }
     ensures err { IfErr result (λ e. Refuses (other_expression depth) tokens.now e) }
 {
     let mut frames = List::new(alloc);
-    let (mut left, mut next_label) = match step(alloc, first, depth, label + 1) {
-        Ok(ReadStep { step, rest, label }) => {
-            let frame = Frame { step, noted: false };
-            if !added(&mut frames, frame) {
-                discard_frames(frames);
-                return Err(PartFault::Memory);
-            }
-            (rest, label)
-        }
-        Err(fault) => {
-            discard_frames(frames);
-            return Err(fault);
-        }
+    read!(begun, mut left, mut next_label in step(alloc, first, depth, label + 1), discard_frames(frames));
+    let frame = Frame {
+        step: begun,
+        noted: false,
     };
-    while let Some(StepWord { word, noted }) = next_step(left) {
-        match step(alloc, word, depth, next_label) {
-            Ok(ReadStep { step, rest, label }) => {
-                let frame = Frame { step, noted };
-                if !added(&mut frames, frame) {
-                    discard_frames(frames);
-                    return Err(PartFault::Memory);
-                }
-                left = rest;
-                next_label = label;
-            }
-            Err(fault) => {
-                discard_frames(frames);
-                return Err(fault);
-            }
-        }
+    if !added(&mut frames, frame) {
+        discard_frames(frames);
+        return Err(PartFault::Memory);
     }
-    Ok(ReadSteps {
-        frames,
+    while let Some(StepWord { word, noted }) = next_step(left) {
+        read!(step, rest, label in step(alloc, word, depth, next_label), discard_frames(frames));
+        let frame = Frame { step, noted };
+        if !added(&mut frames, frame) {
+            discard_frames(frames);
+            return Err(PartFault::Memory);
+        }
+        left = rest;
+        next_label = label;
+    }
+    Ok(Read {
+        value: frames,
         rest: left,
         label: next_label,
     })
@@ -293,11 +261,11 @@ fn step<'a>(
     word: First<'a>,
     depth: u32,
     label: u32,
-) -> Result<ReadStep<'a>, PartFault>
+) -> Result<Read<'a, Boxed<Step>>, PartFault>
     requires shallow { depth ≤ 400 }
     requires labels { label + 1 + weight word.rest.now < 2 ^ 32 }
     requires sort { chain_sort word.sort ≡ true }
-    ensures ok { IfOk result (λ r. ReadsStep word.entry.sort depth label word.entry.place word.entry.rest.now (step_tree r.step) r.rest.now r.label) }
+    ensures ok { IfOk result (λ r. ReadsStep word.entry.sort depth label word.entry.place word.entry.rest.now (step_tree r.value) r.rest.now r.label) }
     ensures labels { IfOk result (λ r. r.label + weight r.rest.now ≤ label + 1 + weight word.entry.rest.now) }
     ensures shorter { IfOk result (λ r. length r.rest.now < length word.entry.rest.now) }
     ensures err { IfErr result (λ e. RefusesStep word.entry.sort depth word.entry.rest.now e) }
@@ -305,38 +273,19 @@ fn step<'a>(
     let mark = mark(label, word.place);
     if same(word.sort, Sort::Do) {
         return match expression(alloc, word.rest, depth + 1, label + 1) {
-            Ok(ReadExpression { expr, rest, label }) => match do_step(alloc, mark, expr) {
-                Ok(step) => Ok(ReadStep { step, rest, label }),
-                Err(Memory) => Err(PartFault::Memory),
-            },
+            Ok(
+                Read {
+                    value: expr,
+                    rest,
+                    label,
+                },
+            ) => node!(do_step(alloc, mark, expr), rest, label),
             Err(fault) => Err(fault),
         };
     }
-    let vars = match variables(alloc, word.rest) {
-        Ok(found) => found,
-        Err(fault) => return Err(fault),
-    };
-    let rest = match take(vars.rest, Sort::Equals) {
-        Ok(found) => found,
-        Err(fault) => return Err(fault),
-    };
-    let ReadExpression {
-        expr: value,
-        rest,
-        label,
-    } = match expression(alloc, rest, depth + 1, label + 1) {
-        Ok(found) => found,
-        Err(fault) => return Err(fault),
-    };
-    let rest = match take(rest, Sort::In) {
-        Ok(found) => found,
-        Err(fault) => {
-            discard(value);
-            return Err(fault);
-        }
-    };
-    match let_step(alloc, mark, vars.variables, value) {
-        Ok(step) => Ok(ReadStep { step, rest, label }),
-        Err(Memory) => Err(PartFault::Memory),
-    }
+    let vars = found!(variables(alloc, word.rest));
+    let rest = found!(take(vars.rest, Sort::Equals));
+    read!(value, rest, label in expression(alloc, rest, depth + 1, label + 1));
+    let rest = found!(take(rest, Sort::In), discard(value));
+    node!(let_step(alloc, mark, vars.variables, value), rest, label)
 }

@@ -1,14 +1,16 @@
 ghost use Rattle.std.specs.Prelude.{◌≡◌, ◌+◌, ◌^◌, ◌<◌, ◌≤◌, [], ◌∷◌, true, false, length, IfOk, IfErr};
 ghost use Rattle.core_ast.specs.Tree.{tree, pattern_tree, patterns as patterns_of, all_clauses, all_patterns};
 ghost use Rattle.core_parse_grammar.specs.Grammar.{clauses_to, clause as clause_of};
-ghost use Rattle.core_parse_forms.specs.steps.Clauses.{ends_clauses, read_clause, ReadsMoreClauses, ReadsHead, ReadsSeveral, RefusesSeveral, ReadsEither, RefusesEither};
+ghost use Rattle.core_parse_forms.specs.steps.Clauses.{ends_clauses, read_clause, ReadsMoreClauses, ReadsHead};
+ghost use Rattle.core_parse_forms.specs.steps.Clauses.{ReadsSeveral, RefusesSeveral, ReadsEither, RefusesEither};
 ghost use Rattle.core_parse_grammar.specs.Faults.{Starts, Takes, MissesOrMemory, Refuses};
 ghost use Rattle.core_parse_grammar.specs.Readings.{ReadsClause};
 ghost use Rattle.core_parse_grammar.specs.Weights.{weight};
 
-use crate::expressions::{ReadExpression, expression};
+use crate::expressions::expression;
+use crate::macros::{Read, answer, found, made, read};
 use crate::pattern_brackets::{ReadInBrackets, in_brackets, named, noted_variable};
-use crate::patterns::{ReadPattern, ReadPatterns, bare_pattern, patterns};
+use crate::patterns::{bare_pattern, patterns};
 use core_ast::{Clause, Expr, Mark, Pattern, VarName, discard_clauses, discard_patterns};
 use core_parse_grammar::annotations::{ReadAnnotatedPattern, annotated_pattern, annotation};
 use core_parse_grammar::boxes::{discard, discard_pattern, pushed};
@@ -19,13 +21,6 @@ use core_parse_grammar::pattern_nodes;
 use core_scan::{Sort, Token, same};
 use std::alloc::Global;
 use type_kinds::{Boxed, List, Memory, Place};
-
-/// Clauses, and what follows the token that closes them.
-pub struct ReadClauses<'a> {
-    pub items: List<Clause>,
-    pub rest: &'a [Token],
-    pub label: u32,
-}
 
 /// The parts of a clause, and what follows it.
 pub struct ReadClause<'a> {
@@ -57,25 +52,19 @@ pub fn clauses<'a>(
     items: List<Clause>,
     depth: u32,
     label: u32,
-) -> Result<ReadClauses<'a>, PartFault>
+) -> Result<Read<'a, List<Clause>>, PartFault>
     requires closes { ends_clauses close ≡ true }
     requires shallow { depth ≤ 401 }
     requires labels { label + 1 + weight tokens.now < 2 ^ 32 }
-    ensures ok { IfOk result (λ r. ReadsMoreClauses close depth label (all_clauses items) tokens.now (all_clauses r.items) r.rest.now r.label) }
+    ensures ok { IfOk result (λ r. ReadsMoreClauses close depth label (all_clauses items) tokens.now (all_clauses r.value) r.rest.now r.label) }
     ensures labels { IfOk result (λ r. r.label + weight r.rest.now ≤ label + weight tokens.now) }
     ensures shorter { IfOk result (λ r. length r.rest.now < length tokens.now) }
     ensures err { IfErr result (λ e. Refuses (clauses_to close depth) tokens.now e) }
 {
-    let first = match next(tokens) {
-        Ok(found) => found,
-        Err(fault) => {
-            discard_clauses(items);
-            return Err(fault);
-        }
-    };
+    let first = found!(next(tokens), discard_clauses(items));
     if same(first.sort, close) {
-        return Ok(ReadClauses {
-            items,
+        return Ok(Read {
+            value: items,
             rest: first.rest,
             label,
         });
@@ -87,55 +76,31 @@ pub fn clauses<'a>(
         body,
         rest: mut left,
         label: mut next_label,
-    } = match clause(alloc, tokens, depth, label) {
-        Ok(found) => found,
-        Err(fault) => {
-            discard_clauses(items);
-            return Err(fault);
-        }
-    };
-    let mut items = match with_clause(items, mark, patterns, guard, body) {
-        Ok(items) => items,
-        Err(Memory) => return Err(PartFault::Memory),
-    };
+    } = found!(clause(alloc, tokens, depth, label), discard_clauses(items));
+    let mut items = made!(with_clause(items, mark, patterns, guard, body));
     loop {
-        let token = match next(left) {
-            Ok(found) => found,
-            Err(fault) => {
-                discard_clauses(items);
-                return Err(fault);
-            }
-        };
+        let token = found!(next(left), discard_clauses(items));
         if same(token.sort, close) {
-            return Ok(ReadClauses {
-                items,
+            return Ok(Read {
+                value: items,
                 rest: token.rest,
                 label: next_label,
             });
         }
-        match clause(alloc, left, depth, next_label) {
-            Ok(
-                ReadClause {
-                    mark,
-                    patterns,
-                    guard,
-                    body,
-                    rest,
-                    label,
-                },
-            ) => {
-                items = match with_clause(items, mark, patterns, guard, body) {
-                    Ok(items) => items,
-                    Err(Memory) => return Err(PartFault::Memory),
-                };
-                left = rest;
-                next_label = label;
-            }
-            Err(fault) => {
-                discard_clauses(items);
-                return Err(fault);
-            }
-        }
+        let ReadClause {
+            mark,
+            patterns,
+            guard,
+            body,
+            rest,
+            label,
+        } = found!(
+            clause(alloc, left, depth, next_label),
+            discard_clauses(items)
+        );
+        items = made!(with_clause(items, mark, patterns, guard, body));
+        left = rest;
+        next_label = label;
     }
 }
 
@@ -161,42 +126,15 @@ pub fn clause<'a>(
         noted,
         rest,
         label: next_label,
-    } = match head(alloc, tokens, depth, label + 1) {
-        Ok(found) => found,
-        Err(fault) => return Err(fault),
-    };
+    } = found!(head(alloc, tokens, depth, label + 1));
     let mark = mark(label, place);
-    let ReadExpression {
-        expr: guard,
-        rest,
-        label,
-    } = match expression(alloc, rest, depth, next_label) {
-        Ok(found) => found,
-        Err(fault) => {
-            discard_patterns(patterns);
-            return Err(fault);
-        }
-    };
-    let rest = match take(rest, Sort::Arrow) {
-        Ok(found) => found,
-        Err(fault) => {
-            discard_patterns(patterns);
-            discard(guard);
-            return Err(fault);
-        }
-    };
-    let ReadExpression {
-        expr: body,
-        rest,
-        label,
-    } = match expression(alloc, rest, depth, label) {
-        Ok(found) => found,
-        Err(fault) => {
-            discard_patterns(patterns);
-            discard(guard);
-            return Err(fault);
-        }
-    };
+    read!(guard, rest, label in expression(alloc, rest, depth, next_label), discard_patterns(patterns));
+    let rest = found!(
+        take(rest, Sort::Arrow),
+        discard_patterns(patterns),
+        discard(guard)
+    );
+    read!(body, rest, label in expression(alloc, rest, depth, label), discard_patterns(patterns), discard(guard));
     if !noted {
         return Ok(ReadClause {
             mark,
@@ -241,21 +179,12 @@ fn head<'a>(
     ensures shorter { IfOk result (λ r. length r.rest.now < length tokens.now) }
     ensures err { IfErr result (λ e. Refuses (clause_of depth) tokens.now e) }
 {
-    let first = match next(tokens) {
-        Ok(found) => found,
-        Err(fault) => return Err(fault),
-    };
+    let first = found!(next(tokens));
     if same(first.sort, Sort::OpenRound) {
-        return match head_in_brackets(alloc, tokens, first, depth, label) {
-            Ok(found) => Ok(found),
-            Err(fault) => Err(fault),
-        };
+        return answer!(head_in_brackets(alloc, tokens, first, depth, label));
     }
     if same(first.sort, Sort::Less) {
-        return match several(alloc, first, false, depth, label) {
-            Ok(found) => Ok(found),
-            Err(fault) => Err(fault),
-        };
+        return answer!(several(alloc, first, false, depth, label));
     }
     match bare_pattern(alloc, tokens, depth, label) {
         Ok(found) => single(alloc, found, first.place, false),
@@ -285,21 +214,12 @@ fn head_in_brackets<'a>(
     ensures shorter { IfOk result (λ r. length r.rest.now < length tokens.now) }
     ensures err { IfErr result (λ e. Refuses (clause_of depth) tokens.now e) }
 {
-    let second = match next(first.rest) {
-        Ok(found) => found,
-        Err(fault) => return Err(fault),
-    };
+    let second = found!(next(first.rest));
     if same(second.sort, Sort::Less) {
-        return match several(alloc, second, true, depth, label) {
-            Ok(found) => Ok(found),
-            Err(fault) => Err(fault),
-        };
+        return answer!(several(alloc, second, true, depth, label));
     }
     if same(second.sort, Sort::Variable) {
-        return match head_with_variable(alloc, tokens, first, second, depth, label) {
-            Ok(found) => Ok(found),
-            Err(fault) => Err(fault),
-        };
+        return answer!(head_with_variable(alloc, tokens, first, second, depth, label));
     }
     if !same(second.sort, Sort::OpenRound) {
         return match bare_pattern(alloc, first.rest, depth, label) {
@@ -312,12 +232,9 @@ fn head_in_brackets<'a>(
         alone,
         rest,
         label,
-    } = match in_brackets(alloc, first.rest, second, depth, label) {
-        Ok(found) => found,
-        Err(fault) => return Err(fault),
-    };
-    let found = ReadPattern {
-        pattern,
+    } = found!(in_brackets(alloc, first.rest, second, depth, label));
+    let found = Read {
+        value: pattern,
         rest,
         label,
     };
@@ -355,14 +272,8 @@ fn head_with_variable<'a>(
     if depth > DEEPEST {
         return Err(PartFault::TooDeep(second.place));
     }
-    let name = match text_of(alloc, second.token) {
-        Ok(name) => name,
-        Err(Memory) => return Err(PartFault::Memory),
-    };
-    let third = match next(second.rest) {
-        Ok(found) => found,
-        Err(fault) => return Err(fault),
-    };
+    let name = made!(text_of(alloc, second.token));
+    let third = found!(next(second.rest));
     if same(third.sort, Sort::Noted) {
         return match noted_variable(alloc, name, first, second, depth, label) {
             Ok(
@@ -373,8 +284,8 @@ fn head_with_variable<'a>(
                     alone: _,
                 },
             ) => {
-                let found = ReadPattern {
-                    pattern,
+                let found = Read {
+                    value: pattern,
                     rest,
                     label,
                 };
@@ -395,12 +306,9 @@ fn head_with_variable<'a>(
             Err(fault) => Err(fault),
         };
     }
-    let pattern = match pattern_nodes::variable(alloc, mark, name) {
-        Ok(pattern) => pattern,
-        Err(Memory) => return Err(PartFault::Memory),
-    };
-    let found = ReadPattern {
-        pattern,
+    let pattern = made!(pattern_nodes::variable(alloc, mark, name));
+    let found = Read {
+        value: pattern,
         rest: second.rest,
         label: label + 1,
     };
@@ -426,23 +334,8 @@ fn several<'a>(
     ensures shorter { IfOk result (λ r. length r.rest.now < length first.entry.rest.now) }
     ensures err { IfErr result (λ e. RefusesSeveral depth first.entry.rest.now e) }
 {
-    let ReadPatterns { items, rest, label } = match patterns(
-        alloc,
-        first.rest,
-        Sort::Greater,
-        depth,
-        label,
-    ) {
-        Ok(found) => found,
-        Err(fault) => return Err(fault),
-    };
-    let rest = match take(rest, Sort::When) {
-        Ok(found) => found,
-        Err(fault) => {
-            discard_patterns(items);
-            return Err(fault);
-        }
-    };
+    read!(items, rest, label in patterns(alloc, first.rest, Sort::Greater, depth, label));
+    let rest = found!(take(rest, Sort::When), discard_patterns(items));
     Ok(ReadHead {
         patterns: items,
         place: first.place,
@@ -456,31 +349,26 @@ fn several<'a>(
 // brackets.
 fn either<'a>(
     alloc: Global,
-    found: ReadPattern<'a>,
+    found: Read<'a, Boxed<Pattern>>,
     outer: Place,
     inner: Place,
 ) -> Result<ReadHead<'a>, PartFault>
-    ensures ok { IfOk result (λ r. ReadsEither found.entry.rest.now (pattern_tree found.entry.pattern) outer inner (all_patterns r.patterns) r.place r.noted r.rest.now) }
+    ensures ok { IfOk result (λ r. ReadsEither found.entry.rest.now (pattern_tree found.entry.value) outer inner
+        (all_patterns r.patterns) r.place r.noted r.rest.now) }
     ensures label { IfOk result (λ r. r.label ≡ found.entry.label) }
     ensures shorter { IfOk result (λ r. length r.rest.now < length found.entry.rest.now) }
     ensures lighter { IfOk result (λ r. weight r.rest.now + 2 ≤ weight found.entry.rest.now) }
     ensures err { IfErr result (λ e. RefusesEither found.entry.rest.now e) }
 {
-    let ReadPattern {
-        pattern,
+    let Read {
+        value: pattern,
         rest,
         label,
     } = found;
-    let token = match next(rest) {
-        Ok(found) => found,
-        Err(fault) => {
-            discard_pattern(pattern);
-            return Err(fault);
-        }
-    };
+    let token = found!(next(rest), discard_pattern(pattern));
     if !same(token.sort, Sort::Noted) {
-        let found = ReadPattern {
-            pattern,
+        let found = Read {
+            value: pattern,
             rest,
             label,
         };
@@ -488,8 +376,8 @@ fn either<'a>(
     }
     match annotated_pattern(alloc, pattern, rest) {
         Ok(ReadAnnotatedPattern { pattern, rest }) => {
-            let found = ReadPattern {
-                pattern,
+            let found = Read {
+                value: pattern,
                 rest,
                 label,
             };
@@ -502,12 +390,12 @@ fn either<'a>(
 // One pattern, behind which the word `when` comes.
 fn single<'a>(
     alloc: Global,
-    found: ReadPattern<'a>,
+    found: Read<'a, Boxed<Pattern>>,
     place: Place,
     noted: bool,
 ) -> Result<ReadHead<'a>, PartFault>
     ensures ok { IfOk result (λ r. Takes (Sort.When) found.entry.rest.now r.rest.now) }
-    ensures patterns { IfOk result (λ r. all_patterns r.patterns ≡ patterns_of (pattern_tree found.entry.pattern ∷ [])) }
+    ensures patterns { IfOk result (λ r. all_patterns r.patterns ≡ patterns_of (pattern_tree found.entry.value ∷ [])) }
     ensures place { IfOk result (λ r. r.place ≡ place) }
     ensures noted { IfOk result (λ r. r.noted ≡ noted) }
     ensures label { IfOk result (λ r. r.label ≡ found.entry.label) }
@@ -515,18 +403,12 @@ fn single<'a>(
     ensures lighter { IfOk result (λ r. weight r.rest.now + 2 ≤ weight found.entry.rest.now) }
     ensures err { IfErr result (λ e. MissesOrMemory (Sort.When) found.entry.rest.now e) }
 {
-    let ReadPattern {
-        pattern,
+    let Read {
+        value: pattern,
         rest,
         label,
     } = found;
-    let rest = match take(rest, Sort::When) {
-        Ok(found) => found,
-        Err(fault) => {
-            discard_pattern(pattern);
-            return Err(fault);
-        }
-    };
+    let rest = found!(take(rest, Sort::When), discard_pattern(pattern));
     let mut patterns = List::new(alloc);
     if !pushed(&mut patterns, pattern) {
         discard_patterns(patterns);

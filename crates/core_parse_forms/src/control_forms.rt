@@ -5,9 +5,10 @@ ghost use Rattle.core_parse_grammar.specs.Faults.{Starts, Refuses};
 ghost use Rattle.core_parse_grammar.specs.Readings.{ReadsOtherExpression};
 ghost use Rattle.core_parse_grammar.specs.Weights.{weight};
 
-use crate::clauses::{ReadClause, ReadClauses, clause, clauses};
-use crate::expressions::{ReadExpression, expression};
-use core_ast::{TryOf, discard_clauses};
+use crate::clauses::{ReadClause, clause, clauses};
+use crate::expressions::expression;
+use crate::macros::{Read, found, made, node, read};
+use core_ast::{Expr, TryOf, discard_clauses};
 use core_parse_grammar::boxes::discard;
 use core_parse_grammar::fault::PartFault;
 use core_parse_grammar::leaves::{First, mark, take};
@@ -16,7 +17,7 @@ use core_parse_grammar::part_nodes::with_clause;
 use core_parse_grammar::variables::variables;
 use core_scan::{Sort, Token};
 use std::alloc::Global;
-use type_kinds::{List, Memory};
+use type_kinds::{Boxed, List, Memory};
 
 // case expression of clauses end, with a clause at least
 #[cycle(expressions)]
@@ -27,34 +28,21 @@ pub fn case<'a>(
     first: First<'a>,
     depth: u32,
     label: u32,
-) -> Result<ReadExpression<'a>, PartFault>
+) -> Result<Read<'a, Boxed<Expr>>, PartFault>
     requires shallow { depth ≤ 400 }
     requires labels { label + weight tokens.now < 2 ^ 32 }
     requires starts { Starts tokens.now first.token.now first.sort first.place first.rest.now }
     requires shorter { length first.rest.now + 1 ≡ length tokens.now }
     requires lighter { weight first.rest.now + 2 ≤ weight tokens.now }
     requires sort { first.sort ≡ Sort.Case }
-    ensures ok { IfOk result (λ r. ReadsOtherExpression depth label tokens.now (tree r.expr) r.rest.now r.label) }
+    ensures ok { IfOk result (λ r. ReadsOtherExpression depth label tokens.now (tree r.value) r.rest.now r.label) }
     ensures labels { IfOk result (λ r. r.label + weight r.rest.now ≤ label + weight tokens.now) }
     ensures shorter { IfOk result (λ r. length r.rest.now < length tokens.now) }
     ensures err { IfErr result (λ e. Refuses (other_expression depth) tokens.now e) }
 {
     let mark = mark(label, first.place);
-    let ReadExpression {
-        expr: argument,
-        rest,
-        label,
-    } = match expression(alloc, first.rest, depth + 1, label + 1) {
-        Ok(found) => found,
-        Err(fault) => return Err(fault),
-    };
-    let rest = match take(rest, Sort::Of) {
-        Ok(found) => found,
-        Err(fault) => {
-            discard(argument);
-            return Err(fault);
-        }
-    };
+    read!(argument, rest, label in expression(alloc, first.rest, depth + 1, label + 1));
+    let rest = found!(take(rest, Sort::Of), discard(argument));
     let ReadClause {
         mark: own_mark,
         patterns,
@@ -62,38 +50,13 @@ pub fn case<'a>(
         body,
         rest,
         label,
-    } = match clause(alloc, rest, depth + 1, label) {
-        Ok(found) => found,
-        Err(fault) => {
-            discard(argument);
-            return Err(fault);
-        }
-    };
-    let items = match with_clause(List::new(alloc), own_mark, patterns, guard, body) {
-        Ok(items) => items,
-        Err(Memory) => {
-            discard(argument);
-            return Err(PartFault::Memory);
-        }
-    };
-    let ReadClauses { items, rest, label } = match clauses(
-        alloc,
-        rest,
-        Sort::End,
-        items,
-        depth + 1,
-        label,
-    ) {
-        Ok(found) => found,
-        Err(fault) => {
-            discard(argument);
-            return Err(fault);
-        }
-    };
-    match nodes::case(alloc, mark, argument, items) {
-        Ok(expr) => Ok(ReadExpression { expr, rest, label }),
-        Err(Memory) => Err(PartFault::Memory),
-    }
+    } = found!(clause(alloc, rest, depth + 1, label), discard(argument));
+    let items = made!(
+        with_clause(List::new(alloc), own_mark, patterns, guard, body),
+        discard(argument)
+    );
+    read!(items, rest, label in clauses(alloc, rest, Sort::End, items, depth + 1, label), discard(argument));
+    node!(nodes::case(alloc, mark, argument, items), rest, label)
 }
 
 // try expression of variables -> expression catch variables -> expression
@@ -105,95 +68,32 @@ pub fn try_expression<'a>(
     first: First<'a>,
     depth: u32,
     label: u32,
-) -> Result<ReadExpression<'a>, PartFault>
+) -> Result<Read<'a, Boxed<Expr>>, PartFault>
     requires shallow { depth ≤ 400 }
     requires labels { label + weight tokens.now < 2 ^ 32 }
     requires starts { Starts tokens.now first.token.now first.sort first.place first.rest.now }
     requires shorter { length first.rest.now + 1 ≡ length tokens.now }
     requires lighter { weight first.rest.now + 2 ≤ weight tokens.now }
     requires sort { first.sort ≡ Sort.Try }
-    ensures ok { IfOk result (λ r. ReadsOtherExpression depth label tokens.now (tree r.expr) r.rest.now r.label) }
+    ensures ok { IfOk result (λ r. ReadsOtherExpression depth label tokens.now (tree r.value) r.rest.now r.label) }
     ensures labels { IfOk result (λ r. r.label + weight r.rest.now ≤ label + weight tokens.now) }
     ensures shorter { IfOk result (λ r. length r.rest.now < length tokens.now) }
     ensures err { IfErr result (λ e. Refuses (other_expression depth) tokens.now e) }
 {
     let mark = mark(label, first.place);
-    let ReadExpression {
-        expr: arg,
-        rest,
-        label,
-    } = match expression(alloc, first.rest, depth + 1, label + 1) {
-        Ok(found) => found,
-        Err(fault) => return Err(fault),
-    };
-    let rest = match take(rest, Sort::Of) {
-        Ok(found) => found,
-        Err(fault) => {
-            discard(arg);
-            return Err(fault);
-        }
-    };
-    let vars = match variables(alloc, rest) {
-        Ok(found) => found,
-        Err(fault) => {
-            discard(arg);
-            return Err(fault);
-        }
-    };
-    let rest = match take(vars.rest, Sort::Arrow) {
-        Ok(found) => found,
-        Err(fault) => {
-            discard(arg);
-            return Err(fault);
-        }
-    };
-    let ReadExpression {
-        expr: body,
-        rest,
-        label,
-    } = match expression(alloc, rest, depth + 1, label) {
-        Ok(found) => found,
-        Err(fault) => {
-            discard(arg);
-            return Err(fault);
-        }
-    };
-    let rest = match take(rest, Sort::Catch) {
-        Ok(found) => found,
-        Err(fault) => {
-            discard(arg);
-            discard(body);
-            return Err(fault);
-        }
-    };
-    let catch_vars = match variables(alloc, rest) {
-        Ok(found) => found,
-        Err(fault) => {
-            discard(arg);
-            discard(body);
-            return Err(fault);
-        }
-    };
-    let rest = match take(catch_vars.rest, Sort::Arrow) {
-        Ok(found) => found,
-        Err(fault) => {
-            discard(arg);
-            discard(body);
-            return Err(fault);
-        }
-    };
-    let ReadExpression {
-        expr: handler,
-        rest,
-        label,
-    } = match expression(alloc, rest, depth + 1, label) {
-        Ok(found) => found,
-        Err(fault) => {
-            discard(arg);
-            discard(body);
-            return Err(fault);
-        }
-    };
+    read!(arg, rest, label in expression(alloc, first.rest, depth + 1, label + 1));
+    let rest = found!(take(rest, Sort::Of), discard(arg));
+    let vars = found!(variables(alloc, rest), discard(arg));
+    let rest = found!(take(vars.rest, Sort::Arrow), discard(arg));
+    read!(body, rest, label in expression(alloc, rest, depth + 1, label), discard(arg));
+    let rest = found!(take(rest, Sort::Catch), discard(arg), discard(body));
+    let catch_vars = found!(variables(alloc, rest), discard(arg), discard(body));
+    let rest = found!(
+        take(catch_vars.rest, Sort::Arrow),
+        discard(arg),
+        discard(body)
+    );
+    read!(handler, rest, label in expression(alloc, rest, depth + 1, label), discard(arg), discard(body));
     let parts = TryOf {
         arg,
         vars: vars.variables,
@@ -201,10 +101,7 @@ pub fn try_expression<'a>(
         catch_vars: catch_vars.variables,
         handler,
     };
-    match nodes::try_(alloc, mark, parts) {
-        Ok(expr) => Ok(ReadExpression { expr, rest, label }),
-        Err(Memory) => Err(PartFault::Memory),
-    }
+    node!(nodes::try_(alloc, mark, parts), rest, label)
 }
 
 // receive clauses after expression -> expression
@@ -216,65 +113,32 @@ pub fn receive<'a>(
     first: First<'a>,
     depth: u32,
     label: u32,
-) -> Result<ReadExpression<'a>, PartFault>
+) -> Result<Read<'a, Boxed<Expr>>, PartFault>
     requires shallow { depth ≤ 400 }
     requires labels { label + weight tokens.now < 2 ^ 32 }
     requires starts { Starts tokens.now first.token.now first.sort first.place first.rest.now }
     requires shorter { length first.rest.now + 1 ≡ length tokens.now }
     requires lighter { weight first.rest.now + 2 ≤ weight tokens.now }
     requires sort { first.sort ≡ Sort.Receive }
-    ensures ok { IfOk result (λ r. ReadsOtherExpression depth label tokens.now (tree r.expr) r.rest.now r.label) }
+    ensures ok { IfOk result (λ r. ReadsOtherExpression depth label tokens.now (tree r.value) r.rest.now r.label) }
     ensures labels { IfOk result (λ r. r.label + weight r.rest.now ≤ label + weight tokens.now) }
     ensures shorter { IfOk result (λ r. length r.rest.now < length tokens.now) }
     ensures err { IfErr result (λ e. Refuses (other_expression depth) tokens.now e) }
 {
     let mark = mark(label, first.place);
-    let ReadClauses { items, rest, label } = match clauses(
-        alloc,
-        first.rest,
-        Sort::After,
-        List::new(alloc),
-        depth + 1,
-        label + 1,
-    ) {
-        Ok(found) => found,
-        Err(fault) => return Err(fault),
-    };
-    let ReadExpression {
-        expr: timeout,
+    read!(items, rest, label in clauses(alloc, first.rest, Sort::After, List::new(alloc), depth + 1, label + 1));
+    read!(timeout, rest, label in expression(alloc, rest, depth + 1, label), discard_clauses(items));
+    let rest = found!(
+        take(rest, Sort::Arrow),
+        discard_clauses(items),
+        discard(timeout)
+    );
+    read!(action, rest, label in expression(alloc, rest, depth + 1, label), discard_clauses(items), discard(timeout));
+    node!(
+        nodes::receive(alloc, mark, items, timeout, action),
         rest,
-        label,
-    } = match expression(alloc, rest, depth + 1, label) {
-        Ok(found) => found,
-        Err(fault) => {
-            discard_clauses(items);
-            return Err(fault);
-        }
-    };
-    let rest = match take(rest, Sort::Arrow) {
-        Ok(found) => found,
-        Err(fault) => {
-            discard_clauses(items);
-            discard(timeout);
-            return Err(fault);
-        }
-    };
-    let ReadExpression {
-        expr: action,
-        rest,
-        label,
-    } = match expression(alloc, rest, depth + 1, label) {
-        Ok(found) => found,
-        Err(fault) => {
-            discard_clauses(items);
-            discard(timeout);
-            return Err(fault);
-        }
-    };
-    match nodes::receive(alloc, mark, items, timeout, action) {
-        Ok(expr) => Ok(ReadExpression { expr, rest, label }),
-        Err(Memory) => Err(PartFault::Memory),
-    }
+        label
+    )
 }
 
 // catch expression
@@ -286,29 +150,19 @@ pub fn catch<'a>(
     first: First<'a>,
     depth: u32,
     label: u32,
-) -> Result<ReadExpression<'a>, PartFault>
+) -> Result<Read<'a, Boxed<Expr>>, PartFault>
     requires shallow { depth ≤ 400 }
     requires labels { label + weight tokens.now < 2 ^ 32 }
     requires starts { Starts tokens.now first.token.now first.sort first.place first.rest.now }
     requires shorter { length first.rest.now + 1 ≡ length tokens.now }
     requires lighter { weight first.rest.now + 2 ≤ weight tokens.now }
     requires sort { first.sort ≡ Sort.Catch }
-    ensures ok { IfOk result (λ r. ReadsOtherExpression depth label tokens.now (tree r.expr) r.rest.now r.label) }
+    ensures ok { IfOk result (λ r. ReadsOtherExpression depth label tokens.now (tree r.value) r.rest.now r.label) }
     ensures labels { IfOk result (λ r. r.label + weight r.rest.now ≤ label + weight tokens.now) }
     ensures shorter { IfOk result (λ r. length r.rest.now < length tokens.now) }
     ensures err { IfErr result (λ e. Refuses (other_expression depth) tokens.now e) }
 {
     let mark = mark(label, first.place);
-    let ReadExpression {
-        expr: body,
-        rest,
-        label,
-    } = match expression(alloc, first.rest, depth + 1, label + 1) {
-        Ok(found) => found,
-        Err(fault) => return Err(fault),
-    };
-    match nodes::catch(alloc, mark, body) {
-        Ok(expr) => Ok(ReadExpression { expr, rest, label }),
-        Err(Memory) => Err(PartFault::Memory),
-    }
+    read!(body, rest, label in expression(alloc, first.rest, depth + 1, label + 1));
+    node!(nodes::catch(alloc, mark, body), rest, label)
 }

@@ -7,7 +7,8 @@ ghost use Rattle.core_parse_forms.specs.steps.Definitions.{ReadsFunction, ReadsN
 ghost use Rattle.core_parse_grammar.specs.Readings.{ReadsDefinition, ReadsDefinitions};
 ghost use Rattle.core_parse_grammar.specs.Weights.{weight};
 
-use crate::expressions::{ReadExpression, expression};
+use crate::expressions::expression;
+use crate::macros::{Read, answer, found, read};
 use core_ast::{Expr, FunDef, FunDefOf, FunOf, Mark, VarName, discard_functions};
 use core_parse_grammar::annotations::annotation;
 use core_parse_grammar::boxes::{added, discard};
@@ -17,21 +18,7 @@ use core_parse_grammar::names::annotated_function_name;
 use core_parse_grammar::variables::variables_to;
 use core_scan::{Sort, Token, same};
 use std::alloc::Global;
-use type_kinds::{Boxed, List};
-
-/// Definitions, and what follows the token that closes them.
-pub struct ReadDefinitions<'a> {
-    pub items: List<FunDef>,
-    pub rest: &'a [Token],
-    pub label: u32,
-}
-
-/// A definition, and what follows it.
-pub struct ReadDefinition<'a> {
-    pub definition: FunDef,
-    pub rest: &'a [Token],
-    pub label: u32,
-}
+use type_kinds::{Boxed, List, Memory};
 
 // The fun of a definition, and what follows it.
 struct ReadFunction<'a> {
@@ -51,11 +38,11 @@ pub fn definitions<'a>(
     close: Sort,
     depth: u32,
     label: u32,
-) -> Result<ReadDefinitions<'a>, PartFault>
+) -> Result<Read<'a, List<FunDef>>, PartFault>
     requires closes { ends_definitions close ≡ true }
     requires shallow { depth ≤ 401 }
     requires labels { label + weight tokens.now < 2 ^ 32 }
-    ensures ok { IfOk result (λ r. ReadsDefinitions close depth label tokens.now (all_defs r.items) r.rest.now r.label) }
+    ensures ok { IfOk result (λ r. ReadsDefinitions close depth label tokens.now (all_defs r.value) r.rest.now r.label) }
     ensures labels { IfOk result (λ r. r.label + weight r.rest.now ≤ label + weight tokens.now) }
     ensures shorter { IfOk result (λ r. length r.rest.now < length tokens.now) }
     ensures err { IfErr result (λ e. Refuses (definitions_of close depth) tokens.now e) }
@@ -64,40 +51,21 @@ pub fn definitions<'a>(
     let mut left = tokens;
     let mut next_label = label;
     loop {
-        let first = match next(left) {
-            Ok(found) => found,
-            Err(fault) => {
-                discard_functions(items);
-                return Err(fault);
-            }
-        };
+        let first = found!(next(left), discard_functions(items));
         if same(first.sort, close) {
-            return Ok(ReadDefinitions {
-                items,
+            return Ok(Read {
+                value: items,
                 rest: first.rest,
                 label: next_label,
             });
         }
-        match definition(alloc, left, depth, next_label) {
-            Ok(
-                ReadDefinition {
-                    definition,
-                    rest,
-                    label,
-                },
-            ) => {
-                if !added(&mut items, definition) {
-                    discard_functions(items);
-                    return Err(PartFault::Memory);
-                }
-                left = rest;
-                next_label = label;
-            }
-            Err(fault) => {
-                discard_functions(items);
-                return Err(fault);
-            }
+        read!(item, rest, label in definition(alloc, left, depth, next_label), discard_functions(items));
+        if !added(&mut items, item) {
+            discard_functions(items);
+            return Err(PartFault::Memory);
         }
+        left = rest;
+        next_label = label;
     }
 }
 
@@ -109,39 +77,30 @@ fn definition<'a>(
     tokens: &'a [Token],
     depth: u32,
     label: u32,
-) -> Result<ReadDefinition<'a>, PartFault>
+) -> Result<Read<'a, FunDef>, PartFault>
     requires shallow { depth ≤ 401 }
     requires labels { label + weight tokens.now < 2 ^ 32 }
-    ensures ok { IfOk result (λ r. ReadsDefinition depth label tokens.now (def_tree r.definition) r.rest.now r.label) }
+    ensures ok { IfOk result (λ r. ReadsDefinition depth label tokens.now (def_tree r.value) r.rest.now r.label) }
     ensures labels { IfOk result (λ r. r.label + weight r.rest.now ≤ label + weight tokens.now) }
     ensures shorter { IfOk result (λ r. length r.rest.now < length tokens.now) }
     ensures err { IfErr result (λ e. Refuses (definition_of depth) tokens.now e) }
 {
-    let name = match annotated_function_name(alloc, tokens) {
-        Ok(found) => found,
-        Err(fault) => return Err(fault),
-    };
-    let rest = match take(name.rest, Sort::Equals) {
-        Ok(found) => found,
-        Err(fault) => return Err(fault),
-    };
+    let name = found!(annotated_function_name(alloc, tokens));
+    let rest = found!(take(name.rest, Sort::Equals));
     let ReadFunction {
         mark,
         params,
         body,
         rest,
         label,
-    } = match noted_function(alloc, rest, depth, label) {
-        Ok(found) => found,
-        Err(fault) => return Err(fault),
-    };
+    } = found!(noted_function(alloc, rest, depth, label));
     let definition = FunDefOf {
         name: name.name,
         mark,
         fun: FunOf { params, body },
     };
-    Ok(ReadDefinition {
-        definition,
+    Ok(Read {
+        value: definition,
         rest,
         label,
     })
@@ -163,15 +122,9 @@ fn noted_function<'a>(
     ensures shorter { IfOk result (λ r. length r.rest.now < length tokens.now) }
     ensures err { IfErr result (λ e. RefusesNotedFunction depth tokens.now e) }
 {
-    let first = match next(tokens) {
-        Ok(found) => found,
-        Err(fault) => return Err(fault),
-    };
+    let first = found!(next(tokens));
     if !same(first.sort, Sort::OpenRound) {
-        return match function(alloc, tokens, depth, label) {
-            Ok(found) => Ok(found),
-            Err(fault) => Err(fault),
-        };
+        return answer!(function(alloc, tokens, depth, label));
     }
     let ReadFunction {
         mark,
@@ -179,10 +132,7 @@ fn noted_function<'a>(
         body,
         rest,
         label,
-    } = match function(alloc, first.rest, depth, label) {
-        Ok(found) => found,
-        Err(fault) => return Err(fault),
-    };
+    } = found!(function(alloc, first.rest, depth, label));
     match annotation(alloc, rest) {
         Ok(found) => Ok(ReadFunction {
             mark: mark.with_note(found.note),
@@ -214,33 +164,14 @@ fn function<'a>(
     ensures shorter { IfOk result (λ r. length r.rest.now < length tokens.now) }
     ensures err { IfErr result (λ e. Refuses (function_of depth) tokens.now e) }
 {
-    let first = match next(tokens) {
-        Ok(found) => found,
-        Err(fault) => return Err(fault),
-    };
+    let first = found!(next(tokens));
     if !same(first.sort, Sort::Fun) {
         return Err(PartFault::Syntax(first.place));
     }
-    let rest = match take(first.rest, Sort::OpenRound) {
-        Ok(found) => found,
-        Err(fault) => return Err(fault),
-    };
-    let params = match variables_to(alloc, rest, Sort::CloseRound) {
-        Ok(found) => found,
-        Err(fault) => return Err(fault),
-    };
-    let rest = match take(params.rest, Sort::Arrow) {
-        Ok(found) => found,
-        Err(fault) => return Err(fault),
-    };
-    let ReadExpression {
-        expr: body,
-        rest,
-        label: next_label,
-    } = match expression(alloc, rest, depth, label + 1) {
-        Ok(found) => found,
-        Err(fault) => return Err(fault),
-    };
+    let rest = found!(take(first.rest, Sort::OpenRound));
+    let params = found!(variables_to(alloc, rest, Sort::CloseRound));
+    let rest = found!(take(params.rest, Sort::Arrow));
+    read!(body, rest, next_label in expression(alloc, rest, depth, label + 1));
     Ok(ReadFunction {
         mark: mark(label, first.place),
         params: params.variables,

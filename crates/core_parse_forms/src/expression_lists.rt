@@ -8,7 +8,10 @@ ghost use Rattle.core_parse_grammar.specs.Faults.{Starts, Refuses};
 ghost use Rattle.core_parse_grammar.specs.Readings.{mark as unnoted, ReadsBareExpression, ReadsElements};
 ghost use Rattle.core_parse_grammar.specs.Weights.{weight};
 
-use crate::expressions::{ReadExpression, bare_expression, expression, other_expression};
+use crate::expressions::{bare_expression, expression, other_expression};
+use crate::macros::{
+    Read, ReadElements, element, elements, found, list, made, nil_tail, node, read, string,
+};
 use core_ast::{Expr, Literal, discard_all};
 use core_parse_grammar::annotations::{ReadAnnotated, annotated};
 use core_parse_grammar::boxes::{discard, pushed};
@@ -19,15 +22,6 @@ use core_parse_grammar::strings::push_bytes;
 use core_scan::{Sort, Token, same};
 use std::alloc::Global;
 use type_kinds::{Boxed, List, Memory, Place};
-
-/// The elements of a list and its tail, and how many brackets have to close it.
-pub struct ReadElements<'a> {
-    pub items: List<Expr>,
-    pub tail: Boxed<Expr>,
-    pub pending: usize,
-    pub rest: &'a [Token],
-    pub label: u32,
-}
 
 // The empty list's node.
 fn nil(alloc: Global, label: u32, place: Place) -> Result<Boxed<Expr>, Memory>
@@ -43,41 +37,19 @@ pub fn string<'a>(
     first: First<'a>,
     depth: u32,
     label: u32,
-) -> Result<ReadExpression<'a>, PartFault>
+) -> Result<Read<'a, Boxed<Expr>>, PartFault>
     requires shallow { depth ≤ 399 }
     requires labels { label + weight tokens.now < 2 ^ 32 }
     requires starts { Starts tokens.now first.token.now first.sort first.place first.rest.now }
     requires shorter { length first.rest.now + 1 ≡ length tokens.now }
     requires lighter { weight first.rest.now + 2 ≤ weight tokens.now }
     requires sort { first.sort ≡ Sort.Text }
-    ensures ok { IfOk result (λ r. ReadsBareExpression depth label tokens.now (tree r.expr) r.rest.now r.label) }
+    ensures ok { IfOk result (λ r. ReadsBareExpression depth label tokens.now (tree r.value) r.rest.now r.label) }
     ensures labels { IfOk result (λ r. r.label + weight r.rest.now ≤ label + weight tokens.now) }
     ensures shorter { IfOk result (λ r. length r.rest.now < length tokens.now) }
     ensures err { IfErr result (λ e. Refuses (bare_expression depth) tokens.now e) }
 {
-    let mut items = List::new(alloc);
-    let label_of_tail = match push_bytes(&mut items, first.token, label + 1) {
-        Ok(found) => found,
-        Err(Memory) => {
-            discard_all(items);
-            return Err(PartFault::Memory);
-        }
-    };
-    let tail = match nil(alloc, label_of_tail, first.place) {
-        Ok(tail) => tail,
-        Err(Memory) => {
-            discard_all(items);
-            return Err(PartFault::Memory);
-        }
-    };
-    match nodes::listed(alloc, mark(label, first.place), items, tail) {
-        Ok(expr) => Ok(ReadExpression {
-            expr,
-            rest: first.rest,
-            label: label_of_tail + 1,
-        }),
-        Err(Memory) => Err(PartFault::Memory),
-    }
+    string!(push_bytes(alloc, first, label), nodes::listed, discard_all)
 }
 
 /// [ ], [ expressions ] and [ expressions | expression ].
@@ -89,61 +61,24 @@ pub fn list<'a>(
     first: First<'a>,
     depth: u32,
     label: u32,
-) -> Result<ReadExpression<'a>, PartFault>
+) -> Result<Read<'a, Boxed<Expr>>, PartFault>
     requires shallow { depth ≤ 400 }
     requires labels { label + weight tokens.now < 2 ^ 32 }
     requires starts { Starts tokens.now first.token.now first.sort first.place first.rest.now }
     requires shorter { length first.rest.now + 1 ≡ length tokens.now }
     requires lighter { weight first.rest.now + 2 ≤ weight tokens.now }
     requires sort { first.sort ≡ Sort.OpenSquare }
-    ensures ok { IfOk result (λ r. ReadsBareExpression depth label tokens.now (tree r.expr) r.rest.now r.label) }
+    ensures ok { IfOk result (λ r. ReadsBareExpression depth label tokens.now (tree r.value) r.rest.now r.label) }
     ensures labels { IfOk result (λ r. r.label + weight r.rest.now ≤ label + weight tokens.now) }
     ensures shorter { IfOk result (λ r. length r.rest.now < length tokens.now) }
     ensures err { IfErr result (λ e. Refuses (bare_expression depth) tokens.now e) }
 {
-    let second = match next(first.rest) {
-        Ok(found) => found,
-        Err(fault) => return Err(fault),
-    };
-    if same(second.sort, Sort::CloseSquare) {
-        return match nil(alloc, label, first.place) {
-            Ok(expr) => Ok(ReadExpression {
-                expr,
-                rest: second.rest,
-                label: label + 1,
-            }),
-            Err(Memory) => Err(PartFault::Memory),
-        };
-    }
-    let ReadElements {
-        items,
-        tail,
-        mut pending,
-        mut rest,
-        label: next_label,
-    } = match elements(alloc, tokens, first, second, depth, label) {
-        Ok(found) => found,
-        Err(fault) => return Err(fault),
-    };
-    while pending > 0 {
-        match take(rest, Sort::CloseSquare) {
-            Ok(after) => rest = after,
-            Err(fault) => {
-                discard_all(items);
-                discard(tail);
-                return Err(fault);
-            }
-        }
-        pending -= 1;
-    }
-    match nodes::listed(alloc, mark(label, first.place), items, tail) {
-        Ok(expr) => Ok(ReadExpression {
-            expr,
-            rest,
-            label: next_label,
-        }),
-        Err(Memory) => Err(PartFault::Memory),
-    }
+    list!(
+        elements(alloc, tokens, first, depth, label),
+        nodes::listed,
+        discard_all,
+        discard
+    )
 }
 
 // The elements of a list and its tail, up to the brackets that close it. A tail that is a list without
@@ -157,7 +92,7 @@ fn elements<'a>(
     second: First<'a>,
     depth: u32,
     label: u32,
-) -> Result<ReadElements<'a>, PartFault>
+) -> Result<ReadElements<'a, Expr>, PartFault>
     requires shallow { depth ≤ 400 }
     requires labels { label + weight tokens.now < 2 ^ 32 }
     requires starts { Starts tokens.now first.token.now first.sort first.place first.rest.now }
@@ -171,86 +106,14 @@ fn elements<'a>(
     ensures shorter { IfOk result (λ r. length r.rest.now < length tokens.now) }
     ensures err { IfErr result (λ e. Refuses (bare_expression depth) tokens.now e) }
 {
-    let mut items = List::new(alloc);
-    let (mut left, mut next_label) = match expression(alloc, first.rest, depth + 1, label + 1) {
-        Ok(ReadExpression { expr, rest, label }) => {
-            if !pushed(&mut items, expr) {
-                discard_all(items);
-                return Err(PartFault::Memory);
-            }
-            (rest, label)
-        }
-        Err(fault) => {
-            discard_all(items);
-            return Err(fault);
-        }
-    };
-    let mut pending: usize = 0;
-    loop {
-        let token = match next(left) {
-            Ok(found) => found,
-            Err(fault) => {
-                discard_all(items);
-                return Err(fault);
-            }
-        };
-        if same(token.sort, Sort::CloseSquare) {
-            return match nil(alloc, next_label, token.place) {
-                Ok(tail) => Ok(ReadElements {
-                    items,
-                    tail,
-                    pending,
-                    rest: token.rest,
-                    label: next_label + 1,
-                }),
-                Err(Memory) => {
-                    discard_all(items);
-                    Err(PartFault::Memory)
-                }
-            };
-        }
-        if same(token.sort, Sort::Comma) {
-            match expression(alloc, token.rest, depth + 1, next_label) {
-                Ok(ReadExpression { expr, rest, label }) => {
-                    if !pushed(&mut items, expr) {
-                        discard_all(items);
-                        return Err(PartFault::Memory);
-                    }
-                    left = rest;
-                    next_label = label;
-                }
-                Err(fault) => {
-                    discard_all(items);
-                    return Err(fault);
-                }
-            }
-            continue;
-        }
-        if !same(token.sort, Sort::Bar) {
-            discard_all(items);
-            return Err(PartFault::Syntax(token.place));
-        }
-        let behind = match next(token.rest) {
-            Ok(found) => found,
-            Err(fault) => {
-                discard_all(items);
-                return Err(fault);
-            }
-        };
-        if same(behind.sort, Sort::OpenRound) {
-            let ReadExpression { expr, rest, label } = match bare_expression(
-                alloc,
-                behind.rest,
-                depth + 1,
-                next_label,
-            ) {
-                Ok(found) => found,
-                Err(fault) => {
-                    discard_all(items);
-                    return Err(fault);
-                }
-            };
-            return match annotated(alloc, expr, rest) {
+    elements!(
+        expression(alloc, first, depth, label),
+        other_expression,
+        push_bytes,
+        discard_all,
+        |items, bar, behind, next_label, pending| {
+            read!(expr, rest, label in bare_expression(alloc, behind.rest, depth + 1, next_label), discard_all(items));
+            match annotated(alloc, expr, rest) {
                 Ok(ReadAnnotated { expr, rest }) => Ok(ReadElements {
                     items,
                     tail: expr,
@@ -262,81 +125,7 @@ fn elements<'a>(
                     discard_all(items);
                     Err(fault)
                 }
-            };
-        }
-        if same(behind.sort, Sort::Text) {
-            let next_label = match push_bytes(&mut items, behind.token, next_label) {
-                Ok(found) => found,
-                Err(Memory) => {
-                    discard_all(items);
-                    return Err(PartFault::Memory);
-                }
-            };
-            return match nil(alloc, next_label, behind.place) {
-                Ok(tail) => Ok(ReadElements {
-                    items,
-                    tail,
-                    pending: pending + 1,
-                    rest: behind.rest,
-                    label: next_label + 1,
-                }),
-                Err(Memory) => {
-                    discard_all(items);
-                    Err(PartFault::Memory)
-                }
-            };
-        }
-        if !same(behind.sort, Sort::OpenSquare) {
-            return match other_expression(alloc, token.rest, depth + 1, next_label) {
-                Ok(ReadExpression { expr, rest, label }) => Ok(ReadElements {
-                    items,
-                    tail: expr,
-                    pending: pending + 1,
-                    rest,
-                    label,
-                }),
-                Err(fault) => {
-                    discard_all(items);
-                    Err(fault)
-                }
-            };
-        }
-        let inner = match next(behind.rest) {
-            Ok(found) => found,
-            Err(fault) => {
-                discard_all(items);
-                return Err(fault);
-            }
-        };
-        if same(inner.sort, Sort::CloseSquare) {
-            return match nil(alloc, next_label, behind.place) {
-                Ok(tail) => Ok(ReadElements {
-                    items,
-                    tail,
-                    pending: pending + 1,
-                    rest: inner.rest,
-                    label: next_label + 1,
-                }),
-                Err(Memory) => {
-                    discard_all(items);
-                    Err(PartFault::Memory)
-                }
-            };
-        }
-        match expression(alloc, behind.rest, depth + 1, next_label) {
-            Ok(ReadExpression { expr, rest, label }) => {
-                if !pushed(&mut items, expr) {
-                    discard_all(items);
-                    return Err(PartFault::Memory);
-                }
-                left = rest;
-                next_label = label;
-                pending += 1;
-            }
-            Err(fault) => {
-                discard_all(items);
-                return Err(fault);
             }
         }
-    }
+    )
 }

@@ -1,6 +1,7 @@
 ghost use Rattle.std.specs.Prelude.{◌≡◌, ◌+◌, ◌^◌, ◌<◌, ◌≤◌, true, length, IfOk, IfErr};
 ghost use Rattle.core_ast.specs.Tree.{tree, all_trees};
-ghost use Rattle.core_parse_grammar.specs.Grammar.{the, many, expression as expression_of, bare_expression as bare_expression_of, other_expression as other_expression_of};
+ghost use Rattle.core_parse_grammar.specs.Grammar.{the, many, expression as expression_of, bare_expression as bare_expression_of};
+ghost use Rattle.core_parse_grammar.specs.Grammar.{other_expression as other_expression_of};
 ghost use Rattle.core_parse_grammar.specs.Faults.{Starts, Refuses, closing};
 ghost use Rattle.core_parse_grammar.specs.Readings.{ReadsExpression, ReadsBareExpression, ReadsOtherExpression, ReadsExpressions};
 ghost use Rattle.core_parse_grammar.specs.Starters.{starts_expression, starts_literal};
@@ -11,10 +12,11 @@ use crate::chains::{chain, closed};
 use crate::control_forms::{case, catch, receive, try_expression};
 use crate::expression_lists::{list, string};
 use crate::forms::{apply, call, fun_or_external, letrec, primop, tuple, values};
+use crate::macros::{Read, answer, closed_chain, found, made, many, node, read};
 use crate::maps::map;
 use core_ast::{Expr, FunName, Literal, discard_all};
 use core_parse_grammar::annotations::{ReadAnnotated, annotated};
-use core_parse_grammar::boxes::pushed;
+use core_parse_grammar::boxes::kept;
 use core_parse_grammar::fault::PartFault;
 use core_parse_grammar::leaves::{First, arity_of, is_too_deep, mark, next, take, text_of};
 use core_parse_grammar::literals::literal_of;
@@ -22,20 +24,6 @@ use core_parse_grammar::nodes;
 use core_scan::{Sort, Token, same, sort_of};
 use std::alloc::Global;
 use type_kinds::{Boxed, List, Memory};
-
-/// An expression, what follows it, and the label that follows its last.
-pub struct ReadExpression<'a> {
-    pub expr: Boxed<Expr>,
-    pub rest: &'a [Token],
-    pub label: u32,
-}
-
-/// Expressions, what follows the token that closes them, and the label that follows their last.
-pub struct ReadExpressions<'a> {
-    pub items: List<Expr>,
-    pub rest: &'a [Token],
-    pub label: u32,
-}
 
 // Whether an expression without annotation brackets begins with a token of this sort.
 fn starts(sort: Sort) -> bool
@@ -88,45 +76,29 @@ pub fn expression<'a>(
     tokens: &'a [Token],
     depth: u32,
     label: u32,
-) -> Result<ReadExpression<'a>, PartFault>
+) -> Result<Read<'a, Boxed<Expr>>, PartFault>
     requires shallow { depth ≤ 401 }
     requires labels { label + weight tokens.now < 2 ^ 32 }
-    ensures ok { IfOk result (λ r. ReadsExpression depth label tokens.now (tree r.expr) r.rest.now r.label) }
+    ensures ok { IfOk result (λ r. ReadsExpression depth label tokens.now (tree r.value) r.rest.now r.label) }
     ensures labels { IfOk result (λ r. r.label + weight r.rest.now ≤ label + weight tokens.now) }
     ensures shorter { IfOk result (λ r. length r.rest.now < length tokens.now) }
     ensures shallow { IfOk result (λ r. depth ≤ 400) }
     ensures err { IfErr result (λ e. Refuses (expression_of depth) tokens.now e) }
 {
-    let first = match next(tokens) {
-        Ok(found) => found,
-        Err(fault) => return Err(fault),
-    };
+    let first = found!(next(tokens));
     if same(first.sort, Sort::OpenSquare) {
         if is_too_deep(first.sort, depth) {
             return Err(PartFault::TooDeep(first.place));
         }
-        return match list(alloc, tokens, first, depth, label) {
-            Ok(found) => Ok(found),
-            Err(fault) => Err(fault),
-        };
+        return answer!(list(alloc, tokens, first, depth, label));
     }
     if !same(first.sort, Sort::OpenRound) {
-        return match bare_expression(alloc, tokens, depth, label) {
-            Ok(found) => Ok(found),
-            Err(fault) => Err(fault),
-        };
+        return answer!(bare_expression(alloc, tokens, depth, label));
     }
-    let ReadExpression {
-        expr,
-        rest,
-        label: next_label,
-    } = match bare_expression(alloc, first.rest, depth, label) {
-        Ok(found) => found,
-        Err(fault) => return Err(fault),
-    };
+    read!(expr, rest, next_label in bare_expression(alloc, first.rest, depth, label));
     match annotated(alloc, expr, rest) {
-        Ok(ReadAnnotated { expr, rest }) => Ok(ReadExpression {
-            expr,
+        Ok(ReadAnnotated { expr, rest }) => Ok(Read {
+            value: expr,
             rest,
             label: next_label,
         }),
@@ -142,19 +114,16 @@ pub fn bare_expression<'a>(
     tokens: &'a [Token],
     depth: u32,
     label: u32,
-) -> Result<ReadExpression<'a>, PartFault>
+) -> Result<Read<'a, Boxed<Expr>>, PartFault>
     requires shallow { depth ≤ 401 }
     requires labels { label + weight tokens.now < 2 ^ 32 }
-    ensures ok { IfOk result (λ r. ReadsBareExpression depth label tokens.now (tree r.expr) r.rest.now r.label) }
+    ensures ok { IfOk result (λ r. ReadsBareExpression depth label tokens.now (tree r.value) r.rest.now r.label) }
     ensures labels { IfOk result (λ r. r.label + weight r.rest.now ≤ label + weight tokens.now) }
     ensures shorter { IfOk result (λ r. length r.rest.now < length tokens.now) }
     ensures shallow { IfOk result (λ r. depth ≤ 400) }
     ensures err { IfErr result (λ e. Refuses (bare_expression_of depth) tokens.now e) }
 {
-    let first = match next(tokens) {
-        Ok(found) => found,
-        Err(fault) => return Err(fault),
-    };
+    let first = found!(next(tokens));
     if is_too_deep(first.sort, depth) {
         if starts(first.sort) {
             return Err(PartFault::TooDeep(first.place));
@@ -162,21 +131,12 @@ pub fn bare_expression<'a>(
         return Err(PartFault::Syntax(first.place));
     }
     if same(first.sort, Sort::Text) {
-        return match string(alloc, tokens, first, depth, label) {
-            Ok(found) => Ok(found),
-            Err(fault) => Err(fault),
-        };
+        return answer!(string(alloc, tokens, first, depth, label));
     }
     if same(first.sort, Sort::OpenSquare) {
-        return match list(alloc, tokens, first, depth, label) {
-            Ok(found) => Ok(found),
-            Err(fault) => Err(fault),
-        };
+        return answer!(list(alloc, tokens, first, depth, label));
     }
-    match other_expression(alloc, tokens, depth, label) {
-        Ok(found) => Ok(found),
-        Err(fault) => Err(fault),
-    }
+    answer!(other_expression(alloc, tokens, depth, label))
 }
 
 /// The expression that comes first, without annotation brackets, where it is no list with elements.
@@ -187,53 +147,41 @@ pub fn other_expression<'a>(
     tokens: &'a [Token],
     depth: u32,
     label: u32,
-) -> Result<ReadExpression<'a>, PartFault>
+) -> Result<Read<'a, Boxed<Expr>>, PartFault>
     requires shallow { depth ≤ 400 }
     requires labels { label + weight tokens.now < 2 ^ 32 }
-    ensures ok { IfOk result (λ r. ReadsOtherExpression depth label tokens.now (tree r.expr) r.rest.now r.label) }
+    ensures ok { IfOk result (λ r. ReadsOtherExpression depth label tokens.now (tree r.value) r.rest.now r.label) }
     ensures labels { IfOk result (λ r. r.label + weight r.rest.now ≤ label + weight tokens.now) }
     ensures shorter { IfOk result (λ r. length r.rest.now < length tokens.now) }
     ensures err { IfErr result (λ e. Refuses (other_expression_of depth) tokens.now e) }
 {
-    let first = match next(tokens) {
-        Ok(found) => found,
-        Err(fault) => return Err(fault),
-    };
+    let first = found!(next(tokens));
     if is_literal(first.sort) {
         return match literal_of(alloc, first.token) {
-            Ok(value) => match nodes::literal(alloc, mark(label, first.place), value) {
-                Ok(expr) => Ok(ReadExpression {
-                    expr,
-                    rest: first.rest,
-                    label: label + 1,
-                }),
-                Err(Memory) => Err(PartFault::Memory),
-            },
+            Ok(value) => node!(
+                nodes::literal(alloc, mark(label, first.place), value),
+                first.rest,
+                label + 1
+            ),
             Err(Memory) => Err(PartFault::Memory),
         };
     }
     match first.sort {
         Sort::Variable => match text_of(alloc, first.token) {
-            Ok(name) => match nodes::variable(alloc, mark(label, first.place), name) {
-                Ok(expr) => Ok(ReadExpression {
-                    expr,
-                    rest: first.rest,
-                    label: label + 1,
-                }),
-                Err(Memory) => Err(PartFault::Memory),
-            },
+            Ok(name) => node!(
+                nodes::variable(alloc, mark(label, first.place), name),
+                first.rest,
+                label + 1
+            ),
             Err(Memory) => Err(PartFault::Memory),
         },
         Sort::Atom => atom_or_name(alloc, tokens, first, depth, label),
         Sort::OpenSquare => match take(first.rest, Sort::CloseSquare) {
-            Ok(rest) => match nodes::literal(alloc, mark(label, first.place), Literal::Nil) {
-                Ok(expr) => Ok(ReadExpression {
-                    expr,
-                    rest,
-                    label: label + 1,
-                }),
-                Err(Memory) => Err(PartFault::Memory),
-            },
+            Ok(rest) => node!(
+                nodes::literal(alloc, mark(label, first.place), Literal::Nil),
+                rest,
+                label + 1
+            ),
             Err(fault) => Err(fault),
         },
         Sort::OpenCurly => tuple(alloc, tokens, first, depth, label),
@@ -247,22 +195,8 @@ pub fn other_expression<'a>(
         Sort::Case => case(alloc, tokens, first, depth, label),
         Sort::Try => try_expression(alloc, tokens, first, depth, label),
         Sort::Receive => receive(alloc, tokens, first, depth, label),
-        Sort::Let => closed(
-            alloc,
-            tokens,
-            first,
-            depth,
-            label,
-            chain(alloc, tokens, first, depth, label),
-        ),
-        Sort::Do => closed(
-            alloc,
-            tokens,
-            first,
-            depth,
-            label,
-            chain(alloc, tokens, first, depth, label),
-        ),
+        Sort::Let => closed_chain!(alloc, tokens, first, depth, label),
+        Sort::Do => closed_chain!(alloc, tokens, first, depth, label),
         Sort::OpenBinary => binary(alloc, tokens, first, depth, label),
         Sort::OpenMap => map(alloc, tokens, first, depth, label),
         _ => Err(PartFault::Syntax(first.place)),
@@ -276,47 +210,35 @@ fn atom_or_name<'a>(
     first: First<'a>,
     depth: u32,
     label: u32,
-) -> Result<ReadExpression<'a>, PartFault>
+) -> Result<Read<'a, Boxed<Expr>>, PartFault>
     requires shallow { depth ≤ 400 }
     requires labels { label + weight tokens.now < 2 ^ 32 }
     requires starts { Starts tokens.now first.token.now first.sort first.place first.rest.now }
     requires shorter { length first.rest.now + 1 ≡ length tokens.now }
     requires lighter { weight first.rest.now + 2 ≤ weight tokens.now }
     requires sort { first.sort ≡ Sort.Atom }
-    ensures ok { IfOk result (λ r. ReadsOtherExpression depth label tokens.now (tree r.expr) r.rest.now r.label) }
+    ensures ok { IfOk result (λ r. ReadsOtherExpression depth label tokens.now (tree r.value) r.rest.now r.label) }
     ensures labels { IfOk result (λ r. r.label + weight r.rest.now ≤ label + weight tokens.now) }
     ensures shorter { IfOk result (λ r. length r.rest.now < length tokens.now) }
     ensures err { IfErr result (λ e. Refuses (other_expression_of depth) tokens.now e) }
 {
-    let name = match text_of(alloc, first.token) {
-        Ok(name) => name,
-        Err(Memory) => return Err(PartFault::Memory),
-    };
+    let name = made!(text_of(alloc, first.token));
     let mark = mark(label, first.place);
     let Some((second, after)) = first.rest.split_first() else {
-        return match nodes::literal(alloc, mark, Literal::Atom(name)) {
-            Ok(expr) => Ok(ReadExpression {
-                expr,
-                rest: first.rest,
-                label: label + 1,
-            }),
-            Err(Memory) => Err(PartFault::Memory),
-        };
+        return node!(
+            nodes::literal(alloc, mark, Literal::Atom(name)),
+            first.rest,
+            label + 1
+        );
     };
     if !same(sort_of(second), Sort::Slash) {
-        return match nodes::literal(alloc, mark, Literal::Atom(name)) {
-            Ok(expr) => Ok(ReadExpression {
-                expr,
-                rest: first.rest,
-                label: label + 1,
-            }),
-            Err(Memory) => Err(PartFault::Memory),
-        };
+        return node!(
+            nodes::literal(alloc, mark, Literal::Atom(name)),
+            first.rest,
+            label + 1
+        );
     }
-    let third = match next(after) {
-        Ok(found) => found,
-        Err(fault) => return Err(fault),
-    };
+    let third = found!(next(after));
     if !same(third.sort, Sort::Small) {
         return Err(PartFault::Syntax(third.place));
     }
@@ -324,14 +246,7 @@ fn atom_or_name<'a>(
         name,
         arity: arity_of(third.token),
     };
-    match nodes::local(alloc, mark, name) {
-        Ok(expr) => Ok(ReadExpression {
-            expr,
-            rest: third.rest,
-            label: label + 1,
-        }),
-        Err(Memory) => Err(PartFault::Memory),
-    }
+    node!(nodes::local(alloc, mark, name), third.rest, label + 1)
 }
 
 /// Expressions with commas between them, up to and with the token that closes them.
@@ -343,72 +258,14 @@ pub fn expressions<'a>(
     close: Sort,
     depth: u32,
     label: u32,
-) -> Result<ReadExpressions<'a>, PartFault>
+) -> Result<Read<'a, List<Expr>>, PartFault>
     requires closes { closing close ≡ true }
     requires shallow { depth ≤ 401 }
     requires labels { label + weight tokens.now < 2 ^ 32 }
-    ensures ok { IfOk result (λ r. ReadsExpressions close depth label tokens.now (all_trees r.items) r.rest.now r.label) }
+    ensures ok { IfOk result (λ r. ReadsExpressions close depth label tokens.now (all_trees r.value) r.rest.now r.label) }
     ensures labels { IfOk result (λ r. r.label + weight r.rest.now ≤ label + weight tokens.now) }
     ensures shorter { IfOk result (λ r. length r.rest.now < length tokens.now) }
     ensures err { IfErr result (λ e. Refuses (many close (the (expression_of depth))) tokens.now e) }
 {
-    let first = match next(tokens) {
-        Ok(found) => found,
-        Err(fault) => return Err(fault),
-    };
-    let mut items = List::new(alloc);
-    if same(first.sort, close) {
-        return Ok(ReadExpressions {
-            items,
-            rest: first.rest,
-            label,
-        });
-    }
-    let (mut left, mut next_label) = match expression(alloc, tokens, depth, label) {
-        Ok(ReadExpression { expr, rest, label }) => {
-            if !pushed(&mut items, expr) {
-                discard_all(items);
-                return Err(PartFault::Memory);
-            }
-            (rest, label)
-        }
-        Err(fault) => {
-            discard_all(items);
-            return Err(fault);
-        }
-    };
-    loop {
-        let first = match next(left) {
-            Ok(found) => found,
-            Err(fault) => {
-                discard_all(items);
-                return Err(fault);
-            }
-        };
-        if same(first.sort, close) {
-            return Ok(ReadExpressions {
-                items,
-                rest: first.rest,
-                label: next_label,
-            });
-        }
-        if !same(first.sort, Sort::Comma) {
-            discard_all(items);
-            return Err(PartFault::Syntax(first.place));
-        }
-        match expression(alloc, first.rest, depth, next_label) {
-            Ok(ReadExpression { expr, rest, label }) => {
-                if !pushed(&mut items, expr) {
-                    discard_all(items);
-                    return Err(PartFault::Memory);
-                }
-                left = rest;
-                next_label = label;
-            }
-            Err(fault) => {
-                discard_all(items);
-                return Err(fault);
-            }
-        }
-    }
+    many!(expression(alloc, tokens, depth, label) => Read { value }, close, kept, discard_all)
 }

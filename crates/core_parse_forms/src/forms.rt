@@ -6,9 +6,10 @@ ghost use Rattle.core_parse_grammar.specs.Readings.{ReadsOtherExpression};
 ghost use Rattle.core_parse_grammar.specs.Starters.{opens_with};
 ghost use Rattle.core_parse_grammar.specs.Weights.{weight};
 
-use crate::definitions::{ReadDefinitions, definitions};
-use crate::expressions::{ReadExpression, ReadExpressions, expression, expressions};
-use core_ast::discard_functions;
+use crate::definitions::definitions;
+use crate::expressions::{expression, expressions};
+use crate::macros::{Read, found, node, read};
+use core_ast::{Expr, discard_functions};
 use core_parse_grammar::boxes::discard;
 use core_parse_grammar::fault::PartFault;
 use core_parse_grammar::leaves::{First, mark, next, take, take_atom};
@@ -17,7 +18,7 @@ use core_parse_grammar::nodes;
 use core_parse_grammar::variables::variables_to;
 use core_scan::{Sort, Token, same};
 use std::alloc::Global;
-use type_kinds::Memory;
+use type_kinds::{Boxed, Memory};
 
 // fun ( variables ) -> expression, or fun atom : function_name
 #[cycle(expressions)]
@@ -28,22 +29,19 @@ pub fn fun_or_external<'a>(
     first: First<'a>,
     depth: u32,
     label: u32,
-) -> Result<ReadExpression<'a>, PartFault>
+) -> Result<Read<'a, Boxed<Expr>>, PartFault>
     requires shallow { depth ≤ 400 }
     requires labels { label + weight tokens.now < 2 ^ 32 }
     requires starts { Starts tokens.now first.token.now first.sort first.place first.rest.now }
     requires shorter { length first.rest.now + 1 ≡ length tokens.now }
     requires lighter { weight first.rest.now + 2 ≤ weight tokens.now }
     requires sort { first.sort ≡ Sort.Fun }
-    ensures ok { IfOk result (λ r. ReadsOtherExpression depth label tokens.now (tree r.expr) r.rest.now r.label) }
+    ensures ok { IfOk result (λ r. ReadsOtherExpression depth label tokens.now (tree r.value) r.rest.now r.label) }
     ensures labels { IfOk result (λ r. r.label + weight r.rest.now ≤ label + weight tokens.now) }
     ensures shorter { IfOk result (λ r. length r.rest.now < length tokens.now) }
     ensures err { IfErr result (λ e. Refuses (other_expression depth) tokens.now e) }
 {
-    let second = match next(first.rest) {
-        Ok(found) => found,
-        Err(fault) => return Err(fault),
-    };
+    let second = found!(next(first.rest));
     if same(second.sort, Sort::OpenRound) {
         return fun(alloc, tokens, first, second.rest, depth, label);
     }
@@ -60,7 +58,7 @@ fn fun<'a>(
     behind: &'a [Token],
     depth: u32,
     label: u32,
-) -> Result<ReadExpression<'a>, PartFault>
+) -> Result<Read<'a, Boxed<Expr>>, PartFault>
     requires shallow { depth ≤ 400 }
     requires labels { label + weight tokens.now < 2 ^ 32 }
     requires starts { Starts tokens.now first.token.now first.sort first.place first.rest.now }
@@ -69,32 +67,20 @@ fn fun<'a>(
     requires sort { first.sort ≡ Sort.Fun }
     requires bracket { Takes (Sort.OpenRound) first.rest.now behind.now }
     requires behind { weight behind.now + 2 ≤ weight first.rest.now }
-    ensures ok { IfOk result (λ r. ReadsOtherExpression depth label tokens.now (tree r.expr) r.rest.now r.label) }
+    ensures ok { IfOk result (λ r. ReadsOtherExpression depth label tokens.now (tree r.value) r.rest.now r.label) }
     ensures labels { IfOk result (λ r. r.label + weight r.rest.now ≤ label + weight tokens.now) }
     ensures shorter { IfOk result (λ r. length r.rest.now < length tokens.now) }
     ensures err { IfErr result (λ e. Refuses (other_expression depth) tokens.now e) }
 {
     let mark = mark(label, first.place);
-    let params = match variables_to(alloc, behind, Sort::CloseRound) {
-        Ok(found) => found,
-        Err(fault) => return Err(fault),
-    };
-    let rest = match take(params.rest, Sort::Arrow) {
-        Ok(found) => found,
-        Err(fault) => return Err(fault),
-    };
-    let ReadExpression {
-        expr: body,
+    let params = found!(variables_to(alloc, behind, Sort::CloseRound));
+    let rest = found!(take(params.rest, Sort::Arrow));
+    read!(body, rest, label in expression(alloc, rest, depth + 1, label + 1));
+    node!(
+        nodes::function(alloc, mark, params.variables, body),
         rest,
-        label,
-    } = match expression(alloc, rest, depth + 1, label + 1) {
-        Ok(found) => found,
-        Err(fault) => return Err(fault),
-    };
-    match nodes::function(alloc, mark, params.variables, body) {
-        Ok(expr) => Ok(ReadExpression { expr, rest, label }),
-        Err(Memory) => Err(PartFault::Memory),
-    }
+        label
+    )
 }
 
 // fun atom : function_name
@@ -104,7 +90,7 @@ fn external<'a>(
     first: First<'a>,
     depth: u32,
     label: u32,
-) -> Result<ReadExpression<'a>, PartFault>
+) -> Result<Read<'a, Boxed<Expr>>, PartFault>
     requires shallow { depth ≤ 400 }
     requires labels { label + weight tokens.now < 2 ^ 32 }
     requires starts { Starts tokens.now first.token.now first.sort first.place first.rest.now }
@@ -112,29 +98,20 @@ fn external<'a>(
     requires lighter { weight first.rest.now + 2 ≤ weight tokens.now }
     requires sort { first.sort ≡ Sort.Fun }
     requires once { opens_with (Sort.OpenRound) first.rest.now ≡ false }
-    ensures ok { IfOk result (λ r. ReadsOtherExpression depth label tokens.now (tree r.expr) r.rest.now r.label) }
+    ensures ok { IfOk result (λ r. ReadsOtherExpression depth label tokens.now (tree r.value) r.rest.now r.label) }
     ensures labels { IfOk result (λ r. r.label + weight r.rest.now ≤ label + weight tokens.now) }
     ensures shorter { IfOk result (λ r. length r.rest.now < length tokens.now) }
     ensures err { IfErr result (λ e. Refuses (other_expression depth) tokens.now e) }
 {
     let mark = mark(label, first.place);
-    let home = match take_atom(alloc, first.rest) {
-        Ok(found) => found,
-        Err(fault) => return Err(fault),
-    };
-    let rest = match take(home.rest, Sort::Colon) {
-        Ok(found) => found,
-        Err(fault) => return Err(fault),
-    };
+    let home = found!(take_atom(alloc, first.rest));
+    let rest = found!(take(home.rest, Sort::Colon));
     match function_name(alloc, rest) {
-        Ok(found) => match nodes::external(alloc, mark, home.name, found.name) {
-            Ok(expr) => Ok(ReadExpression {
-                expr,
-                rest: found.rest,
-                label: label + 1,
-            }),
-            Err(Memory) => Err(PartFault::Memory),
-        },
+        Ok(found) => node!(
+            nodes::external(alloc, mark, home.name, found.name),
+            found.rest,
+            label + 1
+        ),
         Err(fault) => Err(fault),
     }
 }
@@ -148,33 +125,21 @@ pub fn tuple<'a>(
     first: First<'a>,
     depth: u32,
     label: u32,
-) -> Result<ReadExpression<'a>, PartFault>
+) -> Result<Read<'a, Boxed<Expr>>, PartFault>
     requires shallow { depth ≤ 400 }
     requires labels { label + weight tokens.now < 2 ^ 32 }
     requires starts { Starts tokens.now first.token.now first.sort first.place first.rest.now }
     requires shorter { length first.rest.now + 1 ≡ length tokens.now }
     requires lighter { weight first.rest.now + 2 ≤ weight tokens.now }
     requires sort { first.sort ≡ Sort.OpenCurly }
-    ensures ok { IfOk result (λ r. ReadsOtherExpression depth label tokens.now (tree r.expr) r.rest.now r.label) }
+    ensures ok { IfOk result (λ r. ReadsOtherExpression depth label tokens.now (tree r.value) r.rest.now r.label) }
     ensures labels { IfOk result (λ r. r.label + weight r.rest.now ≤ label + weight tokens.now) }
     ensures shorter { IfOk result (λ r. length r.rest.now < length tokens.now) }
     ensures err { IfErr result (λ e. Refuses (other_expression depth) tokens.now e) }
 {
     let mark = mark(label, first.place);
-    let ReadExpressions { items, rest, label } = match expressions(
-        alloc,
-        first.rest,
-        Sort::CloseCurly,
-        depth + 1,
-        label + 1,
-    ) {
-        Ok(found) => found,
-        Err(fault) => return Err(fault),
-    };
-    match nodes::tuple(alloc, mark, items) {
-        Ok(expr) => Ok(ReadExpression { expr, rest, label }),
-        Err(Memory) => Err(PartFault::Memory),
-    }
+    read!(items, rest, label in expressions(alloc, first.rest, Sort::CloseCurly, depth + 1, label + 1));
+    node!(nodes::tuple(alloc, mark, items), rest, label)
 }
 
 // < expressions >
@@ -186,33 +151,21 @@ pub fn values<'a>(
     first: First<'a>,
     depth: u32,
     label: u32,
-) -> Result<ReadExpression<'a>, PartFault>
+) -> Result<Read<'a, Boxed<Expr>>, PartFault>
     requires shallow { depth ≤ 400 }
     requires labels { label + weight tokens.now < 2 ^ 32 }
     requires starts { Starts tokens.now first.token.now first.sort first.place first.rest.now }
     requires shorter { length first.rest.now + 1 ≡ length tokens.now }
     requires lighter { weight first.rest.now + 2 ≤ weight tokens.now }
     requires sort { first.sort ≡ Sort.Less }
-    ensures ok { IfOk result (λ r. ReadsOtherExpression depth label tokens.now (tree r.expr) r.rest.now r.label) }
+    ensures ok { IfOk result (λ r. ReadsOtherExpression depth label tokens.now (tree r.value) r.rest.now r.label) }
     ensures labels { IfOk result (λ r. r.label + weight r.rest.now ≤ label + weight tokens.now) }
     ensures shorter { IfOk result (λ r. length r.rest.now < length tokens.now) }
     ensures err { IfErr result (λ e. Refuses (other_expression depth) tokens.now e) }
 {
     let mark = mark(label, first.place);
-    let ReadExpressions { items, rest, label } = match expressions(
-        alloc,
-        first.rest,
-        Sort::Greater,
-        depth + 1,
-        label + 1,
-    ) {
-        Ok(found) => found,
-        Err(fault) => return Err(fault),
-    };
-    match nodes::values(alloc, mark, items) {
-        Ok(expr) => Ok(ReadExpression { expr, rest, label }),
-        Err(Memory) => Err(PartFault::Memory),
-    }
+    read!(items, rest, label in expressions(alloc, first.rest, Sort::Greater, depth + 1, label + 1));
+    node!(nodes::values(alloc, mark, items), rest, label)
 }
 
 // letrec definitions in expression
@@ -224,44 +177,22 @@ pub fn letrec<'a>(
     first: First<'a>,
     depth: u32,
     label: u32,
-) -> Result<ReadExpression<'a>, PartFault>
+) -> Result<Read<'a, Boxed<Expr>>, PartFault>
     requires shallow { depth ≤ 400 }
     requires labels { label + weight tokens.now < 2 ^ 32 }
     requires starts { Starts tokens.now first.token.now first.sort first.place first.rest.now }
     requires shorter { length first.rest.now + 1 ≡ length tokens.now }
     requires lighter { weight first.rest.now + 2 ≤ weight tokens.now }
     requires sort { first.sort ≡ Sort.Letrec }
-    ensures ok { IfOk result (λ r. ReadsOtherExpression depth label tokens.now (tree r.expr) r.rest.now r.label) }
+    ensures ok { IfOk result (λ r. ReadsOtherExpression depth label tokens.now (tree r.value) r.rest.now r.label) }
     ensures labels { IfOk result (λ r. r.label + weight r.rest.now ≤ label + weight tokens.now) }
     ensures shorter { IfOk result (λ r. length r.rest.now < length tokens.now) }
     ensures err { IfErr result (λ e. Refuses (other_expression depth) tokens.now e) }
 {
     let mark = mark(label, first.place);
-    let ReadDefinitions { items, rest, label } = match definitions(
-        alloc,
-        first.rest,
-        Sort::In,
-        depth + 1,
-        label + 1,
-    ) {
-        Ok(found) => found,
-        Err(fault) => return Err(fault),
-    };
-    let ReadExpression {
-        expr: body,
-        rest,
-        label,
-    } = match expression(alloc, rest, depth + 1, label) {
-        Ok(found) => found,
-        Err(fault) => {
-            discard_functions(items);
-            return Err(fault);
-        }
-    };
-    match nodes::letrec(alloc, mark, items, body) {
-        Ok(expr) => Ok(ReadExpression { expr, rest, label }),
-        Err(Memory) => Err(PartFault::Memory),
-    }
+    read!(items, rest, label in definitions(alloc, first.rest, Sort::In, depth + 1, label + 1));
+    read!(body, rest, label in expression(alloc, rest, depth + 1, label), discard_functions(items));
+    node!(nodes::letrec(alloc, mark, items, body), rest, label)
 }
 
 // apply expression ( expressions )
@@ -273,49 +204,23 @@ pub fn apply<'a>(
     first: First<'a>,
     depth: u32,
     label: u32,
-) -> Result<ReadExpression<'a>, PartFault>
+) -> Result<Read<'a, Boxed<Expr>>, PartFault>
     requires shallow { depth ≤ 400 }
     requires labels { label + weight tokens.now < 2 ^ 32 }
     requires starts { Starts tokens.now first.token.now first.sort first.place first.rest.now }
     requires shorter { length first.rest.now + 1 ≡ length tokens.now }
     requires lighter { weight first.rest.now + 2 ≤ weight tokens.now }
     requires sort { first.sort ≡ Sort.Apply }
-    ensures ok { IfOk result (λ r. ReadsOtherExpression depth label tokens.now (tree r.expr) r.rest.now r.label) }
+    ensures ok { IfOk result (λ r. ReadsOtherExpression depth label tokens.now (tree r.value) r.rest.now r.label) }
     ensures labels { IfOk result (λ r. r.label + weight r.rest.now ≤ label + weight tokens.now) }
     ensures shorter { IfOk result (λ r. length r.rest.now < length tokens.now) }
     ensures err { IfErr result (λ e. Refuses (other_expression depth) tokens.now e) }
 {
     let mark = mark(label, first.place);
-    let ReadExpression {
-        expr: operator,
-        rest,
-        label,
-    } = match expression(alloc, first.rest, depth + 1, label + 1) {
-        Ok(found) => found,
-        Err(fault) => return Err(fault),
-    };
-    let rest = match take(rest, Sort::OpenRound) {
-        Ok(found) => found,
-        Err(fault) => {
-            discard(operator);
-            return Err(fault);
-        }
-    };
-    let ReadExpressions {
-        items: args,
-        rest,
-        label,
-    } = match expressions(alloc, rest, Sort::CloseRound, depth + 1, label) {
-        Ok(found) => found,
-        Err(fault) => {
-            discard(operator);
-            return Err(fault);
-        }
-    };
-    match nodes::apply(alloc, mark, operator, args) {
-        Ok(expr) => Ok(ReadExpression { expr, rest, label }),
-        Err(Memory) => Err(PartFault::Memory),
-    }
+    read!(operator, rest, label in expression(alloc, first.rest, depth + 1, label + 1));
+    let rest = found!(take(rest, Sort::OpenRound), discard(operator));
+    read!(args, rest, label in expressions(alloc, rest, Sort::CloseRound, depth + 1, label), discard(operator));
+    node!(nodes::apply(alloc, mark, operator, args), rest, label)
 }
 
 // call expression : expression ( expressions )
@@ -327,69 +232,25 @@ pub fn call<'a>(
     first: First<'a>,
     depth: u32,
     label: u32,
-) -> Result<ReadExpression<'a>, PartFault>
+) -> Result<Read<'a, Boxed<Expr>>, PartFault>
     requires shallow { depth ≤ 400 }
     requires labels { label + weight tokens.now < 2 ^ 32 }
     requires starts { Starts tokens.now first.token.now first.sort first.place first.rest.now }
     requires shorter { length first.rest.now + 1 ≡ length tokens.now }
     requires lighter { weight first.rest.now + 2 ≤ weight tokens.now }
     requires sort { first.sort ≡ Sort.Call }
-    ensures ok { IfOk result (λ r. ReadsOtherExpression depth label tokens.now (tree r.expr) r.rest.now r.label) }
+    ensures ok { IfOk result (λ r. ReadsOtherExpression depth label tokens.now (tree r.value) r.rest.now r.label) }
     ensures labels { IfOk result (λ r. r.label + weight r.rest.now ≤ label + weight tokens.now) }
     ensures shorter { IfOk result (λ r. length r.rest.now < length tokens.now) }
     ensures err { IfErr result (λ e. Refuses (other_expression depth) tokens.now e) }
 {
     let mark = mark(label, first.place);
-    let ReadExpression {
-        expr: home,
-        rest,
-        label,
-    } = match expression(alloc, first.rest, depth + 1, label + 1) {
-        Ok(found) => found,
-        Err(fault) => return Err(fault),
-    };
-    let rest = match take(rest, Sort::Colon) {
-        Ok(found) => found,
-        Err(fault) => {
-            discard(home);
-            return Err(fault);
-        }
-    };
-    let ReadExpression {
-        expr: name,
-        rest,
-        label,
-    } = match expression(alloc, rest, depth + 1, label) {
-        Ok(found) => found,
-        Err(fault) => {
-            discard(home);
-            return Err(fault);
-        }
-    };
-    let rest = match take(rest, Sort::OpenRound) {
-        Ok(found) => found,
-        Err(fault) => {
-            discard(home);
-            discard(name);
-            return Err(fault);
-        }
-    };
-    let ReadExpressions {
-        items: args,
-        rest,
-        label,
-    } = match expressions(alloc, rest, Sort::CloseRound, depth + 1, label) {
-        Ok(found) => found,
-        Err(fault) => {
-            discard(home);
-            discard(name);
-            return Err(fault);
-        }
-    };
-    match nodes::call(alloc, mark, home, name, args) {
-        Ok(expr) => Ok(ReadExpression { expr, rest, label }),
-        Err(Memory) => Err(PartFault::Memory),
-    }
+    read!(home, rest, label in expression(alloc, first.rest, depth + 1, label + 1));
+    let rest = found!(take(rest, Sort::Colon), discard(home));
+    read!(name, rest, label in expression(alloc, rest, depth + 1, label), discard(home));
+    let rest = found!(take(rest, Sort::OpenRound), discard(home), discard(name));
+    read!(args, rest, label in expressions(alloc, rest, Sort::CloseRound, depth + 1, label), discard(home), discard(name));
+    node!(nodes::call(alloc, mark, home, name, args), rest, label)
 }
 
 // primop atom ( expressions )
@@ -401,37 +262,21 @@ pub fn primop<'a>(
     first: First<'a>,
     depth: u32,
     label: u32,
-) -> Result<ReadExpression<'a>, PartFault>
+) -> Result<Read<'a, Boxed<Expr>>, PartFault>
     requires shallow { depth ≤ 400 }
     requires labels { label + weight tokens.now < 2 ^ 32 }
     requires starts { Starts tokens.now first.token.now first.sort first.place first.rest.now }
     requires shorter { length first.rest.now + 1 ≡ length tokens.now }
     requires lighter { weight first.rest.now + 2 ≤ weight tokens.now }
     requires sort { first.sort ≡ Sort.Primop }
-    ensures ok { IfOk result (λ r. ReadsOtherExpression depth label tokens.now (tree r.expr) r.rest.now r.label) }
+    ensures ok { IfOk result (λ r. ReadsOtherExpression depth label tokens.now (tree r.value) r.rest.now r.label) }
     ensures labels { IfOk result (λ r. r.label + weight r.rest.now ≤ label + weight tokens.now) }
     ensures shorter { IfOk result (λ r. length r.rest.now < length tokens.now) }
     ensures err { IfErr result (λ e. Refuses (other_expression depth) tokens.now e) }
 {
     let mark = mark(label, first.place);
-    let name = match take_atom(alloc, first.rest) {
-        Ok(found) => found,
-        Err(fault) => return Err(fault),
-    };
-    let rest = match take(name.rest, Sort::OpenRound) {
-        Ok(found) => found,
-        Err(fault) => return Err(fault),
-    };
-    let ReadExpressions {
-        items: args,
-        rest,
-        label,
-    } = match expressions(alloc, rest, Sort::CloseRound, depth + 1, label + 1) {
-        Ok(found) => found,
-        Err(fault) => return Err(fault),
-    };
-    match nodes::primop(alloc, mark, name.name, args) {
-        Ok(expr) => Ok(ReadExpression { expr, rest, label }),
-        Err(Memory) => Err(PartFault::Memory),
-    }
+    let name = found!(take_atom(alloc, first.rest));
+    let rest = found!(take(name.rest, Sort::OpenRound));
+    read!(args, rest, label in expressions(alloc, rest, Sort::CloseRound, depth + 1, label + 1));
+    node!(nodes::primop(alloc, mark, name.name, args), rest, label)
 }

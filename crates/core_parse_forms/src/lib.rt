@@ -10,6 +10,7 @@ pub mod definitions;
 mod expression_lists;
 mod expressions;
 mod forms;
+mod macros;
 mod maps;
 mod pattern_binaries;
 mod pattern_brackets;
@@ -18,3 +19,4 @@ mod pattern_maps;
 mod patterns;
 
 pub use chains::Frame;
+pub use macros::Read;

@@ -2,12 +2,14 @@ ghost use Rattle.std.specs.Prelude.{◌≡◌, ◌+◌, ◌^◌, ◌<◌, ◌≤
 ghost use Rattle.core_ast.specs.Tree.{tree, all_pairs};
 ghost use Rattle.core_parse_grammar.specs.Grammar.{other_expression, pairs as pairs_of, pair as pair_of, bare_pair as bare_pair_of};
 ghost use Rattle.core_parse_grammar.specs.Faults.{Starts, Refuses};
-ghost use Rattle.core_parse_grammar.specs.Pairs.{ReadsMapPairs, ReadsUpdated, RefusesUpdated, read_pair, ReadsBarePair, ReadsValue as ReadsSuchValue, ReadsValueOf, RefusesValue, updated_tree};
+ghost use Rattle.core_parse_grammar.specs.Pairs.{ReadsMapPairs, ReadsUpdated, RefusesUpdated, read_pair, ReadsBarePair};
+ghost use Rattle.core_parse_grammar.specs.Pairs.{ReadsValue as ReadsSuchValue, ReadsValueOf, RefusesValue, updated_tree};
 ghost use Rattle.core_parse_grammar.specs.Readings.{ReadsOtherExpression, ReadsPair};
 ghost use Rattle.core_parse_grammar.specs.Starters.{opens_with};
 ghost use Rattle.core_parse_grammar.specs.Weights.{weight};
 
-use crate::expressions::{ReadExpression, bare_expression, expression};
+use crate::expressions::{bare_expression, expression};
+use crate::macros::{Read, answer, found, made, node, pair, pair_in_brackets, read};
 use core_ast::{Expr, MapPair, discard_pairs};
 use core_parse_grammar::annotations::{ReadAnnotated, annotated, annotation};
 use core_parse_grammar::boxes::discard;
@@ -37,14 +39,14 @@ pub fn map<'a>(
     first: First<'a>,
     depth: u32,
     label: u32,
-) -> Result<ReadExpression<'a>, PartFault>
+) -> Result<Read<'a, Boxed<Expr>>, PartFault>
     requires shallow { depth ≤ 400 }
     requires labels { label + weight tokens.now < 2 ^ 32 }
     requires starts { Starts tokens.now first.token.now first.sort first.place first.rest.now }
     requires shorter { length first.rest.now + 1 ≡ length tokens.now }
     requires lighter { weight first.rest.now + 2 ≤ weight tokens.now }
     requires sort { first.sort ≡ Sort.OpenMap }
-    ensures ok { IfOk result (λ r. ReadsOtherExpression depth label tokens.now (tree r.expr) r.rest.now r.label) }
+    ensures ok { IfOk result (λ r. ReadsOtherExpression depth label tokens.now (tree r.value) r.rest.now r.label) }
     ensures labels { IfOk result (λ r. r.label + weight r.rest.now ≤ label + weight tokens.now) }
     ensures shorter { IfOk result (λ r. length r.rest.now < length tokens.now) }
     ensures err { IfErr result (λ e. Refuses (other_expression depth) tokens.now e) }
@@ -55,20 +57,11 @@ pub fn map<'a>(
         updated,
         rest,
         label,
-    } = match pairs(alloc, first.rest, depth + 1, label + 1) {
-        Ok(found) => found,
-        Err(fault) => return Err(fault),
-    };
+    } = found!(pairs(alloc, first.rest, depth + 1, label + 1));
     let Some(updated) = updated else {
-        return match nodes::new_map(alloc, mark, items) {
-            Ok(expr) => Ok(ReadExpression { expr, rest, label }),
-            Err(Memory) => Err(PartFault::Memory),
-        };
+        return node!(nodes::new_map(alloc, mark, items), rest, label);
     };
-    match nodes::updated_map(alloc, mark, items, updated) {
-        Ok(expr) => Ok(ReadExpression { expr, rest, label }),
-        Err(Memory) => Err(PartFault::Memory),
-    }
+    node!(nodes::updated_map(alloc, mark, items, updated), rest, label)
 }
 
 // Pairs with commas between them, the map that they update behind a bar, if any, and the token that
@@ -88,10 +81,7 @@ fn pairs<'a>(
     ensures shorter { IfOk result (λ r. length r.rest.now < length tokens.now) }
     ensures err { IfErr result (λ e. Refuses (pairs_of depth) tokens.now e) }
 {
-    let first = match next(tokens) {
-        Ok(found) => found,
-        Err(fault) => return Err(fault),
-    };
+    let first = found!(next(tokens));
     if same(first.sort, Sort::CloseMap) {
         let items = List::new(alloc);
         return Ok(ReadPairs {
@@ -103,10 +93,7 @@ fn pairs<'a>(
     }
     if same(first.sort, Sort::Bar) {
         let none = List::new(alloc);
-        return match updated_by(alloc, none, first.rest, depth, label) {
-            Ok(found) => Ok(found),
-            Err(fault) => Err(fault),
-        };
+        return answer!(updated_by(alloc, none, first.rest, depth, label));
     }
     let ReadPair {
         exact,
@@ -114,23 +101,11 @@ fn pairs<'a>(
         value,
         rest: mut left,
         label: mut next_label,
-    } = match pair(alloc, tokens, depth, label) {
-        Ok(found) => found,
-        Err(fault) => return Err(fault),
-    };
+    } = found!(pair(alloc, tokens, depth, label));
     let empty = List::new(alloc);
-    let mut items = match with_pair(empty, exact, key, value) {
-        Ok(items) => items,
-        Err(Memory) => return Err(PartFault::Memory),
-    };
+    let mut items = made!(with_pair(empty, exact, key, value));
     loop {
-        let token = match next(left) {
-            Ok(found) => found,
-            Err(fault) => {
-                discard_pairs(items);
-                return Err(fault);
-            }
-        };
+        let token = found!(next(left), discard_pairs(items));
         if same(token.sort, Sort::CloseMap) {
             return Ok(ReadPairs {
                 items,
@@ -140,37 +115,25 @@ fn pairs<'a>(
             });
         }
         if same(token.sort, Sort::Bar) {
-            return match updated_by(alloc, items, token.rest, depth, next_label) {
-                Ok(found) => Ok(found),
-                Err(fault) => Err(fault),
-            };
+            return answer!(updated_by(alloc, items, token.rest, depth, next_label));
         }
         if !same(token.sort, Sort::Comma) {
             discard_pairs(items);
             return Err(PartFault::Syntax(token.place));
         }
-        match pair(alloc, token.rest, depth, next_label) {
-            Ok(
-                ReadPair {
-                    exact,
-                    key,
-                    value,
-                    rest,
-                    label,
-                },
-            ) => {
-                items = match with_pair(items, exact, key, value) {
-                    Ok(items) => items,
-                    Err(Memory) => return Err(PartFault::Memory),
-                };
-                left = rest;
-                next_label = label;
-            }
-            Err(fault) => {
-                discard_pairs(items);
-                return Err(fault);
-            }
-        }
+        let ReadPair {
+            exact,
+            key,
+            value,
+            rest,
+            label,
+        } = found!(
+            pair(alloc, token.rest, depth, next_label),
+            discard_pairs(items)
+        );
+        items = made!(with_pair(items, exact, key, value));
+        left = rest;
+        next_label = label;
     }
 }
 
@@ -192,13 +155,7 @@ fn updated_by<'a>(
     ensures shorter { IfOk result (λ r. length r.rest.now < length tokens.now) }
     ensures err { IfErr result (λ e. RefusesUpdated depth tokens.now e) }
 {
-    let ReadExpression { expr, rest, label } = match expression(alloc, tokens, depth, label) {
-        Ok(found) => found,
-        Err(fault) => {
-            discard_pairs(items);
-            return Err(fault);
-        }
-    };
+    read!(expr, rest, label in expression(alloc, tokens, depth, label), discard_pairs(items));
     match take(rest, Sort::CloseMap) {
         Ok(rest) => Ok(ReadPairs {
             items,
@@ -230,50 +187,7 @@ fn pair<'a>(
     ensures shorter { IfOk result (λ r. length r.rest.now < length tokens.now) }
     ensures err { IfErr result (λ e. Refuses (pair_of depth) tokens.now e) }
 {
-    let first = match next(tokens) {
-        Ok(found) => found,
-        Err(fault) => return Err(fault),
-    };
-    if !same(first.sort, Sort::OpenRound) {
-        return match bare_pair(alloc, tokens, depth, label) {
-            Ok(found) => Ok(found),
-            Err(fault) => Err(fault),
-        };
-    }
-    let second = match next(first.rest) {
-        Ok(found) => found,
-        Err(fault) => return Err(fault),
-    };
-    if same(second.sort, Sort::OpenRound) {
-        let ReadPair {
-            exact,
-            key,
-            value,
-            rest,
-            label,
-        } = match bare_pair(alloc, first.rest, depth, label) {
-            Ok(found) => found,
-            Err(fault) => return Err(fault),
-        };
-        return match annotation(alloc, rest) {
-            Ok(found) => Ok(ReadPair {
-                exact,
-                key,
-                value,
-                rest: found.rest,
-                label,
-            }),
-            Err(fault) => {
-                discard(key);
-                discard(value);
-                Err(fault)
-            }
-        };
-    }
-    match pair_in_brackets(alloc, tokens, first, depth, label) {
-        Ok(found) => Ok(found),
-        Err(fault) => Err(fault),
-    }
+    pair!(bare_pair(alloc, tokens, depth, label) => ReadPair { exact, key, value }, pair_in_brackets, discard(key), discard(value))
 }
 
 // A pair that begins with one bracket. It is the key's where an annotation follows the key, and else the
@@ -299,56 +213,7 @@ fn pair_in_brackets<'a>(
     ensures shorter { IfOk result (λ r. length r.rest.now < length tokens.now) }
     ensures err { IfErr result (λ e. Refuses (pair_of depth) tokens.now e) }
 {
-    let ReadExpression {
-        expr: key,
-        rest,
-        label,
-    } = match bare_expression(alloc, first.rest, depth, label) {
-        Ok(found) => found,
-        Err(fault) => return Err(fault),
-    };
-    let token = match next(rest) {
-        Ok(found) => found,
-        Err(fault) => {
-            discard(key);
-            return Err(fault);
-        }
-    };
-    if same(token.sort, Sort::Noted) {
-        return match annotated(alloc, key, rest) {
-            Ok(ReadAnnotated { expr, rest }) => match pair_of_key(alloc, expr, rest, depth, label) {
-                Ok(found) => Ok(found),
-                Err(fault) => Err(fault),
-            },
-            Err(fault) => Err(fault),
-        };
-    }
-    let ReadValue {
-        exact,
-        value,
-        rest,
-        label,
-    } = match value(alloc, rest, depth, label) {
-        Ok(found) => found,
-        Err(fault) => {
-            discard(key);
-            return Err(fault);
-        }
-    };
-    match annotation(alloc, rest) {
-        Ok(found) => Ok(ReadPair {
-            exact,
-            key,
-            value,
-            rest: found.rest,
-            label,
-        }),
-        Err(fault) => {
-            discard(key);
-            discard(value);
-            Err(fault)
-        }
-    }
+    pair_in_brackets!(value(alloc, first.rest, depth, label) => ReadValue { exact, value }, pair_of_key, ReadPair, discard(value))
 }
 
 // expression => expression, or expression := expression
@@ -367,18 +232,8 @@ fn bare_pair<'a>(
     ensures shorter { IfOk result (λ r. length r.rest.now < length tokens.now) }
     ensures err { IfErr result (λ e. Refuses (bare_pair_of depth) tokens.now e) }
 {
-    let ReadExpression {
-        expr: key,
-        rest,
-        label,
-    } = match expression(alloc, tokens, depth, label) {
-        Ok(found) => found,
-        Err(fault) => return Err(fault),
-    };
-    match pair_of_key(alloc, key, rest, depth, label) {
-        Ok(found) => Ok(found),
-        Err(fault) => Err(fault),
-    }
+    read!(key, rest, label in expression(alloc, tokens, depth, label));
+    answer!(pair_of_key(alloc, key, rest, depth, label))
 }
 
 // The pair of this key, behind the key: => expression, or := expression.
@@ -423,15 +278,18 @@ fn value<'a>(
     ensures shorter { IfOk result (λ r. length r.rest.now < length tokens.now) }
     ensures err { IfErr result (λ e. RefusesValue depth tokens.now e) }
 {
-    let token = match next(tokens) {
-        Ok(found) => found,
-        Err(fault) => return Err(fault),
-    };
+    let token = found!(next(tokens));
     let Some(exact) = exactness(token.sort) else {
         return Err(PartFault::Syntax(token.place));
     };
     match expression(alloc, token.rest, depth, label) {
-        Ok(ReadExpression { expr, rest, label }) => Ok(ReadValue {
+        Ok(
+            Read {
+                value: expr,
+                rest,
+                label,
+            },
+        ) => Ok(ReadValue {
             exact,
             value: expr,
             rest,

@@ -8,7 +8,8 @@ ghost use Rattle.core_parse_grammar.specs.Readings.{ReadsBarePattern};
 ghost use Rattle.core_parse_grammar.specs.Starters.{opens_with};
 ghost use Rattle.core_parse_grammar.specs.Weights.{weight};
 
-use crate::patterns::{ReadPattern, bare_pattern, pattern};
+use crate::macros::{Read, answer, found, made, node, read};
+use crate::patterns::{bare_pattern, pattern};
 use core_ast::{Mark, Pattern, VarName};
 use core_parse_grammar::annotations::{ReadAnnotatedPattern, annotated_pattern, annotation};
 use core_parse_grammar::fault::PartFault;
@@ -50,24 +51,11 @@ pub fn in_brackets<'a>(
     ensures shallow { IfOk result (λ r. depth ≤ 400) }
     ensures err { IfErr result (λ e. RefusesInBrackets depth first.entry.place first.entry.rest.now e) }
 {
-    let second = match next(first.rest) {
-        Ok(found) => found,
-        Err(fault) => return Err(fault),
-    };
+    let second = found!(next(first.rest));
     if same(second.sort, Sort::Variable) {
-        return match variable_in_brackets(alloc, tokens, first, second, depth, label) {
-            Ok(found) => Ok(found),
-            Err(fault) => Err(fault),
-        };
+        return answer!(variable_in_brackets(alloc, tokens, first, second, depth, label));
     }
-    let ReadPattern {
-        pattern,
-        rest,
-        label,
-    } = match bare_pattern(alloc, first.rest, depth, label) {
-        Ok(found) => found,
-        Err(fault) => return Err(fault),
-    };
+    read!(pattern, rest, label in bare_pattern(alloc, first.rest, depth, label));
     match annotated_pattern(alloc, pattern, rest) {
         Ok(ReadAnnotatedPattern { pattern, rest }) => Ok(ReadInBrackets {
             pattern,
@@ -108,14 +96,8 @@ fn variable_in_brackets<'a>(
     if depth > DEEPEST {
         return Err(PartFault::TooDeep(second.place));
     }
-    let name = match text_of(alloc, second.token) {
-        Ok(name) => name,
-        Err(Memory) => return Err(PartFault::Memory),
-    };
-    let third = match next(second.rest) {
-        Ok(found) => found,
-        Err(fault) => return Err(fault),
-    };
+    let name = made!(text_of(alloc, second.token));
+    let third = found!(next(second.rest));
     if same(third.sort, Sort::Equals) {
         let name = VarName {
             name,
@@ -123,14 +105,7 @@ fn variable_in_brackets<'a>(
             note: no_note(),
         };
         let mark = mark(label, second.place);
-        let ReadPattern {
-            pattern,
-            rest,
-            label,
-        } = match named(alloc, mark, name, third.rest, depth, label) {
-            Ok(found) => found,
-            Err(fault) => return Err(fault),
-        };
+        read!(pattern, rest, label in named(alloc, mark, name, third.rest, depth, label));
         return match annotated_pattern(alloc, pattern, rest) {
             Ok(ReadAnnotatedPattern { pattern, rest }) => Ok(ReadInBrackets {
                 pattern,
@@ -141,10 +116,7 @@ fn variable_in_brackets<'a>(
             Err(fault) => Err(fault),
         };
     }
-    match noted_variable(alloc, name, first, second, depth, label) {
-        Ok(found) => Ok(found),
-        Err(fault) => Err(fault),
-    }
+    answer!(noted_variable(alloc, name, first, second, depth, label))
 }
 
 /// A variable in annotation brackets, behind the variable, and the pattern that it names behind an equals
@@ -163,15 +135,13 @@ pub fn noted_variable<'a>(
     requires labels { label + 2 + weight second.rest.now < 2 ^ 32 }
     requires name { name ≡ text second.token.now }
     requires place { second.place ≡ second.token.now.place }
-    ensures ok { IfOk result (λ r. ReadsNotedVariable depth label first.entry.place second.entry.token.now second.entry.rest.now (pattern_tree r.pattern) r.alone r.rest.now r.label) }
+    ensures ok { IfOk result (λ r. ReadsNotedVariable depth label first.entry.place second.entry.token.now second.entry.rest.now
+        (pattern_tree r.pattern) r.alone r.rest.now r.label) }
     ensures labels { IfOk result (λ r. r.label + weight r.rest.now ≤ label + 2 + weight second.entry.rest.now) }
     ensures shorter { IfOk result (λ r. length r.rest.now < length second.entry.rest.now) }
     ensures err { IfErr result (λ e. RefusesNotedVariable depth first.entry.place second.entry.token.now second.entry.rest.now e) }
 {
-    let found = match annotation(alloc, second.rest) {
-        Ok(found) => found,
-        Err(fault) => return Err(fault),
-    };
+    let found = found!(annotation(alloc, second.rest));
     let Some(rest) = behind_equals(found.rest) else {
         let mark = mark(label, second.place).with_note(found.note);
         return match pattern_nodes::variable(alloc, mark, name) {
@@ -191,8 +161,8 @@ pub fn noted_variable<'a>(
     };
     match named(alloc, mark(label, first.place), name, rest, depth, label) {
         Ok(
-            ReadPattern {
-                pattern,
+            Read {
+                value: pattern,
                 rest,
                 label,
             },
@@ -229,30 +199,20 @@ pub fn named<'a>(
     tokens: &'a [Token],
     depth: u32,
     label: u32,
-) -> Result<ReadPattern<'a>, PartFault>
+) -> Result<Read<'a, Boxed<Pattern>>, PartFault>
     requires shallow { depth ≤ 400 }
     requires labels { label + 2 + weight tokens.now < 2 ^ 32 }
-    ensures ok { IfOk result (λ r. ReadsNamed mark name depth label tokens.now (pattern_tree r.pattern) r.rest.now r.label) }
+    ensures ok { IfOk result (λ r. ReadsNamed mark name depth label tokens.now (pattern_tree r.value) r.rest.now r.label) }
     ensures labels { IfOk result (λ r. r.label + weight r.rest.now ≤ label + 1 + weight tokens.now) }
     ensures shorter { IfOk result (λ r. length r.rest.now < length tokens.now) }
     ensures err { IfErr result (λ e. Refuses (pattern_of (depth + 1)) tokens.now e) }
 {
-    let ReadPattern {
-        pattern,
+    read!(pattern, rest, label in pattern(alloc, tokens, depth + 1, label + 1));
+    node!(
+        pattern_nodes::alias(alloc, mark, name, pattern),
         rest,
-        label,
-    } = match pattern(alloc, tokens, depth + 1, label + 1) {
-        Ok(found) => found,
-        Err(fault) => return Err(fault),
-    };
-    match pattern_nodes::alias(alloc, mark, name, pattern) {
-        Ok(pattern) => Ok(ReadPattern {
-            pattern,
-            rest,
-            label,
-        }),
-        Err(Memory) => Err(PartFault::Memory),
-    }
+        label
+    )
 }
 
 /// ( variable -| [ constants ] ) = pattern
@@ -264,48 +224,33 @@ pub fn noted_alias<'a>(
     first: First<'a>,
     depth: u32,
     label: u32,
-) -> Result<ReadPattern<'a>, PartFault>
+) -> Result<Read<'a, Boxed<Pattern>>, PartFault>
     requires shallow { depth ≤ 401 }
     requires labels { label + weight tokens.now < 2 ^ 32 }
     requires starts { Starts tokens.now first.token.now first.sort first.place first.rest.now }
     requires shorter { length first.rest.now + 1 ≡ length tokens.now }
     requires lighter { weight first.rest.now + 2 ≤ weight tokens.now }
     requires sort { first.sort ≡ Sort.OpenRound }
-    ensures ok { IfOk result (λ r. ReadsBarePattern depth label tokens.now (pattern_tree r.pattern) r.rest.now r.label) }
+    ensures ok { IfOk result (λ r. ReadsBarePattern depth label tokens.now (pattern_tree r.value) r.rest.now r.label) }
     ensures labels { IfOk result (λ r. r.label + weight r.rest.now ≤ label + weight tokens.now) }
     ensures shorter { IfOk result (λ r. length r.rest.now < length tokens.now) }
     ensures shallow { IfOk result (λ r. depth ≤ 400) }
     ensures err { IfErr result (λ e. Refuses (bare_pattern_of depth) tokens.now e) }
 {
-    let second = match next(first.rest) {
-        Ok(found) => found,
-        Err(fault) => return Err(fault),
-    };
+    let second = found!(next(first.rest));
     if !same(second.sort, Sort::Variable) {
         return Err(PartFault::Syntax(second.place));
     }
     if depth > DEEPEST {
         return Err(PartFault::TooDeep(second.place));
     }
-    let name = match text_of(alloc, second.token) {
-        Ok(name) => name,
-        Err(Memory) => return Err(PartFault::Memory),
-    };
-    let found = match annotation(alloc, second.rest) {
-        Ok(found) => found,
-        Err(fault) => return Err(fault),
-    };
-    let rest = match take(found.rest, Sort::Equals) {
-        Ok(found) => found,
-        Err(fault) => return Err(fault),
-    };
+    let name = made!(text_of(alloc, second.token));
+    let found = found!(annotation(alloc, second.rest));
+    let rest = found!(take(found.rest, Sort::Equals));
     let name = VarName {
         name,
         place: second.place,
         note: found.note,
     };
-    match named(alloc, mark(label, first.place), name, rest, depth, label) {
-        Ok(found) => Ok(found),
-        Err(fault) => Err(fault),
-    }
+    answer!(named(alloc, mark(label, first.place), name, rest, depth, label))
 }

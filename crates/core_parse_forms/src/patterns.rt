@@ -8,12 +8,13 @@ ghost use Rattle.core_parse_grammar.specs.Starters.{literal_sort, starts_pattern
 ghost use Rattle.core_parse_grammar.specs.Weights.{weight};
 
 use crate::expressions::is_literal;
+use crate::macros::{Read, answer, found, made, many, node, read};
 use crate::pattern_binaries::binary_pattern;
 use crate::pattern_brackets::{ReadInBrackets, behind_equals, in_brackets, named, noted_alias};
 use crate::pattern_lists::{pattern_list, string_pattern};
 use crate::pattern_maps::map_pattern;
 use core_ast::{Literal, Pattern, VarName, discard_patterns};
-use core_parse_grammar::boxes::pushed;
+use core_parse_grammar::boxes::kept;
 use core_parse_grammar::fault::PartFault;
 use core_parse_grammar::leaves::{First, is_too_deep, mark, next, no_note, take, text_of};
 use core_parse_grammar::literals::literal_of;
@@ -21,20 +22,6 @@ use core_parse_grammar::pattern_nodes;
 use core_scan::{Sort, Token, same};
 use std::alloc::Global;
 use type_kinds::{Boxed, List, Memory};
-
-/// A pattern, what follows it, and the label that follows its last.
-pub struct ReadPattern<'a> {
-    pub pattern: Boxed<Pattern>,
-    pub rest: &'a [Token],
-    pub label: u32,
-}
-
-/// Patterns, what follows the token that closes them, and the label that follows their last.
-pub struct ReadPatterns<'a> {
-    pub items: List<Pattern>,
-    pub rest: &'a [Token],
-    pub label: u32,
-}
 
 // Whether a pattern without brackets before it begins with a token of this sort.
 fn starts(sort: Sort) -> bool
@@ -70,24 +57,18 @@ pub fn pattern<'a>(
     tokens: &'a [Token],
     depth: u32,
     label: u32,
-) -> Result<ReadPattern<'a>, PartFault>
+) -> Result<Read<'a, Boxed<Pattern>>, PartFault>
     requires shallow { depth ≤ 401 }
     requires labels { label + weight tokens.now < 2 ^ 32 }
-    ensures ok { IfOk result (λ r. ReadsPattern depth label tokens.now (pattern_tree r.pattern) r.rest.now r.label) }
+    ensures ok { IfOk result (λ r. ReadsPattern depth label tokens.now (pattern_tree r.value) r.rest.now r.label) }
     ensures labels { IfOk result (λ r. r.label + weight r.rest.now ≤ label + weight tokens.now) }
     ensures shorter { IfOk result (λ r. length r.rest.now < length tokens.now) }
     ensures shallow { IfOk result (λ r. depth ≤ 400) }
     ensures err { IfErr result (λ e. Refuses (pattern_of depth) tokens.now e) }
 {
-    let first = match next(tokens) {
-        Ok(found) => found,
-        Err(fault) => return Err(fault),
-    };
+    let first = found!(next(tokens));
     if !same(first.sort, Sort::OpenRound) {
-        return match bare_pattern(alloc, tokens, depth, label) {
-            Ok(found) => Ok(found),
-            Err(fault) => Err(fault),
-        };
+        return answer!(bare_pattern(alloc, tokens, depth, label));
     }
     match in_brackets(alloc, tokens, first, depth, label) {
         Ok(
@@ -97,8 +78,8 @@ pub fn pattern<'a>(
                 label,
                 alone: _,
             },
-        ) => Ok(ReadPattern {
-            pattern,
+        ) => Ok(Read {
+            value: pattern,
             rest,
             label,
         }),
@@ -114,24 +95,18 @@ pub fn bare_pattern<'a>(
     tokens: &'a [Token],
     depth: u32,
     label: u32,
-) -> Result<ReadPattern<'a>, PartFault>
+) -> Result<Read<'a, Boxed<Pattern>>, PartFault>
     requires shallow { depth ≤ 401 }
     requires labels { label + weight tokens.now < 2 ^ 32 }
-    ensures ok { IfOk result (λ r. ReadsBarePattern depth label tokens.now (pattern_tree r.pattern) r.rest.now r.label) }
+    ensures ok { IfOk result (λ r. ReadsBarePattern depth label tokens.now (pattern_tree r.value) r.rest.now r.label) }
     ensures labels { IfOk result (λ r. r.label + weight r.rest.now ≤ label + weight tokens.now) }
     ensures shorter { IfOk result (λ r. length r.rest.now < length tokens.now) }
     ensures shallow { IfOk result (λ r. depth ≤ 400) }
     ensures err { IfErr result (λ e. Refuses (bare_pattern_of depth) tokens.now e) }
 {
-    let first = match next(tokens) {
-        Ok(found) => found,
-        Err(fault) => return Err(fault),
-    };
+    let first = found!(next(tokens));
     if same(first.sort, Sort::OpenRound) {
-        return match noted_alias(alloc, tokens, first, depth, label) {
-            Ok(found) => Ok(found),
-            Err(fault) => Err(fault),
-        };
+        return answer!(noted_alias(alloc, tokens, first, depth, label));
     }
     if is_too_deep(first.sort, depth) {
         if starts(first.sort) {
@@ -140,21 +115,12 @@ pub fn bare_pattern<'a>(
         return Err(PartFault::Syntax(first.place));
     }
     if same(first.sort, Sort::Text) {
-        return match string_pattern(alloc, tokens, first, depth, label) {
-            Ok(found) => Ok(found),
-            Err(fault) => Err(fault),
-        };
+        return answer!(string_pattern(alloc, tokens, first, depth, label));
     }
     if same(first.sort, Sort::OpenSquare) {
-        return match pattern_list(alloc, tokens, first, depth, label) {
-            Ok(found) => Ok(found),
-            Err(fault) => Err(fault),
-        };
+        return answer!(pattern_list(alloc, tokens, first, depth, label));
     }
-    match other_pattern(alloc, tokens, depth, label) {
-        Ok(found) => Ok(found),
-        Err(fault) => Err(fault),
-    }
+    answer!(other_pattern(alloc, tokens, depth, label))
 }
 
 /// The pattern that comes first, without brackets before it, where it is no list with elements.
@@ -165,47 +131,34 @@ pub fn other_pattern<'a>(
     tokens: &'a [Token],
     depth: u32,
     label: u32,
-) -> Result<ReadPattern<'a>, PartFault>
+) -> Result<Read<'a, Boxed<Pattern>>, PartFault>
     requires shallow { depth ≤ 400 }
     requires labels { label + weight tokens.now < 2 ^ 32 }
     requires once { opens_with (Sort.OpenRound) tokens.now ≡ false }
-    ensures ok { IfOk result (λ r. ReadsOtherPattern depth label tokens.now (pattern_tree r.pattern) r.rest.now r.label) }
+    ensures ok { IfOk result (λ r. ReadsOtherPattern depth label tokens.now (pattern_tree r.value) r.rest.now r.label) }
     ensures labels { IfOk result (λ r. r.label + weight r.rest.now ≤ label + weight tokens.now) }
     ensures shorter { IfOk result (λ r. length r.rest.now < length tokens.now) }
     ensures err { IfErr result (λ e. Refuses (other_pattern_of depth) tokens.now e) }
 {
-    let first = match next(tokens) {
-        Ok(found) => found,
-        Err(fault) => return Err(fault),
-    };
+    let first = found!(next(tokens));
     if is_single(first.sort) {
         return match literal_of(alloc, first.token) {
-            Ok(value) => match pattern_nodes::literal(alloc, mark(label, first.place), value) {
-                Ok(pattern) => Ok(ReadPattern {
-                    pattern,
-                    rest: first.rest,
-                    label: label + 1,
-                }),
-                Err(Memory) => Err(PartFault::Memory),
-            },
+            Ok(value) => node!(
+                pattern_nodes::literal(alloc, mark(label, first.place), value),
+                first.rest,
+                label + 1
+            ),
             Err(Memory) => Err(PartFault::Memory),
         };
     }
     match first.sort {
         Sort::Variable => variable_or_alias(alloc, tokens, first, depth, label),
         Sort::OpenSquare => match take(first.rest, Sort::CloseSquare) {
-            Ok(rest) => match pattern_nodes::literal(
-                alloc,
-                mark(label, first.place),
-                Literal::Nil,
-            ) {
-                Ok(pattern) => Ok(ReadPattern {
-                    pattern,
-                    rest,
-                    label: label + 1,
-                }),
-                Err(Memory) => Err(PartFault::Memory),
-            },
+            Ok(rest) => node!(
+                pattern_nodes::literal(alloc, mark(label, first.place), Literal::Nil),
+                rest,
+                label + 1
+            ),
             Err(fault) => Err(fault),
         },
         Sort::OpenCurly => tuple_pattern(alloc, tokens, first, depth, label),
@@ -224,42 +177,33 @@ fn variable_or_alias<'a>(
     first: First<'a>,
     depth: u32,
     label: u32,
-) -> Result<ReadPattern<'a>, PartFault>
+) -> Result<Read<'a, Boxed<Pattern>>, PartFault>
     requires shallow { depth ≤ 400 }
     requires labels { label + weight tokens.now < 2 ^ 32 }
     requires starts { Starts tokens.now first.token.now first.sort first.place first.rest.now }
     requires shorter { length first.rest.now + 1 ≡ length tokens.now }
     requires lighter { weight first.rest.now + 2 ≤ weight tokens.now }
     requires sort { first.sort ≡ Sort.Variable }
-    ensures ok { IfOk result (λ r. ReadsOtherPattern depth label tokens.now (pattern_tree r.pattern) r.rest.now r.label) }
+    ensures ok { IfOk result (λ r. ReadsOtherPattern depth label tokens.now (pattern_tree r.value) r.rest.now r.label) }
     ensures labels { IfOk result (λ r. r.label + weight r.rest.now ≤ label + weight tokens.now) }
     ensures shorter { IfOk result (λ r. length r.rest.now < length tokens.now) }
     ensures err { IfErr result (λ e. Refuses (other_pattern_of depth) tokens.now e) }
 {
-    let name = match text_of(alloc, first.token) {
-        Ok(name) => name,
-        Err(Memory) => return Err(PartFault::Memory),
-    };
+    let name = made!(text_of(alloc, first.token));
     let mark = mark(label, first.place);
     let Some(rest) = behind_equals(first.rest) else {
-        return match pattern_nodes::variable(alloc, mark, name) {
-            Ok(pattern) => Ok(ReadPattern {
-                pattern,
-                rest: first.rest,
-                label: label + 1,
-            }),
-            Err(Memory) => Err(PartFault::Memory),
-        };
+        return node!(
+            pattern_nodes::variable(alloc, mark, name),
+            first.rest,
+            label + 1
+        );
     };
     let name = VarName {
         name,
         place: first.place,
         note: no_note(),
     };
-    match named(alloc, mark, name, rest, depth, label) {
-        Ok(found) => Ok(found),
-        Err(fault) => Err(fault),
-    }
+    answer!(named(alloc, mark, name, rest, depth, label))
 }
 
 // { patterns }
@@ -271,37 +215,21 @@ fn tuple_pattern<'a>(
     first: First<'a>,
     depth: u32,
     label: u32,
-) -> Result<ReadPattern<'a>, PartFault>
+) -> Result<Read<'a, Boxed<Pattern>>, PartFault>
     requires shallow { depth ≤ 400 }
     requires labels { label + weight tokens.now < 2 ^ 32 }
     requires starts { Starts tokens.now first.token.now first.sort first.place first.rest.now }
     requires shorter { length first.rest.now + 1 ≡ length tokens.now }
     requires lighter { weight first.rest.now + 2 ≤ weight tokens.now }
     requires sort { first.sort ≡ Sort.OpenCurly }
-    ensures ok { IfOk result (λ r. ReadsOtherPattern depth label tokens.now (pattern_tree r.pattern) r.rest.now r.label) }
+    ensures ok { IfOk result (λ r. ReadsOtherPattern depth label tokens.now (pattern_tree r.value) r.rest.now r.label) }
     ensures labels { IfOk result (λ r. r.label + weight r.rest.now ≤ label + weight tokens.now) }
     ensures shorter { IfOk result (λ r. length r.rest.now < length tokens.now) }
     ensures err { IfErr result (λ e. Refuses (other_pattern_of depth) tokens.now e) }
 {
     let mark = mark(label, first.place);
-    let ReadPatterns { items, rest, label } = match patterns(
-        alloc,
-        first.rest,
-        Sort::CloseCurly,
-        depth + 1,
-        label + 1,
-    ) {
-        Ok(found) => found,
-        Err(fault) => return Err(fault),
-    };
-    match pattern_nodes::tuple(alloc, mark, items) {
-        Ok(pattern) => Ok(ReadPattern {
-            pattern,
-            rest,
-            label,
-        }),
-        Err(Memory) => Err(PartFault::Memory),
-    }
+    read!(items, rest, label in patterns(alloc, first.rest, Sort::CloseCurly, depth + 1, label + 1));
+    node!(pattern_nodes::tuple(alloc, mark, items), rest, label)
 }
 
 /// Patterns with commas between them, up to and with the token that closes them.
@@ -313,84 +241,14 @@ pub fn patterns<'a>(
     close: Sort,
     depth: u32,
     label: u32,
-) -> Result<ReadPatterns<'a>, PartFault>
+) -> Result<Read<'a, List<Pattern>>, PartFault>
     requires closes { closing close ≡ true }
     requires shallow { depth ≤ 401 }
     requires labels { label + weight tokens.now < 2 ^ 32 }
-    ensures ok { IfOk result (λ r. ReadsPatterns close depth label tokens.now (all_patterns r.items) r.rest.now r.label) }
+    ensures ok { IfOk result (λ r. ReadsPatterns close depth label tokens.now (all_patterns r.value) r.rest.now r.label) }
     ensures labels { IfOk result (λ r. r.label + weight r.rest.now ≤ label + weight tokens.now) }
     ensures shorter { IfOk result (λ r. length r.rest.now < length tokens.now) }
     ensures err { IfErr result (λ e. Refuses (many close (the (pattern_of depth))) tokens.now e) }
 {
-    let first = match next(tokens) {
-        Ok(found) => found,
-        Err(fault) => return Err(fault),
-    };
-    let mut items = List::new(alloc);
-    if same(first.sort, close) {
-        return Ok(ReadPatterns {
-            items,
-            rest: first.rest,
-            label,
-        });
-    }
-    let (mut left, mut next_label) = match pattern(alloc, tokens, depth, label) {
-        Ok(
-            ReadPattern {
-                pattern,
-                rest,
-                label,
-            },
-        ) => {
-            if !pushed(&mut items, pattern) {
-                discard_patterns(items);
-                return Err(PartFault::Memory);
-            }
-            (rest, label)
-        }
-        Err(fault) => {
-            discard_patterns(items);
-            return Err(fault);
-        }
-    };
-    loop {
-        let first = match next(left) {
-            Ok(found) => found,
-            Err(fault) => {
-                discard_patterns(items);
-                return Err(fault);
-            }
-        };
-        if same(first.sort, close) {
-            return Ok(ReadPatterns {
-                items,
-                rest: first.rest,
-                label: next_label,
-            });
-        }
-        if !same(first.sort, Sort::Comma) {
-            discard_patterns(items);
-            return Err(PartFault::Syntax(first.place));
-        }
-        match pattern(alloc, first.rest, depth, next_label) {
-            Ok(
-                ReadPattern {
-                    pattern,
-                    rest,
-                    label,
-                },
-            ) => {
-                if !pushed(&mut items, pattern) {
-                    discard_patterns(items);
-                    return Err(PartFault::Memory);
-                }
-                left = rest;
-                next_label = label;
-            }
-            Err(fault) => {
-                discard_patterns(items);
-                return Err(fault);
-            }
-        }
-    }
+    many!(pattern(alloc, tokens, depth, label) => Read { value }, close, kept, discard_patterns)
 }
