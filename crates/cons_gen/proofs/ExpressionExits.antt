@@ -23,7 +23,8 @@ use Rattle.core_ast.specs.Model as m
 use Rattle.core_ast.specs.Lengths.{how_many}
 use Rattle.core_ast.specs.Named.{local_name}
 use Rattle.core_ast.specs.Tree.{tree, all_trees, all_pairs, all_segments, all_steps, all_clauses, all_defs}
-use Rattle.core_ast.proofs.Forms.{variable_tree, local_tree, external_tree, literal_tree, fun_tree, listed_tree, tuple_tree, new_map_tree, updated_map_tree, binary_tree, values_tree, chain_tree, case_tree, letrec_tree, apply_tree, call_tree, primop_tree, try_tree, receive_tree, catch_tree}
+use Rattle.core_ast.proofs.Forms.{variable_tree, local_tree, external_tree, literal_tree, fun_tree, listed_tree, tuple_tree, new_map_tree, updated_map_tree}
+use Rattle.core_ast.proofs.Forms.{binary_tree, values_tree, chain_tree, case_tree, letrec_tree, apply_tree, call_tree, primop_tree, try_tree, receive_tree, catch_tree}
 use Rattle.core_ast.proofs.Items.{how_many-length}
 use Rattle.core_scope.specs.declared.ask.Ask.{Ask}
 use Rattle.core_scope.specs.declared.ask.Ask.TheVariants.{Exactly}
@@ -43,7 +44,8 @@ use Rattle.cons_gen_rows.specs.declared.passes.Surroundings.{Surroundings}
 use Rattle.cons_gen_rows.proofs.Adding.{adds_as, adds_then, behind, drop_seam, mapped_length, more}
 use Rattle.cons_gen.specs.Rows.{named_or, pair_rows, step_bindings, step_rows}
 use Rattle.cons_gen.specs.Spans.{clause_spans, pair_spans, segment_spans, span, spans, step_spans, unless_named, value_slots}
-use Rattle.cons_gen.specs.steps.Generating.{Generates, Leaves, rows_at}
+use Rattle.cons_gen.specs.steps.Choosing.{Leaves}
+use Rattle.cons_gen.specs.steps.Generating.{Generates, rows_at}
 use Rattle.cons_gen.proofs.ControlExits.{alternatives, given, handing}
 use Rattle.cons_gen.proofs.FormExits.{Answer, bounded, each_segment, every}
 
@@ -68,37 +70,55 @@ module _ (context : Surroundings) (k : Ask) where
     pub fun_exit : (x : FunOf Expr) (n : ℕ) → e.form ≡ f.Fun x → n ≡ length x.params → OnOk r (Adds a b 1 (bound a.next (function_type n))) → OnOk r (Generates context a b k (tree e))
     fun_exit x n is count h = of_tree (m.function e.mark x.params (tree x.body)) (fun_tree e x is) (subst (λ j. OnOk r (Adds a b 1 (bound a.next (function_type j)))) count h)
 
-    pub tuple_exit : (xs : List Expr) → e.form ≡ f.Tuple xs → OnOk r (Adds a b (1 + spans (all_trees xs)) (every context (all_trees xs) (scope_of a) (a.next + 1) ++ only (Tuple a.next (value_slots (a.next + 1) (all_trees xs))) ∷ [])) → OnOk r (Generates context a b k (tree e))
+    pub tuple_exit : (xs : List Expr) → e.form ≡ f.Tuple xs → OnOk r (Adds a b (1 + spans (all_trees xs))
+        (every context (all_trees xs) (scope_of a) (a.next + 1) ++ only (Tuple a.next (value_slots (a.next + 1) (all_trees xs))) ∷ [])) → OnOk r (Generates context a b k (tree e))
     tuple_exit xs is = of_tree (m.tuple e.mark (all_trees xs)) (tuple_tree e xs is)
 
-    pub binary_exit : (ss : List Segment) → e.form ≡ f.Binary ss → OnOk r (Adds a b (1 + segment_spans (all_segments ss)) (each_segment context (all_segments ss) (scope_of a) (a.next + 1) ++ bound a.next (of_kind Bitstring))) → OnOk r (Generates context a b k (tree e))
+    pub binary_exit : (ss : List Segment) → e.form ≡ f.Binary ss → OnOk r (Adds a b (1 + segment_spans (all_segments ss)) (each_segment context (all_segments ss) (scope_of a) (a.next + 1) ++ bound a.next (of_kind Bitstring)))
+        → OnOk r (Generates context a b k (tree e))
     binary_exit ss is = of_tree (m.binary e.mark (all_segments ss)) (binary_tree e ss is)
 
-    pub values_exit : (xs : List Expr) → e.form ≡ f.Values xs → OnOk r (Adds a b (passed_on k + spans (all_trees xs)) (every context (all_trees xs) (scope_of a) (a.next + passed_on k) ++ equals (slots_from a.next (passed_on k)) (value_slots (a.next + passed_on k) (all_trees xs)))) → OnOk r (Generates context a b k (tree e))
+    pub values_exit : (xs : List Expr) → e.form ≡ f.Values xs
+        → OnOk r (Adds a b (passed_on k + spans (all_trees xs)) (every context (all_trees xs) (scope_of a) (a.next + passed_on k) ++ equals (slots_from a.next (passed_on k)) (value_slots (a.next + passed_on k) (all_trees xs))))
+        → OnOk r (Generates context a b k (tree e))
     values_exit xs is = of_tree (m.values e.mark (all_trees xs)) (values_tree e xs is)
 
-    pub letrec_exit : (ds : List (FunDefOf Expr)) (x : Expr) → e.form ≡ f.Letrec ds x → OnOk r (Adds a b (passed_on k + span k (tree x)) (handing context k (tree x) (slots_from a.next (passed_on k)) (with_functions (scope_of a) (defined_names (all_defs ds))) (a.next + passed_on k))) → OnOk r (Generates context a b k (tree e))
+    pub letrec_exit : (ds : List (FunDefOf Expr)) (x : Expr) → e.form ≡ f.Letrec ds x
+        → OnOk r (Adds a b (passed_on k + span k (tree x)) (handing context k (tree x) (slots_from a.next (passed_on k)) (with_functions (scope_of a) (defined_names (all_defs ds))) (a.next + passed_on k)))
+        → OnOk r (Generates context a b k (tree e))
     letrec_exit ds x is = of_tree (m.letrec e.mark (all_defs ds) (tree x)) (letrec_tree e ds x is)
 
     pub applied_exit : (x : Expr) (name : FunName) (xs : List Expr) → e.form ≡ f.Apply x xs → local_name (tree x) ≡ Some name
-        → OnOk r (Adds a b (1 + spans (all_trees xs)) (every context (all_trees xs) (scope_of a) (a.next + 1) ++ applied_rows (knowing context) context.home.now a.functions name (length xs) a.next (value_slots (a.next + 1) (all_trees xs)))) → OnOk r (Generates context a b k (tree e))
+        → OnOk r (Adds a b (1 + spans (all_trees xs)) (every context (all_trees xs) (scope_of a) (a.next + 1)
+        ++ applied_rows (knowing context) context.home.now a.functions name (length xs) a.next (value_slots (a.next + 1) (all_trees xs)))) → OnOk r (Generates context a b k (tree e))
     applied_exit x name xs is named h = of_tree (m.apply e.mark (tree x) (all_trees xs)) (apply_tree e x xs is)
         (on_ok_weaker r
-        (subst (λ o. Adds a b (1 + unless_named o (span one_value (tree x)) + spans (all_trees xs)) (named_or o (λ g. every context (all_trees xs) (scope_of a) (a.next + 1) ++ applied_rows (knowing context) context.home.now a.functions g (how_many (all_trees xs)) a.next (value_slots (a.next + 1) (all_trees xs))) (given context one_value (tree x) (scope_of a) (a.next + 1) ++ every context (all_trees xs) (scope_of a) (a.next + 1 + span one_value (tree x)) ++ bound (a.next + 1) (function_type (how_many (all_trees xs)))))) (sym named))
-        (on_ok_weaker r (adds_as a b _ _ _ _ (omega arith) (ap (λ n. every context (all_trees xs) (scope_of a) (a.next + 1) ++ applied_rows (knowing context) context.home.now a.functions name n a.next (value_slots (a.next + 1) (all_trees xs))) (sym (how_many-length xs)))) h))
+        (subst (λ o. Adds a b (1 + unless_named o (span one_value (tree x)) + spans (all_trees xs))
+        (named_or o (λ g. every context (all_trees xs) (scope_of a) (a.next + 1) ++ applied_rows (knowing context) context.home.now a.functions g (how_many (all_trees xs)) a.next (value_slots (a.next + 1) (all_trees xs)))
+        (given context one_value (tree x) (scope_of a) (a.next + 1) ++ every context (all_trees xs) (scope_of a) (a.next + 1 + span one_value (tree x)) ++ bound (a.next + 1) (function_type (how_many (all_trees xs)))))) (sym named))
+        (on_ok_weaker r (adds_as a b _ _ _ _ (omega arith) (ap (λ n. every context (all_trees xs) (scope_of a) (a.next + 1)
+        ++ applied_rows (knowing context) context.home.now a.functions name n a.next (value_slots (a.next + 1) (all_trees xs))) (sym (how_many-length xs)))) h))
 
-    pub named_call_exit : (x y : Expr) (home name : Atom) (xs : List Expr) (given_by : Ask) (n : ℕ) → e.form ≡ f.Call x y xs → call_names (tree x) (tree y) ≡ Some (home, name) → given_by ≡ call_gives (tree x) (tree y) (length xs) → n ≡ call_results k given_by
-        → OnOk r (Adds a b (n + spans (all_trees xs)) (every context (all_trees xs) (scope_of a) (a.next + n) ++ called_rows (knowing context) home name (length xs) (slots_from a.next n) (value_slots (a.next + n) (all_trees xs)))) → OnOk r (Generates context a b k (tree e))
+    pub named_call_exit : (x y : Expr) (home name : Atom) (xs : List Expr) (given_by : Ask) (n : ℕ) → e.form ≡ f.Call x y xs → call_names (tree x) (tree y) ≡ Some (home, name)
+        → given_by ≡ call_gives (tree x) (tree y) (length xs) → n ≡ call_results k given_by
+        → OnOk r (Adds a b (n + spans (all_trees xs)) (every context (all_trees xs) (scope_of a) (a.next + n) ++ called_rows (knowing context) home name (length xs) (slots_from a.next n) (value_slots (a.next + n) (all_trees xs))))
+        → OnOk r (Generates context a b k (tree e))
     named_call_exit x y home name xs given_by n is named gives count h =
         let ts : m.Trees = all_trees xs in
         let j : ℕ = call_results k (call_gives (tree x) (tree y) (how_many ts)) in
         let same : n ≡ j = count ∙ ap (call_results k) (gives ∙ ap (call_gives (tree x) (tree y)) (sym (how_many-length xs))) in
         of_tree (m.call e.mark (tree x) (tree y) ts) (call_tree e x y xs is)
         (on_ok_weaker r
-        (subst (λ o. Adds a b (j + unless_named o (span one_value (tree x) + span one_value (tree y)) + spans ts) (named_or o (λ g. every context ts (scope_of a) (a.next + j) ++ called_rows (knowing context) g.0 g.1 (how_many ts) (slots_from a.next j) (value_slots (a.next + j) ts)) (given context one_value (tree x) (scope_of a) (a.next + j) ++ given context one_value (tree y) (scope_of a) (a.next + j + span one_value (tree x)) ++ every context ts (scope_of a) (a.next + j + (span one_value (tree x) + span one_value (tree y)))))) (sym named))
-        (on_ok_weaker r (adds_as a b _ _ _ _ (omega arith) (ap (λ z. every context ts (scope_of a) (a.next + z) ++ called_rows (knowing context) home name (length xs) (slots_from a.next z) (value_slots (a.next + z) ts)) same ∙ ap (λ z. every context ts (scope_of a) (a.next + j) ++ called_rows (knowing context) home name z (slots_from a.next j) (value_slots (a.next + j) ts)) (sym (how_many-length xs)))) h))
+        (subst (λ o. Adds a b (j + unless_named o (span one_value (tree x) + span one_value (tree y)) + spans ts)
+        (named_or o (λ g. every context ts (scope_of a) (a.next + j) ++ called_rows (knowing context) g.0 g.1 (how_many ts) (slots_from a.next j) (value_slots (a.next + j) ts))
+        (given context one_value (tree x) (scope_of a) (a.next + j) ++ given context one_value (tree y) (scope_of a) (a.next + j + span one_value (tree x))
+        ++ every context ts (scope_of a) (a.next + j + (span one_value (tree x) + span one_value (tree y)))))) (sym named))
+        (on_ok_weaker r (adds_as a b _ _ _ _ (omega arith) (ap (λ z. every context ts (scope_of a) (a.next + z) ++ called_rows (knowing context) home name (length xs) (slots_from a.next z) (value_slots (a.next + z) ts)) same
+        ∙ ap (λ z. every context ts (scope_of a) (a.next + j) ++ called_rows (knowing context) home name z (slots_from a.next j) (value_slots (a.next + j) ts)) (sym (how_many-length xs)))) h))
 
-    pub primop_exit : (x : Atom) (xs : List Expr) → e.form ≡ f.Primop x xs → OnOk r (Adds a b (whatever_asked k + spans (all_trees xs)) (every context (all_trees xs) (scope_of a) (a.next + whatever_asked k) ++ (if is_raising x then never (slots_from a.next (whatever_asked k)) else []))) → OnOk r (Generates context a b k (tree e))
+    pub primop_exit : (x : Atom) (xs : List Expr) → e.form ≡ f.Primop x xs → OnOk r
+        (Adds a b (whatever_asked k + spans (all_trees xs)) (every context (all_trees xs) (scope_of a) (a.next + whatever_asked k) ++ (if is_raising x then never (slots_from a.next (whatever_asked k)) else [])))
+        → OnOk r (Generates context a b k (tree e))
     primop_exit x xs is = of_tree (m.primop e.mark x (all_trees xs)) (primop_tree e x xs is)
 
     pub try_form : (x : TryOf Expr) → e.form ≡ f.Try x → OnOk r ((i : Mark) → Generates context a b k (m.try i (tree x.arg) x.vars (tree x.body) x.catch_vars (tree x.handler))) → OnOk r (Generates context a b k (tree e))
@@ -108,7 +128,8 @@ module _ (context : Surroundings) (k : Ask) where
     catch_exit x is = of_tree (m.catch e.mark (tree x)) (catch_tree e x is)
 
   module _ (r : Answer) (a b c : Generator) (e : Expr) where
-    pub listed_exit : (xs : List Expr) (x : Expr) (value cells : ℕ) (slots : List ℕ) → e.form ≡ f.Listed xs x → value ≡ a.next → cells ≡ a.next + 1 → slots ≡ value_slots (a.next + 1 + inner_cells (length xs)) (all_trees xs)
+    pub listed_exit : (xs : List Expr) (x : Expr) (value cells : ℕ) (slots : List ℕ) → e.form ≡ f.Listed xs x → value ≡ a.next → cells ≡ a.next + 1
+        → slots ≡ value_slots (a.next + 1 + inner_cells (length xs)) (all_trees xs)
         → Adds a b (1 + inner_cells (length xs) + spans (all_trees xs)) (every context (all_trees xs) (scope_of a) (a.next + 1 + inner_cells (length xs)))
         → OnOk r (Adds b c (span one_value (tree x)) (rows_at context b one_value (tree x) ++ list_rows value cells slots b.next)) → OnOk r (Generates context a c k (tree e))
     listed_exit xs x value cells slots is value_is cells_are slots_are one h =
@@ -124,15 +145,20 @@ module _ (context : Surroundings) (k : Ask) where
         (subst (λ z. OnOk r (Adds b c (span one_value t) (rows_at context b one_value t ++ list_rows value cells z b.next))) slots_are h)) in
         of_tree r a c e (m.listed e.mark ts t) (listed_tree e xs x is)
         (on_ok_weaker r (λ two.
-        subst (λ j. Adds a c (1 + inner_cells j + spans ts + span one_value t) (every context ts (scope_of a) (a.next + 1 + inner_cells j) ++ given context one_value t (scope_of a) (a.next + 1 + inner_cells j + spans ts) ++ list_rows a.next (a.next + 1) (value_slots (a.next + 1 + inner_cells j) ts) (a.next + 1 + inner_cells j + spans ts))) (sym (how_many-length xs))
+        subst (λ j. Adds a c (1 + inner_cells j + spans ts + span one_value t) (every context ts (scope_of a) (a.next + 1 + inner_cells j) ++ given context one_value t (scope_of a) (a.next + 1 + inner_cells j + spans ts)
+        ++ list_rows a.next (a.next + 1) (value_slots (a.next + 1 + inner_cells j) ts) (a.next + 1 + inner_cells j + spans ts))) (sym (how_many-length xs))
         (adds_as a c _ _ _ _ refl (sym (append_assoc (every context ts (scope_of a) first) (given context one_value t (scope_of a) rest) (list_rows a.next (a.next + 1) (value_slots first ts) rest)))
         (adds_then a b c (1 + n + spans ts) (span one_value t) (1 + n + spans ts + span one_value t) rest (every context ts (scope_of a) first) tail one two (omega arith) refl))) said)
 
-    pub new_map_exit : (ps : List MapPair) (o : Option Expr) (value : ℕ) (t : Type4) → e.form ≡ f.Map ps o → o ≡ None → value ≡ a.next → Adds a b (1 + pair_spans (all_pairs ps)) (pair_rows (knowing context) context.home.now (scope_of a) (a.next + 1) (all_pairs ps)) → t ≡ of_kind Map → OnOk r (Adds b c 0 (bound value t)) → OnOk r (Generates context a c k (tree e))
+    pub new_map_exit : (ps : List MapPair) (o : Option Expr) (value : ℕ) (t : Type4) → e.form ≡ f.Map ps o → o ≡ None → value ≡ a.next
+        → Adds a b (1 + pair_spans (all_pairs ps)) (pair_rows (knowing context) context.home.now (scope_of a) (a.next + 1) (all_pairs ps)) → t ≡ of_kind Map → OnOk r (Adds b c 0 (bound value t))
+        → OnOk r (Generates context a c k (tree e))
     new_map_exit ps o value t is none value_is one type_is h = of_tree r a c e (m.new_map e.mark (all_pairs ps)) (new_map_tree e ps (is ∙ ap (f.Map ps) none))
-        (on_ok_weaker r (λ two. more a b c (1 + pair_spans (all_pairs ps)) (pair_rows (knowing context) context.home.now (scope_of a) (a.next + 1) (all_pairs ps)) (bound a.next (of_kind Map)) one (bounded context b c value a.next t (of_kind Map) value_is type_is two)) h)
+        (on_ok_weaker r (λ two. more a b c (1 + pair_spans (all_pairs ps)) (pair_rows (knowing context) context.home.now (scope_of a) (a.next + 1) (all_pairs ps)) (bound a.next (of_kind Map)) one
+        (bounded context b c value a.next t (of_kind Map) value_is type_is two)) h)
 
-    pub updated_map_exit : (ps : List MapPair) (o : Option Expr) (x : Expr) (value : ℕ) → e.form ≡ f.Map ps o → o ≡ Some x → value ≡ a.next → Adds a b (1 + pair_spans (all_pairs ps)) (pair_rows (knowing context) context.home.now (scope_of a) (a.next + 1) (all_pairs ps))
+    pub updated_map_exit : (ps : List MapPair) (o : Option Expr) (x : Expr) (value : ℕ) → e.form ≡ f.Map ps o → o ≡ Some x → value ≡ a.next
+        → Adds a b (1 + pair_spans (all_pairs ps)) (pair_rows (knowing context) context.home.now (scope_of a) (a.next + 1) (all_pairs ps))
         → OnOk r (Adds b c (span one_value (tree x)) (rows_at context b one_value (tree x) ++ bound b.next (of_kind Map) ++ bound value (of_kind Map))) → OnOk r (Generates context a c k (tree e))
     updated_map_exit ps o x value is some value_is one h =
         let ts : m.Pairs = all_pairs ps in
@@ -142,7 +168,8 @@ module _ (context : Surroundings) (k : Ask) where
         of_tree r a c e (m.updated_map e.mark ts t) (updated_map_tree e ps x (is ∙ ap (f.Map ps) some))
         (on_ok_weaker r (λ two.
         adds_as a c _ _ _ _ refl
-        (sym (append_assoc pairs (given context one_value t (scope_of a) old ++ bound old (of_kind Map)) (bound a.next (of_kind Map))) ∙ ap (λ l. l ++ bound a.next (of_kind Map)) (sym (append_assoc pairs (given context one_value t (scope_of a) old) (bound old (of_kind Map)))))
+        (sym (append_assoc pairs (given context one_value t (scope_of a) old ++ bound old (of_kind Map)) (bound a.next (of_kind Map)))
+        ∙ ap (λ l. l ++ bound a.next (of_kind Map)) (sym (append_assoc pairs (given context one_value t (scope_of a) old) (bound old (of_kind Map)))))
         (adds_then a b c (1 + pair_spans ts) (span one_value t) (1 + pair_spans ts + span one_value t) old pairs (λ sc s. given context one_value t sc s ++ bound s (of_kind Map) ++ bound a.next (of_kind Map)) one
         (subst (λ z. Adds b c (span one_value t) (rows_at context b one_value t ++ bound b.next (of_kind Map) ++ bound z (of_kind Map))) value_is two) (omega arith) refl)) h)
 
@@ -163,13 +190,15 @@ module _ (context : Surroundings) (k : Ask) where
         (on_ok_weaker r (λ two. record {
           next = two.next ∙ ap (λ z. z + span k t) one.next ∙ (let q : a.next + (passed_on k + step_spans ts) + span k t ≡ a.next + (passed_on k + step_spans ts + span k t) = omega arith in q);
           rows = two.rows ∙ ap (λ l. l ++ handing context k t rs (scope_of b) b.next) one.rows ∙ append_assoc (rows_of a) steps (handing context k t rs (scope_of b) b.next)
-              ∙ ap (λ l. rows_of a ++ (steps ++ handing context k t l (scope_of b) b.next)) rs_are ∙ ap (λ sc. rows_of a ++ (steps ++ handing context k t to sc b.next)) inside ∙ ap (λ z. rows_of a ++ (steps ++ handing context k t to inner z)) at
+              ∙ ap (λ l. rows_of a ++ (steps ++ handing context k t l (scope_of b) b.next)) rs_are ∙ ap (λ sc. rows_of a ++ (steps ++ handing context k t to sc b.next)) inside
+              ∙ ap (λ z. rows_of a ++ (steps ++ handing context k t to inner z)) at
               ∙ ap (λ l. rows_of a ++ l) (sym (append_assoc steps (given context k t inner last) (equals to (results k last t))));
           variables = two.variables ∙ ap (λ z. take z b.variables) around_is ∙ ap (take (length a.variables)) one.variables ∙ take-append_seam a.variables (step_bindings first ts);
           functions = two.functions ∙ one.functions;
         }) h)
 
-    pub case_exit : (x : Expr) (cs : List Clause) (n : ℕ) (rs values : List ℕ) → e.form ≡ f.Case x cs → n ≡ width (all_clauses cs) → rs ≡ slots_from a.next (passed_on k) → values ≡ results (Exactly n) (a.next + passed_on k) (tree x)
+    pub case_exit : (x : Expr) (cs : List Clause) (n : ℕ) (rs values : List ℕ) → e.form ≡ f.Case x cs → n ≡ width (all_clauses cs) → rs ≡ slots_from a.next (passed_on k)
+        → values ≡ results (Exactly n) (a.next + passed_on k) (tree x)
         → Adds a b (passed_on k + span (Exactly n) (tree x)) (given context (Exactly n) (tree x) (scope_of a) (a.next + passed_on k))
         → OnOk r (Adds b c (clause_spans k (all_clauses cs)) (one_of (alternatives context rs values k (all_clauses cs) (scope_of b) b.next))) → OnOk r (Generates context a c k (tree e))
     case_exit x cs n rs values is count rs_are values_are one h =
@@ -179,11 +208,15 @@ module _ (context : Surroundings) (k : Ask) where
         let to : List ℕ = slots_from a.next (passed_on k) in
         of_tree r a c e (m.case e.mark t ts) (case_tree e x cs is)
         (on_ok_weaker r (λ two.
-        subst (λ j. Adds a c (passed_on k + span (Exactly j) t + clause_spans k ts) (given context (Exactly j) t (scope_of a) argument ++ one_of (alternatives context to (results (Exactly j) argument t) k ts (scope_of a) (argument + span (Exactly j) t)))) count
-        (adds_then a b c (passed_on k + span (Exactly n) t) (clause_spans k ts) (passed_on k + span (Exactly n) t + clause_spans k ts) (argument + span (Exactly n) t) (given context (Exactly n) t (scope_of a) argument) (λ sc s. one_of (alternatives context to (results (Exactly n) argument t) k ts sc s)) one
-        (subst (λ l. Adds b c (clause_spans k ts) (one_of (alternatives context l (results (Exactly n) argument t) k ts (scope_of b) b.next))) rs_are (subst (λ l. Adds b c (clause_spans k ts) (one_of (alternatives context rs l k ts (scope_of b) b.next))) values_are two)) (omega arith) refl)) h)
+        subst (λ j. Adds a c (passed_on k + span (Exactly j) t + clause_spans k ts)
+        (given context (Exactly j) t (scope_of a) argument ++ one_of (alternatives context to (results (Exactly j) argument t) k ts (scope_of a) (argument + span (Exactly j) t)))) count
+        (adds_then a b c (passed_on k + span (Exactly n) t) (clause_spans k ts) (passed_on k + span (Exactly n) t + clause_spans k ts) (argument + span (Exactly n) t) (given context (Exactly n) t (scope_of a) argument)
+        (λ sc s. one_of (alternatives context to (results (Exactly n) argument t) k ts sc s)) one
+        (subst (λ l. Adds b c (clause_spans k ts) (one_of (alternatives context l (results (Exactly n) argument t) k ts (scope_of b) b.next))) rs_are
+        (subst (λ l. Adds b c (clause_spans k ts) (one_of (alternatives context rs l k ts (scope_of b) b.next))) values_are two)) (omega arith) refl)) h)
 
-    pub other_apply_exit : (x : Expr) (xs : List Expr) (operator : ℕ) → e.form ≡ f.Apply x xs → local_name (tree x) ≡ None → operator ≡ a.next + 1 → Adds a b (1 + span one_value (tree x)) (given context one_value (tree x) (scope_of a) (a.next + 1))
+    pub other_apply_exit : (x : Expr) (xs : List Expr) (operator : ℕ) → e.form ≡ f.Apply x xs → local_name (tree x) ≡ None → operator ≡ a.next + 1
+        → Adds a b (1 + span one_value (tree x)) (given context one_value (tree x) (scope_of a) (a.next + 1))
         → OnOk r (Adds b c (spans (all_trees xs)) (every context (all_trees xs) (scope_of b) b.next ++ bound operator (function_type (length xs)))) → OnOk r (Generates context a c k (tree e))
     other_apply_exit x xs operator is unnamed operator_is one h =
         let t : m.Tree = tree x in
@@ -193,13 +226,15 @@ module _ (context : Surroundings) (k : Ask) where
         let args : Scope → ℕ → Rows = every context ts in
         of_tree r a c e (m.apply e.mark t ts) (apply_tree e x xs is)
         (on_ok_weaker r (λ two.
-        subst (λ o. Adds a c (1 + unless_named o (span one_value t) + spans ts) (named_or o (λ g. args (scope_of a) s ++ applied_rows (knowing context) context.home.now a.functions g (how_many ts) a.next (value_slots s ts)) (said ++ args (scope_of a) (s + span one_value t) ++ bound s (function_type (how_many ts))))) (sym unnamed)
+        subst (λ o. Adds a c (1 + unless_named o (span one_value t) + spans ts) (named_or o (λ g. args (scope_of a) s ++ applied_rows (knowing context) context.home.now a.functions g (how_many ts) a.next (value_slots s ts))
+        (said ++ args (scope_of a) (s + span one_value t) ++ bound s (function_type (how_many ts))))) (sym unnamed)
         (adds_as a c _ _ _ _ refl
         (sym (append_assoc said (args (scope_of a) (s + span one_value t)) (bound s (function_type (length xs)))) ∙ ap (λ n. said ++ args (scope_of a) (s + span one_value t) ++ bound s (function_type n)) (sym (how_many-length xs)))
         (adds_then a b c (1 + span one_value t) (spans ts) (1 + span one_value t + spans ts) (s + span one_value t) said (λ sc z. args sc z ++ bound s (function_type (length xs))) one
         (subst (λ z. Adds b c (spans ts) (args (scope_of b) b.next ++ bound z (function_type (length xs)))) operator_is two) (omega arith) refl))) h)
 
-  pub other_call_exit : (a b c d g : Generator) (e x y : Expr) (xs : List Expr) (given_by : Ask) (n : ℕ) → e.form ≡ f.Call x y xs → call_names (tree x) (tree y) ≡ None → given_by ≡ call_gives (tree x) (tree y) (length xs) → n ≡ call_results k given_by → Adds a b n []
+  pub other_call_exit : (a b c d g : Generator) (e x y : Expr) (xs : List Expr) (given_by : Ask) (n : ℕ) → e.form ≡ f.Call x y xs → call_names (tree x) (tree y) ≡ None → given_by ≡ call_gives (tree x) (tree y) (length xs)
+      → n ≡ call_results k given_by → Adds a b n []
       → Generates context b c one_value (tree x) → Generates context c d one_value (tree y) → Adds d g (spans (all_trees xs)) (every context (all_trees xs) (scope_of d) d.next) → Generates context a g k (tree e)
   other_call_exit a b c d g e x y xs given_by n is unnamed gives count one two three four =
       let t : m.Tree = tree x in
@@ -211,14 +246,20 @@ module _ (context : Surroundings) (k : Ask) where
       let taken : Adds a b j [] = subst (λ z. Adds a b z []) same one in
       let first : Adds a c (j + span one_value t) (given context one_value t (scope_of a) s) = behind a b c j (span one_value t) (given context one_value t) taken two in
       let second : Adds a d (j + (span one_value t + span one_value u)) (given context one_value t (scope_of a) s ++ given context one_value u (scope_of a) (s + span one_value t)) =
-      adds_then a c d (j + span one_value t) (span one_value u) (j + (span one_value t + span one_value u)) (s + span one_value t) (given context one_value t (scope_of a) s) (given context one_value u) first three (omega arith) (omega arith) in
-      let third : Adds a g (j + (span one_value t + span one_value u) + spans ts) (given context one_value t (scope_of a) s ++ given context one_value u (scope_of a) (s + span one_value t) ++ every context ts (scope_of a) (s + (span one_value t + span one_value u))) =
-      adds_then a d g (j + (span one_value t + span one_value u)) (spans ts) (j + (span one_value t + span one_value u) + spans ts) (s + (span one_value t + span one_value u)) (given context one_value t (scope_of a) s ++ given context one_value u (scope_of a) (s + span one_value t)) (every context ts) second four (omega arith) refl in
+      adds_then a c d (j + span one_value t) (span one_value u) (j + (span one_value t + span one_value u)) (s + span one_value t) (given context one_value t (scope_of a) s) (given context one_value u) first three (omega arith)
+      (omega arith) in
+      let third : Adds a g (j + (span one_value t + span one_value u) + spans ts)
+      (given context one_value t (scope_of a) s ++ given context one_value u (scope_of a) (s + span one_value t) ++ every context ts (scope_of a) (s + (span one_value t + span one_value u))) =
+      adds_then a d g (j + (span one_value t + span one_value u)) (spans ts) (j + (span one_value t + span one_value u) + spans ts) (s + (span one_value t + span one_value u))
+      (given context one_value t (scope_of a) s ++ given context one_value u (scope_of a) (s + span one_value t)) (every context ts) second four (omega arith) refl in
       subst (Generates context a g k) (sym (call_tree e x y xs is))
-      (subst (λ o. Adds a g (j + unless_named o (span one_value t + span one_value u) + spans ts) (named_or o (λ q. every context ts (scope_of a) s ++ called_rows (knowing context) q.0 q.1 (how_many ts) (slots_from a.next j) (value_slots s ts)) (given context one_value t (scope_of a) s ++ given context one_value u (scope_of a) (s + span one_value t) ++ every context ts (scope_of a) (s + (span one_value t + span one_value u))))) (sym unnamed) third)
+      (subst (λ o. Adds a g (j + unless_named o (span one_value t + span one_value u) + spans ts)
+      (named_or o (λ q. every context ts (scope_of a) s ++ called_rows (knowing context) q.0 q.1 (how_many ts) (slots_from a.next j) (value_slots s ts))
+      (given context one_value t (scope_of a) s ++ given context one_value u (scope_of a) (s + span one_value t) ++ every context ts (scope_of a) (s + (span one_value t + span one_value u))))) (sym unnamed) third)
 
   -- the clauses, then the timeout, whose rows come first, then the action
-  pub receive_exit : (r : Answer) (a b c d g h : Generator) (e : Expr) (cs : List Clause) (x y : Expr) (rs : List ℕ) (start middle slot again : ℕ) → e.form ≡ f.Receive cs x y → rs ≡ slots_from a.next (passed_on k) → start ≡ length a.members.items
+  pub receive_exit : (r : Answer) (a b c d g h : Generator) (e : Expr) (cs : List Clause) (x y : Expr) (rs : List ℕ) (start middle slot again : ℕ) → e.form ≡ f.Receive cs x y → rs ≡ slots_from a.next (passed_on k)
+      → start ≡ length a.members.items
       → Adds a b (passed_on k + 1 + clause_spans k (all_clauses cs)) (alternatives context (slots_from a.next (passed_on k)) ((a.next + passed_on k) ∷ []) k (all_clauses cs) (scope_of a) (a.next + passed_on k + 1))
       → slot ≡ b.next → middle ≡ length b.members.items → Generates context b c one_value (tree x) → again ≡ start + (length c.members.items - middle) → Rotates start middle c d
       → Adds d g (span k (tree y)) (together (rows_at context d k (tree y) ++ equals rs (results k d.next (tree y)) ++ bound slot naturals) ∷ []) → OnOk r (Gathers one_of again g h)
@@ -239,7 +280,8 @@ module _ (context : Surroundings) (k : Ask) where
       let at_d : d.next ≡ action = turned.next ∙ two.next ∙ ap (λ z. z + span one_value t) at_b in
       let in_d : scope_of d ≡ scope_of a = λ i. record { variables = (turned.variables ∙ two.variables ∙ one.variables) i; functions = (turned.functions ∙ two.functions ∙ one.functions) i } in
       let rows_b : rows_of b ≡ rows_of a ++ choices = one.rows in
-      let rows_c : rows_of c ≡ (rows_of a ++ choices) ++ waits = two.rows ∙ ap (λ l. l ++ rows_at context b one_value t) rows_b ∙ ap (λ sc. (rows_of a ++ choices) ++ given context one_value t sc b.next) in_b ∙ ap (λ z. (rows_of a ++ choices) ++ given context one_value t (scope_of a) z) at_b in
+      let rows_c : rows_of c ≡ (rows_of a ++ choices) ++ waits = two.rows ∙ ap (λ l. l ++ rows_at context b one_value t) rows_b ∙ ap (λ sc. (rows_of a ++ choices) ++ given context one_value t sc b.next) in_b
+      ∙ ap (λ z. (rows_of a ++ choices) ++ given context one_value t (scope_of a) z) at_b in
       let from_a : start ≡ length (rows_of a) = start_is ∙ sym (mapped_length constraint a.members.items) in
       let from_b : middle ≡ length (rows_of a ++ choices) = middle_is ∙ sym (mapped_length constraint b.members.items) ∙ ap length rows_b in
       let from_c : length c.members.items ≡ length ((rows_of a ++ choices) ++ waits) = sym (mapped_length constraint c.members.items) ∙ ap length rows_c in
@@ -247,7 +289,8 @@ module _ (context : Surroundings) (k : Ask) where
       ∙ ap (λ l. take start l ++ drop middle l ++ drop start (take middle l)) rows_c
       ∙ ap (λ z. take z ((rows_of a ++ choices) ++ waits) ++ drop middle ((rows_of a ++ choices) ++ waits) ++ drop z (take middle ((rows_of a ++ choices) ++ waits))) from_a
       ∙ ap (λ z. take (length (rows_of a)) ((rows_of a ++ choices) ++ waits) ++ drop z ((rows_of a ++ choices) ++ waits) ++ drop (length (rows_of a)) (take z ((rows_of a ++ choices) ++ waits))) from_b
-      ∙ ap (λ l. l ++ drop (length (rows_of a ++ choices)) ((rows_of a ++ choices) ++ waits) ++ drop (length (rows_of a)) (take (length (rows_of a ++ choices)) ((rows_of a ++ choices) ++ waits))) (ap (take (length (rows_of a))) (append_assoc (rows_of a) choices waits) ∙ take-append_seam (rows_of a) (choices ++ waits))
+      ∙ ap (λ l. l ++ drop (length (rows_of a ++ choices)) ((rows_of a ++ choices) ++ waits) ++ drop (length (rows_of a)) (take (length (rows_of a ++ choices)) ((rows_of a ++ choices) ++ waits)))
+      (ap (take (length (rows_of a))) (append_assoc (rows_of a) choices waits) ∙ take-append_seam (rows_of a) (choices ++ waits))
       ∙ ap (λ l. rows_of a ++ l ++ drop (length (rows_of a)) (take (length (rows_of a ++ choices)) ((rows_of a ++ choices) ++ waits))) (drop_seam (rows_of a ++ choices) waits)
       ∙ ap (λ l. rows_of a ++ waits ++ drop (length (rows_of a)) l) (take-append_seam (rows_of a ++ choices) waits)
       ∙ ap (λ l. rows_of a ++ waits ++ l) (drop_seam (rows_of a) choices) in
@@ -261,7 +304,8 @@ module _ (context : Surroundings) (k : Ask) where
       (let l1 = length-append (rows_of a ++ choices) waits in let l2 = length-append (rows_of a) choices in let l3 = length-append (rows_of a) waits in omega arith) in
       of_tree r a h e (m.receive e.mark ts t u) (receive_tree e cs x y is)
       (on_ok_weaker r (λ four. record {
-        next = four.next ∙ three.next ∙ ap (λ z. z + span k u) at_d ∙ (let z : a.next + passed_on k + 1 + clause_spans k ts + span one_value t + span k u ≡ a.next + (passed_on k + 1 + clause_spans k ts + span one_value t + span k u) = omega arith in z);
+        next = four.next ∙ three.next ∙ ap (λ z. z + span k u) at_d ∙ (let z : a.next + passed_on k + 1 + clause_spans k ts + span one_value t + span k u
+            ≡ a.next + (passed_on k + 1 + clause_spans k ts + span one_value t + span k u) = omega arith in z);
         rows = four.rows ∙ ap (λ l. take again l ++ one_of (drop again l)) rows_g
             ∙ ap (λ z. take z ((rows_of a ++ waits) ++ (choices ++ last)) ++ one_of (drop z ((rows_of a ++ waits) ++ (choices ++ last)))) from_g
             ∙ ap (λ l. l ++ one_of (drop (length (rows_of a ++ waits)) ((rows_of a ++ waits) ++ (choices ++ last)))) (take-append_seam (rows_of a ++ waits) (choices ++ last))

@@ -1,20 +1,14 @@
 //! The forms that bind variables, choose and wait.
-ghost use Rattle.std.specs.Prelude.{◌≡◌, ◌+◌, [], ◌∷◌, ◌++◌, length, IfOk, OnOk};
-ghost use Rattle.core_ast.specs.Model as m;
-ghost use Rattle.core_ast.specs.declared.syntax.Mark.{Mark};
+ghost use Rattle.std.specs.Prelude.{◌≡◌, ◌+◌, [], ◌∷◌, length, IfOk, OnOk};
 ghost use Rattle.core_ast.specs.Tree.{all_clauses, all_defs, all_steps, tree};
-ghost use Rattle.core_scope.specs.Asks.{one_value};
-ghost use Rattle.core_scope.specs.Names.{defined_names};
 ghost use Rattle.core_scope.specs.declared.ask.Ask.TheVariants.{Exactly};
-ghost use Rattle.cons_tree.specs.Named.{just_true, naturals};
 ghost use Rattle.cons_gen_rows.specs.Counts.{passed_on, results};
-ghost use Rattle.cons_gen_rows.specs.Scopes.{bindings, with_bindings, with_functions};
 ghost use Rattle.cons_gen_rows.specs.Slots.{slots_from};
-ghost use Rattle.cons_gen_rows.specs.Walking.{Adds, Binds, bindings_at, knowing, scope_of};
-ghost use Rattle.cons_gen_rows.specs.Words.{bound, equals, one_of, together};
-ghost use Rattle.cons_gen.specs.Rows.{clause_rows, rows, step_bindings, step_rows};
-ghost use Rattle.cons_gen.specs.Spans.{clause_spans, span, step_spans};
-ghost use Rattle.cons_gen.specs.steps.Generating.{Generates, Leaves, handler_rows, rows_at, tried_rows};
+ghost use Rattle.cons_gen_rows.specs.Walking.{bindings_at};
+ghost use Rattle.cons_gen.specs.Spans.{span};
+ghost use Rattle.cons_gen.specs.steps.Choosing.{BindsLet, BindsSteps, GeneratesAction, GeneratesAlternatives, GeneratesArgument, GeneratesClauses};
+ghost use Rattle.cons_gen.specs.steps.Choosing.{GeneratesFirst, GeneratesGuard, GeneratesHandler, GeneratesLetrec, GeneratesMessages};
+ghost use Rattle.cons_gen.specs.steps.Choosing.{GeneratesPassed, GeneratesTried, GeneratesTry, GeneratesUnder, Leaves, passed_rows};
 
 use crate::expressions::{walk_expression, walk_results};
 use cons_gen_rows::{Generator, Surroundings, all_naturals, passed_on, walk_outer};
@@ -46,7 +40,7 @@ fn walk_passed_on(
     to: &[Slot],
     expr: &Expr,
 ) -> Result<(), Memory>
-    ensures { OnOk result (Adds made.old made.new (span ask (tree expr.now)) (rows_at context.now made.old ask (tree expr.now) ++ equals to.now (results ask made.old.next (tree expr.now)))) }
+    ensures { OnOk result (GeneratesPassed context.now made.old made.new ask to.now (tree expr.now)) }
 {
     let values = walk_results(made, context, ask, expr)?;
     made.equal_each(to, values.as_slice())
@@ -63,7 +57,7 @@ fn walk_under(
     slots: &[Slot],
     expr: &Expr,
 ) -> Result<(), Memory>
-    ensures { OnOk result (Adds made.old made.new (span ask (tree expr.now)) (rows (knowing context.now) context.now.home.now (with_bindings (scope_of made.old) (bindings_at vars.now slots.now)) made.old.next ask (tree expr.now) ++ equals to.now (results ask made.old.next (tree expr.now)))) }
+    ensures { OnOk result (GeneratesUnder context.now made.old made.new ask to.now (bindings_at vars.now slots.now) (tree expr.now)) }
 {
     let around = made.variables.len();
     made.bind_all(vars, slots)?;
@@ -80,7 +74,7 @@ fn walk_let(
     vars: &[VarName],
     expr: &Expr,
 ) -> Result<(), Memory>
-    ensures { OnOk result (Binds made.old made.new (length vars.now + span (Exactly (length vars.now)) (tree expr.now)) (rows (knowing context.now) context.now.home.now (scope_of made.old) (made.old.next + length vars.now) (Exactly (length vars.now)) (tree expr.now) ++ equals (slots_from made.old.next (length vars.now)) (results (Exactly (length vars.now)) (made.old.next + length vars.now) (tree expr.now))) (bindings vars.now made.old.next)) }
+    ensures { OnOk result (BindsLet context.now made.old made.new vars.now (tree expr.now)) }
 {
     let slots = made.take_run(vars.len())?;
     walk_passed_on(
@@ -102,7 +96,7 @@ pub fn walk_steps(
     steps: &[Step],
 ) -> Result<List<Slot>, Memory>
     ensures results { IfOk result (λ slots. slots ≡ slots_from made.old.next (passed_on ask)) }
-    ensures rows { OnOk result (Binds made.old made.new (passed_on ask + step_spans (all_steps steps.now)) (step_rows (knowing context.now) context.now.home.now (scope_of made.old) (made.old.next + passed_on ask) (all_steps steps.now)) (step_bindings (made.old.next + passed_on ask) (all_steps steps.now))) }
+    ensures rows { OnOk result (BindsSteps context.now made.old made.new ask (all_steps steps.now)) }
 {
     let results = made.take_run(passed_on(ask))?;
     for step in steps {
@@ -124,7 +118,7 @@ pub fn walk_last(
     around: usize,
     last: &Expr,
 ) -> Result<(), Memory>
-    ensures { OnOk result (Leaves around made.old made.new (span ask (tree last.now)) (rows_at context.now made.old ask (tree last.now) ++ equals to.now (results ask made.old.next (tree last.now)))) }
+    ensures { OnOk result (Leaves around made.old made.new (span ask (tree last.now)) (passed_rows context.now made.old ask to.now (tree last.now))) }
 {
     walk_passed_on(made, context, ask, to.as_slice(), last)?;
     made.variables.leave(around);
@@ -142,7 +136,7 @@ pub fn walk_argument(
 ) -> Result<CaseSlots, Memory>
     ensures results { IfOk result (λ case. case.results ≡ slots_from made.old.next (passed_on ask)) }
     ensures values { IfOk result (λ case. case.values ≡ results (Exactly count) (made.old.next + passed_on ask) (tree argument.now)) }
-    ensures rows { OnOk result (Adds made.old made.new (passed_on ask + span (Exactly count) (tree argument.now)) (rows (knowing context.now) context.now.home.now (scope_of made.old) (made.old.next + passed_on ask) (Exactly count) (tree argument.now))) }
+    ensures rows { OnOk result (GeneratesArgument context.now made.old made.new ask count (tree argument.now)) }
 {
     let results = made.take_run(passed_on(ask))?;
     let values = walk_results(made, context, Ask::Exactly(count), argument)?;
@@ -158,7 +152,7 @@ pub fn walk_alternatives(
     case: &CaseSlots,
     clauses: &[Clause],
 ) -> Result<(), Memory>
-    ensures { OnOk result (Adds made.old made.new (clause_spans ask (all_clauses clauses.now)) (one_of (clause_rows (knowing context.now) context.now.home.now (scope_of made.old) case.now.results case.now.values made.old.next ask (all_clauses clauses.now)))) }
+    ensures { OnOk result (GeneratesAlternatives context.now made.old made.new ask case.now.results case.now.values (all_clauses clauses.now)) }
 {
     let start = made.count();
     walk_clauses(
@@ -182,7 +176,7 @@ fn walk_clauses(
     values: &[Slot],
     clauses: &[Clause],
 ) -> Result<(), Memory>
-    ensures { OnOk result (Adds made.old made.new (clause_spans ask (all_clauses clauses.now)) (clause_rows (knowing context.now) context.now.home.now (scope_of made.old) to.now values.now made.old.next ask (all_clauses clauses.now))) }
+    ensures { OnOk result (GeneratesClauses context.now made.old made.new ask to.now values.now (all_clauses clauses.now)) }
 {
     for clause in clauses {
         walk_clause(made, context, ask, to, values, clause)?;
@@ -200,7 +194,7 @@ fn walk_clause(
     values: &[Slot],
     clause: &Clause,
 ) -> Result<(), Memory>
-    ensures { OnOk result (Adds made.old made.new (clause_spans ask (all_clauses (clause.now ∷ []))) (clause_rows (knowing context.now) context.now.home.now (scope_of made.old) to.now values.now made.old.next ask (all_clauses (clause.now ∷ [])))) }
+    ensures { OnOk result (GeneratesClauses context.now made.old made.new ask to.now values.now (all_clauses (clause.now ∷ []))) }
 {
     let around = made.variables.len();
     let start = made.count();
@@ -214,7 +208,7 @@ fn walk_clause(
 // A guard, which is true.
 #[cycle(rows)]
 fn walk_guard(made: &mut Generator, context: &Surroundings, guard: &Expr) -> Result<(), Memory>
-    ensures { OnOk result (Adds made.old made.new (span one_value (tree guard.now)) (rows_at context.now made.old one_value (tree guard.now) ++ bound made.old.next just_true)) }
+    ensures { OnOk result (GeneratesGuard context.now made.old made.new (tree guard.now)) }
 {
     let slot = made.next;
     walk_expression(made, context, Ask::Exactly(1), guard)?;
@@ -230,7 +224,7 @@ pub fn walk_letrec(
     body: &Expr,
     defs: &[FunDef],
 ) -> Result<(), Memory>
-    ensures { OnOk result (Adds made.old made.new (passed_on ask + span ask (tree body.now)) (rows (knowing context.now) context.now.home.now (with_functions (scope_of made.old) (defined_names (all_defs defs.now))) (made.old.next + passed_on ask) ask (tree body.now) ++ equals (slots_from made.old.next (passed_on ask)) (results ask (made.old.next + passed_on ask) (tree body.now)))) }
+    ensures { OnOk result (GeneratesLetrec context.now made.old made.new ask (all_defs defs.now) (tree body.now)) }
 {
     let results = made.take_run(passed_on(ask))?;
     let around = made.functions.len();
@@ -249,7 +243,7 @@ fn walk_first(
     expr: &Expr,
 ) -> Result<List<Slot>, Memory>
     ensures slots { IfOk result (λ slots. slots ≡ slots_from (made.old.next + span (Exactly count) (tree expr.now)) count) }
-    ensures rows { OnOk result (Adds made.old made.new (span (Exactly count) (tree expr.now) + count) (rows_at context.now made.old (Exactly count) (tree expr.now) ++ equals (slots_from (made.old.next + span (Exactly count) (tree expr.now)) count) (results (Exactly count) made.old.next (tree expr.now)))) }
+    ensures rows { OnOk result (GeneratesFirst context.now made.old made.new count (tree expr.now)) }
 {
     let values = walk_results(made, context, Ask::Exactly(count), expr)?;
     made.take_equal(count, values.as_slice())
@@ -264,7 +258,7 @@ fn walk_tried(
     to: &[Slot],
     parts: &TryParts,
 ) -> Result<(), Memory>
-    ensures { OnOk result (Adds made.old made.new (span (Exactly (length parts.now.vars)) (tree parts.now.arg) + length parts.now.vars + span ask (tree parts.now.body)) (together (tried_rows context.now made.old ask to.now (tree parts.now.arg) parts.now.vars (tree parts.now.body)) ∷ [])) }
+    ensures { OnOk result (GeneratesTried context.now made.old made.new ask to.now parts.now) }
 {
     let start = made.count();
     let slots = walk_first(made, context, parts.vars.len(), parts.arg.get())?;
@@ -289,7 +283,7 @@ fn walk_handler(
     to: &[Slot],
     parts: &TryParts,
 ) -> Result<(), Memory>
-    ensures { OnOk result (Adds made.old made.new (length parts.now.catch_vars + span ask (tree parts.now.handler)) (together (handler_rows context.now made.old ask to.now parts.now.catch_vars (tree parts.now.handler)) ∷ [])) }
+    ensures { OnOk result (GeneratesHandler context.now made.old made.new ask to.now parts.now) }
 {
     let start = made.count();
     let slots = made.take_run(parts.catch_vars.len())?;
@@ -313,7 +307,7 @@ pub fn walk_try(
     ask: Ask,
     parts: &TryParts,
 ) -> Result<(), Memory>
-    ensures { OnOk result ((i : Mark) → Generates context.now made.old made.new ask (m.try i (tree parts.now.arg) parts.now.vars (tree parts.now.body) parts.now.catch_vars (tree parts.now.handler))) }
+    ensures { OnOk result (GeneratesTry context.now made.old made.new ask parts.now) }
 {
     let results = made.take_run(passed_on(ask))?;
     let start = made.count();
@@ -332,7 +326,7 @@ pub fn walk_messages(
 ) -> Result<ReceiveSlots, Memory>
     ensures results { IfOk result (λ receive. receive.results ≡ slots_from made.old.next (passed_on ask)) }
     ensures start { IfOk result (λ receive. receive.start ≡ length made.old.members.items) }
-    ensures rows { OnOk result (Adds made.old made.new (passed_on ask + 1 + clause_spans ask (all_clauses clauses.now)) (clause_rows (knowing context.now) context.now.home.now (scope_of made.old) (slots_from made.old.next (passed_on ask)) ((made.old.next + passed_on ask) ∷ []) (made.old.next + passed_on ask + 1) ask (all_clauses clauses.now))) }
+    ensures rows { OnOk result (GeneratesMessages context.now made.old made.new ask (all_clauses clauses.now)) }
 {
     let results = made.take_run(passed_on(ask))?;
     let message = made.take(1)?;
@@ -351,7 +345,7 @@ pub fn walk_action(
     timeout: Slot,
     action: &Expr,
 ) -> Result<(), Memory>
-    ensures { OnOk result (Adds made.old made.new (span ask (tree action.now)) (together (rows_at context.now made.old ask (tree action.now) ++ equals to.now (results ask made.old.next (tree action.now)) ++ bound timeout naturals) ∷ [])) }
+    ensures { OnOk result (GeneratesAction context.now made.old made.new ask to.now timeout (tree action.now)) }
 {
     let start = made.count();
     walk_passed_on(made, context, ask, to.as_slice(), action)?;

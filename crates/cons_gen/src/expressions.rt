@@ -2,10 +2,8 @@
 ghost use Rattle.std.specs.Prelude.{◌≡◌, IfOk, OnOk};
 ghost use Rattle.core_ast.specs.Tree.{all_trees, tree};
 ghost use Rattle.cons_gen_rows.specs.Counts.{results};
-ghost use Rattle.cons_gen_rows.specs.Walking.{Adds, knowing, scope_of};
-ghost use Rattle.cons_gen.specs.Rows.{all_rows};
-ghost use Rattle.cons_gen.specs.Spans.{spans, value_slots};
-ghost use Rattle.cons_gen.specs.steps.Generating.{Generates};
+ghost use Rattle.cons_gen.specs.Spans.{value_slots};
+ghost use Rattle.cons_gen.specs.steps.Generating.{Generates, GeneratesAll};
 
 use crate::control::{
     walk_action, walk_alternatives, walk_argument, walk_last, walk_letrec, walk_messages,
@@ -124,7 +122,7 @@ pub fn walk_all(
     exprs: &[Expr],
 ) -> Result<List<Slot>, Memory>
     ensures slots { IfOk result (λ slots. slots ≡ value_slots made.old.next (all_trees exprs.now)) }
-    ensures rows { OnOk result (Adds made.old made.new (spans (all_trees exprs.now)) (all_rows (knowing context.now) context.now.home.now (scope_of made.old) made.old.next (all_trees exprs.now))) }
+    ensures rows { OnOk result (GeneratesAll context.now made.old made.new (all_trees exprs.now)) }
 {
     let mut slots = List::new(made.alloc);
     for expr in exprs {

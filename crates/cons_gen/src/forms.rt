@@ -1,19 +1,11 @@
 //! The forms of data and of calls.
-ghost use Rattle.std.specs.Prelude.{◌≡◌, ◌+◌, [], ◌∷◌, ◌++◌, length, if◌then◌else◌, IfOk, OnOk};
-ghost use Rattle.type_lattice.specs.Kinds.{of_kind};
-ghost use Rattle.type_lattice.specs.declared.kinds.Kind.TheVariants as kind;
+ghost use Rattle.std.specs.Prelude.{◌≡◌, ◌+◌, length, IfOk, OnOk};
 ghost use Rattle.core_ast.specs.Tree.{all_pairs, all_segments, all_trees, tree};
-ghost use Rattle.core_scope.specs.Asks.{is_raising, one_value};
-ghost use Rattle.cons_tree.specs.Constraints.{only};
-ghost use Rattle.cons_tree.specs.declared.parts.Part.TheVariants as part;
-ghost use Rattle.cons_gen_rows.specs.Counts.{passed_on, whatever_asked};
-ghost use Rattle.cons_gen_rows.specs.Passes.{applied_rows, called_rows};
-ghost use Rattle.cons_gen_rows.specs.Slots.{slots_from};
-ghost use Rattle.cons_gen_rows.specs.Walking.{Adds, knowing, scope_of};
-ghost use Rattle.cons_gen_rows.specs.Words.{bound, equals, function_type, inner_cells, list_rows, never};
-ghost use Rattle.cons_gen.specs.Rows.{all_rows, pair_rows, rows, segment_rows};
-ghost use Rattle.cons_gen.specs.Spans.{pair_spans, segment_spans, span, spans, value_slots};
-ghost use Rattle.cons_gen.specs.steps.Generating.{rows_at};
+ghost use Rattle.cons_gen_rows.specs.Words.{inner_cells};
+ghost use Rattle.cons_gen.specs.Spans.{value_slots};
+ghost use Rattle.cons_gen.specs.steps.Generating.{GeneratesApplication, GeneratesBinary, GeneratesElements, GeneratesNamedCall, GeneratesOperands};
+ghost use Rattle.cons_gen.specs.steps.Generating.{GeneratesOperator, GeneratesPairs, GeneratesPrimop, GeneratesSegments, GeneratesTail};
+ghost use Rattle.cons_gen.specs.steps.Generating.{GeneratesTuple, GeneratesUpdated, GeneratesValues};
 
 use crate::expressions::{walk_all, walk_expression};
 use cons_gen_rows::{
@@ -42,7 +34,7 @@ pub fn walk_elements(
     ensures value { IfOk result (λ list. list.value ≡ made.old.next) }
     ensures cells { IfOk result (λ list. list.elements.cells ≡ made.old.next + 1) }
     ensures elements { IfOk result (λ list. list.elements.slots ≡ value_slots (made.old.next + 1 + inner_cells (length items.now)) (all_trees items.now)) }
-    ensures rows { OnOk result (Adds made.old made.new (1 + inner_cells (length items.now) + spans (all_trees items.now)) (all_rows (knowing context.now) context.now.home.now (scope_of made.old) (made.old.next + 1 + inner_cells (length items.now)) (all_trees items.now))) }
+    ensures rows { OnOk result (GeneratesElements context.now made.old made.new (length items.now) (all_trees items.now)) }
 {
     let value = made.take(1)?;
     let cells = made.take(inner_cells(items.len()))?;
@@ -59,7 +51,7 @@ pub fn walk_tail(
     list: &ListSlots,
     tail: &Expr,
 ) -> Result<(), Memory>
-    ensures { OnOk result (Adds made.old made.new (span one_value (tree tail.now)) (rows_at context.now made.old one_value (tree tail.now) ++ list_rows list.now.value list.now.elements.cells list.now.elements.slots made.old.next)) }
+    ensures { OnOk result (GeneratesTail context.now made.old made.new list.now.value list.now.elements.cells list.now.elements.slots (tree tail.now)) }
 {
     let rest = made.next;
     walk_expression(made, context, Ask::Exactly(1), tail)?;
@@ -73,7 +65,7 @@ pub fn walk_tuple(
     context: &Surroundings,
     items: &[Expr],
 ) -> Result<(), Memory>
-    ensures { OnOk result (Adds made.old made.new (1 + spans (all_trees items.now)) (all_rows (knowing context.now) context.now.home.now (scope_of made.old) (made.old.next + 1) (all_trees items.now) ++ only (part.Tuple made.old.next (value_slots (made.old.next + 1) (all_trees items.now))) ∷ [])) }
+    ensures { OnOk result (GeneratesTuple context.now made.old made.new (all_trees items.now)) }
 {
     let value = made.take(1)?;
     let elements = walk_all(made, context, items)?;
@@ -88,7 +80,7 @@ pub fn walk_pairs(
     pairs: &[MapPair],
 ) -> Result<Slot, Memory>
     ensures value { IfOk result (λ value. value ≡ made.old.next) }
-    ensures rows { OnOk result (Adds made.old made.new (1 + pair_spans (all_pairs pairs.now)) (pair_rows (knowing context.now) context.now.home.now (scope_of made.old) (made.old.next + 1) (all_pairs pairs.now))) }
+    ensures rows { OnOk result (GeneratesPairs context.now made.old made.new (all_pairs pairs.now)) }
 {
     let value = made.take(1)?;
     for pair in pairs {
@@ -106,7 +98,7 @@ pub fn walk_updated(
     value: Slot,
     map: &Expr,
 ) -> Result<(), Memory>
-    ensures { OnOk result (Adds made.old made.new (span one_value (tree map.now)) (rows_at context.now made.old one_value (tree map.now) ++ bound made.old.next (of_kind kind.Map) ++ bound value (of_kind kind.Map))) }
+    ensures { OnOk result (GeneratesUpdated context.now made.old made.new value (tree map.now)) }
 {
     let old = made.next;
     walk_expression(made, context, Ask::Exactly(1), map)?;
@@ -121,7 +113,7 @@ pub fn walk_binary(
     context: &Surroundings,
     segments: &[Segment],
 ) -> Result<(), Memory>
-    ensures { OnOk result (Adds made.old made.new (1 + segment_spans (all_segments segments.now)) (segment_rows (knowing context.now) context.now.home.now (scope_of made.old) (made.old.next + 1) (all_segments segments.now) ++ bound made.old.next (of_kind kind.Bitstring))) }
+    ensures { OnOk result (GeneratesBinary context.now made.old made.new (all_segments segments.now)) }
 {
     let value = made.take(1)?;
     walk_segments(made, context, segments)?;
@@ -135,7 +127,7 @@ fn walk_segments(
     context: &Surroundings,
     segments: &[Segment],
 ) -> Result<(), Memory>
-    ensures { OnOk result (Adds made.old made.new (segment_spans (all_segments segments.now)) (segment_rows (knowing context.now) context.now.home.now (scope_of made.old) made.old.next (all_segments segments.now))) }
+    ensures { OnOk result (GeneratesSegments context.now made.old made.new (all_segments segments.now)) }
 {
     for segment in segments {
         walk_expression(made, context, Ask::Exactly(1), &segment.value)?;
@@ -152,7 +144,7 @@ pub fn walk_values(
     ask: Ask,
     items: &[Expr],
 ) -> Result<(), Memory>
-    ensures { OnOk result (Adds made.old made.new (passed_on ask + spans (all_trees items.now)) (all_rows (knowing context.now) context.now.home.now (scope_of made.old) (made.old.next + passed_on ask) (all_trees items.now) ++ equals (slots_from made.old.next (passed_on ask)) (value_slots (made.old.next + passed_on ask) (all_trees items.now)))) }
+    ensures { OnOk result (GeneratesValues context.now made.old made.new ask (all_trees items.now)) }
 {
     let results = made.take_run(passed_on(ask))?;
     let values = walk_all(made, context, items)?;
@@ -167,7 +159,7 @@ pub fn walk_application(
     name: &FunName,
     args: &[Expr],
 ) -> Result<(), Memory>
-    ensures { OnOk result (Adds made.old made.new (1 + spans (all_trees args.now)) (all_rows (knowing context.now) context.now.home.now (scope_of made.old) (made.old.next + 1) (all_trees args.now) ++ applied_rows (knowing context.now) context.now.home.now made.old.functions name.now (length args.now) made.old.next (value_slots (made.old.next + 1) (all_trees args.now)))) }
+    ensures { OnOk result (GeneratesApplication context.now made.old made.new name.now (length args.now) (all_trees args.now)) }
 {
     let value = made.take(1)?;
     let slots = walk_all(made, context, args)?;
@@ -182,7 +174,7 @@ pub fn walk_operator(
     operator: &Expr,
 ) -> Result<Slot, Memory>
     ensures slot { IfOk result (λ slot. slot ≡ made.old.next + 1) }
-    ensures rows { OnOk result (Adds made.old made.new (1 + span one_value (tree operator.now)) (rows (knowing context.now) context.now.home.now (scope_of made.old) (made.old.next + 1) one_value (tree operator.now))) }
+    ensures rows { OnOk result (GeneratesOperator context.now made.old made.new (tree operator.now)) }
 {
     made.take(1)?;
     let slot = made.next;
@@ -198,7 +190,7 @@ pub fn walk_operands(
     operator: Slot,
     args: &[Expr],
 ) -> Result<(), Memory>
-    ensures { OnOk result (Adds made.old made.new (spans (all_trees args.now)) (all_rows (knowing context.now) context.now.home.now (scope_of made.old) made.old.next (all_trees args.now) ++ bound operator (function_type (length args.now)))) }
+    ensures { OnOk result (GeneratesOperands context.now made.old made.new operator (length args.now) (all_trees args.now)) }
 {
     walk_all(made, context, args)?;
     made.bound(operator, function_type(args.len()))
@@ -214,7 +206,7 @@ pub fn walk_named_call(
     name: &Atom,
     args: &[Expr],
 ) -> Result<(), Memory>
-    ensures { OnOk result (Adds made.old made.new (count + spans (all_trees args.now)) (all_rows (knowing context.now) context.now.home.now (scope_of made.old) (made.old.next + count) (all_trees args.now) ++ called_rows (knowing context.now) home.now name.now (length args.now) (slots_from made.old.next count) (value_slots (made.old.next + count) (all_trees args.now)))) }
+    ensures { OnOk result (GeneratesNamedCall context.now made.old made.new count home.now name.now (length args.now) (all_trees args.now)) }
 {
     let results = made.take_run(count)?;
     let slots = walk_all(made, context, args)?;
@@ -230,7 +222,7 @@ pub fn walk_primop(
     name: &Atom,
     args: &[Expr],
 ) -> Result<(), Memory>
-    ensures { OnOk result (Adds made.old made.new (whatever_asked ask + spans (all_trees args.now)) (all_rows (knowing context.now) context.now.home.now (scope_of made.old) (made.old.next + whatever_asked ask) (all_trees args.now) ++ (if is_raising name.now then never (slots_from made.old.next (whatever_asked ask)) else []))) }
+    ensures { OnOk result (GeneratesPrimop context.now made.old made.new ask name.now (all_trees args.now)) }
 {
     let results = made.take_run(whatever_asked(ask))?;
     walk_all(made, context, args)?;

@@ -4,10 +4,9 @@ ghost use Rattle.core_ast.specs.Tree.{clause_parts};
 ghost use Rattle.cons_tree.specs.Constraints.{constraint};
 ghost use Rattle.cons_gen_rows.specs.Knowing.{knowledge};
 ghost use Rattle.cons_gen_rows.specs.Patterns.{outer_bindings};
-ghost use Rattle.cons_gen_rows.specs.Walking.{knowing};
 ghost use Rattle.cons_gen_rows.specs.declared.passes.Pass.TheVariants.{Strict};
-ghost use Rattle.cons_gen.specs.Made.{clause_slots, head_rows};
-ghost use Rattle.cons_gen.specs.steps.Heading.{Heads};
+ghost use Rattle.cons_gen.specs.Made.{clause_slots, rows_of_head};
+ghost use Rattle.cons_gen.specs.steps.Heading.{HeadsClause};
 
 use crate::expressions::walk_expression;
 use cons_gen_rows::{Generator, Pass, Surroundings, Variables, walk_outer};
@@ -60,7 +59,7 @@ pub fn head(
     home: &Atom,
     known: &Summaries,
 ) -> Result<ClauseHead, Memory>
-    ensures rows { IfOk result (λ head. map constraint head.rows ≡ head_rows (knowledge Strict known.now) home.now (record { variables = scope.old.variables; functions = scope.old.functions }) args.now first (clause_parts clause.now).patterns (clause_parts clause.now).guard) }
+    ensures rows { IfOk result (λ head. map constraint head.rows ≡ rows_of_head (knowledge Strict known.now) home.now scope.old args.now first clause.now) }
     ensures slots { IfOk result (λ head. head.slots ≡ clause_slots first (clause_parts clause.now).patterns (clause_parts clause.now).guard) }
     ensures variables { OnOk result (scope.new.variables ≡ scope.old.variables ++ outer_bindings first (clause_parts clause.now).patterns) }
     ensures functions { OnOk result (scope.new.functions ≡ scope.old.functions) }
@@ -99,7 +98,7 @@ fn walk_head(
     args: &[Slot],
 ) -> Result<(), Memory>
     requires { made.old.members.items ≡ [] }
-    ensures { OnOk result (Heads (knowing context.now) context.now.home.now made.old made.new args.now (clause_parts clause.now).patterns (clause_parts clause.now).guard) }
+    ensures { OnOk result (HeadsClause context.now made.old made.new args.now clause.now) }
 {
     walk_outer(made, args, clause.patterns.as_slice())?;
     made.all_since(0)?;

@@ -7,7 +7,8 @@ ghost use Rattle.cons_gen_rows.specs.Slots.{slots_from};
 ghost use Rattle.cons_gen_rows.specs.Walking.{rows_of, scope_of};
 ghost use Rattle.cons_gen_rows.specs.Words.{together};
 ghost use Rattle.cons_gen_rows.specs.declared.passes.Pass.TheVariants.{Strict};
-ghost use Rattle.cons_gen.specs.Made.{clause_constraint, clause_params, clause_result, clause_slots, definition_constraint, definition_slots, seen};
+ghost use Rattle.cons_gen.specs.Made.{clause_params, clause_result, clause_slots, constraint_of_clause, constraint_of_definition, definition_slots};
+ghost use Rattle.cons_gen.specs.Made.{seen};
 
 use crate::expressions::walk_expression;
 use cons_gen_rows::{Generator, Pass, Surroundings, walk_outer};
@@ -54,7 +55,7 @@ pub fn generate(
     known: &Summaries,
     pass: &Pass,
 ) -> Result<Made, Memory>
-    ensures constraint { IfOk result (λ made. constraint made.constraint ≡ definition_constraint (knowledge pass.now known.now) home.now def.now.fun.params (tree def.now.fun.body)) }
+    ensures constraint { IfOk result (λ made. constraint made.constraint ≡ constraint_of_definition (knowledge pass.now known.now) home.now def.now) }
     ensures params { IfOk result (λ made. made.params ≡ slots_from 0 (length def.now.fun.params)) }
     ensures value { IfOk result (λ made. made.result ≡ length def.now.fun.params) }
     ensures slots { IfOk result (λ made. made.slots ≡ definition_slots def.now.fun.params (tree def.now.fun.body)) }
@@ -80,7 +81,7 @@ pub fn clause(
     home: &Atom,
     known: &Summaries,
 ) -> Result<Made, Memory>
-    ensures constraint { IfOk result (λ made. constraint made.constraint ≡ clause_constraint (knowledge Strict known.now) home.now (seen scope.now) scope.now.args scope.now.slots (clause_parts clause.now).patterns (clause_parts clause.now).guard) }
+    ensures constraint { IfOk result (λ made. constraint made.constraint ≡ constraint_of_clause (knowledge Strict known.now) home.now scope.now clause.now) }
     ensures params { IfOk result (λ made. made.params ≡ clause_params scope.now.slots (clause_parts clause.now).patterns) }
     ensures value { IfOk result (λ made. made.result ≡ clause_result scope.now.slots (clause_parts clause.now).patterns) }
     ensures slots { IfOk result (λ made. made.slots ≡ clause_slots scope.now.slots (clause_parts clause.now).patterns (clause_parts clause.now).guard) }

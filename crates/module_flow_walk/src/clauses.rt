@@ -1,19 +1,9 @@
 //! Clauses: the heads that may hold, and what stands behind them.
-ghost use Rattle.std.specs.Prelude.{◌≡◌, ◌++◌, ◌∷◌, [], cond, None, IfOk, OnOk};
+ghost use Rattle.std.specs.Prelude.{◌≡◌, ◌∷◌, [], IfOk, OnOk};
 ghost use Rattle.core_ast.specs.Tree.{all_clauses, tree};
-ghost use Rattle.core_scope.specs.Asks.{one_value, width};
-ghost use Rattle.core_scope.specs.declared.ask.Ask.TheVariants.{Exactly};
 ghost use Rattle.cons_tree.specs.Constraints.{constraint};
-ghost use Rattle.cons_solve.specs.Environments.{solution};
-ghost use Rattle.warn_list.specs.declared.finding.FindingKind.TheVariants.{DeadClause};
-ghost use Rattle.module_flow_calls.specs.NodeContext.{at_node};
-ghost use Rattle.module_flow_walk.specs.Findings.{either_found, found, found_in_clauses};
-ghost use Rattle.module_flow_walk.specs.Contributions.{contributions, contributions_of_clauses, where_solved};
-ghost use Rattle.module_flow_calls.specs.TypeLists.{where_given};
-ghost use Rattle.module_flow_state.specs.Scopes.{matching};
-ghost use Rattle.module_flow_walk.specs.Walk.{passed, matched_slots, seen_by_clauses, then, then_inside, walk, walk_clauses};
-ghost use Rattle.module_flow_state.specs.steps.Walking.{noting, walk_scope_of, world_of};
-ghost use Rattle.module_flow_walk.specs.steps.Walked.{with_solved};
+ghost use Rattle.module_flow_walk.specs.steps.Inside.{after_body, after_body_if, after_case, after_clauses, after_guard, after_matching, after_quietly};
+ghost use Rattle.module_flow_walk.specs.steps.Inside.{after_quietly_if, passed_if, walked_body, walked_case, walked_clauses, walked_matching};
 
 use crate::control::walk_passed;
 use crate::expressions::walk_expression;
@@ -38,8 +28,8 @@ pub fn walk_case(
     argument: &Expr,
     clauses: &[Clause],
 ) -> Result<Given, Memory>
-    ensures given { IfOk result (λ given. given ≡ then (walk (world_of context.now) (walk_scope_of walker.old) (Exactly (width (all_clauses clauses.now))) (tree argument.now)) (λ ts. walk_clauses (world_of context.now) (seen_by_clauses (walk_scope_of walker.old) (all_clauses clauses.now) ts) ask (matched_slots (walk_scope_of walker.old) (tree argument.now) (all_clauses clauses.now)) (all_clauses clauses.now))) }
-    ensures noted { OnOk result (walker.new ≡ noting walker.old (contributions (world_of context.now) (walk_scope_of walker.old) (Exactly (width (all_clauses clauses.now))) (tree argument.now) ++ where_given (walk (world_of context.now) (walk_scope_of walker.old) (Exactly (width (all_clauses clauses.now))) (tree argument.now)) (λ ts. contributions_of_clauses (world_of context.now) (seen_by_clauses (walk_scope_of walker.old) (all_clauses clauses.now) ts) ask (matched_slots (walk_scope_of walker.old) (tree argument.now) (all_clauses clauses.now)) (all_clauses clauses.now))) (found (world_of context.now) around (walk_scope_of walker.old) (Exactly (width (all_clauses clauses.now))) (tree argument.now) ++ where_given (walk (world_of context.now) (walk_scope_of walker.old) (Exactly (width (all_clauses clauses.now))) (tree argument.now)) (λ ts. found_in_clauses (world_of context.now) around (seen_by_clauses (walk_scope_of walker.old) (all_clauses clauses.now) ts) ask (matched_slots (walk_scope_of walker.old) (tree argument.now) (all_clauses clauses.now)) (all_clauses clauses.now)))) }
+    ensures given { IfOk result (λ given. given ≡ walked_case context.now walker.old ask (tree argument.now) (all_clauses clauses.now)) }
+    ensures noted { OnOk result (walker.new ≡ after_case context.now around walker.old ask (tree argument.now) (all_clauses clauses.now)) }
 {
     let count = width(clauses);
     let given = walk_expression(walker, context, around, Ask::Exactly(count), argument)?;
@@ -72,8 +62,8 @@ pub fn walk_matching(
     matched: &[Slot],
     clauses: &[Clause],
 ) -> Result<Given, Memory>
-    ensures given { IfOk result (λ given. given ≡ walk_clauses (world_of context.now) (matching (walk_scope_of walker.old) types) ask matched.now (all_clauses clauses.now)) }
-    ensures noted { OnOk result (walker.new ≡ noting walker.old (contributions_of_clauses (world_of context.now) (matching (walk_scope_of walker.old) types) ask matched.now (all_clauses clauses.now)) (found_in_clauses (world_of context.now) around (matching (walk_scope_of walker.old) types) ask matched.now (all_clauses clauses.now))) }
+    ensures given { IfOk result (λ given. given ≡ walked_matching context.now walker.old ask types matched.now (all_clauses clauses.now)) }
+    ensures noted { OnOk result (walker.new ≡ after_matching context.now around walker.old ask types matched.now (all_clauses clauses.now)) }
 {
     let position = walker.position();
     walker.add_types(types)?;
@@ -92,8 +82,8 @@ fn walk_clauses(
     matched: &[Slot],
     clauses: &[Clause],
 ) -> Result<Given, Memory>
-    ensures given { IfOk result (λ given. given ≡ walk_clauses (world_of context.now) (walk_scope_of walker.old) ask matched.now (all_clauses clauses.now)) }
-    ensures noted { OnOk result (walker.new ≡ noting walker.old (contributions_of_clauses (world_of context.now) (walk_scope_of walker.old) ask matched.now (all_clauses clauses.now)) (found_in_clauses (world_of context.now) around (walk_scope_of walker.old) ask matched.now (all_clauses clauses.now))) }
+    ensures given { IfOk result (λ given. given ≡ walked_clauses context.now walker.old ask matched.now (all_clauses clauses.now)) }
+    ensures noted { OnOk result (walker.new ≡ after_clauses context.now around walker.old ask matched.now (all_clauses clauses.now)) }
 {
     type_facts();
     let mut given = None;
@@ -114,8 +104,8 @@ fn walk_clause(
     matched: &[Slot],
     clause: &Clause,
 ) -> Result<Given, Memory>
-    ensures given { IfOk result (λ given. given ≡ walk_clauses (world_of context.now) (walk_scope_of walker.old) ask matched.now (all_clauses (clause.now ∷ []))) }
-    ensures noted { OnOk result (walker.new ≡ noting walker.old (contributions_of_clauses (world_of context.now) (walk_scope_of walker.old) ask matched.now (all_clauses (clause.now ∷ []))) (found_in_clauses (world_of context.now) around (walk_scope_of walker.old) ask matched.now (all_clauses (clause.now ∷ [])))) }
+    ensures given { IfOk result (λ given. given ≡ walked_clauses context.now walker.old ask matched.now (all_clauses (clause.now ∷ []))) }
+    ensures noted { OnOk result (walker.new ≡ after_clauses context.now around walker.old ask matched.now (all_clauses (clause.now ∷ []))) }
 {
     let around = around.under(clause.mark.note);
     let position = walker.position();
@@ -154,7 +144,7 @@ fn walk_guard(
     patterns: &Constraint,
     guard: &Expr,
 ) -> Result<(), Memory>
-    ensures noted { OnOk result (walker.new ≡ noting walker.old (where_solved (solution (constraint patterns.now) walker.old.types) (λ solved. contributions (world_of context.now) (with_solved (walk_scope_of walker.old) solved) one_value (tree guard.now))) ([])) }
+    ensures noted { OnOk result (walker.new ≡ after_guard context.now walker.old (constraint patterns.now) (tree guard.now)) }
 {
     if is_silent(guard) {
         return Ok(());
@@ -174,7 +164,7 @@ fn walk_matched_guard(
     alive: bool,
     guard: &Expr,
 ) -> Result<(), Memory>
-    ensures noted { OnOk result (walker.new ≡ noting walker.old (cond alive (contributions (world_of context.now) (walk_scope_of walker.old) one_value (tree guard.now)) []) ([])) }
+    ensures noted { OnOk result (walker.new ≡ after_quietly_if alive context.now walker.old (tree guard.now)) }
 {
     if !alive {
         return Ok(());
@@ -190,7 +180,7 @@ fn walk_quietly(
     around: NodeContext,
     expr: &Expr,
 ) -> Result<(), Memory>
-    ensures noted { OnOk result (walker.new ≡ noting walker.old (contributions (world_of context.now) (walk_scope_of walker.old) one_value (tree expr.now)) ([])) }
+    ensures noted { OnOk result (walker.new ≡ after_quietly context.now walker.old (tree expr.now)) }
 {
     let reporting = walker.mute();
     let given = walk_expression(walker, context, around, Ask::Exactly(1), expr)?;
@@ -210,8 +200,8 @@ fn walk_body(
     head: &Constraint,
     body: &Expr,
 ) -> Result<Given, Memory>
-    ensures given { IfOk result (λ given. given ≡ then_inside (solution (constraint head.now) walker.old.types) (λ solved. passed ask (walk (world_of context.now) (with_solved (walk_scope_of walker.old) solved) ask (tree body.now)))) }
-    ensures noted { OnOk result (walker.new ≡ noting walker.old (where_solved (solution (constraint head.now) walker.old.types) (λ solved. contributions (world_of context.now) (with_solved (walk_scope_of walker.old) solved) ask (tree body.now))) (either_found (solution (constraint head.now) walker.old.types) (at_node around mark.now DeadClause) (λ solved. found (world_of context.now) around (with_solved (walk_scope_of walker.old) solved) ask (tree body.now)))) }
+    ensures given { IfOk result (λ given. given ≡ walked_body context.now walker.old ask (constraint head.now) (tree body.now)) }
+    ensures noted { OnOk result (walker.new ≡ after_body context.now around walker.old ask mark.now (constraint head.now) (tree body.now)) }
 {
     let narrowed = walker.narrow(head)?;
     let given = walk_matched_body(walker, context, around, ask, mark, narrowed.alive, body)?;
@@ -230,8 +220,8 @@ fn walk_matched_body(
     alive: bool,
     body: &Expr,
 ) -> Result<Given, Memory>
-    ensures given { IfOk result (λ given. given ≡ cond alive (passed ask (walk (world_of context.now) (walk_scope_of walker.old) ask (tree body.now))) None) }
-    ensures noted { OnOk result (walker.new ≡ noting walker.old (cond alive (contributions (world_of context.now) (walk_scope_of walker.old) ask (tree body.now)) []) (cond alive (found (world_of context.now) around (walk_scope_of walker.old) ask (tree body.now)) (at_node around mark.now DeadClause))) }
+    ensures given { IfOk result (λ given. given ≡ passed_if alive context.now walker.old ask (tree body.now)) }
+    ensures noted { OnOk result (walker.new ≡ after_body_if alive context.now around walker.old ask mark.now (tree body.now)) }
 {
     if alive {
         return walk_passed(walker, context, around, ask, body);

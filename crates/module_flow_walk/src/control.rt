@@ -1,19 +1,14 @@
 //! The forms that bind variables and wait.
-ghost use Rattle.std.specs.Prelude.{◌≡◌, ◌++◌, ◌∷◌, [], cond, length, None, IfOk, OnOk};
+ghost use Rattle.std.specs.Prelude.{◌≡◌, ◌∷◌, [], IfOk, OnOk};
 ghost use Rattle.core_ast.specs.Tree.{all_clauses, all_defs, all_steps, tree};
 ghost use Rattle.core_scope.specs.Asks.{one_value};
-ghost use Rattle.core_scope.specs.declared.ask.Ask.TheVariants.{Exactly};
-ghost use Rattle.type_lattice.specs.Types.{is_none, meet};
-ghost use Rattle.cons_tree.specs.Named.{naturals};
-ghost use Rattle.module_flow_calls.specs.NodeContext.{under_steps};
-ghost use Rattle.module_flow_walk.specs.Findings.{found, found_in_clauses, found_in_functions, found_in_steps};
-ghost use Rattle.module_flow_walk.specs.Contributions.{contributions, contributions_of_clauses, contributions_of_functions, contributions_of_steps, where_limited, where_seen};
-ghost use Rattle.module_flow_calls.specs.TypeLists.{either, first, where_given};
-ghost use Rattle.module_flow_state.specs.Scopes.{with_functions, with_variables};
-ghost use Rattle.module_flow_walk.specs.Walk.{passed, see_given, see_steps, seen_by_messages, then, then_seen, walk, walk_clauses};
-ghost use Rattle.module_flow_state.specs.Applications.{where_meets};
-ghost use Rattle.module_flow_state.specs.steps.Walking.{Grows, noting, walk_scope_of, world_of};
-ghost use Rattle.module_flow_walk.specs.steps.Walked.{sees, step_found};
+ghost use Rattle.module_flow_walk.specs.Walk.{passed};
+ghost use Rattle.module_flow_state.specs.steps.Walking.{walk_scope_of};
+ghost use Rattle.module_flow_walk.specs.steps.Inside.{GrowsByLet, GrowsByStep, GrowsBySteps, after_action, after_chain, after_functions, after_if};
+ghost use Rattle.module_flow_walk.specs.steps.Inside.{after_letrec, after_messages, after_receive, after_tried, after_try, after_under, passed_if};
+ghost use Rattle.module_flow_walk.specs.steps.Inside.{seen_behind, seen_behind_let, walked_action, walked_chain, walked_letrec, walked_messages};
+ghost use Rattle.module_flow_walk.specs.steps.Inside.{walked_receive, walked_tried, walked_try, walked_under};
+ghost use Rattle.module_flow_walk.specs.steps.Walked.{after, sees, walked};
 
 use crate::clauses::walk_matching;
 use crate::expressions::walk_expression;
@@ -37,8 +32,8 @@ fn walk_under(
     types: List<Ty>,
     expr: &Expr,
 ) -> Result<Given, Memory>
-    ensures given { IfOk result (λ given. given ≡ walk (world_of context.now) (with_variables (walk_scope_of walker.old) vars.now types) ask (tree expr.now)) }
-    ensures noted { OnOk result (walker.new ≡ noting walker.old (contributions (world_of context.now) (with_variables (walk_scope_of walker.old) vars.now types) ask (tree expr.now)) (found (world_of context.now) around (with_variables (walk_scope_of walker.old) vars.now types) ask (tree expr.now))) }
+    ensures given { IfOk result (λ given. given ≡ walked_under context.now walker.old ask vars.now types (tree expr.now)) }
+    ensures noted { OnOk result (walker.new ≡ after_under context.now around walker.old ask vars.now types (tree expr.now)) }
 {
     let position = walker.position();
     walker.bind(vars, types)?;
@@ -58,8 +53,8 @@ fn walk_passed_under(
     types: List<Ty>,
     expr: &Expr,
 ) -> Result<Given, Memory>
-    ensures given { IfOk result (λ given. given ≡ passed ask (walk (world_of context.now) (with_variables (walk_scope_of walker.old) vars.now types) ask (tree expr.now))) }
-    ensures noted { OnOk result (walker.new ≡ noting walker.old (contributions (world_of context.now) (with_variables (walk_scope_of walker.old) vars.now types) ask (tree expr.now)) (found (world_of context.now) around (with_variables (walk_scope_of walker.old) vars.now types) ask (tree expr.now))) }
+    ensures given { IfOk result (λ given. given ≡ passed ask (walked_under context.now walker.old ask vars.now types (tree expr.now))) }
+    ensures noted { OnOk result (walker.new ≡ after_under context.now around walker.old ask vars.now types (tree expr.now)) }
 {
     let given = walk_under(walker, context, around, ask, vars, types, expr)?;
     passed(ask, given)
@@ -74,8 +69,8 @@ pub fn walk_passed(
     ask: Ask,
     expr: &Expr,
 ) -> Result<Given, Memory>
-    ensures given { IfOk result (λ given. given ≡ passed ask (walk (world_of context.now) (walk_scope_of walker.old) ask (tree expr.now))) }
-    ensures noted { OnOk result (walker.new ≡ noting walker.old (contributions (world_of context.now) (walk_scope_of walker.old) ask (tree expr.now)) (found (world_of context.now) around (walk_scope_of walker.old) ask (tree expr.now))) }
+    ensures given { IfOk result (λ given. given ≡ passed ask (walked context.now walker.old ask (tree expr.now))) }
+    ensures noted { OnOk result (walker.new ≡ after context.now around walker.old ask (tree expr.now)) }
 {
     let given = walk_expression(walker, context, around, ask, expr)?;
     passed(ask, given)
@@ -89,7 +84,7 @@ pub fn walk_fun(
     around: NodeContext,
     fun: &Fun,
 ) -> Result<(), Memory>
-    ensures noted { OnOk result (walker.new ≡ noting walker.old (contributions (world_of context.now) (with_variables (walk_scope_of walker.old) fun.now.params []) one_value (tree fun.now.body)) (found (world_of context.now) around (with_variables (walk_scope_of walker.old) fun.now.params []) one_value (tree fun.now.body))) }
+    ensures noted { OnOk result (walker.new ≡ after_under context.now around walker.old one_value fun.now.params [] (tree fun.now.body)) }
 {
     let given = walk_under(
         walker,
@@ -114,8 +109,8 @@ pub fn walk_chain(
     steps: &[Step],
     last: &Expr,
 ) -> Result<Given, Memory>
-    ensures given { IfOk result (λ given. given ≡ then_seen (see_steps (world_of context.now) (walk_scope_of walker.old) (all_steps steps.now)) (λ inner. passed ask (walk (world_of context.now) inner ask (tree last.now)))) }
-    ensures noted { OnOk result (walker.new ≡ noting walker.old (contributions_of_steps (world_of context.now) (walk_scope_of walker.old) (all_steps steps.now) ++ where_seen (see_steps (world_of context.now) (walk_scope_of walker.old) (all_steps steps.now)) (λ inner. contributions (world_of context.now) inner ask (tree last.now))) (found_in_steps (world_of context.now) around (walk_scope_of walker.old) (all_steps steps.now) ++ where_seen (see_steps (world_of context.now) (walk_scope_of walker.old) (all_steps steps.now)) (λ inner. found (world_of context.now) (under_steps around (all_steps steps.now)) inner ask (tree last.now)))) }
+    ensures given { IfOk result (λ given. given ≡ walked_chain context.now walker.old ask (all_steps steps.now) (tree last.now)) }
+    ensures noted { OnOk result (walker.new ≡ after_chain context.now around walker.old ask (all_steps steps.now) (tree last.now)) }
 {
     let position = walker.position();
     let there = walk_steps(walker, context, around, steps)?;
@@ -135,8 +130,8 @@ fn walk_last(
     there: bool,
     last: &Expr,
 ) -> Result<Given, Memory>
-    ensures given { IfOk result (λ given. given ≡ cond there (passed ask (walk (world_of context.now) (walk_scope_of walker.old) ask (tree last.now))) None) }
-    ensures noted { OnOk result (walker.new ≡ noting walker.old (cond there (contributions (world_of context.now) (walk_scope_of walker.old) ask (tree last.now)) []) (cond there (found (world_of context.now) around (walk_scope_of walker.old) ask (tree last.now)) [])) }
+    ensures given { IfOk result (λ given. given ≡ passed_if there context.now walker.old ask (tree last.now)) }
+    ensures noted { OnOk result (walker.new ≡ after_if there context.now around walker.old ask (tree last.now)) }
 {
     if !there {
         return Ok(None);
@@ -152,8 +147,8 @@ fn walk_steps(
     around: NodeContext,
     steps: &[Step],
 ) -> Result<bool, Memory>
-    ensures given { IfOk result (λ there. see_steps (world_of context.now) (walk_scope_of walker.old) (all_steps steps.now) ≡ sees there (walk_scope_of walker.new)) }
-    ensures noted { OnOk result (Grows walker.old walker.new (contributions_of_steps (world_of context.now) (walk_scope_of walker.old) (all_steps steps.now)) (found_in_steps (world_of context.now) around (walk_scope_of walker.old) (all_steps steps.now))) }
+    ensures given { IfOk result (λ there. seen_behind context.now walker.old (all_steps steps.now) ≡ sees there (walk_scope_of walker.new)) }
+    ensures noted { OnOk result (GrowsBySteps context.now around walker.old walker.new (all_steps steps.now)) }
 {
     let mut inner = around;
     for step in steps {
@@ -174,8 +169,8 @@ fn walk_step(
     around: NodeContext,
     step: &Step,
 ) -> Result<bool, Memory>
-    ensures given { IfOk result (λ there. see_steps (world_of context.now) (walk_scope_of walker.old) (all_steps (step.now ∷ [])) ≡ sees there (walk_scope_of walker.new)) }
-    ensures noted { OnOk result (Grows walker.old walker.new (contributions_of_steps (world_of context.now) (walk_scope_of walker.old) (all_steps (step.now ∷ []))) (step_found (world_of context.now) around (walk_scope_of walker.old) step.now)) }
+    ensures given { IfOk result (λ there. seen_behind context.now walker.old (all_steps (step.now ∷ [])) ≡ sees there (walk_scope_of walker.new)) }
+    ensures noted { OnOk result (GrowsByStep context.now around walker.old walker.new step.now) }
 {
     match step {
         StepOf::Let(_, vars, expr) => walk_let(walker, context, around, vars.as_slice(), expr),
@@ -197,8 +192,8 @@ fn walk_let(
     vars: &[VarName],
     expr: &Expr,
 ) -> Result<bool, Memory>
-    ensures given { IfOk result (λ there. see_given (walk (world_of context.now) (walk_scope_of walker.old) (Exactly (length vars.now)) (tree expr.now)) (λ us. Some (with_variables (walk_scope_of walker.old) vars.now us)) ≡ sees there (walk_scope_of walker.new)) }
-    ensures noted { OnOk result (Grows walker.old walker.new (contributions (world_of context.now) (walk_scope_of walker.old) (Exactly (length vars.now)) (tree expr.now)) (found (world_of context.now) around (walk_scope_of walker.old) (Exactly (length vars.now)) (tree expr.now))) }
+    ensures given { IfOk result (λ there. seen_behind_let context.now walker.old vars.now (tree expr.now) ≡ sees there (walk_scope_of walker.new)) }
+    ensures noted { OnOk result (GrowsByLet context.now around walker.old walker.new vars.now (tree expr.now)) }
 {
     let given = walk_expression(walker, context, around, Ask::Exactly(vars.len()), expr)?;
     match given {
@@ -220,8 +215,8 @@ pub fn walk_letrec(
     defs: &[FunDef],
     body: &Expr,
 ) -> Result<Given, Memory>
-    ensures given { IfOk result (λ given. given ≡ passed ask (walk (world_of context.now) (with_functions (walk_scope_of walker.old) (all_defs defs.now)) ask (tree body.now))) }
-    ensures noted { OnOk result (walker.new ≡ noting walker.old (contributions_of_functions (world_of context.now) (with_functions (walk_scope_of walker.old) (all_defs defs.now)) (all_defs defs.now) ++ contributions (world_of context.now) (with_functions (walk_scope_of walker.old) (all_defs defs.now)) ask (tree body.now)) (found_in_functions (world_of context.now) around (with_functions (walk_scope_of walker.old) (all_defs defs.now)) (all_defs defs.now) ++ found (world_of context.now) around (with_functions (walk_scope_of walker.old) (all_defs defs.now)) ask (tree body.now))) }
+    ensures given { IfOk result (λ given. given ≡ walked_letrec context.now walker.old ask (all_defs defs.now) (tree body.now)) }
+    ensures noted { OnOk result (walker.new ≡ after_letrec context.now around walker.old ask (all_defs defs.now) (tree body.now)) }
 {
     let functions = walker.scope.functions.len();
     let labels = walker.labels.len();
@@ -240,7 +235,7 @@ fn walk_functions(
     around: NodeContext,
     defs: &[FunDef],
 ) -> Result<(), Memory>
-    ensures noted { OnOk result (walker.new ≡ noting walker.old (contributions_of_functions (world_of context.now) (walk_scope_of walker.old) (all_defs defs.now)) (found_in_functions (world_of context.now) around (walk_scope_of walker.old) (all_defs defs.now))) }
+    ensures noted { OnOk result (walker.new ≡ after_functions context.now around walker.old (all_defs defs.now)) }
 {
     for def in defs {
         walk_function(walker, context, around, def)?;
@@ -256,7 +251,7 @@ pub fn walk_function(
     around: NodeContext,
     def: &FunDef,
 ) -> Result<(), Memory>
-    ensures noted { OnOk result (walker.new ≡ noting walker.old (contributions_of_functions (world_of context.now) (walk_scope_of walker.old) (all_defs (def.now ∷ []))) (found_in_functions (world_of context.now) around (walk_scope_of walker.old) (all_defs (def.now ∷ [])))) }
+    ensures noted { OnOk result (walker.new ≡ after_functions context.now around walker.old (all_defs (def.now ∷ []))) }
 {
     let around = around.under(def.mark.note);
     match context.state.parameters(def.mark.label) {
@@ -286,8 +281,8 @@ pub fn walk_try(
     ask: Ask,
     parts: &TryParts,
 ) -> Result<Given, Memory>
-    ensures given { IfOk result (λ given. given ≡ either (then (walk (world_of context.now) (walk_scope_of walker.old) (Exactly (length parts.now.vars)) (tree parts.now.arg)) (λ ts. passed ask (walk (world_of context.now) (with_variables (walk_scope_of walker.old) parts.now.vars ts) ask (tree parts.now.body)))) (passed ask (walk (world_of context.now) (with_variables (walk_scope_of walker.old) parts.now.catch_vars []) ask (tree parts.now.handler)))) }
-    ensures noted { OnOk result (walker.new ≡ noting walker.old (contributions (world_of context.now) (walk_scope_of walker.old) (Exactly (length parts.now.vars)) (tree parts.now.arg) ++ where_given (walk (world_of context.now) (walk_scope_of walker.old) (Exactly (length parts.now.vars)) (tree parts.now.arg)) (λ ts. contributions (world_of context.now) (with_variables (walk_scope_of walker.old) parts.now.vars ts) ask (tree parts.now.body)) ++ contributions (world_of context.now) (with_variables (walk_scope_of walker.old) parts.now.catch_vars []) ask (tree parts.now.handler)) (found (world_of context.now) around (walk_scope_of walker.old) (Exactly (length parts.now.vars)) (tree parts.now.arg) ++ where_given (walk (world_of context.now) (walk_scope_of walker.old) (Exactly (length parts.now.vars)) (tree parts.now.arg)) (λ ts. found (world_of context.now) around (with_variables (walk_scope_of walker.old) parts.now.vars ts) ask (tree parts.now.body)) ++ found (world_of context.now) around (with_variables (walk_scope_of walker.old) parts.now.catch_vars []) ask (tree parts.now.handler))) }
+    ensures given { IfOk result (λ given. given ≡ walked_try context.now walker.old ask parts.now) }
+    ensures noted { OnOk result (walker.new ≡ after_try context.now around walker.old ask parts.now) }
 {
     let tried = walk_tried(walker, context, around, ask, parts)?;
     let caught = walk_passed_under(
@@ -311,8 +306,8 @@ fn walk_tried(
     ask: Ask,
     parts: &TryParts,
 ) -> Result<Given, Memory>
-    ensures given { IfOk result (λ given. given ≡ then (walk (world_of context.now) (walk_scope_of walker.old) (Exactly (length parts.now.vars)) (tree parts.now.arg)) (λ ts. passed ask (walk (world_of context.now) (with_variables (walk_scope_of walker.old) parts.now.vars ts) ask (tree parts.now.body)))) }
-    ensures noted { OnOk result (walker.new ≡ noting walker.old (contributions (world_of context.now) (walk_scope_of walker.old) (Exactly (length parts.now.vars)) (tree parts.now.arg) ++ where_given (walk (world_of context.now) (walk_scope_of walker.old) (Exactly (length parts.now.vars)) (tree parts.now.arg)) (λ ts. contributions (world_of context.now) (with_variables (walk_scope_of walker.old) parts.now.vars ts) ask (tree parts.now.body))) (found (world_of context.now) around (walk_scope_of walker.old) (Exactly (length parts.now.vars)) (tree parts.now.arg) ++ where_given (walk (world_of context.now) (walk_scope_of walker.old) (Exactly (length parts.now.vars)) (tree parts.now.arg)) (λ ts. found (world_of context.now) around (with_variables (walk_scope_of walker.old) parts.now.vars ts) ask (tree parts.now.body)))) }
+    ensures given { IfOk result (λ given. given ≡ walked_tried context.now walker.old ask parts.now) }
+    ensures noted { OnOk result (walker.new ≡ after_tried context.now around walker.old ask parts.now) }
 {
     let count = parts.vars.len();
     let given = walk_expression(
@@ -347,8 +342,9 @@ pub fn walk_receive(
     timeout: &Expr,
     action: &Expr,
 ) -> Result<Given, Memory>
-    ensures given { IfOk result (λ given. given ≡ then (walk (world_of context.now) (walk_scope_of walker.old) one_value (tree timeout.now)) (λ limit. either (walk_clauses (world_of context.now) (seen_by_messages (walk_scope_of walker.old)) ask (length walker.old.types ∷ []) (all_clauses clauses.now)) (where_meets (first limit) naturals (passed ask (walk (world_of context.now) (walk_scope_of walker.old) ask (tree action.now)))))) }
-    ensures noted { OnOk result (walker.new ≡ noting walker.old (contributions (world_of context.now) (walk_scope_of walker.old) one_value (tree timeout.now) ++ where_given (walk (world_of context.now) (walk_scope_of walker.old) one_value (tree timeout.now)) (λ limit. contributions_of_clauses (world_of context.now) (seen_by_messages (walk_scope_of walker.old)) ask (length walker.old.types ∷ []) (all_clauses clauses.now) ++ where_limited limit (contributions (world_of context.now) (walk_scope_of walker.old) ask (tree action.now)))) (found (world_of context.now) around (walk_scope_of walker.old) one_value (tree timeout.now) ++ where_given (walk (world_of context.now) (walk_scope_of walker.old) one_value (tree timeout.now)) (λ limit. found_in_clauses (world_of context.now) around (seen_by_messages (walk_scope_of walker.old)) ask (length walker.old.types ∷ []) (all_clauses clauses.now) ++ where_limited limit (found (world_of context.now) around (walk_scope_of walker.old) ask (tree action.now))))) }
+    ensures given { IfOk result (λ given. given ≡ walked_receive context.now walker.old ask (all_clauses clauses.now) (tree timeout.now) (tree action.now)) }
+    ensures noted { OnOk result
+        (walker.new ≡ after_receive context.now around walker.old ask (all_clauses clauses.now) (tree timeout.now) (tree action.now)) }
 {
     let limit = walk_expression(walker, context, around, Ask::Exactly(1), timeout)?;
     match limit {
@@ -371,8 +367,8 @@ fn walk_messages(
     ask: Ask,
     clauses: &[Clause],
 ) -> Result<Given, Memory>
-    ensures given { IfOk result (λ given. given ≡ walk_clauses (world_of context.now) (seen_by_messages (walk_scope_of walker.old)) ask (length walker.old.types ∷ []) (all_clauses clauses.now)) }
-    ensures noted { OnOk result (walker.new ≡ noting walker.old (contributions_of_clauses (world_of context.now) (seen_by_messages (walk_scope_of walker.old)) ask (length walker.old.types ∷ []) (all_clauses clauses.now)) (found_in_clauses (world_of context.now) around (seen_by_messages (walk_scope_of walker.old)) ask (length walker.old.types ∷ []) (all_clauses clauses.now))) }
+    ensures given { IfOk result (λ given. given ≡ walked_messages context.now walker.old ask (all_clauses clauses.now)) }
+    ensures noted { OnOk result (walker.new ≡ after_messages context.now around walker.old ask (all_clauses clauses.now)) }
 {
     let message = walker.types.len() as u64;
     let mut types = List::new(walker.alloc);
@@ -390,8 +386,8 @@ fn walk_action(
     limit: Ty,
     action: &Expr,
 ) -> Result<Given, Memory>
-    ensures given { IfOk result (λ given. given ≡ where_meets limit naturals (passed ask (walk (world_of context.now) (walk_scope_of walker.old) ask (tree action.now)))) }
-    ensures noted { OnOk result (walker.new ≡ noting walker.old (cond (is_none (meet limit naturals)) [] (contributions (world_of context.now) (walk_scope_of walker.old) ask (tree action.now))) (cond (is_none (meet limit naturals)) [] (found (world_of context.now) around (walk_scope_of walker.old) ask (tree action.now)))) }
+    ensures given { IfOk result (λ given. given ≡ walked_action context.now walker.old ask limit (tree action.now)) }
+    ensures noted { OnOk result (walker.new ≡ after_action context.now around walker.old ask limit (tree action.now)) }
 {
     if !walker.may_end(limit)? {
         return Ok(None);

@@ -1,11 +1,7 @@
 //! The walk through expressions. Only depth takes stack: lists, chains and clauses are loops.
 ghost use Rattle.std.specs.Prelude.{◌≡◌, IfOk, OnOk};
 ghost use Rattle.core_ast.specs.Tree.{all_trees, tree};
-ghost use Rattle.module_flow_walk.specs.Findings.{found_in_all};
-ghost use Rattle.module_flow_walk.specs.Contributions.{contributions_of_all};
-ghost use Rattle.module_flow_walk.specs.Walk.{walk_all};
-ghost use Rattle.module_flow_walk.specs.steps.Walked.{after, walked};
-ghost use Rattle.module_flow_state.specs.steps.Walking.{noting, walk_scope_of, world_of};
+ghost use Rattle.module_flow_walk.specs.steps.Walked.{after, after_all, walked, walked_all};
 
 use crate::clauses::walk_case;
 use crate::control::{walk_chain, walk_fun, walk_letrec, walk_receive, walk_try};
@@ -146,8 +142,8 @@ pub fn walk_all(
     around: NodeContext,
     exprs: &[Expr],
 ) -> Result<Given, Memory>
-    ensures given { IfOk result (λ given. given ≡ walk_all (world_of context.now) (walk_scope_of walker.old) (all_trees exprs.now)) }
-    ensures noted { OnOk result (walker.new ≡ noting walker.old (contributions_of_all (world_of context.now) (walk_scope_of walker.old) (all_trees exprs.now)) (found_in_all (world_of context.now) around (walk_scope_of walker.old) (all_trees exprs.now))) }
+    ensures given { IfOk result (λ given. given ≡ walked_all context.now walker.old (all_trees exprs.now)) }
+    ensures noted { OnOk result (walker.new ≡ after_all context.now around walker.old (all_trees exprs.now)) }
 {
     let mut types = List::new(walker.alloc);
     let mut all = true;

@@ -1,23 +1,13 @@
 //! The forms that only put values together, and calls.
-ghost use Rattle.std.specs.Prelude.{◌≡◌, ◌++◌, is_some, length, IfOk, OnOk};
+ghost use Rattle.std.specs.Prelude.{◌≡◌, is_some, IfOk, OnOk};
 ghost use Rattle.core_ast.specs.Tree.{all_pairs, all_segments, all_trees, tree};
-ghost use Rattle.core_scope.specs.Asks.{function_name, is_raising, one_value};
-ghost use Rattle.type_lattice.specs.Types.{any, tuple};
-ghost use Rattle.type_lattice.specs.Kinds.{of_kind};
-ghost use Rattle.type_lattice.specs.declared.kinds.Kind.TheVariants.{Bitstring, Map};
-ghost use Rattle.cons_gen_rows.specs.Words.{function_type};
-ghost use Rattle.warn_list.specs.declared.finding.FindingKind.TheVariants.{DeadCall};
-ghost use Rattle.warn_list.specs.declared.finding.CallText.TheVariants.{Local, Remote, Value};
-ghost use Rattle.module_flow_calls.specs.NodeContext.{at_node};
-ghost use Rattle.module_flow_state.specs.Applications.{applied, may_apply, unless_function, unless_given, enters, where_meets};
-ghost use Rattle.module_flow_calls.specs.Calls.{called};
-ghost use Rattle.module_flow_walk.specs.Findings.{found, found_in_all, found_in_pairs, found_in_segments};
-ghost use Rattle.module_flow_walk.specs.Contributions.{contributions, contributions_of_all, contributions_of_pairs, contributions_of_segments};
-ghost use Rattle.module_flow_calls.specs.TypeLists.{where_given, first, list_type, value};
-ghost use Rattle.module_flow_walk.specs.Walk.{by_primop, passed, then, walk, walk_all, walk_pairs, walk_segments};
-ghost use Rattle.module_flow_state.specs.World.{lenient, strict};
-ghost use Rattle.module_flow_walk.specs.steps.Forms.{updated_given};
-ghost use Rattle.module_flow_state.specs.steps.Walking.{noting, walk_scope_of, world_of};
+ghost use Rattle.core_scope.specs.Asks.{is_raising, one_value};
+ghost use Rattle.module_flow_walk.specs.Walk.{passed};
+ghost use Rattle.module_flow_state.specs.steps.Walking.{walk_scope_of, world_of};
+ghost use Rattle.module_flow_walk.specs.steps.Forms.{after_application, after_call, after_listed, after_named_call, after_operator, after_updated_map};
+ghost use Rattle.module_flow_walk.specs.steps.Forms.{updated_given, walked_application, walked_binary, walked_call, walked_listed, walked_named_call};
+ghost use Rattle.module_flow_walk.specs.steps.Forms.{walked_new_map, walked_operator, walked_primop, walked_tuple, walked_updated_map};
+ghost use Rattle.module_flow_walk.specs.steps.Walked.{after, after_all, after_pairs, after_segments, walked, walked_all, walked_pairs, walked_segments};
 
 use crate::expressions::{walk_all, walk_expression};
 use crate::handing::passed;
@@ -41,8 +31,8 @@ pub fn walk_listed(
     items: &[Expr],
     tail: &Expr,
 ) -> Result<Given, Memory>
-    ensures given { IfOk result (λ given. given ≡ then (walk_all (world_of context.now) (walk_scope_of walker.old) (all_trees items.now)) (λ hs. then (walk (world_of context.now) (walk_scope_of walker.old) one_value (tree tail.now)) (λ us. value (list_type hs (first us))))) }
-    ensures noted { OnOk result (walker.new ≡ noting walker.old (contributions_of_all (world_of context.now) (walk_scope_of walker.old) (all_trees items.now) ++ contributions (world_of context.now) (walk_scope_of walker.old) one_value (tree tail.now)) (found_in_all (world_of context.now) around (walk_scope_of walker.old) (all_trees items.now) ++ found (world_of context.now) around (walk_scope_of walker.old) one_value (tree tail.now))) }
+    ensures given { IfOk result (λ given. given ≡ walked_listed context.now walker.old (all_trees items.now) (tree tail.now)) }
+    ensures noted { OnOk result (walker.new ≡ after_listed context.now around walker.old (all_trees items.now) (tree tail.now)) }
 {
     let elements = walk_all(walker, context, around, items)?;
     let last = walk_expression(walker, context, around, Ask::Exactly(1), tail)?;
@@ -67,8 +57,8 @@ pub fn walk_tuple(
     around: NodeContext,
     items: &[Expr],
 ) -> Result<Given, Memory>
-    ensures given { IfOk result (λ given. given ≡ then (walk_all (world_of context.now) (walk_scope_of walker.old) (all_trees items.now)) (λ us. value (tuple us))) }
-    ensures noted { OnOk result (walker.new ≡ noting walker.old (contributions_of_all (world_of context.now) (walk_scope_of walker.old) (all_trees items.now)) (found_in_all (world_of context.now) around (walk_scope_of walker.old) (all_trees items.now))) }
+    ensures given { IfOk result (λ given. given ≡ walked_tuple context.now walker.old (all_trees items.now)) }
+    ensures noted { OnOk result (walker.new ≡ after_all context.now around walker.old (all_trees items.now)) }
 {
     let elements = walk_all(walker, context, around, items)?;
     match elements {
@@ -89,8 +79,8 @@ pub fn walk_map(
     around: NodeContext,
     pairs: &[MapPair],
 ) -> Result<Given, Memory>
-    ensures given { IfOk result (λ given. given ≡ then (walk_pairs (world_of context.now) (walk_scope_of walker.old) (all_pairs pairs.now)) (λ us. value (of_kind Map))) }
-    ensures noted { OnOk result (walker.new ≡ noting walker.old (contributions_of_pairs (world_of context.now) (walk_scope_of walker.old) (all_pairs pairs.now)) (found_in_pairs (world_of context.now) around (walk_scope_of walker.old) (all_pairs pairs.now))) }
+    ensures given { IfOk result (λ given. given ≡ walked_new_map context.now walker.old (all_pairs pairs.now)) }
+    ensures noted { OnOk result (walker.new ≡ after_pairs context.now around walker.old (all_pairs pairs.now)) }
 {
     let all = walk_pairs(walker, context, around, pairs)?;
     if !all {
@@ -108,8 +98,8 @@ pub fn walk_updated_map(
     pairs: &[MapPair],
     map: &Expr,
 ) -> Result<Given, Memory>
-    ensures given { IfOk result (λ given. given ≡ then (walk_pairs (world_of context.now) (walk_scope_of walker.old) (all_pairs pairs.now)) (λ us. updated_given (world_of context.now) (walk_scope_of walker.old) (tree map.now))) }
-    ensures noted { OnOk result (walker.new ≡ noting walker.old (contributions_of_pairs (world_of context.now) (walk_scope_of walker.old) (all_pairs pairs.now) ++ contributions (world_of context.now) (walk_scope_of walker.old) one_value (tree map.now)) (found_in_pairs (world_of context.now) around (walk_scope_of walker.old) (all_pairs pairs.now) ++ found (world_of context.now) around (walk_scope_of walker.old) one_value (tree map.now))) }
+    ensures given { IfOk result (λ given. given ≡ walked_updated_map context.now walker.old (all_pairs pairs.now) (tree map.now)) }
+    ensures noted { OnOk result (walker.new ≡ after_updated_map context.now around walker.old (all_pairs pairs.now) (tree map.now)) }
 {
     let all = walk_pairs(walker, context, around, pairs)?;
     let is_map = walk_old(walker, context, around, map)?;
@@ -129,7 +119,7 @@ fn walk_old(
     map: &Expr,
 ) -> Result<bool, Memory>
     ensures given { IfOk result (λ is_map. is_map ≡ is_some (updated_given (world_of context.now) (walk_scope_of walker.old) (tree map.now))) }
-    ensures noted { OnOk result (walker.new ≡ noting walker.old (contributions (world_of context.now) (walk_scope_of walker.old) one_value (tree map.now)) (found (world_of context.now) around (walk_scope_of walker.old) one_value (tree map.now))) }
+    ensures noted { OnOk result (walker.new ≡ after context.now around walker.old one_value (tree map.now)) }
 {
     let given = walk_expression(walker, context, around, Ask::Exactly(1), map)?;
     match given {
@@ -151,8 +141,8 @@ fn walk_pairs(
     around: NodeContext,
     pairs: &[MapPair],
 ) -> Result<bool, Memory>
-    ensures given { IfOk result (λ all. all ≡ is_some (walk_pairs (world_of context.now) (walk_scope_of walker.old) (all_pairs pairs.now))) }
-    ensures noted { OnOk result (walker.new ≡ noting walker.old (contributions_of_pairs (world_of context.now) (walk_scope_of walker.old) (all_pairs pairs.now)) (found_in_pairs (world_of context.now) around (walk_scope_of walker.old) (all_pairs pairs.now))) }
+    ensures given { IfOk result (λ all. all ≡ is_some (walked_pairs context.now walker.old (all_pairs pairs.now))) }
+    ensures noted { OnOk result (walker.new ≡ after_pairs context.now around walker.old (all_pairs pairs.now)) }
 {
     let mut all = true;
     for pair in pairs {
@@ -171,8 +161,8 @@ fn walk_one(
     around: NodeContext,
     expr: &Expr,
 ) -> Result<bool, Memory>
-    ensures given { IfOk result (λ there. there ≡ is_some (walk (world_of context.now) (walk_scope_of walker.old) one_value (tree expr.now))) }
-    ensures noted { OnOk result (walker.new ≡ noting walker.old (contributions (world_of context.now) (walk_scope_of walker.old) one_value (tree expr.now)) (found (world_of context.now) around (walk_scope_of walker.old) one_value (tree expr.now))) }
+    ensures given { IfOk result (λ there. there ≡ is_some (walked context.now walker.old one_value (tree expr.now))) }
+    ensures noted { OnOk result (walker.new ≡ after context.now around walker.old one_value (tree expr.now)) }
 {
     let given = walk_expression(walker, context, around, Ask::Exactly(1), expr)?;
     let there = given.is_some();
@@ -188,8 +178,8 @@ pub fn walk_binary(
     around: NodeContext,
     segments: &[Segment],
 ) -> Result<Given, Memory>
-    ensures given { IfOk result (λ given. given ≡ then (walk_segments (world_of context.now) (walk_scope_of walker.old) (all_segments segments.now)) (λ us. value (of_kind Bitstring))) }
-    ensures noted { OnOk result (walker.new ≡ noting walker.old (contributions_of_segments (world_of context.now) (walk_scope_of walker.old) (all_segments segments.now)) (found_in_segments (world_of context.now) around (walk_scope_of walker.old) (all_segments segments.now))) }
+    ensures given { IfOk result (λ given. given ≡ walked_binary context.now walker.old (all_segments segments.now)) }
+    ensures noted { OnOk result (walker.new ≡ after_segments context.now around walker.old (all_segments segments.now)) }
 {
     let all = walk_segments(walker, context, around, segments)?;
     if !all {
@@ -206,8 +196,8 @@ fn walk_segments(
     around: NodeContext,
     segments: &[Segment],
 ) -> Result<bool, Memory>
-    ensures given { IfOk result (λ all. all ≡ is_some (walk_segments (world_of context.now) (walk_scope_of walker.old) (all_segments segments.now))) }
-    ensures noted { OnOk result (walker.new ≡ noting walker.old (contributions_of_segments (world_of context.now) (walk_scope_of walker.old) (all_segments segments.now)) (found_in_segments (world_of context.now) around (walk_scope_of walker.old) (all_segments segments.now))) }
+    ensures given { IfOk result (λ all. all ≡ is_some (walked_segments context.now walker.old (all_segments segments.now))) }
+    ensures noted { OnOk result (walker.new ≡ after_segments context.now around walker.old (all_segments segments.now)) }
 {
     let mut all = true;
     for segment in segments {
@@ -228,8 +218,8 @@ pub fn walk_values(
     ask: Ask,
     items: &[Expr],
 ) -> Result<Given, Memory>
-    ensures given { IfOk result (λ given. given ≡ passed ask (walk_all (world_of context.now) (walk_scope_of walker.old) (all_trees items.now))) }
-    ensures noted { OnOk result (walker.new ≡ noting walker.old (contributions_of_all (world_of context.now) (walk_scope_of walker.old) (all_trees items.now)) (found_in_all (world_of context.now) around (walk_scope_of walker.old) (all_trees items.now))) }
+    ensures given { IfOk result (λ given. given ≡ passed ask (walked_all context.now walker.old (all_trees items.now))) }
+    ensures noted { OnOk result (walker.new ≡ after_all context.now around walker.old (all_trees items.now)) }
 {
     let given = walk_all(walker, context, around, items)?;
     passed(ask, given)
@@ -245,8 +235,8 @@ pub fn walk_application(
     name: &FunName,
     args: &[Expr],
 ) -> Result<Given, Memory>
-    ensures given { IfOk result (λ given. given ≡ then (walk_all (world_of context.now) (walk_scope_of walker.old) (all_trees args.now)) (λ us. applied (world_of context.now) (walk_scope_of walker.old) name.now us)) }
-    ensures noted { OnOk result (walker.new ≡ noting walker.old (contributions_of_all (world_of context.now) (walk_scope_of walker.old) (all_trees args.now) ++ where_given (walk_all (world_of context.now) (walk_scope_of walker.old) (all_trees args.now)) (λ us. enters (world_of context.now) (walk_scope_of walker.old) name.now us)) (found_in_all (world_of context.now) around (walk_scope_of walker.old) (all_trees args.now) ++ where_given (walk_all (world_of context.now) (walk_scope_of walker.old) (all_trees args.now)) (λ us. unless_given (may_apply (world_of context.now) (walk_scope_of walker.old) name.now us) (at_node around mark.now (DeadCall (Local name.now)))))) }
+    ensures given { IfOk result (λ given. given ≡ walked_application context.now walker.old name.now (all_trees args.now)) }
+    ensures noted { OnOk result (walker.new ≡ after_application context.now around walker.old mark.now name.now (all_trees args.now)) }
 {
     let given = walk_all(walker, context, around, args)?;
     match given {
@@ -265,8 +255,8 @@ pub fn walk_operator(
     operator: &Expr,
     args: &[Expr],
 ) -> Result<Given, Memory>
-    ensures given { IfOk result (λ given. given ≡ then (walk (world_of context.now) (walk_scope_of walker.old) one_value (tree operator.now)) (λ operator. then (walk_all (world_of context.now) (walk_scope_of walker.old) (all_trees args.now)) (λ us. where_meets (first operator) (function_type (length us)) (value any)))) }
-    ensures noted { OnOk result (walker.new ≡ noting walker.old (contributions (world_of context.now) (walk_scope_of walker.old) one_value (tree operator.now) ++ contributions_of_all (world_of context.now) (walk_scope_of walker.old) (all_trees args.now)) (found (world_of context.now) around (walk_scope_of walker.old) one_value (tree operator.now) ++ found_in_all (world_of context.now) around (walk_scope_of walker.old) (all_trees args.now) ++ where_given (walk (world_of context.now) (walk_scope_of walker.old) one_value (tree operator.now)) (λ operator. where_given (walk_all (world_of context.now) (walk_scope_of walker.old) (all_trees args.now)) (λ us. unless_function (first operator) (length us) (at_node around mark.now (DeadCall (Value (length us)))))))) }
+    ensures given { IfOk result (λ given. given ≡ walked_operator context.now walker.old (tree operator.now) (all_trees args.now)) }
+    ensures noted { OnOk result (walker.new ≡ after_operator context.now around walker.old mark.now (tree operator.now) (all_trees args.now)) }
 {
     let value = walk_expression(walker, context, around, Ask::Exactly(1), operator)?;
     let given = walk_all(walker, context, around, args)?;
@@ -294,8 +284,8 @@ pub fn walk_named_call(
     name: &Atom,
     args: &[Expr],
 ) -> Result<Given, Memory>
-    ensures given { IfOk result (λ given. given ≡ then (walk_all (world_of context.now) (walk_scope_of walker.old) (all_trees args.now)) (λ us. called (strict (world_of context.now)) home.now name.now us)) }
-    ensures noted { OnOk result (walker.new ≡ noting walker.old (contributions_of_all (world_of context.now) (walk_scope_of walker.old) (all_trees args.now)) (found_in_all (world_of context.now) around (walk_scope_of walker.old) (all_trees args.now) ++ where_given (walk_all (world_of context.now) (walk_scope_of walker.old) (all_trees args.now)) (λ us. unless_given (called (lenient (world_of context.now)) home.now name.now us) (at_node around mark.now (DeadCall (Remote home.now (function_name name.now (length us)))))))) }
+    ensures given { IfOk result (λ given. given ≡ walked_named_call context.now walker.old home.now name.now (all_trees args.now)) }
+    ensures noted { OnOk result (walker.new ≡ after_named_call context.now around walker.old mark.now home.now name.now (all_trees args.now)) }
 {
     let given = walk_all(walker, context, around, args)?;
     match given {
@@ -318,8 +308,8 @@ pub fn walk_call(
     name: &Expr,
     args: &[Expr],
 ) -> Result<Given, Memory>
-    ensures given { IfOk result (λ given. given ≡ then (walk (world_of context.now) (walk_scope_of walker.old) one_value (tree home.now)) (λ home. then (walk (world_of context.now) (walk_scope_of walker.old) one_value (tree name.now)) (λ name. then (walk_all (world_of context.now) (walk_scope_of walker.old) (all_trees args.now)) (λ us. value any)))) }
-    ensures noted { OnOk result (walker.new ≡ noting walker.old (contributions (world_of context.now) (walk_scope_of walker.old) one_value (tree home.now) ++ contributions (world_of context.now) (walk_scope_of walker.old) one_value (tree name.now) ++ contributions_of_all (world_of context.now) (walk_scope_of walker.old) (all_trees args.now)) (found (world_of context.now) around (walk_scope_of walker.old) one_value (tree home.now) ++ found (world_of context.now) around (walk_scope_of walker.old) one_value (tree name.now) ++ found_in_all (world_of context.now) around (walk_scope_of walker.old) (all_trees args.now))) }
+    ensures given { IfOk result (λ given. given ≡ walked_call context.now walker.old (tree home.now) (tree name.now) (all_trees args.now)) }
+    ensures noted { OnOk result (walker.new ≡ after_call context.now around walker.old (tree home.now) (tree name.now) (all_trees args.now)) }
 {
     let module = walk_one(walker, context, around, home)?;
     let function = walk_one(walker, context, around, name)?;
@@ -349,8 +339,8 @@ pub fn walk_primop(
     name: &Atom,
     args: &[Expr],
 ) -> Result<Given, Memory>
-    ensures given { IfOk result (λ given. given ≡ then (walk_all (world_of context.now) (walk_scope_of walker.old) (all_trees args.now)) (λ us. by_primop ask name.now)) }
-    ensures noted { OnOk result (walker.new ≡ noting walker.old (contributions_of_all (world_of context.now) (walk_scope_of walker.old) (all_trees args.now)) (found_in_all (world_of context.now) around (walk_scope_of walker.old) (all_trees args.now))) }
+    ensures given { IfOk result (λ given. given ≡ walked_primop context.now walker.old ask name.now (all_trees args.now)) }
+    ensures noted { OnOk result (walker.new ≡ after_all context.now around walker.old (all_trees args.now)) }
 {
     let given = walk_all(walker, context, around, args)?;
     let all = given.is_some();
