@@ -22,7 +22,7 @@ ghost use Rattle.sound_laws.specs.Satisfied.{AreAsked, Meets};
 ghost use Rattle.sound_laws.specs.Scopes.{StandsFor};
 ghost use Rattle.sound_laws.specs.Summaries.{CallIsIn, HasCall, AreClosed, solved};
 
-use crate::facts::{facts, solution_facts};
+use crate::gathered::{facts, solution_facts};
 use core_meaning::label_laws;
 
 /// Every evaluation that gives values satisfies the constraint of its expression, where the pass is
@@ -33,9 +33,16 @@ use core_meaning::label_laws;
 /// definition can have the arguments and the value of each of its calls, and the greatest solution of
 /// its constraint has them.
 pub fn constraint_laws()
-    ensures expression { (P : Knowledge) (U : Program) (stage fuel : ℕ) → IsHonest P U → (home : Atom) (env : Env) (t : m.Tree) (vs : Values) (tr : Trace) (sc : Scope) (s : ℕ) (a : Assignment) (k : Ask) → Eval U stage fuel home env t (gives vs) tr → AllBearOut P U tr → StandsFor home s a sc env → AreAsked k vs → Meets P home sc s a k t vs }
-    ensures definition { (P : Knowledge) (U : Program) (stage fuel : ℕ) → IsHonest P U → (home : Atom) (xs : List VarName) (t : m.Tree) (vs : Values) (v : Value) (tr : Trace) → length xs ≡ count vs → Eval U stage fuel home (with_variables xs vs no_variable) t (gives (one_value v)) tr → AllBearOut P U tr → CallIsIn P home xs t vs v }
-    ensures solution { (P : Knowledge) (U : Program) (stage fuel : ℕ) → IsHonest P U → (home : Atom) (xs : List VarName) (t : m.Tree) (vs : Values) (v : Value) (tr : Trace) → length xs ≡ count vs → Eval U stage fuel home (with_variables xs vs no_variable) t (gives (one_value v)) tr → AllBearOut P U tr → HasCall (length xs) (solved P home xs t) vs v }
+    ensures expression { (P : Knowledge) (U : Program) (stage fuel : ℕ) → IsHonest P U
+        → (home : Atom) (env : Env) (t : m.Tree) (vs : Values) (tr : Trace) (sc : Scope) (s : ℕ) (a : Assignment) (k : Ask)
+        → Eval U stage fuel home env t (gives vs) tr → AllBearOut P U tr → StandsFor home s a sc env → AreAsked k vs → Meets P home sc s a k t vs }
+    ensures definition { (P : Knowledge) (U : Program) (stage fuel : ℕ) → IsHonest P U
+        → (home : Atom) (xs : List VarName) (t : m.Tree) (vs : Values) (v : Value) (tr : Trace) → length xs ≡ count vs
+        → Eval U stage fuel home (with_variables xs vs no_variable) t (gives (one_value v)) tr → AllBearOut P U tr → CallIsIn P home xs t vs v }
+    ensures solution { (P : Knowledge) (U : Program) (stage fuel : ℕ) → IsHonest P U
+        → (home : Atom) (xs : List VarName) (t : m.Tree) (vs : Values) (v : Value) (tr : Trace) → length xs ≡ count vs
+        → Eval U stage fuel home (with_variables xs vs no_variable) t (gives (one_value v)) tr → AllBearOut P U tr
+        → HasCall (length xs) (solved P home xs t) vs v }
 {
     facts();
     solution_facts();
@@ -47,8 +54,12 @@ pub fn constraint_laws()
 /// closure of the function, which has captured nothing; `vs` is what it was entered with, and `v` what it
 /// gave.
 pub fn success_typings()
-    ensures strict { (U : Program) (S : Atom → FunName → Callee) → AreAccepted U → AreClosed U S → (stage : ℕ) (tr : Trace) → Run U stage tr → (home : Atom) (f : FunName) (s : Summary) (c : Value) (vs : Values) (v : Value) → summary_of (S home f) ≡ Some s → top_function U home f ≡ Some c → Among (gave c vs v) tr → Within s.strict vs v }
-    ensures lenient { (U : Program) (S : Atom → FunName → Callee) → AreAccepted U → AreClosed U S → (stage : ℕ) (tr : Trace) → Run U stage tr → (home : Atom) (f : FunName) (s : Summary) (c : Value) (vs : Values) (v : Value) → summary_of (S home f) ≡ Some s → top_function U home f ≡ Some c → Among (gave c vs v) tr → Within s.lenient vs v }
+    ensures strict { (U : Program) (S : Atom → FunName → Callee) → AreAccepted U → AreClosed U S → (stage : ℕ) (tr : Trace) → Run U stage tr
+        → (home : Atom) (f : FunName) (s : Summary) (c : Value) (vs : Values) (v : Value) → summary_of (S home f) ≡ Some s
+        → top_function U home f ≡ Some c → Among (gave c vs v) tr → Within s.strict vs v }
+    ensures lenient { (U : Program) (S : Atom → FunName → Callee) → AreAccepted U → AreClosed U S → (stage : ℕ) (tr : Trace) → Run U stage tr
+        → (home : Atom) (f : FunName) (s : Summary) (c : Value) (vs : Values) (v : Value) → summary_of (S home f) ≡ Some s
+        → top_function U home f ≡ Some c → Among (gave c vs v) tr → Within s.lenient vs v }
 {
     facts();
     solution_facts();

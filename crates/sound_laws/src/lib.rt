@@ -2,7 +2,8 @@
 //! in `specs/`; here are the laws.
 #![tactic(auto)]
 
-mod facts;
+mod gathered;
 mod laws;
 
+pub use gathered::{facts, solution_facts};
 pub use laws::{constraint_laws, success_typings};

@@ -1,29 +1,9 @@
 //! What the laws rest on, gathered from the laws of the crates below.
-ghost use Rattle.sound_laws.specs.Facts.{Facts, SolutionFacts};
 ghost use Rattle.sound_laws_flow.specs.Facts.{LastFacts, TextFacts};
 
-use bif_types::builtin_laws;
-use cons_solve::solution_laws;
 use core_meaning::label_laws;
 use core_scope::{checked_laws, functions_by_label, labels_are_distinct, places_are_sound};
 use module_flow::last_state_laws;
-use type_lattice::{maker_laws, type_laws};
-
-/// Facts of types and of built-in functions.
-pub fn facts()
-    ensures { Facts }
-{
-    maker_laws();
-    builtin_laws();
-}
-
-/// Facts of solutions.
-pub fn solution_facts()
-    ensures { SolutionFacts }
-{
-    type_laws();
-    solution_laws();
-}
 
 /// Facts of accepted modules.
 pub fn text_facts()

@@ -13,10 +13,10 @@ ghost use Rattle.sound_laws.specs.Accepted.{AreAccepted};
 ghost use Rattle.sound_laws_rounds.specs.Whole.{IsWhole};
 ghost use Rattle.sound_laws_flow.specs.Claims.{AreKnownIn, IsFoundAt, Never, NothingFalse, defined_at};
 
-use crate::facts::{facts, last_facts, solution_facts, text_facts};
+use crate::facts::{last_facts, text_facts};
 use bif_types::builtin_laws;
 use cons_tree::type_facts;
-use sound_laws::success_typings;
+use sound_laws::{facts, solution_facts, success_typings};
 use sound_laws_rounds::whole_is_closed;
 
 /// No finding of the flow is false. In a program `U` of accepted modules, where what is known of all
@@ -32,11 +32,16 @@ use sound_laws_rounds::whole_is_closed;
 /// A function of which one of these is found is what the module defines under that name, at the label of
 /// the finding (`defined`).
 pub fn no_finding_is_false()
-    ensures defined { (U : Program) (K : Callees) (x : m.Module) → AreAccepted U → AreKnownIn U K → HasModule U x → (f : FunName) (l : ℕ) → IsFoundAt K x (NoReturn f) l ⊎ IsFoundAt K x (NeverCalled f) l → top_function U x.name f ≡ Some (defined_at x f l) }
-    ensures no_return { (U : Program) (K : Callees) (x : m.Module) → AreAccepted U → AreKnownIn U K → HasModule U x → (f : FunName) (l : ℕ) → IsFoundAt K x (NoReturn f) l → (vs : Values) (v : Value) → Never U (gave (defined_at x f l) vs v) }
-    ensures dead_call { (U : Program) (K : Callees) (x : m.Module) → AreAccepted U → AreKnownIn U K → HasModule U x → (text : CallText) (l : ℕ) → IsFoundAt K x (DeadCall text) l → (v : Value) → Never U (back x.name l v) }
-    ensures dead_clause { (U : Program) (K : Callees) (x : m.Module) → AreAccepted U → AreKnownIn U K → HasModule U x → (l : ℕ) → IsFoundAt K x DeadClause l → Never U (chosen x.name l) }
-    ensures never_called { (U : Program) (K : Callees) (x : m.Module) → AreAccepted U → AreKnownIn U K → HasModule U x → (f : FunName) (l : ℕ) → IsFoundAt K x (NeverCalled f) l → (vs : Values) → Never U (entered (defined_at x f l) vs) }
+    ensures defined { (U : Program) (K : Callees) (x : m.Module) → AreAccepted U → AreKnownIn U K → HasModule U x → (f : FunName) (l : ℕ)
+        → IsFoundAt K x (NoReturn f) l ⊎ IsFoundAt K x (NeverCalled f) l → top_function U x.name f ≡ Some (defined_at x f l) }
+    ensures no_return { (U : Program) (K : Callees) (x : m.Module) → AreAccepted U → AreKnownIn U K → HasModule U x → (f : FunName) (l : ℕ)
+        → IsFoundAt K x (NoReturn f) l → (vs : Values) (v : Value) → Never U (gave (defined_at x f l) vs v) }
+    ensures dead_call { (U : Program) (K : Callees) (x : m.Module) → AreAccepted U → AreKnownIn U K → HasModule U x → (text : CallText) (l : ℕ)
+        → IsFoundAt K x (DeadCall text) l → (v : Value) → Never U (back x.name l v) }
+    ensures dead_clause { (U : Program) (K : Callees) (x : m.Module) → AreAccepted U → AreKnownIn U K → HasModule U x → (l : ℕ)
+        → IsFoundAt K x DeadClause l → Never U (chosen x.name l) }
+    ensures never_called { (U : Program) (K : Callees) (x : m.Module) → AreAccepted U → AreKnownIn U K → HasModule U x → (f : FunName) (l : ℕ)
+        → IsFoundAt K x (NeverCalled f) l → (vs : Values) → Never U (entered (defined_at x f l) vs) }
 {
     facts();
     type_facts();
@@ -61,7 +66,8 @@ pub fn whole_is_known()
 pub fn nothing_is_false()
     ensures known { (U : Program) (K : Callees) (x : m.Module) → AreAccepted U → AreKnownIn U K → HasModule U x → NothingFalse U K x }
     ensures whole { (U : Program) (K : Callees) (x : m.Module) → AreAccepted U → IsWhole U K → HasModule U x → NothingFalse U K x }
-    ensures each { (U : Program) (K : Callees) (x : m.Module) → AreAccepted U → Distinct (map (λ p. p.name) U) → IsWhole U K → Contains U x → NothingFalse U K x }
+    ensures each { (U : Program) (K : Callees) (x : m.Module) → AreAccepted U → Distinct (map (λ p. p.name) U) → IsWhole U K → Contains U x
+        → NothingFalse U K x }
 {
     no_finding_is_false();
     whole_is_known();
