@@ -26,7 +26,8 @@ later : (j w : Value) (ps : ValuePairs) → AreAscending (and_pair j w ps) → (
 later j w ps a k v h e = grind (arith, below_each (spelled j) ps (first _ _ a) k v h, ascending.below-not_itself name_total name_same)
 
 -- the first pairs of two maps that have the same are one
-same_firsts : (k v : Value) (ps : ValuePairs) (j w : Value) (qs : ValuePairs) → AreAscending (and_pair k v ps) → AreAscending (and_pair j w qs) → ((k ≡ j) × (v ≡ w)) ⊎ HoldsPair qs k v → ((j ≡ k) × (w ≡ v)) ⊎ HoldsPair ps j w → (k ≡ j) × (v ≡ w)
+same_firsts : (k v : Value) (ps : ValuePairs) (j w : Value) (qs : ValuePairs) → AreAscending (and_pair k v ps) → AreAscending (and_pair j w qs) → ((k ≡ j) × (v ≡ w)) ⊎ HoldsPair qs k v
+    → ((j ≡ k) × (w ≡ v)) ⊎ HoldsPair ps j w → (k ≡ j) × (v ≡ w)
 same_firsts k v ps j w qs a b h i = grind (arith, below_each (spelled k) ps (first _ _ a) j w, below_each (spelled j) qs (first _ _ b) k v, ascending.below-both_ways name_total name_same)
 
 -- what the rest of the one has, the rest of the other has
@@ -152,3 +153,5 @@ level_alike (suc d) v t = parts_alike (level_alike d) v t
 -- so what holds of the canonical values of a type holds of all
 pub canonical_below : (d : ℕ) (s t : TypeAt d) → ((v : Value) → IsCanonical v → HasAt d v s → HasAt d v t) → BelowBy (HasAt d) s t
 canonical_below d s t f v h = (level_alike d v t).0 (f (bare v) (bare-canonical v) ((level_alike d v s).1 h))
+
+pub ruleset canonical_maps = (same_maps, one_value, put_ascends, put_parts, put_holds, canonical_below)

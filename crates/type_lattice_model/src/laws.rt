@@ -1,6 +1,7 @@
 //! The laws of types, as functions that do nothing: who calls one has its clauses. They speak of
 //! types of any level.
-ghost use Rattle.std.specs.Prelude.{◌≡◌, ◌⊎◌, ◌↔◌, ◌≤◌, ◌<◌, ◌+◌, ◌-◌, ℕ, pos, suc, Bool, true, false, List, Some, nat_lt, length, map};
+ghost use Rattle.std.specs.Prelude.{◌≡◌, ◌⊎◌, ◌↔◌, ◌≤◌, ◌<◌, ◌+◌, ◌-◌, ℕ, pos, suc};
+ghost use Rattle.std.specs.Prelude.{Bool, true, false, List, Some, nat_lt, length, map};
 ghost use Rattle.type_kinds_sets.specs.Numbers as numbers;
 ghost use Rattle.type_kinds_sets.specs.Numbers.{Numbers};
 ghost use Rattle.type_lattice_model.specs.Values.{Value, Values, and_value, ValuePairs, nil, cons, tuple, map as map_value, heads, end_of, count};
@@ -36,7 +37,8 @@ pub fn cut_laws()
 /// stands there, and the least such type up to 64 elements.
 pub fn tuple_laws()
     ensures normal { (d : ℕ) (es : List (TypeAt d)) → AreNormal (NormalAt d) es → NormalAt d (tuple_at d es) }
-    ensures above { (d : ℕ) (es : List (TypeAt d)) → AreNormal (NormalAt d) es → (vs : Values) → HasEach (HasAt d) vs es → HasAt d (tuple vs) (tuple_at d es) }
+    ensures above { (d : ℕ) (es : List (TypeAt d)) → AreNormal (NormalAt d) es → (vs : Values) → HasEach (HasAt d) vs es
+        → HasAt d (tuple vs) (tuple_at d es) }
     ensures least { (d : ℕ) (es : List (TypeAt d)) → AreNormal (NormalAt d) es → (u : TypeAt d) → NormalAt d u
         → ((vs : Values) → HasEach (HasAt d) vs es → HasAt d (tuple vs) u) → BelowBy (HasAt d) (tuple_at d es) u }
     ensures only { (d : ℕ) (es : List (TypeAt (suc d))) (v : Value) → HasAt (suc d) v (tuple_at (suc d) es) → (vs : Values) × (v ≡ tuple vs) }
@@ -44,7 +46,8 @@ pub fn tuple_laws()
         → (vs : Values) → HasAt (suc d) (tuple vs) (tuple_at (suc d) es) ↔ HasEach (HasAt d) vs (map (cut (suc d) d) es) }
     ensures project { (d : ℕ) (t : TypeAt (suc d)) → NormalAt (suc d) t → (n : ℕ) (vs : Values) → HasAt (suc d) (tuple vs) t → count vs ≡ n
         → (i : ℕ) (v : Value) → value_at vs (i - 1) ≡ Some v → HasAt (suc d) v (project_at d t n i) }
-    ensures project_least { (d : ℕ) (t : TypeAt (suc d)) → NormalAt (suc d) t → (n i : ℕ) → n ≤ MAX_ELEMENTS → 1 ≤ i → i ≤ n → (u : TypeAt (suc d))
+    ensures project_least { (d : ℕ) (t : TypeAt (suc d)) → NormalAt (suc d) t → (n i : ℕ) → n ≤ MAX_ELEMENTS → 1 ≤ i → i ≤ n
+        → (u : TypeAt (suc d))
         → NormalAt (suc d) u → ((vs : Values) (v : Value) → HasAt (suc d) (tuple vs) t → count vs ≡ n → value_at vs (i - 1) ≡ Some v
         → HasAt (suc d) v u) → BelowBy (HasAt (suc d)) (project_at d t n i) u }
 {}
@@ -53,7 +56,8 @@ pub fn tuple_laws()
 /// the set has a position it is the least type that does. The first element is at position 1.
 pub fn element_laws()
     ensures normal { (d : ℕ) (t : TypeAt (suc d)) → NormalAt (suc d) t → (s : Numbers) → NormalAt (suc d) (elements_at d t s) }
-    ensures above { (d : ℕ) (t : TypeAt (suc d)) → NormalAt (suc d) t → (s : Numbers) (vs : Values) → HasAt (suc d) (tuple vs) t → (i : ℕ) (v : Value)
+    ensures above { (d : ℕ) (t : TypeAt (suc d)) → NormalAt (suc d) t → (s : Numbers) (vs : Values) → HasAt (suc d) (tuple vs) t
+        → (i : ℕ) (v : Value)
         → value_at vs i ≡ Some v → numbers.has s (pos (suc i)) ≡ true → HasAt (suc d) v (elements_at d t s) }
     ensures least { (d : ℕ) (t : TypeAt (suc d)) → NormalAt (suc d) t → (s : Numbers) (p : ℕ) → numbers.has s (pos (suc p)) ≡ true
         → (u : TypeAt (suc d)) → NormalAt (suc d) u
@@ -69,7 +73,8 @@ pub fn element_laws()
 /// told so. A cons is in a type exactly where its head is among the type's heads and its tail among the
 /// type's tails, and these are the least types of which that is true.
 pub fn list_laws()
-    ensures normal { (d : ℕ) (h t : TypeAt (suc d)) (proper : Bool) → NormalAt (suc d) h → NormalAt (suc d) t → NormalAt (suc d) (cons_at d h t proper) }
+    ensures normal { (d : ℕ) (h t : TypeAt (suc d)) (proper : Bool) → NormalAt (suc d) h → NormalAt (suc d) t
+        → NormalAt (suc d) (cons_at d h t proper) }
     ensures above { (d : ℕ) (h t : TypeAt (suc d)) (proper : Bool) → NormalAt (suc d) h → NormalAt (suc d) t → (x y : Value) → HasAt (suc d) x h
         → HasAt (suc d) y t → HasAt (suc d) (cons x y) (cons_at d h t proper) }
     ensures least { (d : ℕ) (h t : TypeAt (suc d)) → NormalAt (suc d) h → NormalAt (suc d) t → (u : TypeAt (suc d)) → NormalAt (suc d) u
@@ -81,7 +86,8 @@ pub fn list_laws()
     ensures free { (d : ℕ) (h t : TypeAt (suc d)) → NormalAt (suc d) h → NormalAt (suc d) t → (x y : Value)
         → HasAt (suc d) (cons x y) (cons_at d h t false) ↔ HasAll (HasAt (suc d)) (and_value x (heads y)) (elem_at d (cons_at d h t true)) }
     ensures lists { (d : ℕ) (t : TypeAt (suc d)) → is_list (ops d) t ≡ true → (v : Value) → HasAt (suc d) v t → end_of v ≡ nil }
-    ensures are_lists { (d : ℕ) (t : TypeAt (suc d)) → NormalAt (suc d) t → ((v : Value) → HasAt (suc d) v t → end_of v ≡ nil) → is_list (ops d) t ≡ true }
+    ensures are_lists { (d : ℕ) (t : TypeAt (suc d)) → NormalAt (suc d) t → ((v : Value) → HasAt (suc d) v t → end_of v ≡ nil)
+        → is_list (ops d) t ≡ true }
     ensures elem { (d : ℕ) (s : TypeAt (suc d)) → NormalAt (suc d) s → (h t : Value) → HasAt (suc d) (cons h t) s → HasAt (suc d) h (elem_at d s) }
     ensures tail { (d : ℕ) (s : TypeAt (suc d)) (h t : Value) → HasAt (suc d) (cons h t) s → HasAt (suc d) t (tail_at d s) }
     ensures both { (d : ℕ) (s : TypeAt (suc d)) → NormalAt (suc d) s → (x y : Value) → HasAt (suc d) x (elem_at d s) → HasAt (suc d) y (tail_at d s)
@@ -105,13 +111,14 @@ pub fn rank_laws()
 /// its pairs, and has one value at each key. A map with one more pair is canonical again: it has the
 /// pair, and those of other keys. Where each canonical value of a type is one of another, each of its
 /// values is: canonical values tell types apart as well as all values do.
-#[tactic(auto, using(crate::proofs::Spellings::spelled_once, crate::proofs::CanonicalLaws::same_maps, crate::proofs::CanonicalLaws::one_value, crate::proofs::CanonicalLaws::put_ascends, crate::proofs::CanonicalLaws::put_parts, crate::proofs::CanonicalLaws::put_holds, crate::proofs::CanonicalLaws::canonical_below))]
+#[tactic(auto, using(crate::proofs::Spellings::spelled_once, crate::proofs::CanonicalLaws::canonical_maps))]
 pub fn value_laws()
     ensures spelled { (v w : Value) → spelled v ≡ spelled w → v ≡ w }
     ensures maps { (ps qs : ValuePairs) → IsCanonical (map_value ps) → IsCanonical (map_value qs) → PairsBelow ps qs → PairsBelow qs ps
         → map_value ps ≡ map_value qs }
     ensures keys { (ps : ValuePairs) → IsCanonical (map_value ps) → (k v w : Value) → HoldsPair ps k v → HoldsPair ps k w → v ≡ w }
-    ensures put { (k v : Value) (ps : ValuePairs) → IsCanonical k → IsCanonical v → IsCanonical (map_value ps) → IsCanonical (map_value (put_pair k v ps)) }
+    ensures put { (k v : Value) (ps : ValuePairs) → IsCanonical k → IsCanonical v → IsCanonical (map_value ps)
+        → IsCanonical (map_value (put_pair k v ps)) }
     ensures put_holds { (k v : Value) (ps : ValuePairs) → IsCanonical (map_value ps) → (x y : Value)
         → HoldsPair (put_pair k v ps) x y ↔ (((x ≡ k) × (y ≡ v)) ⊎ ((x ≡ k → ⊥) × HoldsPair ps x y)) }
     ensures below { (d : ℕ) (s t : TypeAt d) → ((v : Value) → IsCanonical v → HasAt d v s → HasAt d v t) → BelowBy (HasAt d) s t }
