@@ -1,5 +1,6 @@
 -- The certificate: where the module of an entry stands, the functions that it lists, and the entries one after another.
-use Rattle.std.proofs.Common.{◌≡◌, ◌↔◌, ℕ, zero, suc, ◌+◌, ◌<◌, Bool, true, false, cond, ◌||◌, ◌&&◌, List, [], ◌∷◌, ◌++◌, drop, length, map, get_or, slice_get, Contains, Option, Some, None, Result, Ok, Err, refl}
+use Rattle.std.proofs.Common.{◌≡◌, ◌↔◌, ℕ, zero, suc, ◌+◌, ◌<◌, Bool, true, false, cond, ◌||◌, ◌&&◌, List, [], ◌∷◌, ◌++◌}
+use Rattle.std.proofs.Common.{drop, length, map, get_or, slice_get, Contains, Option, Some, None, Result, Ok, Err, refl}
 use Rattle.std.proofs.Common.{sym, ap, ap₂, ◌∙◌, subst, arith, true≢false}
 use Rattle.std.specs.Prelude.{IfOk, IsSome, nat_lt}
 use Rattle.std.specs.List.{list_any}
@@ -221,7 +222,8 @@ whole_known ss around known apart whole s has f named =
     all_have (λ (t : HandedIn). t.checked) ss around known apart whole s.tree
     (subst (λ xs. Contains xs s.tree) (sym (chosen_trees (λ (t : HandedIn). t) ss)) (tree_stands (sources_so ss) s has)) f named
 
-pub is_certificate : (ss : List HandedIn) (first known : Callees) (table : List Entry) (r : Result Table Memory) → ((h : Atom) (f : FunName) → first h f ≡ Unknown) → IsWholeOver first (map (λ (s : HandedIn). tree_of s.checked) ss) known
+pub is_certificate : (ss : List HandedIn) (first known : Callees) (table : List Entry) (r : Result Table Memory) → ((h : Atom) (f : FunName) → first h f ≡ Unknown)
+    → IsWholeOver first (map (λ (s : HandedIn). tree_of s.checked) ss) known
     → (reports : List (List ℕ)) × IsWritten [] (sources_so ss) reports table → IfOk r (λ cert. EachListsAll known (sources_so ss) table (entries_so cert)) → IfOk r (λ cert. IsCertificate (sources_so ss) (entries_so cert))
 is_certificate ss first known table (Err e) none whole written lists = tt
 is_certificate ss first known table (Ok cert) none whole written lists =

@@ -1,5 +1,6 @@
 //! The certificate of modules: the table of their analysis, with all functions of each module.
-ghost use Rattle.std.specs.Prelude.{◌≡◌, ℕ, ◌<◌, ◌≤◌, ◌^◌, List as ListOf, [], true, length, map, slice_get, Some, Contains, IfOk, IfErr, OnOk, IsTrue};
+ghost use Rattle.std.specs.Prelude.{◌≡◌, ℕ, ◌<◌, ◌≤◌, ◌^◌, List as ListOf, [], true, length};
+ghost use Rattle.std.specs.Prelude.{map, slice_get, Some, Contains, IfOk, IfErr, OnOk, IsTrue};
 ghost use Rattle.std.specs.List.{list_all};
 ghost use Rattle.type_kinds.specs.declared.atom.Atom.{Atom as AtomName};
 ghost use Rattle.core_ast.specs.Tree.{all_defs, module_tree};
@@ -179,8 +180,10 @@ fn functions_of(
     source: &Source,
     known: &Summaries,
 ) -> Result<List<(FunName, Summary)>, Memory>
-    requires { (f : TheName) → Contains (defined_names (tree_of source.now.checked).defs) f → HasSummary (found known.now (tree_of source.now.checked).name f) }
-    ensures listed { IfOk result (λ functions. AreListed (found known.now) (tree_of source.now.checked).name (defined (tree_of source.now.checked)) functions) }
+    requires { (f : TheName) → Contains (defined_names (tree_of source.now.checked).defs) f
+        → HasSummary (found known.now (tree_of source.now.checked).name f) }
+    ensures listed { IfOk result (λ functions. AreListed (found known.now) (tree_of source.now.checked).name
+        (defined (tree_of source.now.checked)) functions) }
     ensures fit { IfOk result (λ functions. IsTrue (list_all is_export functions)) }
 {
     checked_laws();

@@ -46,7 +46,8 @@ impl Entries {
 
     // Adds an entry under its name.
     fn add(&mut self, entry: Entry) -> Result<(), Memory>
-        ensures { OnOk result ((h : Atom) → entry_at self.new.by_name h ≡ cond (same_atom h entry.name) (Some (entry_so entry)) (entry_at self.old.by_name h)) }
+        ensures { OnOk result ((h : Atom) → entry_at self.new.by_name h
+            ≡ cond (same_atom h entry.name) (Some (entry_so entry)) (entry_at self.old.by_name h)) }
     {
         let name = entry.name.copy(self.alloc)?;
         match self.by_name.insert(name, entry) {
@@ -89,7 +90,8 @@ pub fn new_entries(
     requires distinct { (j : ℕ) → j < length sources.now → StandsEarlier (map (λ s. (module_of s.checked).name) sources.now) j → ⊥ }
     requires counted { length decided.now.lines ≡ length sources.now }
     requires open { AreOpen (kept_of decided.now.changed (entries_so table.now)) (sources_so sources.now) (found decided.now.known) }
-    ensures { IfOk result (λ entries. AreNew (kept_of decided.now.changed (entries_so table.now)) (sources_so sources.now) (found decided.now.known) decided.now.lines (entry_at entries.by_name)) }
+    ensures { IfOk result (λ entries. AreNew (kept_of decided.now.changed (entries_so table.now)) (sources_so sources.now)
+        (found decided.now.known) decided.now.lines (entry_at entries.by_name)) }
 {
     let kept = kept_table(alloc, table, &decided.changed)?;
     let list = groups(alloc, &kept, sources)?;
@@ -142,7 +144,8 @@ fn add_group(
     requires open { AreOpen (entries_so kept.now) (sources_so sources.now) (found decided.now.known) }
     requires members { AreMembersOf kept.now sources.now members.now }
     requires rising { IsTrue (rises is_name_before (member_names members.now)) }
-    ensures { OnOk result (Adds (entries_so kept.now) (sources_so sources.now) (found decided.now.known) decided.now.lines (member_names members.now) (member_names members.now) (entry_at entries.old.by_name) (entry_at entries.new.by_name)) }
+    ensures { OnOk result (Adds (entries_so kept.now) (sources_so sources.now) (found decided.now.known) decided.now.lines (member_names members.now)
+        (member_names members.now) (entry_at entries.old.by_name) (entry_at entries.new.by_name)) }
 {
     let names = names_of(alloc, members)?;
     for member in members {
@@ -186,7 +189,8 @@ fn add_member(
     requires member { IsMemberOf kept.now sources.now member.now }
     requires rising { IsTrue (rises is_name_before group.now) }
     requires own { has group.now member.now.name ≡ true }
-    ensures { OnOk result (Adds (entries_so kept.now) (sources_so sources.now) (found decided.now.known) decided.now.lines group.now (member.now.name ∷ []) (entry_at entries.old.by_name) (entry_at entries.new.by_name)) }
+    ensures { OnOk result (Adds (entries_so kept.now) (sources_so sources.now) (found decided.now.known) decided.now.lines group.now (member.now.name ∷ [])
+        (entry_at entries.old.by_name) (entry_at entries.new.by_name)) }
 {
     match (member.entry, member.source) {
         (Some(at), _) => entries.add(kept.entries.at(at as usize).copy(alloc)?),

@@ -52,7 +52,8 @@ fn all_may_stand(sources: &[Source], table: &Table, members: &[GroupMember]) -> 
 // Whether a member of this group has an entry that may be kept.
 fn may_stand(sources: &[Source], table: &Table, group: &[GroupMember], member: &GroupMember) -> bool
     requires { IsMemberOf table.now sources.now member.now }
-    ensures { result ≡ entry_may_stand (member_names group.now) (source_of (sources_so sources.now) member.now.name) (entry_of (entries_so table.now) member.now.name) }
+    ensures { result ≡ entry_may_stand (member_names group.now) (source_of (sources_so sources.now) member.now.name)
+        (entry_of (entries_so table.now) member.now.name) }
 {
     match member.entry {
         Some(at) => {

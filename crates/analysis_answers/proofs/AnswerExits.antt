@@ -53,7 +53,8 @@ apart xs own = none_earlier (map (λ (x : m.Module). x.name) xs) (λ j low e. ow
 -- ---- what is answered of sources
 
 module _ (Gives : List Source → List ℕ → Type 0) where
-  pub gives_so : (words : List (List ℕ)) (ss : List HandedIn) (output : List ℕ) → ((j : ℕ) → j < length ss → StandsEarlier (names ss) j → ⊥) → Gives (sources_so ss) output → AnswersSources Gives words (sources_so ss) Done output
+  pub gives_so : (words : List (List ℕ)) (ss : List HandedIn) (output : List ℕ) → ((j : ℕ) → j < length ss → StandsEarlier (names ss) j → ⊥) → Gives (sources_so ss) output
+      → AnswersSources Gives words (sources_so ss) Done output
   gives_so words ss output own gives = gives_output refl (own_so ss own) gives
 
   pub twins_so : (words : List (Bor (List ℕ))) (ss : List HandedIn) (fault : SetFault) (first second : ℕ) (r : Result RunAnswer Memory) → length ss ≡ length words
@@ -89,7 +90,8 @@ module _ (Gives : List Source → List ℕ → Type 0) where
 
 -- ---- what reading the files gave
 
-pub reads_so : (line : List ℕ) (words : List (List ℕ)) (told : Option Files) (rb rn : ℕ) (r : FilesRead) (ss : List HandedIn) → r ≡ Reads ss → AreFilesRead line words told rb rn r → NamesFiles words × ReadsAll told words (sources_so ss)
+pub reads_so : (line : List ℕ) (words : List (List ℕ)) (told : Option Files) (rb rn : ℕ) (r : FilesRead) (ss : List HandedIn) → r ≡ Reads ss → AreFilesRead line words told rb rn r
+    → NamesFiles words × ReadsAll told words (sources_so ss)
 reads_so line words told rb rn r ss e h = subst (AreFilesRead line words told rb rn) e h
 
 pub as_many : (told : Option Files) (words : List (Bor (List ℕ))) (ss : List HandedIn) → ReadsAll told (texts words) (sources_so ss) → length ss ≡ length words

@@ -20,7 +20,8 @@ module _ (words : List (Bor (List ℕ))) (told : Option Files) (rb rn : ℕ) whe
   refused_here : (word : ℕ) (fault : SourceFault) → Fails told (texts words) 0 rb rn (read.Refused word fault) → RefusedAt told (texts words) word fault
   refused_here word fault h = let same : h.0 ≡ word = omega (arith, h.1) in subst (λ at. RefusedAt told (texts words) at fault) same h.2
 
-  pub refused_stop : (usage_line : List ℕ) → NamesFiles (texts words) → (word v : ℕ) (fault f : SourceFault) (d : Bor (List ℕ)) (status : RunStatus) (output : List ℕ) → Fails told (texts words) 0 rb rn (read.Refused word fault)
+  pub refused_stop : (usage_line : List ℕ) → NamesFiles (texts words) → (word v : ℕ) (fault f : SourceFault) (d : Bor (List ℕ)) (status : RunStatus) (output : List ℕ)
+      → Fails told (texts words) 0 rb rn (read.Refused word fault)
       → v ≡ word → f ≡ fault → status ≡ refused v f → output ≡ refusal_line (get_or words v d).now f → Stops usage_line (texts words) told rb rn status output
   refused_stop usage_line named word v fault f d status output h is same s o =
       declining (file_refused word (get_or words word d).now fault

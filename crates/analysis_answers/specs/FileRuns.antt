@@ -110,7 +110,8 @@ pub record FailsToRead (words : List (List ℕ)) (told : Option Files) (word : �
   pub written_so : written_now ≡ appended written_before (read_fault_line name)
 
 -- The sink failed and counted it, and a prefix of the output was written that the run meant to give.
-pub record FailsToWrite (usage_line : List ℕ) (Gives : List Source → List ℕ → Type 0) (words : List (List ℕ)) (told : Option Files) (reads reads_now sink_before sink_now : ℕ) (written_before written_now : Option (List ℕ)) : Type 0 where
+pub record FailsToWrite (usage_line : List ℕ) (Gives : List Source → List ℕ → Type 0) (words : List (List ℕ)) (told : Option Files) (reads reads_now sink_before sink_now : ℕ)
+    (written_before written_now : Option (List ℕ)) : Type 0 where
   pub rose : Rose sink_before sink_now
   pub status : RunStatus
   pub output : List ℕ

@@ -8,7 +8,8 @@ use type_kinds::{digits_len, parse_decimal};
 /// The number from 1 to `most` that a word is, as it is printed.
 pub fn number_of(word: &str, most: u32) -> Option<u32>
     requires { most < 2 ^ 32 }
-    ensures { MatchOption result ((n : ℕ) → 1 ≤ n → n ≤ most → word.now ≡ decimal n → ⊥) (λ n. (word.now ≡ decimal n) × (1 ≤ n) × (n ≤ most)) }
+    ensures { MatchOption result ((n : ℕ) → 1 ≤ n → n ≤ most → word.now ≡ decimal n
+        → ⊥) (λ n. (word.now ≡ decimal n) × (1 ≤ n) × (n ≤ most)) }
 {
     let digits = word.as_bytes();
     if !begins_number(digits) {

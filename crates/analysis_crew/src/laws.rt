@@ -19,7 +19,10 @@ use comp_rounds::rounds_laws;
 /// it calls, and from nothing else, its output has the summaries that it has where one component is solved after the
 /// other, each with all that is known then. Around the modules anything may be known.
 pub fn outputs_are_summaries()
-    ensures { (around : Callees) (xs : List m.Module) (graph : List (List ℕ)) (c : Numbering) (part : ℕ → CompPart) (callees : ℕ → List ℕ) → AreAccepted xs → Distinct (module_names xs) → IsCallGraph xs graph → IsReadyNumbering graph c → ((n : ℕ) → n < c.count → IsPartOf around xs c n (part n)) → ((n : ℕ) → n < c.count → callees n ≡ callees_of c n) → (n : ℕ) → n < c.count → slice_get (solved written part callees c.count) n ≡ Some (record { summaries = summaries_of around xs c n }) }
+    ensures { (around : Callees) (xs : List m.Module) (graph : List (List ℕ)) (c : Numbering) (part : ℕ → CompPart) (callees : ℕ → List ℕ)
+        → AreAccepted xs → Distinct (module_names xs) → IsCallGraph xs graph → IsReadyNumbering graph c
+        → ((n : ℕ) → n < c.count → IsPartOf around xs c n (part n)) → ((n : ℕ) → n < c.count → callees n ≡ callees_of c n) → (n : ℕ)
+        → n < c.count → slice_get (solved written part callees c.count) n ≡ Some (record { summaries = summaries_of around xs c n }) }
 {
     rounds_laws();
 }

@@ -8,7 +8,8 @@ use components::one_numbering;
 
 /// The modules alone, and what stands of functions outside of them, decide what is known of functions.
 pub fn one_known()
-    ensures { (outside : Callees) (xs : List m.Module) (known other : Callees) → IsWholeOver outside xs known → IsWholeOver outside xs other → known ≡ other }
+    ensures { (outside : Callees) (xs : List m.Module) (known other : Callees) → IsWholeOver outside xs known → IsWholeOver outside xs other
+        → known ≡ other }
 {
     one_numbering();
 }

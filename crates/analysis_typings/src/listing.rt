@@ -21,7 +21,8 @@ pub fn all_summaries<S: AsChecked>(
     mods: &[S],
     known: &Summaries,
 ) -> Result<List<List<Summary>>, Memory>
-    requires { (x : ModuleTree) → Contains (map (λ s. tree_of (S.stands_for s)) mods.now) x → (f : FunName) → Contains (defined_names x.defs) f → HasSummary (found known.now x.name f) }
+    requires { (x : ModuleTree) → Contains (map (λ s. tree_of (S.stands_for s)) mods.now) x → (f : FunName) → Contains (defined_names x.defs) f
+        → HasSummary (found known.now x.name f) }
     ensures { IfOk result (λ all. AreKnownOf (found known.now) (map (λ s. tree_of (S.stands_for s)) mods.now) all) }
 {
     let mut all = List::new(alloc);

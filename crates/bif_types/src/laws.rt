@@ -15,7 +15,8 @@ use cons_tree::type_facts;
 /// The arguments of a built-in function and a value that it may give satisfy the part of its row, quiet
 /// or not. Where a row is exact, each closure of the value is one of an argument.
 pub fn builtin_laws()
-    ensures satisfies { (f : Atom) (bif : Bif) (value : ℕ) (args : List ℕ) (quiet : Bool) (a : Assignment) → looked_up f (length args) ≡ Some bif → BifMay f (values_of a args) (a value) → SatPart (part_of_row bif value args quiet) a }
+    ensures satisfies { (f : Atom) (bif : Bif) (value : ℕ) (args : List ℕ) (quiet : Bool) (a : Assignment) → looked_up f (length args) ≡ Some bif
+        → BifMay f (values_of a args) (a value) → SatPart (part_of_row bif value args quiet) a }
     ensures held { (f : Atom) (vs : Values) (v c : Value) → is_exact f (count vs) ≡ true → BifMay f vs v → HoldsClosure c v → HoldClosure c vs }
 {}
 

@@ -1,5 +1,6 @@
 -- How tables are built: what each round keeps, and what stands at the end.
-use Rattle.std.proofs.Common.{◌≡◌, ℕ, suc, ◌+◌, ◌<◌, ◌≤◌, ◌||◌, Bool, true, false, if◌then◌else◌, List, [], ◌∷◌, ◌++◌, length, drop, get_or, map, refl, sym, ap, ◌∙◌, subst, arith, length-append}
+use Rattle.std.proofs.Common.{◌≡◌, ℕ, suc, ◌+◌, ◌<◌, ◌≤◌, ◌||◌, Bool, true, false, if◌then◌else◌, List, [], ◌∷◌}
+use Rattle.std.proofs.Common.{◌++◌, length, drop, get_or, map, refl, sym, ap, ◌∙◌, subst, arith, length-append}
 use Rattle.std.specs.List.{list_any}
 use Rattle.std.specs.Cmp.Lexicographic.{bytes_decides}
 use Rattle.std.proofs.lemmas.List.Folds.{list_any-append}
@@ -29,7 +30,8 @@ use Rattle.call_graph.proofs.Tables.{table_answers}
 
 -- ---- functions of one module
 
-pub functions_round : (t u first : FunctionTable) (home : Atom) (exports : List FunName) (ds : List (FunDefOf Expr)) (i : ℕ) (d e : FunDefOf Expr) (exported : Bool) → i < length ds → d ≡ get_or ds i d → e ≡ d → exported ≡ has_function exports e.name
+pub functions_round : (t u first : FunctionTable) (home : Atom) (exports : List FunName) (ds : List (FunDefOf Expr)) (i : ℕ) (d e : FunDefOf Expr) (exported : Bool) → i < length ds → d ≡ get_or ds i d → e ≡ d
+    → exported ≡ has_function exports e.name
     → u.functions.entries ≡ insert_entry same_key t.functions.entries (key_of home e.name) (record { number = t.count; exported = exported }) → u.count ≡ t.count + 1 → u.modules.keys ≡ t.modules.keys
     → record {
       entries : inserted t.functions.entries t.count (functions_in home exports (all_defs (drop i ds))) ≡ inserted first.functions.entries first.count (functions_in home exports (all_defs ds));
@@ -50,7 +52,8 @@ functions_round t u first home exports ds i d e exported within is same flag ent
     entries ∙ ap (λ b. insert_entry same_key t.functions.entries (key_of home e.name) (record { number = t.count; exported = b })) flag
     ∙ ap (λ x. insert_entry same_key t.functions.entries (key_of home x.name) (record { number = t.count; exported = has_function exports x.name })) same in
     record {
-      entries = ap (λ es. inserted es u.count rest) put ∙ ap (λ n. inserted (insert_entry same_key t.functions.entries (function_key f) (entry_of t.count f)) n rest) count ∙ ap (inserted t.functions.entries t.count) (sym split) ∙ before.entries;
+      entries = ap (λ es. inserted es u.count rest) put ∙ ap (λ n. inserted (insert_entry same_key t.functions.entries (function_key f) (entry_of t.count f)) n rest) count ∙ ap (inserted t.functions.entries t.count) (sym split)
+          ∙ before.entries;
       count = (let long : length (functions_in home exports (all_defs (drop i ds))) ≡ suc (length rest) = ap length split in let b = before.count in omega (arith, long, count, b));
       modules = kept ∙ before.modules;
     }
@@ -91,7 +94,8 @@ module _ {S : Type 0} (stands_for : S → Checked) where
     modules : (h : Atom) → (list_any (same_atom h) t.modules.keys || list_any (same_atom h) (names (modules stands_for (drop i ss)))) ≡ list_any (same_atom h) (names (modules stands_for ss));
   }
 
-  pub sources_round : (t u : FunctionTable) (ss : List S) (i : ℕ) (s : S) (x : m.Module) → i < length ss → s ≡ get_or ss i s → x ≡ tree_of (stands_for s) → Adds t u (module_functions x) → u.modules.keys ≡ insert_key same_atom t.modules.keys x.name → Kept ss i t → Kept ss (i + 1) u
+  pub sources_round : (t u : FunctionTable) (ss : List S) (i : ℕ) (s : S) (x : m.Module) → i < length ss → s ≡ get_or ss i s → x ≡ tree_of (stands_for s) → Adds t u (module_functions x)
+      → u.modules.keys ≡ insert_key same_atom t.modules.keys x.name → Kept ss i t → Kept ss (i + 1) u
   sources_round t u ss i s x within is tree_is adds named before =
       let rest : List S = drop (i + 1) ss in
       let fs : List ModuleFunction = module_functions x in
@@ -110,13 +114,15 @@ module _ {S : Type 0} (stands_for : S → Checked) where
             ∙ ap (λ ys. list_any (same_atom h) t.modules.keys || list_any (same_atom h) (names ys)) (sym split) ∙ before.modules h;
       }
 
-  pub sources_exit : (t : FunctionTable) (ss : List S) (i : ℕ) → length ss ≤ i → ((j : ℕ) → j < length ss → StandsEarlier (map (λ s. (module_of (stands_for s)).name) ss) j → ⊥) → Kept ss i t → IsTableOf (modules stands_for ss) t
+  pub sources_exit : (t : FunctionTable) (ss : List S) (i : ℕ) → length ss ≤ i → ((j : ℕ) → j < length ss → StandsEarlier (map (λ s. (module_of (stands_for s)).name) ss) j → ⊥) → Kept ss i t
+      → IsTableOf (modules stands_for ss) t
   sources_exit t ss i past distinct kept =
       let xs : List m.Module = modules stands_for ss in
       let none : drop i ss ≡ [] = drop_all i ss past in
       let once = keys_stand_once stands_for ss distinct in
       let entries : t.functions.entries ≡ numbered 0 (functions_of xs) =
       ap (λ l. inserted t.functions.entries t.count (functions_of (modules stands_for l))) (sym none) ∙ kept.entries ∙ inserted_all (functions_of xs) once in
-      let count : t.count ≡ length (functions_of xs) = (let e : t.count + length (functions_of (modules stands_for (drop i ss))) ≡ t.count + 0 = ap (λ l. t.count + length (functions_of (modules stands_for l))) none in let b = kept.count in omega (arith, e, b)) in
+      let count : t.count ≡ length (functions_of xs) = (let e : t.count + length (functions_of (modules stands_for (drop i ss)))
+      ≡ t.count + 0 = ap (λ l. t.count + length (functions_of (modules stands_for l))) none in let b = kept.count in omega (arith, e, b)) in
       table_answers xs t entries once
       (λ h. sym (or-false (list_any (same_atom h) t.modules.keys)) ∙ ap (λ l. list_any (same_atom h) t.modules.keys || list_any (same_atom h) (names (modules stands_for l))) (sym none) ∙ kept.modules h) count

@@ -104,7 +104,8 @@ module _ (xs : List m.Module) (table : FunctionTable) (is : IsTableOf xs table) 
           record { caller = r.0; callee = g.0; target = a.target; calling = at_zero (functions_of xs) i r.0 r.1; called = g.1; stands = a.stands; goes = g.2 }
 
       back : Calls xs i j → PairsFrom table 0 (functions_of xs) i j
-      back c = at_pairs 0 (functions_of xs) i j c.caller (at_from 0 (functions_of xs) i i c.caller (omega arith) c.calling) (among_callees table c.caller.home (targets [] c.caller.body) j c.target c.stands (goes_callee c.caller c.target j c.callee c.called c.goes))
+      back c = at_pairs 0 (functions_of xs) i j c.caller (at_from 0 (functions_of xs) i i c.caller (omega arith) c.calling)
+          (among_callees table c.caller.home (targets [] c.caller.body) j c.target c.stands (goes_callee c.caller c.target j c.callee c.called c.goes))
 
 -- Pairs of functions one after another.
 pub pairs_split : (table : FunctionTable) (n : ℕ) (fs gs : List ModuleFunction) (i j : ℕ) → PairsFrom table n (fs ++ gs) i j → PairsFrom table n fs i j ⊎ PairsFrom table (n + length fs) gs i j

@@ -33,7 +33,8 @@ Graph = List (List ℕ)
 abbrev pub WithLeft : Graph → ℕ → List ℕ → ℕ → ℕ → Type 0
 WithLeft graph from left i j = Leads graph i j ⊎ ((i ≡ from) × Contains left j)
 
-pub pairs_round : (g h : Graph) (from : ℕ) (cs rest : List ℕ) (c : ℕ) → cs ≡ c ∷ rest → ((i j : ℕ) → Leads h i j ↔ (Leads g i j ⊎ ((i ≡ from) × (j ≡ c)))) → (i j : ℕ) → WithLeft h from rest i j ↔ WithLeft g from cs i j
+pub pairs_round : (g h : Graph) (from : ℕ) (cs rest : List ℕ) (c : ℕ) → cs ≡ c ∷ rest → ((i j : ℕ) → Leads h i j ↔ (Leads g i j ⊎ ((i ≡ from) × (j ≡ c)))) → (i j : ℕ)
+    → WithLeft h from rest i j ↔ WithLeft g from cs i j
 pairs_round g h from cs rest c is added i j = (there, back)
   where
     there : WithLeft h from rest i j → WithLeft g from cs i j
@@ -81,7 +82,8 @@ function_added g h table n f rest added i j = (there, back)
     back (inr (inr b)) = inr b
 
 -- The pairs of a module's functions were added.
-pub functions_added : (g h : Graph) (table : FunctionTable) (n : ℕ) (fs gs : List ModuleFunction) → ((i j : ℕ) → Leads h i j ↔ WithPairs g table n fs i j) → (i j : ℕ) → WithPairs h table (n + length fs) gs i j ↔ WithPairs g table n (fs ++ gs) i j
+pub functions_added : (g h : Graph) (table : FunctionTable) (n : ℕ) (fs gs : List ModuleFunction) → ((i j : ℕ) → Leads h i j ↔ WithPairs g table n fs i j) → (i j : ℕ)
+    → WithPairs h table (n + length fs) gs i j ↔ WithPairs g table n (fs ++ gs) i j
 functions_added g h table n fs gs added i j = (there, back)
   where
     there : WithPairs h table (n + length fs) gs i j → WithPairs g table n (fs ++ gs) i j
@@ -140,7 +142,8 @@ all_added v done goal fs none before = sym (append-nil done) ∙ ap (λ l. done 
 -- ---- what the walk through a body finds
 
 -- The numbers are those of the functions that the function calls.
-pub body_callees : (w w1 : CallWalk) (t : FunctionTable) (home : Atom) (exports : List FunName) (d e : FunDefOf Expr) (body : Expr) (cs : List ℕ) → w.table ≡ t → w.home ≡ home → w.locals ≡ [] → e ≡ d → body ≡ e.fun.body
+pub body_callees : (w w1 : CallWalk) (t : FunctionTable) (home : Atom) (exports : List FunName) (d e : FunDefOf Expr) (body : Expr) (cs : List ℕ) → w.table ≡ t → w.home ≡ home → w.locals ≡ [] → e ≡ d
+    → body ≡ e.fun.body
     → (let found = targets w.locals (tree body) in w1 ≡ with_notes w (callees w.table w.home found) (all_missed w.table found)) → cs ≡ w1.callees → cs ≡ callees_in t (function_at home exports d)
 body_callees w w1 t home exports d e body cs table_is home_is outside same body_is one cs_is =
     cs_is ∙ ap (λ v. v.callees) one ∙ ap (λ x. callees x w.home (targets w.locals (tree body))) table_is ∙ ap (λ x. callees t x (targets w.locals (tree body))) home_is ∙ ap (λ ls. callees t home (targets ls (tree body))) outside
@@ -153,10 +156,12 @@ body_missed w w1 t home exports d e body cs table_is outside same body_is one cs
     cs_is ∙ ap (λ v. v.outside) one ∙ ap (λ x. all_missed x (targets w.locals (tree body))) table_is ∙ ap (λ ls. all_missed t (targets ls (tree body))) outside
     ∙ ap (λ b. all_missed t (targets [] (tree b))) body_is ∙ ap (λ x. all_missed t (targets [] (tree x.fun.body))) same
 
-pub left_longer : (home : Atom) (exports : List FunName) (ds : List (FunDefOf Expr)) (i : ℕ) (d : FunDefOf Expr) → i < length ds → d ≡ get_or ds i d → length (functions_in home exports (all_defs (drop i ds))) ≡ length (functions_in home exports (all_defs (drop (i + 1) ds))) + 1
+pub left_longer : (home : Atom) (exports : List FunName) (ds : List (FunDefOf Expr)) (i : ℕ) (d : FunDefOf Expr) → i < length ds → d ≡ get_or ds i d
+    → length (functions_in home exports (all_defs (drop i ds))) ≡ length (functions_in home exports (all_defs (drop (i + 1) ds))) + 1
 left_longer home exports ds i d within is = ap length (next_function home exports ds i d within is) ∙ sym (add-one (length (functions_in home exports (all_defs (drop (i + 1) ds)))))
 
-pub module_round : (g h first : Graph) (t : FunctionTable) (n start : ℕ) (home : Atom) (exports : List FunName) (ds : List (FunDefOf Expr)) (i : ℕ) (d : FunDefOf Expr) (cs : List ℕ) → i < length ds → d ≡ get_or ds i d → cs ≡ callees_in t (function_at home exports d)
+pub module_round : (g h first : Graph) (t : FunctionTable) (n start : ℕ) (home : Atom) (exports : List FunName) (ds : List (FunDefOf Expr)) (i : ℕ) (d : FunDefOf Expr) (cs : List ℕ) → i < length ds → d ≡ get_or ds i d
+    → cs ≡ callees_in t (function_at home exports d)
     → ((a b : ℕ) → Leads h a b ↔ (Leads g a b ⊎ ((a ≡ n) × Contains cs b)))
     → ((a b : ℕ) → WithPairs g t n (functions_in home exports (all_defs (drop i ds))) a b ↔ WithPairs first t start (functions_in home exports (all_defs ds)) a b)
     → (a b : ℕ) → WithPairs h t (n + 1) (functions_in home exports (all_defs (drop (i + 1) ds))) a b ↔ WithPairs first t start (functions_in home exports (all_defs ds)) a b
@@ -170,10 +175,12 @@ module_round g h first t n start home exports ds i d cs within is cs_are added b
 -- ---- all modules
 
 module _ {S : Type 0} (stands_for : S → Checked) where
-  pub next_module : (ss : List S) (i : ℕ) (s : S) (x : m.Module) → i < length ss → s ≡ get_or ss i s → x ≡ tree_of (stands_for s) → functions_of (modules stands_for (drop i ss)) ≡ module_functions x ++ functions_of (modules stands_for (drop (i + 1) ss))
+  pub next_module : (ss : List S) (i : ℕ) (s : S) (x : m.Module) → i < length ss → s ≡ get_or ss i s → x ≡ tree_of (stands_for s)
+      → functions_of (modules stands_for (drop i ss)) ≡ module_functions x ++ functions_of (modules stands_for (drop (i + 1) ss))
   next_module ss i s x within is tree_is = ap functions_of (ap (modules stands_for) (drop_next ss i s within is) ∙ ap (λ y. y ∷ modules stands_for (drop (i + 1) ss)) (sym tree_is))
 
-  pub graph_round : (g h : Graph) (t u : FunctionTable) (n k : ℕ) (ss : List S) (i : ℕ) (s : S) (x : m.Module) → i < length ss → s ≡ get_or ss i s → x ≡ tree_of (stands_for s) → u ≡ t → k ≡ n + length (module_functions x)
+  pub graph_round : (g h : Graph) (t u : FunctionTable) (n k : ℕ) (ss : List S) (i : ℕ) (s : S) (x : m.Module) → i < length ss → s ≡ get_or ss i s → x ≡ tree_of (stands_for s) → u ≡ t
+      → k ≡ n + length (module_functions x)
       → ((a b : ℕ) → Leads h a b ↔ (Leads g a b ⊎ PairsFrom t n (module_functions x) a b))
       → ((a b : ℕ) → WithPairs g t n (functions_of (modules stands_for (drop i ss))) a b ↔ PairsFrom t 0 (functions_of (modules stands_for ss)) a b)
       → (a b : ℕ) → WithPairs h u k (functions_of (modules stands_for (drop (i + 1) ss))) a b ↔ PairsFrom u 0 (functions_of (modules stands_for ss)) a b
@@ -185,7 +192,8 @@ module _ {S : Type 0} (stands_for : S → Checked) where
       let R : List ModuleFunction → Type 0 = λ l. WithPairs g t n l a b ↔ PairsFrom t 0 (functions_of (modules stands_for ss)) a b in
       subst P (sym table_is) (subst Q (sym next_is) (both_ways (functions_added g h t n fs gs added a b) (subst R (next_module ss i s x within is tree_is) (before a b))))
 
-  pub left_split : (ss : List S) (i : ℕ) (s : S) (x : m.Module) → i < length ss → s ≡ get_or ss i s → x ≡ tree_of (stands_for s) → length (functions_of (modules stands_for (drop i ss))) ≡ length (module_functions x) + length (functions_of (modules stands_for (drop (i + 1) ss)))
+  pub left_split : (ss : List S) (i : ℕ) (s : S) (x : m.Module) → i < length ss → s ≡ get_or ss i s → x ≡ tree_of (stands_for s)
+      → length (functions_of (modules stands_for (drop i ss))) ≡ length (module_functions x) + length (functions_of (modules stands_for (drop (i + 1) ss)))
   left_split ss i s x within is tree_is = ap length (next_module ss i s x within is tree_is) ∙ length-append (module_functions x) (functions_of (modules stands_for (drop (i + 1) ss)))
 
   pub graph_exit : (g : Graph) (t : FunctionTable) (n : ℕ) (ss : List S) (i : ℕ) → length ss ≤ i → IsTableOf (modules stands_for ss) t

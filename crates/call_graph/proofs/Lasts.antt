@@ -1,5 +1,6 @@
 -- A table of functions by name, of which the last one of a name counts, and what a walk finds by it.
-use Rattle.std.proofs.Common.{◌≡◌, ◌↔◌, ℕ, zero, suc, ◌+◌, ◌<◌, ◌≤◌, ◌⊎◌, inl, inr, ◌||◌, Bool, true, false, cond, if◌then◌else◌, List, [], ◌∷◌, ◌++◌, Option, Some, None, Contains, length, take, map, slice_get, get_or, refl, sym, ap, ap₂, ◌∙◌, subst, arith, length-append}
+use Rattle.std.proofs.Common.{◌≡◌, ◌↔◌, ℕ, zero, suc, ◌+◌, ◌<◌, ◌≤◌, ◌⊎◌, inl, inr, ◌||◌, Bool, true, false, cond, if◌then◌else◌, List, [], ◌∷◌, ◌++◌}
+use Rattle.std.proofs.Common.{Option, Some, None, Contains, length, take, map, slice_get, get_or, refl, sym, ap, ap₂, ◌∙◌, subst, arith, length-append}
 use Rattle.std.specs.List.{list_any}
 use Rattle.std.specs.Map.{lookup}
 use Rattle.std.specs.Option.{option_map}
@@ -105,7 +106,8 @@ found_other : (es : Entries) (k q : FunctionKey) (e : FunctionEntry) → (q ≡ 
 found_other [] k q e d = ap (λ b. cond b (Some e) None) (other_key q k d)
 found_other (x ∷ xs) k q e d = by (found_other xs k q e d) (same_key k x.0) refl
   where
-    by : lookup (same_key q) (insert_entry same_key xs k e) ≡ lookup (same_key q) xs → (b : Bool) → same_key k x.0 ≡ b → lookup (same_key q) (if b then (x.0, e) ∷ xs else x ∷ insert_entry same_key xs k e) ≡ lookup (same_key q) (x ∷ xs)
+    by : lookup (same_key q) (insert_entry same_key xs k e) ≡ lookup (same_key q) xs → (b : Bool) → same_key k x.0 ≡ b
+        → lookup (same_key q) (if b then (x.0, e) ∷ xs else x ∷ insert_entry same_key xs k e) ≡ lookup (same_key q) (x ∷ xs)
     by later true is =
         let apart : same_key q x.0 ≡ false = other_key q x.0 (λ s. d (s ∙ sym (key_is k x.0 is))) in
         ap (λ b. cond b (Some e) (lookup (same_key q) xs)) apart ∙ sym (ap (λ b. cond b (Some x.1) (lookup (same_key q) xs)) apart)
@@ -356,7 +358,8 @@ module _ (fs : List Placed) (table : FunctionTable) (finds : FindsLast table (ma
             )
       ]
 
-  pub tells_more : (flags more : List Bool) (b : Bool) → length flags ≡ at → more ≡ flags ++ b ∷ [] → ((b ≡ true) ↔ (own_number table f.0 f.1.name ≡ Some at)) → TellsLast (map name_of fs) flags → TellsLast (map name_of fs) more
+  pub tells_more : (flags more : List Bool) (b : Bool) → length flags ≡ at → more ≡ flags ++ b ∷ [] → ((b ≡ true) ↔ (own_number table f.0 f.1.name ≡ Some at)) → TellsLast (map name_of fs) flags
+      → TellsLast (map name_of fs) more
   tells_more flags more b long all is tells =
       let there : slice_get (map name_of fs) at ≡ Some (name_of f) = slice_get-map name_of fs at ∙ ap (option_map name_of) here in
       record {

@@ -1,5 +1,6 @@
 -- Look-ups among the entries of functions that are numbered from some number on.
-use Rattle.std.proofs.Common.{◌≡◌, ℕ, zero, suc, ◌+◌, ◌⊎◌, inl, inr, Bool, true, false, cond, ◌&&◌, List, [], ◌∷◌, ◌++◌, Some, None, Contains, map, slice_get, nat_eq, eqb-true, eq-eqb, refl, sym, ap, ◌∙◌, subst, arith}
+use Rattle.std.proofs.Common.{◌≡◌, ℕ, zero, suc, ◌+◌, ◌⊎◌, inl, inr, Bool, true, false, cond, ◌&&◌, List, [], ◌∷◌, ◌++◌, Some}
+use Rattle.std.proofs.Common.{None, Contains, map, slice_get, nat_eq, eqb-true, eq-eqb, refl, sym, ap, ◌∙◌, subst, arith}
 use Rattle.std.specs.Cmp.Lexicographic.{bytes_decides}
 use Rattle.std.specs.Map.{lookup}
 use Rattle.std.proofs.lemmas.Bool.{and_parts}
@@ -82,7 +83,8 @@ pub look_up_finds : (n : ℕ) (fs : List ModuleFunction) (k : FunctionKey) (e : 
 look_up_finds n [] k e h = absurd cc
 look_up_finds n (f ∷ fs) k e h = by (look_up_finds (n + 1) fs k e) (same_key k (function_key f)) refl h
   where
-    by : (lookup (same_key k) (numbered (n + 1) fs) ≡ Some e → Finds (n + 1) fs k e) → (b : Bool) → same_key k (function_key f) ≡ b → cond b (Some (entry_of n f)) (lookup (same_key k) (numbered (n + 1) fs)) ≡ Some e → Finds n (f ∷ fs) k e
+    by : (lookup (same_key k) (numbered (n + 1) fs) ≡ Some e → Finds (n + 1) fs k e) → (b : Bool) → same_key k (function_key f) ≡ b → cond b (Some (entry_of n f)) (lookup (same_key k) (numbered (n + 1) fs)) ≡ Some e
+        → Finds n (f ∷ fs) k e
     by rest true same h =
         let is : e ≡ entry_of n f = cc in
         record { function = f; place = inl (ap (λ x. x.number) is, refl); key = sym (key_is k (function_key f) same); entry = is ∙ ap (λ m. entry_of m f) (sym (ap (λ x. x.number) is)) }
@@ -107,7 +109,8 @@ insert_absent : (es : Entries) (k : FunctionKey) (v : FunctionEntry) → lookup 
 insert_absent [] k v h = refl
 insert_absent (e ∷ es) k v h = by (insert_absent es k v) (same_key k e.0) h
   where
-    by : (lookup (same_key k) es ≡ None → insert_entry same_key es k v ≡ es ++ (k, v) ∷ []) → (b : Bool) → cond b (Some e.1) (lookup (same_key k) es) ≡ None → cond b ((e.0, v) ∷ es) (e ∷ insert_entry same_key es k v) ≡ e ∷ (es ++ (k, v) ∷ [])
+    by : (lookup (same_key k) es ≡ None → insert_entry same_key es k v ≡ es ++ (k, v) ∷ []) → (b : Bool) → cond b (Some e.1) (lookup (same_key k) es) ≡ None
+        → cond b ((e.0, v) ∷ es) (e ∷ insert_entry same_key es k v) ≡ e ∷ (es ++ (k, v) ∷ [])
     by rest true h = absurd cc
     by rest false h = ap (λ l. e ∷ l) (rest h)
 
@@ -115,12 +118,14 @@ absent_pushed : (es : Entries) (q k : FunctionKey) (v : FunctionEntry) → looku
 absent_pushed [] q k v h d = ap (λ b. cond b (Some v) None) (other_key q k d)
 absent_pushed (e ∷ es) q k v h d = by (λ none. absent_pushed es q k v none d) (same_key q e.0) h
   where
-    by : (lookup (same_key q) es ≡ None → lookup (same_key q) (es ++ (k, v) ∷ []) ≡ None) → (b : Bool) → cond b (Some e.1) (lookup (same_key q) es) ≡ None → cond b (Some e.1) (lookup (same_key q) (es ++ (k, v) ∷ [])) ≡ None
+    by : (lookup (same_key q) es ≡ None → lookup (same_key q) (es ++ (k, v) ∷ []) ≡ None) → (b : Bool) → cond b (Some e.1) (lookup (same_key q) es) ≡ None
+        → cond b (Some e.1) (lookup (same_key q) (es ++ (k, v) ∷ [])) ≡ None
     by rest true h = absurd cc
     by rest false h = rest h
 
 -- Functions whose keys are new and distinct stand behind what was there.
-pub inserted_new : (es : Entries) (n : ℕ) (fs : List ModuleFunction) → ((q : FunctionKey) → Contains (map function_key fs) q → lookup (same_key q) es ≡ None) → Distinct (map function_key fs) → inserted es n fs ≡ es ++ numbered n fs
+pub inserted_new : (es : Entries) (n : ℕ) (fs : List ModuleFunction) → ((q : FunctionKey) → Contains (map function_key fs) q → lookup (same_key q) es ≡ None) → Distinct (map function_key fs)
+    → inserted es n fs ≡ es ++ numbered n fs
 inserted_new es n [] new d = sym (append-nil es)
 inserted_new es n (f ∷ fs) new d =
     let k : FunctionKey = function_key f in

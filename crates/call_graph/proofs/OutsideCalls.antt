@@ -77,7 +77,8 @@ abbrev left_out : (home : Atom) → FunName → Bool → Bool → List Called
 left_out home name built_in inside = if built_in || inside then [] else (home, name) ∷ []
 
 module _ (xs : List m.Module) (table : FunctionTable) (is : IsTableOf xs table) where
-  not_reached : (home : Atom) (name : FunName) (r : Resolved) → resolved table home name ≡ r → ((j : ℕ) → r ≡ Function j → ⊥) → (home ≡ erlang → ⊥) → outside_call (functions_of xs) (remote home name) ≡ (home, name) ∷ []
+  not_reached : (home : Atom) (name : FunName) (r : Resolved) → resolved table home name ≡ r → ((j : ℕ) → r ≡ Function j → ⊥) → (home ≡ erlang → ⊥)
+      → outside_call (functions_of xs) (remote home name) ≡ (home, name) ∷ []
   not_reached home name r here none other =
       let inside : list_any (is_exported_as home name) (functions_of xs) ≡ false = false_from_ne_true (list_any (is_exported_as home name) (functions_of xs)) (λ t.
       let found = any_reached (functions_of xs) home name other t in

@@ -33,16 +33,20 @@ module _ (w0 : CallWalk) (e : Pattern) where
     pub pattern_map : (ps qs : List PatPair) → e.form ≡ p.Map ps → qs ≡ ps → OnOk r (w1 ≡ noting w0 (pat_pair_targets w0.locals (all_pat_pairs qs))) → OnOk r (w1 ≡ noting w0 (pattern_targets w0.locals (pattern_tree e)))
     pattern_map ps qs is same = on_ok_weaker r (λ one. one ∙ ap (λ z. noting w0 (pat_pair_targets w0.locals (all_pat_pairs z))) same ∙ ap after (sym (map_of_pattern e ps is)))
 
-    pub pattern_binary : (ss ts : List PatSegment) → e.form ≡ p.Binary ss → ts ≡ ss → OnOk r (w1 ≡ noting w0 (pat_segment_targets w0.locals (all_pat_segments ts))) → OnOk r (w1 ≡ noting w0 (pattern_targets w0.locals (pattern_tree e)))
+    pub pattern_binary : (ss ts : List PatSegment) → e.form ≡ p.Binary ss → ts ≡ ss → OnOk r (w1 ≡ noting w0 (pat_segment_targets w0.locals (all_pat_segments ts)))
+        → OnOk r (w1 ≡ noting w0 (pattern_targets w0.locals (pattern_tree e)))
     pattern_binary ss ts is same = on_ok_weaker r (λ one. one ∙ ap (λ z. noting w0 (pat_segment_targets w0.locals (all_pat_segments z))) same ∙ ap after (sym (binary_of_pattern e ss is)))
 
-    pub pattern_alias : (v : VarName) (x y : Pattern) → e.form ≡ p.Alias v x → y ≡ x → OnOk r (w1 ≡ noting w0 (pattern_targets w0.locals (pattern_tree y))) → OnOk r (w1 ≡ noting w0 (pattern_targets w0.locals (pattern_tree e)))
+    pub pattern_alias : (v : VarName) (x y : Pattern) → e.form ≡ p.Alias v x → y ≡ x → OnOk r (w1 ≡ noting w0 (pattern_targets w0.locals (pattern_tree y)))
+        → OnOk r (w1 ≡ noting w0 (pattern_targets w0.locals (pattern_tree e)))
     pattern_alias v x y is same = on_ok_weaker r (λ one. one ∙ ap (λ z. after (pattern_tree z)) same ∙ ap after (sym (alias_pattern e v x is)))
 
     module _ (w2 : CallWalk) where
-      pub pattern_listed : (ps qs : List Pattern) (x y : Pattern) → e.form ≡ p.Listed ps x → qs ≡ ps → w1 ≡ noting w0 (patterns_targets w0.locals (all_patterns qs)) → y ≡ x → OnOk r (w2 ≡ noting w1 (pattern_targets w1.locals (pattern_tree y))) → OnOk r (w2 ≡ noting w0 (pattern_targets w0.locals (pattern_tree e)))
+      pub pattern_listed : (ps qs : List Pattern) (x y : Pattern) → e.form ≡ p.Listed ps x → qs ≡ ps → w1 ≡ noting w0 (patterns_targets w0.locals (all_patterns qs)) → y ≡ x
+          → OnOk r (w2 ≡ noting w1 (pattern_targets w1.locals (pattern_tree y))) → OnOk r (w2 ≡ noting w0 (pattern_targets w0.locals (pattern_tree e)))
       pattern_listed ps qs x y is same one last = on_ok_weaker r (λ two. next_step w0 w1 w2 (patterns_targets w0.locals (all_patterns qs)) (λ fs. pattern_targets fs (pattern_tree y)) one two
-          ∙ ap (λ z. noting w0 (patterns_targets w0.locals (all_patterns z) ++ pattern_targets w0.locals (pattern_tree y))) same ∙ ap (λ z. noting w0 (patterns_targets w0.locals (all_patterns ps) ++ pattern_targets w0.locals (pattern_tree z))) last
+          ∙ ap (λ z. noting w0 (patterns_targets w0.locals (all_patterns z) ++ pattern_targets w0.locals (pattern_tree y))) same
+          ∙ ap (λ z. noting w0 (patterns_targets w0.locals (all_patterns ps) ++ pattern_targets w0.locals (pattern_tree z))) last
           ∙ ap after (sym (list_of_pattern e ps x is)))
 
 pub ruleset pattern_exits = (pattern_variable, pattern_literal, pattern_tuple, pattern_map, pattern_binary, pattern_alias, pattern_listed)

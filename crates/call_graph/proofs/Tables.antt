@@ -148,7 +148,8 @@ module _ (xs : List m.Module) (table : FunctionTable) (entries : table.functions
   elsewhere_is : (home : Atom) (f : FunName) → resolved table home f ≡ NotPassed → (home ≡ erlang → ⊥) × (Contains (names xs) home → ⊥)
   elsewhere_is home f h = by (same_atom home erlang) refl (list_any (same_atom home) table.modules.keys) refl h
     where
-      by : (a : Bool) → same_atom home erlang ≡ a → (b : Bool) → list_any (same_atom home) table.modules.keys ≡ b → answer a b (entry_at table (key_of home f)) ≡ NotPassed → (home ≡ erlang → ⊥) × (Contains (names xs) home → ⊥)
+      by : (a : Bool) → same_atom home erlang ≡ a → (b : Bool) → list_any (same_atom home) table.modules.keys ≡ b → answer a b (entry_at table (key_of home f)) ≡ NotPassed
+          → (home ≡ erlang → ⊥) × (Contains (names xs) home → ⊥)
       by true a b l h = absurd cc
       by false a true l h = absurd ((handed_in NotPassed (entry_at table (key_of home f)) h).0 refl)
       by false a false l h = (other_atom home erlang a, λ c. absurd (let t : list_any (same_atom home) table.modules.keys ≡ true = modules home ∙ any_contained (names xs) home c in cc))

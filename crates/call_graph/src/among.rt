@@ -1,5 +1,6 @@
 //! Which of some functions call which, where each is found by its module's name and its own.
-ghost use Rattle.std.specs.Prelude.{◌≡◌, ℕ, ◌<◌, ◌^◌, ◌↔◌, ◌⊎◌, ◌++◌, ◌∷◌, Bool, List, [], Some, true, IsTrue, length, map, slice_get, Contains, IfOk, OnOk};
+ghost use Rattle.std.specs.Prelude.{◌≡◌, ℕ, ◌<◌, ◌^◌, ◌↔◌, ◌⊎◌, ◌++◌, ◌∷◌, Bool, List, [], Some};
+ghost use Rattle.std.specs.Prelude.{true, IsTrue, length, map, slice_get, Contains, IfOk, OnOk};
 ghost use Rattle.components.specs.Graph.{Leads};
 ghost use Rattle.core_ast.specs.declared.syntax.FunName.{FunName};
 ghost use Rattle.type_kinds.specs.declared.atom.Atom.{Atom};
@@ -94,9 +95,11 @@ fn add_calls<S: AsFunction>(
     requires locals { walk.old.locals ≡ [] }
     requires caller { at < length calls.old.callers }
     requires within { (home : Atom) (ts : List CallTarget) (j : ℕ) → Contains (callees walk.old.table home ts) j → j < length calls.old.callers }
-    ensures added { let f = S.stands_for function.now in OnOk result ((i j : ℕ) → Leads calls.new.callers j i ↔ (Leads calls.old.callers j i ⊎ ((i ≡ at) × Contains (callees walk.old.table f.0 (body_targets f)) j))) }
+    ensures added { let f = S.stands_for function.now in OnOk result ((i j : ℕ)
+        → Leads calls.new.callers j i ↔ (Leads calls.old.callers j i ⊎ ((i ≡ at) × Contains (callees walk.old.table f.0 (body_targets f)) j))) }
     ensures size { OnOk result (length calls.new.callers ≡ length calls.old.callers) }
-    ensures last { OnOk result ((b : Bool) × (calls.new.last ≡ calls.old.last ++ b ∷ []) × (IsTrue b ↔ (own_number walk.old.table (S.stands_for function.now).0 (S.stands_for function.now).1.name ≡ Some at))) }
+    ensures last { OnOk result ((b : Bool) × (calls.new.last ≡ calls.old.last ++ b ∷ [])
+        × (IsTrue b ↔ (own_number walk.old.table (S.stands_for function.now).0 (S.stands_for function.now).1.name ≡ Some at))) }
     ensures table { OnOk result (walk.new.table ≡ walk.old.table) }
     ensures locals { OnOk result (walk.new.locals ≡ []) }
 {
@@ -118,7 +121,8 @@ pub fn calls_among<S: AsFunction>(alloc: Global, functions: &[S]) -> Result<Call
     ensures count { IfOk result (λ calls. length calls.callers ≡ length functions.now) }
     ensures callers { IfOk result (λ calls. (i j : ℕ) → Leads calls.callers j i ↔ CallsLast (map S.stands_for functions.now) i j) }
     ensures flags { IfOk result (λ calls. length calls.last ≡ length functions.now) }
-    ensures last { IfOk result (λ calls. (j : ℕ) (h : Atom) (f : FunName) → slice_get (map name_of (map S.stands_for functions.now)) j ≡ Some (h, f) → (slice_get calls.last j ≡ Some true) ↔ IsLast (map name_of (map S.stands_for functions.now)) j h f) }
+    ensures last { IfOk result (λ calls. (j : ℕ) (h : Atom) (f : FunName) → slice_get (map name_of (map S.stands_for functions.now)) j ≡ Some (h, f)
+        → (slice_get calls.last j ≡ Some true) ↔ IsLast (map name_of (map S.stands_for functions.now)) j h f) }
 {
     let table = last_table(alloc, functions)?;
     let callers = Graph::new(alloc, table.count())?;

@@ -153,7 +153,8 @@ fn walk_definitions(walk: &mut CallWalk, defs: &[FunDef]) -> Result<(), Memory>
 // The parts of a `try`.
 #[cycle(calls)]
 fn walk_try(walk: &mut CallWalk, parts: &TryParts) -> Result<(), Memory>
-    ensures { OnOk result (walk.new ≡ noting walk.old (targets walk.old.locals (tree parts.now.arg) ++ targets walk.old.locals (tree parts.now.body) ++ targets walk.old.locals (tree parts.now.handler))) }
+    ensures { OnOk result (walk.new ≡ noting walk.old
+        (targets walk.old.locals (tree parts.now.arg) ++ targets walk.old.locals (tree parts.now.body) ++ targets walk.old.locals (tree parts.now.handler))) }
 {
     walk_expression(walk, parts.arg.get())?;
     walk_expression(walk, parts.body.get())?;

@@ -1,5 +1,6 @@
 // What each function calls: the graph, with a pair where one function calls another, and the outside calls.
-ghost use Rattle.std.specs.Prelude.{◌≡◌, ℕ, ◌+◌, ◌<◌, ◌≤◌, ◌^◌, ◌↔◌, ◌⊎◌, [], ◌++◌, length, map, Contains, IfOk, OnOk};
+ghost use Rattle.std.specs.Prelude.{◌≡◌, ℕ, ◌+◌, ◌<◌, ◌≤◌, ◌^◌, ◌↔◌, ◌⊎◌, []};
+ghost use Rattle.std.specs.Prelude.{◌++◌, length, map, Contains, IfOk, OnOk};
 ghost use Rattle.components.specs.Graph.{Leads};
 ghost use Rattle.core_ast.specs.Model as m;
 ghost use Rattle.core_ast.specs.Tree.{module_tree, tree};
@@ -55,7 +56,8 @@ pub fn all_calls<S: AsChecked>(alloc: Global, mods: &[S]) -> Result<AllCalls, Me
     requires distinct { (j : ℕ) → j < length mods.now → StandsEarlier (map (λ s. (module_of (S.stands_for s)).name) mods.now) j → ⊥ }
     ensures counted { IfOk result (λ calls. length calls.graph ≡ length (functions_of (map (λ s. tree_of (S.stands_for s)) mods.now))) }
     ensures pairs { IfOk result (λ calls. (i j : ℕ) → Leads calls.graph i j ↔ Calls (map (λ s. tree_of (S.stands_for s)) mods.now) i j) }
-    ensures outside { IfOk result (λ calls. let xs = map (λ s. tree_of (S.stands_for s)) mods.now in calls.outside ≡ map (outside_of xs) (functions_of xs)) }
+    ensures outside { IfOk result (λ calls. let xs = map (λ s. tree_of (S.stands_for s)) mods.now in calls.outside
+        ≡ map (outside_of xs) (functions_of xs)) }
 {
     let table = function_table(alloc, mods)?;
     let graph = Graph::new(alloc, table.count())?;
@@ -89,7 +91,8 @@ fn add_module(
     requires room { first + length (module_functions (module_tree source.now)) ≤ length calls.old.graph }
     requires within { (home : Atom) (ts : List CallTarget) (j : ℕ) → Contains (callees walk.old.table home ts) j → j < length calls.old.graph }
     ensures next { IfOk result (λ next. next ≡ first + length (module_functions (module_tree source.now))) }
-    ensures pairs { OnOk result ((i j : ℕ) → Leads calls.new.graph i j ↔ (Leads calls.old.graph i j ⊎ PairsFrom walk.old.table first (module_functions (module_tree source.now)) i j)) }
+    ensures pairs { OnOk result ((i j : ℕ) → Leads calls.new.graph i j
+        ↔ (Leads calls.old.graph i j ⊎ PairsFrom walk.old.table first (module_functions (module_tree source.now)) i j)) }
     ensures size { OnOk result (length calls.new.graph ≡ length calls.old.graph) }
     ensures outside { OnOk result (calls.new.outside ≡ calls.old.outside ++ map (missed_in walk.old.table) (module_functions (module_tree source.now))) }
     ensures table { OnOk result (walk.new.table ≡ walk.old.table) }
@@ -110,7 +113,8 @@ fn add_module(
 
 // The numbers of the functions that a body calls, and its outside calls.
 pub(crate) fn walk_body(walk: &mut CallWalk, body: &Expr) -> Result<(), Memory>
-    ensures { OnOk result (let found = targets walk.old.locals (tree body.now) in walk.new ≡ record walk.old { callees = callees walk.old.table walk.old.home found; outside = all_missed walk.old.table found }) }
+    ensures { OnOk result (let found = targets walk.old.locals (tree body.now) in walk.new
+        ≡ record walk.old { callees = callees walk.old.table walk.old.home found; outside = all_missed walk.old.table found }) }
 {
     walk.forget();
     walk_expression(walk, body)

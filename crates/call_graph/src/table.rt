@@ -115,7 +115,8 @@ impl FunctionTable {
 
     // Adds one function.
     fn add(&mut self, home: &Atom, name: &FunName, exported: bool) -> Result<(), Memory>
-        ensures functions { OnOk result (self.new.functions.entries ≡ insert_entry same_key self.old.functions.entries (key_of home.now name.now) (record { number = self.old.count; exported = exported })) }
+        ensures functions { OnOk result (self.new.functions.entries
+            ≡ insert_entry same_key self.old.functions.entries (key_of home.now name.now) (record { number = self.old.count; exported = exported })) }
         ensures count { OnOk result (self.new.count ≡ self.old.count + 1) }
         ensures modules { OnOk result (self.new.modules.keys ≡ self.old.modules.keys) }
     {
@@ -136,7 +137,8 @@ impl FunctionTable {
 
     /// Adds one function, which its module exports, behind those that are there.
     pub(crate) fn add_exported(&mut self, home: &Atom, name: &FunName) -> Result<(), Memory>
-        ensures functions { OnOk result (self.new.functions.entries ≡ insert_entry same_key self.old.functions.entries (key_of home.now name.now) (record { number = self.old.count; exported = true })) }
+        ensures functions { OnOk result (self.new.functions.entries
+            ≡ insert_entry same_key self.old.functions.entries (key_of home.now name.now) (record { number = self.old.count; exported = true })) }
         ensures count { OnOk result (self.new.count ≡ self.old.count + 1) }
         ensures modules { OnOk result (self.new.modules.keys ≡ insert_key same_atom self.old.modules.keys home.now) }
     {

@@ -12,10 +12,12 @@ use Rattle.cons_gen.specs.Made.{definition_constraint, definition_slots}
 use Rattle.cons_gen_rows.specs.Passes.{Knowledge}
 use Rattle.comp_rounds.specs.Rounds.{Function, arity, inferred, solved, signature_in}
 
-pub solved_is : (k : Cons Part) (n m : ℕ) (env : Env) (sig : Sig) → env ≡ env_of (solution k (replicate n any)) → ((s : State) → env ≡ env_of s → sig ≡ signature_in m s) → sig ≡ signature_in m (solution k (replicate n any))
+pub solved_is : (k : Cons Part) (n m : ℕ) (env : Env) (sig : Sig) → env ≡ env_of (solution k (replicate n any)) → ((s : State) → env ≡ env_of s → sig ≡ signature_in m s)
+    → sig ≡ signature_in m (solution k (replicate n any))
 solved_is k n m env sig is found = found (solution k (replicate n any)) is
 
-pub inferred_is : (P : Knowledge) (g : Function) (k : Cons Part) (n m : ℕ) (sig : Sig) → k ≡ definition_constraint P g.home g.parameters g.body → n ≡ definition_slots g.parameters g.body → m ≡ arity g → sig ≡ signature_in m (solution k (replicate n any)) → sig ≡ inferred P g
+pub inferred_is : (P : Knowledge) (g : Function) (k : Cons Part) (n m : ℕ) (sig : Sig) → k ≡ definition_constraint P g.home g.parameters g.body → n ≡ definition_slots g.parameters g.body → m ≡ arity g
+    → sig ≡ signature_in m (solution k (replicate n any)) → sig ≡ inferred P g
 unfolding inferred solved
 inferred_is P g k n m sig made slots many is =
     is ∙ ap (λ i. signature_in i (solution k (replicate n any))) many ∙ ap₂ (λ l i. signature_in (arity g) (solution l (replicate i any))) made slots

@@ -14,7 +14,8 @@ next_listed c x xs (s ∷ ss) zero = refl
 next_listed c x xs (s ∷ ss) (suc i) = next_listed c x xs ss i
 
 -- one more function of a list is known
-pub listed_more : (xs : List Listed) (ss : List Summary) (i : ℕ) (x : Listed) (old new all : Callees) (callee : Callee) → i < length xs → x ≡ get_or xs i x → new ≡ with_callee old x.0 x.1 callee → callee ≡ listed_callee x (slice_get ss i) → with_listed old (drop i xs) (drop i ss) ≡ all → with_listed new (drop (i + 1) xs) (drop (i + 1) ss) ≡ all
+pub listed_more : (xs : List Listed) (ss : List Summary) (i : ℕ) (x : Listed) (old new all : Callees) (callee : Callee) → i < length xs → x ≡ get_or xs i x → new ≡ with_callee old x.0 x.1 callee
+    → callee ≡ listed_callee x (slice_get ss i) → with_listed old (drop i xs) (drop i ss) ≡ all → with_listed new (drop (i + 1) xs) (drop (i + 1) ss) ≡ all
 listed_more xs ss i x old new all callee within item set is so =
     ap (λ c. with_listed c (drop (i + 1) xs) (drop (i + 1) ss)) (set ∙ ap (with_callee old x.0 x.1) is)
     ∙ ap (λ n. with_listed (with_callee old x.0 x.1 (listed_callee x (slice_get ss i))) (drop (i + 1) xs) (drop n ss)) (add-one i)

@@ -27,7 +27,8 @@ callee_fits x s c d is same takes =
     by true = fits
     by false = fits
 
-pub set_function : (old new : Callees) (g : Function) (s : Summary) (callee : Callee) (name : FunName) → callee ≡ callee_of g s → name ≡ g.name → new g.home name ≡ callee → ((h : Atom) (f : FunName) → ((h ≡ g.home) × (f ≡ name) → ⊥) → new h f ≡ old h f) → new ≡ with_function old g s
+pub set_function : (old new : Callees) (g : Function) (s : Summary) (callee : Callee) (name : FunName) → callee ≡ callee_of g s → name ≡ g.name → new g.home name ≡ callee
+    → ((h : Atom) (f : FunName) → ((h ≡ g.home) × (f ≡ name) → ⊥) → new h f ≡ old h f) → new ≡ with_function old g s
 set_function old new g s callee name is same set others =
     set_callee old new g.home name callee set others ∙ ap₂ (with_callee old g.home) same is
 
@@ -42,7 +43,8 @@ member_append (k ∷ ks) g h f = ap (λ b. is_named k h f || b) (member_append k
     or_assoc false b c = refl
 
 -- a function was added to those that are members
-pub member_more : (old new : Atom → FunName → Bool) (gs : List Function) (g : Function) (name : FunName) → name ≡ g.name → ((h : Atom) (f : FunName) → old h f ≡ is_member gs h f) → new g.home name ≡ true → ((h : Atom) (f : FunName) → ((h ≡ g.home) × (f ≡ name) → ⊥) → new h f ≡ old h f) → (h : Atom) (f : FunName) → new h f ≡ is_member (gs ++ g ∷ []) h f
+pub member_more : (old new : Atom → FunName → Bool) (gs : List Function) (g : Function) (name : FunName) → name ≡ g.name → ((h : Atom) (f : FunName) → old h f ≡ is_member gs h f) → new g.home name ≡ true
+    → ((h : Atom) (f : FunName) → ((h ≡ g.home) × (f ≡ name) → ⊥) → new h f ≡ old h f) → (h : Atom) (f : FunName) → new h f ≡ is_member (gs ++ g ∷ []) h f
 member_more old new gs g name same were added others h f = by (is_named g h f) refl ∙ sym (member_append gs g h f)
   where
     or_true : (a : Bool) → true ≡ (a || true)

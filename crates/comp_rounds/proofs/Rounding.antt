@@ -88,7 +88,8 @@ module _ (F : TypeFacts) (lower : (c : Cons Part) (xs ys : Types) → solution c
     round_after k sigs new now e known is =
         is ∙ ap₂ (all_next k) e (ap (λ c. map (inferred (strict_pass c)) gs) (known ∙ ap (λ ss. with_signatures outside gs ss) e)) ∙ ap (after_rounds outside gs) (sym (add-one k))
 
-    pub round_known : (k : ℕ) (sigs new : List Sig) (now after : Callees) → new ≡ after_rounds outside gs k → now ≡ with_signatures outside gs sigs → after ≡ with_signatures now gs new → after ≡ with_signatures outside gs new
+    pub round_known : (k : ℕ) (sigs new : List Sig) (now after : Callees) → new ≡ after_rounds outside gs k → now ≡ with_signatures outside gs sigs → after ≡ with_signatures now gs new
+        → after ≡ with_signatures outside gs new
     round_known k sigs new now after e known is =
         is ∙ ap (λ c. with_signatures c gs new) known ∙ overwritten gs (map of_one new) (map of_one sigs) outside (take_length gs (map of_one new) (round_takes k new e))
 
@@ -107,7 +108,8 @@ pub all_due : (known : Callees) (gs : List Function) (ss : List Sig) (due : List
 all_due known gs ss due n long all i g s free a b = absurd (free (all i (let w = slice_get_within gs i g a in omega (arith, long, w))))
 
 -- the summaries, from the steps that find them
-pub summaries_are : (outside : Callees) (gs : List Function) (strict lenient : List Sig) (all : List Summary) (now : Callees) → strict ≡ strict_signatures outside gs → now ≡ with_signatures outside gs strict → lenient ≡ map (inferred (lenient_pass gs now)) gs → all ≡ paired strict lenient → all ≡ summaries outside gs
+pub summaries_are : (outside : Callees) (gs : List Function) (strict lenient : List Sig) (all : List Summary) (now : Callees) → strict ≡ strict_signatures outside gs → now ≡ with_signatures outside gs strict
+    → lenient ≡ map (inferred (lenient_pass gs now)) gs → all ≡ paired strict lenient → all ≡ summaries outside gs
 summaries_are outside gs strict lenient all now found known gave is =
     is
     ∙ ap₂ paired found

@@ -25,7 +25,8 @@ not_named home h name f e same =
     ∙ e)
 
 -- one callee was set and all others are as before
-pub set_callee : (old new : Callees) (home : Atom) (name : FunName) (callee : Callee) → new home name ≡ callee → ((h : Atom) (f : FunName) → ((h ≡ home) × (f ≡ name) → ⊥) → new h f ≡ old h f) → new ≡ with_callee old home name callee
+pub set_callee : (old new : Callees) (home : Atom) (name : FunName) (callee : Callee) → new home name ≡ callee → ((h : Atom) (f : FunName) → ((h ≡ home) × (f ≡ name) → ⊥) → new h f ≡ old h f)
+    → new ≡ with_callee old home name callee
 set_callee old new home name callee set others =
     pointwise new (with_callee old home name callee) (λ h f. by h f (same_home h home && same_name f name) refl)
   where

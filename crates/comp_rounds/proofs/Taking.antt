@@ -11,7 +11,8 @@ use Rattle.cons_tree.specs.declared.parts.Sig.{Sig}
 use Rattle.cons_solve.specs.Environments.{solution}
 use Rattle.cons_gen.specs.Made.{definition_constraint, definition_slots}
 use Rattle.cons_gen_rows.specs.Passes.{Knowledge}
-use Rattle.comp_rounds.specs.Rounds.{Function, Callees, arity, inferred, solved, signature_in, of_one, next_signature, all_next, joined_rounds, paired, given, after_rounds, last_round, strict_signatures, lenient_signatures, summaries, strict_pass, lenient_pass, with_signatures}
+use Rattle.comp_rounds.specs.Rounds.{Function, Callees, arity, inferred, solved, signature_in, of_one, next_signature, all_next, joined_rounds, paired, given}
+use Rattle.comp_rounds.specs.Rounds.{after_rounds, last_round, strict_signatures, lenient_signatures, summaries, strict_pass, lenient_pass, with_signatures}
 use Rattle.comp_rounds.specs.Signatures.{nothing, anything, join_of, joins, is_below}
 use Rattle.comp_rounds.specs.Takes.{AllTake}
 use Rattle.comp_rounds.proofs.SignatureLaws.{signature_length, anything_length}

@@ -94,7 +94,8 @@ module _ (F : TypeFacts) where
       join_turns a b (inr p) (inl q) = inr (omega (arith, p.0, p.1, q.1))
       join_turns a b (inr p) (inr q) = inr (omega (arith, p.0, p.1, q))
 
-  wide_first : (s t : Sig) (ss ts : List Sig) → length t.args ≡ length s.args → (b : Bool) → is_wide s ≡ b → weight b + narrow_count ss ≡ 0 → (narrow_count ss ≡ 0 → all_below ts ss ≡ true) → all_below (t ∷ ts) (s ∷ ss) ≡ true
+  wide_first : (s t : Sig) (ss ts : List Sig) → length t.args ≡ length s.args → (b : Bool) → is_wide s ≡ b → weight b + narrow_count ss ≡ 0 → (narrow_count ss ≡ 0 → all_below ts ss ≡ true)
+      → all_below (t ∷ ts) (s ∷ ss) ≡ true
   wide_first s t ss ts l true w e others = and_from (is_below t s) (all_below ts ss) (below_wide s t l w) (others (omega (arith, e)))
   wide_first s t ss ts l false w e others = absurd (omega (arith, e))
 
@@ -148,7 +149,8 @@ module _ (F : TypeFacts) where
     pub last_still : all_below (given outside gs (strict_signatures outside gs)) (strict_signatures outside gs) ≡ true
     last_still = by (widening (length gs))
       where
-        by : Still (joined_rounds + length gs) ⊎ (narrow_count (after_rounds outside gs (joined_rounds + length gs)) + length gs ≤ length gs) → all_below (given outside gs (strict_signatures outside gs)) (strict_signatures outside gs) ≡ true
+        by : Still (joined_rounds + length gs) ⊎ (narrow_count (after_rounds outside gs (joined_rounds + length gs)) + length gs ≤ length gs)
+            → all_below (given outside gs (strict_signatures outside gs)) (strict_signatures outside gs) ≡ true
         by (inl h) = h
         by (inr h) =
             all_wide gs (strict_signatures outside gs) (given outside gs (strict_signatures outside gs)) (rounds_counted lower outside gs (last_round outside gs))

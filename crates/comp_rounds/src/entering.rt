@@ -111,7 +111,8 @@ pub fn enter_changed(
 ) -> Result<(), Memory>
     requires take { AllTake (map function_of members.now) (map of_one signatures.now) }
     requires last { length last.now ≡ length members.now }
-    requires lasts { let gs = map function_of members.now in (j : ℕ) (g : Function) → slice_get gs j ≡ Some g → (slice_get last.now j ≡ Some true) ↔ IsLast (map called_as gs) j g.home g.name }
+    requires lasts { let gs = map function_of members.now in (j : ℕ) (g : Function) → slice_get gs j ≡ Some g
+        → (slice_get last.now j ≡ Some true) ↔ IsLast (map called_as gs) j g.home g.name }
     requires within { AllWithin changed.now (length members.now) }
     requires known { AreEntered (map function_of members.now) signatures.now (found known.old) changed.now }
     ensures { OnOk result (found known.new ≡ with_signatures (found known.old) (map function_of members.now) signatures.now) }

@@ -88,7 +88,8 @@ fn last_signature(
     made: &Made,
     count: usize,
 ) -> Result<Option<Sig>, Memory>
-    ensures { IfOk result (λ found. IfSome found (λ sig. sig ≡ signature_in count (solution (constraint made.now.constraint) (replicate made.now.slots any)))) }
+    ensures { IfOk result (λ found. IfSome found (λ sig. sig
+        ≡ signature_in count (solution (constraint made.now.constraint) (replicate made.now.slots any)))) }
 {
     let Some(last) = last else {
         return Ok(None);
@@ -102,7 +103,8 @@ fn last_signature(
 
 // The signature of `count` arguments in the greatest solution of what was made, twice.
 fn solved_signature(alloc: Global, made: &Made, count: usize) -> Result<(Sig, Sig), Memory>
-    ensures { let sig = signature_in count (solution (constraint made.now.constraint) (replicate made.now.slots any)) in IfOk result (λ both. (both.0 ≡ sig) × (both.1 ≡ sig)) }
+    ensures { let sig = signature_in count (solution (constraint made.now.constraint) (replicate made.now.slots any)) in IfOk result (λ both. (both.0 ≡ sig)
+        × (both.1 ≡ sig)) }
 {
     let solved = solve_made(alloc, made)?;
     let sig = signature_of_solution(alloc, solved, count)?;

@@ -5,7 +5,8 @@ ghost use Rattle.cons_tree.specs.declared.parts.Sig.{Sig};
 ghost use Rattle.cons_gen_rows.specs.Knowing.{knowledge};
 ghost use Rattle.cons_gen_rows.specs.Members.{is_member as in_members};
 ghost use Rattle.comp_rounds.specs.Members.{function_of};
-ghost use Rattle.comp_rounds.specs.Rounds.{after_rounds, all_next, arity, inferred, is_member, lenient_pass, next_signature, of_one, paired, strict_pass, strict_signatures, summaries, with_signatures, with_summaries};
+ghost use Rattle.comp_rounds.specs.Rounds.{after_rounds, all_next, arity, inferred, is_member, lenient_pass, next_signature, of_one};
+ghost use Rattle.comp_rounds.specs.Rounds.{paired, strict_pass, strict_signatures, summaries, with_signatures, with_summaries};
 ghost use Rattle.comp_rounds.specs.Calls.{AreCalls};
 ghost use Rattle.comp_rounds.specs.Signatures.{nothing};
 ghost use Rattle.comp_rounds.specs.Takes.{AllTake};
@@ -84,7 +85,8 @@ fn turn(
     last: &mut Option<Last>,
 ) -> Result<bool, Memory>
     requires { at < length signatures.old }
-    ensures next { OnOk result ((s : Sig) → slice_get signatures.old at ≡ Some s → signatures.new ≡ slice_set signatures.old at (next_signature round s (inferred (strict_pass (found known.now)) (function_of member.now)))) }
+    ensures next { OnOk result ((s : Sig) → slice_get signatures.old at ≡ Some s
+        → signatures.new ≡ slice_set signatures.old at (next_signature round s (inferred (strict_pass (found known.now)) (function_of member.now)))) }
     ensures same { IfOk result (λ turned. turned ≡ false → signatures.new ≡ signatures.old) }
 {
     type_facts();
@@ -154,7 +156,8 @@ fn next_round(
     requires known { found known.old ≡ with_signatures (found known.old) (map function_of members.now) signatures.old }
     requires settled { AreSettled (found known.old) (map function_of members.now) signatures.old due.now }
     requires within { AllWithin due.now (length members.now) }
-    ensures next { OnOk result (signatures.new ≡ all_next round signatures.old (map (inferred (strict_pass (found known.old))) (map function_of members.now))) }
+    ensures next { OnOk result (signatures.new ≡ all_next round signatures.old
+        (map (inferred (strict_pass (found known.old))) (map function_of members.now))) }
     ensures known { OnOk result (found known.new ≡ with_signatures (found known.old) (map function_of members.now) signatures.new) }
     ensures settled { IfOk result (AreSettled (found known.new) (map function_of members.now) signatures.new) }
     ensures within { IfOk result (λ due. AllWithin due (length members.now)) }
@@ -277,7 +280,8 @@ fn found_summaries(
     last: &mut Option<Last>,
 ) -> Result<List<Summary>, Memory>
     ensures value { IfOk result (λ list. list ≡ summaries (found known.old) (map function_of members.now)) }
-    ensures known { let gs = map function_of members.now in OnOk result (found known.new ≡ with_signatures (found known.old) gs (strict_signatures (found known.old) gs)) }
+    ensures known { let gs = map function_of members.now in OnOk result
+        (found known.new ≡ with_signatures (found known.old) gs (strict_signatures (found known.old) gs)) }
 {
     let signatures = strict(alloc, members, known, last)?;
     let lenient = lenient(alloc, members, known, last)?;

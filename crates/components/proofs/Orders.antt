@@ -87,7 +87,8 @@ pub position_ready : {E : Type 0} (r : Result (Unit {0}) E) (callees : List (Lis
 position_ready (Ok _) callees ranks ready ready' watchers again count w to s joins ahead all = made_ready callees ranks ready ready' watchers again count w.component w.at s joins to ahead all
 position_ready (Err _) callees ranks ready ready' watchers again count w to s joins ahead all = tt
 
-pub position_watching : {E : Type 0} (r : Result (Unit {0}) E) (callees : List (List ℕ)) (ranks : List (Option ℕ)) (ready : List ℕ) (watchers watchers' : List (List Watcher)) (again : List Watcher) (count : ℕ) (w : Watcher) (to e : ℕ)
+pub position_watching : {E : Type 0} (r : Result (Unit {0}) E) (callees : List (List ℕ)) (ranks : List (Option ℕ)) (ready : List ℕ) (watchers watchers' : List (List Watcher)) (again : List Watcher) (count : ℕ) (w : Watcher)
+    (to e : ℕ)
     → Ordered callees ranks ready watchers (again ++ w ∷ []) count → PassedTo callees ranks w.component to → WatchesAt callees w.component to e → rank_of ranks e ≡ None → e < length callees
     → OnOk r (watchers' ≡ set watchers e (watchers_of watchers e ++ record { component = w.component; at = to } ∷ [])) → OnOk r (Ordered callees ranks ready watchers' again count)
 position_watching (Ok _) callees ranks ready watchers watchers' again count w to e s ahead here none low is =

@@ -137,14 +137,21 @@ module _ (callees : List (List ℕ)) (ranks : List (Option ℕ)) (ready : List �
           | inl waits ↦ inl (waits_still c waits)
           | inr looks ↦ elim (among_cases again (record { component = component; at = at }) c looks) [
             | inl front ↦ inr front
-            | inr is ↦ inl (e, none_e, subst (λ ws. Among ws c) (sym more) (subst (λ v. Among (watchers_of watchers e ++ record { component = component; at = to } ∷ []) v) is (among_end (watchers_of watchers e) (record { component = component; at = to }))))
+            | inr is ↦ inl (
+              e,
+              none_e,
+              subst (λ ws. Among ws c) (sym more) (subst (λ v. Among (watchers_of watchers e ++ record { component = component; at = to } ∷ []) v) is
+                  (among_end (watchers_of watchers e) (record { component = component; at = to }))),
+            )
           ]
         ])
       ]
 
   fine_more : (k : ℕ) → k < length (watchers_of watchers e ++ record { component = component; at = to } ∷ [])
-      → PassedTo callees ranks (slice_index_or (watchers_of watchers e ++ record { component = component; at = to } ∷ []) k nobody).component (slice_index_or (watchers_of watchers e ++ record { component = component; at = to } ∷ []) k nobody).at
-      × WatchesAt callees (slice_index_or (watchers_of watchers e ++ record { component = component; at = to } ∷ []) k nobody).component (slice_index_or (watchers_of watchers e ++ record { component = component; at = to } ∷ []) k nobody).at e
+      → PassedTo callees ranks (slice_index_or (watchers_of watchers e ++ record { component = component; at = to } ∷ []) k nobody).component
+      (slice_index_or (watchers_of watchers e ++ record { component = component; at = to } ∷ []) k nobody).at
+      × WatchesAt callees (slice_index_or (watchers_of watchers e ++ record { component = component; at = to } ∷ []) k nobody).component
+      (slice_index_or (watchers_of watchers e ++ record { component = component; at = to } ∷ []) k nobody).at e
   fine_more k under =
       elim (push_cases (watchers_of watchers e) (record { component = component; at = to }) nobody k under) [
         | inl front ↦
@@ -154,15 +161,19 @@ module _ (callees : List (List ℕ)) (ranks : List (Option ℕ)) (ready : List �
       ]
 
   watching_more : (f k : ℕ) → k < length (watchers_of (set watchers e (watchers_of watchers e ++ record { component = component; at = to } ∷ [])) f)
-      → PassedTo callees ranks (slice_index_or (watchers_of (set watchers e (watchers_of watchers e ++ record { component = component; at = to } ∷ [])) f) k nobody).component (slice_index_or (watchers_of (set watchers e (watchers_of watchers e ++ record { component = component; at = to } ∷ [])) f) k nobody).at
-      × WatchesAt callees (slice_index_or (watchers_of (set watchers e (watchers_of watchers e ++ record { component = component; at = to } ∷ [])) f) k nobody).component (slice_index_or (watchers_of (set watchers e (watchers_of watchers e ++ record { component = component; at = to } ∷ [])) f) k nobody).at f
+      → PassedTo callees ranks (slice_index_or (watchers_of (set watchers e (watchers_of watchers e ++ record { component = component; at = to } ∷ [])) f) k nobody).component
+      (slice_index_or (watchers_of (set watchers e (watchers_of watchers e ++ record { component = component; at = to } ∷ [])) f) k nobody).at
+      × WatchesAt callees (slice_index_or (watchers_of (set watchers e (watchers_of watchers e ++ record { component = component; at = to } ∷ [])) f) k nobody).component
+      (slice_index_or (watchers_of (set watchers e (watchers_of watchers e ++ record { component = component; at = to } ∷ [])) f) k nobody).at f
   watching_more f k under =
       elim (cases_eq f e) [
         | inl is ↦
             let ws : watchers_of (set watchers e (watchers_of watchers e ++ record { component = component; at = to } ∷ [])) f ≡ watchers_of watchers e ++ record { component = component; at = to } ∷ [] =
             ap (watchers_of (set watchers e (watchers_of watchers e ++ record { component = component; at = to } ∷ []))) is ∙ more in
-            subst (λ (v : ℕ). PassedTo callees ranks (get_or (watchers_of (set watchers e (watchers_of watchers e ++ record { component = component; at = to } ∷ [])) f) k nobody).component (get_or (watchers_of (set watchers e (watchers_of watchers e ++ record { component = component; at = to } ∷ [])) f) k nobody).at
-            × WatchesAt callees (get_or (watchers_of (set watchers e (watchers_of watchers e ++ record { component = component; at = to } ∷ [])) f) k nobody).component (get_or (watchers_of (set watchers e (watchers_of watchers e ++ record { component = component; at = to } ∷ [])) f) k nobody).at v) (sym is)
+            subst (λ (v : ℕ). PassedTo callees ranks (get_or (watchers_of (set watchers e (watchers_of watchers e ++ record { component = component; at = to } ∷ [])) f) k nobody).component
+            (get_or (watchers_of (set watchers e (watchers_of watchers e ++ record { component = component; at = to } ∷ [])) f) k nobody).at
+            × WatchesAt callees (get_or (watchers_of (set watchers e (watchers_of watchers e ++ record { component = component; at = to } ∷ [])) f) k nobody).component
+            (get_or (watchers_of (set watchers e (watchers_of watchers e ++ record { component = component; at = to } ∷ [])) f) k nobody).at v) (sym is)
             (subst (λ (xs : List Watcher). PassedTo callees ranks (get_or xs k nobody).component (get_or xs k nobody).at × WatchesAt callees (get_or xs k nobody).component (get_or xs k nobody).at e) (sym ws)
             (fine_more k (subst (λ xs. k < length xs) ws under)))
         | inr ne ↦

@@ -126,7 +126,8 @@ shut_more states states' path first position number c high under on_path nodes =
     low : slice_index path position < length states'
     low = omega (arith, nodes position under, c.same_length)
 
-    now : (f : ℕ) → ((f ≡ slice_index path position) × (state_of (set states' (slice_index path position) (Closed number)) f ≡ Closed number)) ⊎ ((f ≡ slice_index path position → ⊥) × (state_of (set states' (slice_index path position) (Closed number)) f ≡ state_of states' f))
+    now : (f : ℕ) → ((f ≡ slice_index path position) × (state_of (set states' (slice_index path position) (Closed number)) f ≡ Closed number))
+        ⊎ ((f ≡ slice_index path position → ⊥) × (state_of (set states' (slice_index path position) (Closed number)) f ≡ state_of states' f))
     now f = state_cases states' (slice_index path position) (Closed number) f low
 
     shut' : (p : ℕ) → first ≤ p → p < position + 1 → state_of (set states' (slice_index path position) (Closed number)) (slice_index path p) ≡ Closed number
@@ -158,7 +159,8 @@ shut_more states states' path first position number c high under on_path nodes =
 
     same_fresh' : sum_by fresh (set states' (slice_index path position) (Closed number)) ≡ sum_by fresh states
     same_fresh' =
-        let sum : sum_by fresh (set states' (slice_index path position) (Closed number)) + fresh (state_of states' (slice_index path position)) ≡ sum_by fresh states' + 0 = sum_by-set fresh states' (slice_index path position) (Closed number) Unseen low in
+        let sum : sum_by fresh (set states' (slice_index path position) (Closed number)) + fresh (state_of states' (slice_index path position)) ≡ sum_by fresh states' + 0 =
+        sum_by-set fresh states' (slice_index path position) (Closed number) Unseen low in
         let none : fresh (state_of states' (slice_index path position)) ≡ 0 = ap fresh was_open in
         omega (arith, c.same_fresh)
 
@@ -168,7 +170,8 @@ pub open_step : (graph : List (List ℕ)) (states : List NodeState) (path path' 
     → a ≡ length path → b ≡ length pending → blocks' ≡ blocks ++ record { first = a; below = b } ∷ [] → path' ≡ path ++ w ∷ []
     → pending' ≡ pending ++ ts → ts ≡ targets graph w → Sound graph (set states w (Open a)) path' pending' blocks' cursor count
 open_step graph states path path' pending pending' ts blocks blocks' cursor count w a b s low new reached is_a is_b is_blocks is_path is_pending is_ts =
-    let s1 : Sound graph (set states w (Open (length path))) (path ++ w ∷ []) (pending ++ targets graph w) (blocks ++ record { first = length path; below = length pending } ∷ []) cursor count = opened graph states path pending blocks cursor count w s low new reached in
+    let s1 : Sound graph (set states w (Open (length path))) (path ++ w ∷ []) (pending ++ targets graph w) (blocks ++ record { first = length path; below = length pending } ∷ []) cursor count =
+    opened graph states path pending blocks cursor count w s low new reached in
     let s2 : Sound graph (set states w (Open a)) (path ++ w ∷ []) (pending ++ targets graph w) (blocks ++ record { first = a; below = length pending } ∷ []) cursor count =
     subst (λ n. Sound graph (set states w (Open n)) (path ++ w ∷ []) (pending ++ targets graph w) (blocks ++ record { first = n; below = length pending } ∷ []) cursor count) (sym is_a) s1 in
     let s3 : Sound graph (set states w (Open a)) (path ++ w ∷ []) (pending ++ targets graph w) (blocks ++ record { first = a; below = b } ∷ []) cursor count =

@@ -75,7 +75,8 @@ fn add_components(
     nodes: &[u32],
 ) -> Result<(), Memory>
     requires { (k : ℕ) → k < length nodes.now → slice_index nodes.now k < length component_of.now }
-    ensures { OnOk result ((m : ℕ) → Contains found.new m ↔ (Contains found.old m ⊎ ComponentAmong component_of.now own nodes.now (length nodes.now) m)) }
+    ensures { OnOk result ((m : ℕ) → Contains found.new m
+        ↔ (Contains found.old m ⊎ ComponentAmong component_of.now own nodes.now (length nodes.now) m)) }
 {
     for node in nodes {
         add_component(found, component_of[*node as usize], own)?;

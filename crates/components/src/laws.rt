@@ -5,7 +5,8 @@ ghost use Rattle.components.specs.Ready.{IsReadyNumbering, SamePairs, SomeNumber
 
 /// Graphs with the same pairs have one numbering of their components in ready order.
 pub fn one_numbering()
-    ensures { (graph other : List (List ℕ)) (c d : Numbering) → SamePairs graph other → IsReadyNumbering graph c → IsReadyNumbering other d → c ≡ d }
+    ensures { (graph other : List (List ℕ)) (c d : Numbering) → SamePairs graph other → IsReadyNumbering graph c → IsReadyNumbering other d
+        → c ≡ d }
 {}
 
 /// Each graph has a numbering of its components in ready order.

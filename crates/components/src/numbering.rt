@@ -1,7 +1,8 @@
 ghost use Rattle.std.specs.Prelude.{◌≡◌, ℕ, ◌+◌, ◌<◌, ◌^◌, length, Contains, slice_index, IfOk};
 ghost use Rattle.components.specs.Graph.{IsGraph};
 ghost use Rattle.components.specs.Lists.{Ascending};
-ghost use Rattle.components.specs.Numbering.{component_of_node, members_of, callees_of, NumberingNodes, NumberingTogether, NumberingDownward, NumberingUsed, NumberingReady, NumberingMembers, NumberingCallees, IsNumbering};
+ghost use Rattle.components.specs.Numbering.{component_of_node, members_of, callees_of, NumberingNodes, NumberingTogether, NumberingDownward};
+ghost use Rattle.components.specs.Numbering.{NumberingUsed, NumberingReady, NumberingMembers, NumberingCallees, IsNumbering};
 ghost use Rattle.components.specs.steps.Phases.{StrongComponents, ReadyComponents};
 ghost use Rattle.components.specs.steps.State.{IsSound, Idle, AllClosed, ComponentsAre};
 
@@ -32,7 +33,12 @@ impl Model for Comps {
 
     ghost view = { λ comps. record { component_of = comps.component_of; count = comps.count; members = comps.members; callees = comps.callees } };
 
-    ghost invariant = { λ comps. IsNumbering (record { component_of = comps.component_of; count = comps.count; members = comps.members; callees = comps.callees }) };
+    ghost invariant = { λ comps. IsNumbering (record {
+      component_of = comps.component_of;
+      count = comps.count;
+      members = comps.members;
+      callees = comps.callees;
+    }) };
 }
 
 impl Comps {
@@ -141,7 +147,8 @@ fn ready_components(
 fn renumbered(alloc: Global, ordinals: &[u32], numbers: &[u32]) -> Result<List<u32>, Memory>
     requires { (f : ℕ) → f < length ordinals.now → slice_index ordinals.now f < length numbers.now }
     ensures sizes { IfOk result (λ component_of. length component_of ≡ length ordinals.now) }
-    ensures numbers { IfOk result (λ component_of. (f : ℕ) → f < length ordinals.now → slice_index component_of f ≡ slice_index numbers.now (slice_index ordinals.now f)) }
+    ensures numbers { IfOk result (λ component_of. (f : ℕ) → f < length ordinals.now
+        → slice_index component_of f ≡ slice_index numbers.now (slice_index ordinals.now f)) }
 {
     let mut component_of = List::new(alloc);
     for ordinal in ordinals {

@@ -1,6 +1,8 @@
-ghost use Rattle.std.specs.Prelude.{◌≡◌, ℕ, ◌+◌, ◌<◌, ◌≤◌, ◌^◌, ◌⊎◌, [], ◌∷◌, ◌++◌, length, replicate, sum_by, slice_index, IfOk, OnOk, IfSome, IfNone};
+ghost use Rattle.std.specs.Prelude.{◌≡◌, ℕ, ◌+◌, ◌<◌, ◌≤◌, ◌^◌, ◌⊎◌, [], ◌∷◌, ◌++◌, length};
+ghost use Rattle.std.specs.Prelude.{replicate, sum_by, slice_index, IfOk, OnOk, IfSome, IfNone};
 ghost use Rattle.components.specs.Graph.{Leads};
-ghost use Rattle.components.specs.steps.Order.{IsOrdered, Ordered, unranked, rank_of, Ranked, TakenFrom, FirstWatchers, IsAcyclic, IsInside, InReadyOrder, AllRanked, RanksAre};
+ghost use Rattle.components.specs.steps.Order.{IsOrdered, Ordered, unranked, rank_of, Ranked, TakenFrom};
+ghost use Rattle.components.specs.steps.Order.{FirstWatchers, IsAcyclic, IsInside, InReadyOrder, AllRanked, RanksAre};
 
 use crate::node_set::NodeSet;
 use std::alloc::Global;

@@ -1,4 +1,5 @@
-ghost use Rattle.std.specs.Prelude.{◌≡◌, ℕ, ◌+◌, ◌-◌, ◌<◌, ◌≤◌, [], ◌∷◌, ◌++◌, length, take, sum_by, slice_index, slice_index_or, IfOk, OnOk, IfSome, IfNone, MatchOption, vec_len};
+ghost use Rattle.std.specs.Prelude.{◌≡◌, ℕ, ◌+◌, ◌-◌, ◌<◌, ◌≤◌, [], ◌∷◌, ◌++◌, length, take, sum_by, slice_index};
+ghost use Rattle.std.specs.Prelude.{slice_index_or, IfOk, OnOk, IfSome, IfNone, MatchOption, vec_len};
 ghost use Rattle.components.specs.Graph.{IsGraph};
 ghost use Rattle.components.specs.steps.Search.{state_of, fresh, Closes};
 ghost use Rattle.components.specs.steps.State.{IsSound, Enterable, Idle, IsLook, TopIs, LeadsBack, IsKnown};

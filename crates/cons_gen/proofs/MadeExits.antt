@@ -30,14 +30,16 @@ use Rattle.cons_gen.specs.steps.Heading.{Heads}
 module _ (context : Surroundings) where
   -- ---- a definition
 
-  pub definition_rows : (a b c d : Generator) (xs : List VarName) (slots : List ℕ) (t : m.Tree) → a.members.items ≡ [] → a.variables ≡ [] → a.functions ≡ [] → a.next ≡ 0 → Adds a b (length xs) [] → slots ≡ slots_from a.next (length xs) → Binds b c 0 [] (bindings_at xs slots) → Generates context c d one_value t
+  pub definition_rows : (a b c d : Generator) (xs : List VarName) (slots : List ℕ) (t : m.Tree) → a.members.items ≡ [] → a.variables ≡ [] → a.functions ≡ [] → a.next ≡ 0 → Adds a b (length xs) []
+      → slots ≡ slots_from a.next (length xs) → Binds b c 0 [] (bindings_at xs slots) → Generates context c d one_value t
       → together (rows_of d) ≡ definition_constraint (knowing context) context.home.now xs t
   definition_rows a b c d xs slots t empty unbound unnamed begins one slots_are two three =
       let none : rows_of c ≡ [] = two.rows ∙ append-nil (rows_of b) ∙ one.rows ∙ append-nil (rows_of a) ∙ ap (map constraint) empty in
       let vars : c.variables ≡ bindings xs 0 = two.variables ∙ ap (λ l. l ++ bindings_at xs slots) (one.variables ∙ unbound) ∙ ap (bindings_at xs) (slots_are ∙ ap (λ s. slots_from s (length xs)) begins) ∙ bindings_run xs 0 in
       let seen : scope_of c ≡ parameter_scope xs = λ i. record { variables = vars i; functions = (two.functions ∙ one.functions ∙ unnamed) i } in
       let at : c.next ≡ length xs = two.next ∙ ap (λ n. n + 0) (one.next ∙ ap (λ n. n + length xs) begins) ∙ (let e : 0 + length xs + 0 ≡ length xs = omega arith in e) in
-      ap together (three.rows ∙ ap (λ l. l ++ rows_at context c one_value t) none ∙ ap (λ sc. rows (knowing context) context.home.now sc c.next one_value t) seen ∙ ap (λ n. rows (knowing context) context.home.now (parameter_scope xs) n one_value t) at)
+      ap together (three.rows ∙ ap (λ l. l ++ rows_at context c one_value t) none ∙ ap (λ sc. rows (knowing context) context.home.now sc c.next one_value t) seen
+      ∙ ap (λ n. rows (knowing context) context.home.now (parameter_scope xs) n one_value t) at)
 
   -- ---- a clause
 
@@ -61,7 +63,8 @@ module _ (context : Surroundings) where
 
     pub clause_variables : (around : ℕ) (params : List ℕ) → around ≡ length a.variables → params ≡ map (λ b. b.1) (drop around c.variables) → params ≡ clause_params s heads
     clause_variables around params is params_are =
-        params_are ∙ ap (λ n. map (λ (b : Binding). b.1) (drop n c.variables)) is ∙ ap (λ l. map (λ (b : Binding). b.1) (drop (length a.variables) l)) named ∙ ap (map (λ (b : Binding). b.1)) (drop_seam a.variables (outer_bindings s heads))
+        params_are ∙ ap (λ n. map (λ (b : Binding). b.1) (drop n c.variables)) is ∙ ap (λ l. map (λ (b : Binding). b.1) (drop (length a.variables) l)) named
+        ∙ ap (map (λ (b : Binding). b.1)) (drop_seam a.variables (outer_bindings s heads))
 
     headed : rows_of c ≡ together (outer_rows qs s heads) ∷ []
     headed = two.rows ∙ ap (λ l. together l ∷ []) (one.rows ∙ ap (λ l. map constraint l ++ outer_rows qs a.next (all_patterns ps)) empty ∙ ap (λ n. outer_rows qs n (all_patterns ps)) begins ∙ ap (outer_rows qs s) heads_are)
@@ -103,8 +106,10 @@ module _ (context : Surroundings) where
         headed_functions : f.functions ≡ a.functions
         headed_functions = five.functions ∙ four.functions ∙ three.functions ∙ two.functions ∙ one.functions
 
-  pub heads_so : (a b c d e f : Generator) (qs : List ℕ) (x : Clause) (ps : List Pattern) (slot : ℕ) → a.members.items ≡ [] → ps ≡ (out-Clause x).patterns → Binds a b (outer_span (all_patterns ps)) (outer_rows qs a.next (all_patterns ps)) (outer_bindings a.next (all_patterns ps)) → Gathers (λ rs. together rs ∷ []) 0 b c
-      → Generates context c d one_value (tree (out-Clause x).guard) → Gathers (λ rs. together rs ∷ []) 1 d e → slot ≡ c.next → Adds e f 0 (bound slot just_true) → Heads (knowing context) context.home.now a f qs (clause_parts x).patterns (clause_parts x).guard
+  pub heads_so : (a b c d e f : Generator) (qs : List ℕ) (x : Clause) (ps : List Pattern) (slot : ℕ) → a.members.items ≡ [] → ps ≡ (out-Clause x).patterns
+      → Binds a b (outer_span (all_patterns ps)) (outer_rows qs a.next (all_patterns ps)) (outer_bindings a.next (all_patterns ps)) → Gathers (λ rs. together rs ∷ []) 0 b c
+      → Generates context c d one_value (tree (out-Clause x).guard) → Gathers (λ rs. together rs ∷ []) 1 d e → slot ≡ c.next → Adds e f 0 (bound slot just_true)
+      → Heads (knowing context) context.home.now a f qs (clause_parts x).patterns (clause_parts x).guard
   heads_so a b c d e f qs x ps slot empty ps_are one two three four at five =
       record {
         next = headed_end a b c d e (scope_of a) qs a.next x ps refl refl empty ps_are one two three f slot four at five;

@@ -60,7 +60,8 @@ module _ (context : Surroundings) (first : Generator) (all : ℕ) (whole : Rows)
       rest_round first b d (pair_spans (all_pairs (drop i ps))) (pair_spans rest) n all (paired (all_pairs (drop i ps)) (scope_of b) b.next) here whole (paired rest) before both
       (ap pair_spans open_here) (ap (λ ts. paired ts (scope_of b) b.next) open_here ∙ ap (λ k. here ++ paired rest (scope_of b) k) at)
 
-  pub segments_round : (b c d : Generator) (ss : List Segment) (i : ℕ) (x : Segment) (args : List Expr) → i < length ss → x ≡ get_or ss i x → Generates context b c one_value (tree (out-Segment x).value) → args ≡ (out-Segment x).args
+  pub segments_round : (b c d : Generator) (ss : List Segment) (i : ℕ) (x : Segment) (args : List Expr) → i < length ss → x ≡ get_or ss i x → Generates context b c one_value (tree (out-Segment x).value)
+      → args ≡ (out-Segment x).args
       → Adds c d (spans (all_trees args)) (every context (all_trees args) (scope_of c) c.next)
       → AddsRest first b (segment_spans (all_segments (drop i ss))) all (each_segment context (all_segments (drop i ss)) (scope_of b) b.next) whole
       → AddsRest first d (segment_spans (all_segments (drop (i + 1) ss))) all (each_segment context (all_segments (drop (i + 1) ss)) (scope_of d) d.next) whole
@@ -69,14 +70,16 @@ module _ (context : Surroundings) (first : Generator) (all : ℕ) (whole : Rows)
       let ts : m.Trees = all_trees args in
       let rest : m.Segments = all_segments (drop (i + 1) ss) in
       let n : ℕ = span one_value value + spans ts in
-      let open_here = all_segments-next ss i x within ∙ ap (λ z. let y = segment_parts z in m.and_segment y.value y.args rest) (sym is) ∙ ap (λ y. m.and_segment y.value y.args rest) (segment-is x) ∙ ap (λ z. m.and_segment value (all_trees z) rest) (sym args_are) in
+      let open_here = all_segments-next ss i x within ∙ ap (λ z. let y = segment_parts z in m.and_segment y.value y.args rest) (sym is) ∙ ap (λ y. m.and_segment y.value y.args rest) (segment-is x)
+      ∙ ap (λ z. m.and_segment value (all_trees z) rest) (sym args_are) in
       let here : Rows = given context one_value value (scope_of b) b.next ++ every context ts (scope_of b) (b.next + span one_value value) in
       let both : Adds b d n here = adds_then b c d (span one_value value) (spans ts) n (b.next + span one_value value) (given context one_value value (scope_of b) b.next) (every context ts) one two refl refl in
       let at : b.next + span one_value value + spans ts ≡ b.next + n = omega arith in
       rest_round first b d (segment_spans (all_segments (drop i ss))) (segment_spans rest) n all (each_segment context (all_segments (drop i ss)) (scope_of b) b.next) here whole (each_segment context rest) before both
       (ap segment_spans open_here) (ap (λ z. each_segment context z (scope_of b) b.next) open_here ∙ ap (λ k. here ++ each_segment context rest (scope_of b) k) at)
 
-  pub clauses_round : (b c : Generator) (k : Ask) (to qs : List ℕ) (cs : List Clause) (i : ℕ) (x : Clause) → i < length cs → x ≡ get_or cs i x → Adds b c (clause_spans k (all_clauses (x ∷ []))) (alternatives context to qs k (all_clauses (x ∷ [])) (scope_of b) b.next)
+  pub clauses_round : (b c : Generator) (k : Ask) (to qs : List ℕ) (cs : List Clause) (i : ℕ) (x : Clause) → i < length cs → x ≡ get_or cs i x
+      → Adds b c (clause_spans k (all_clauses (x ∷ []))) (alternatives context to qs k (all_clauses (x ∷ [])) (scope_of b) b.next)
       → AddsRest first b (clause_spans k (all_clauses (drop i cs))) all (alternatives context to qs k (all_clauses (drop i cs)) (scope_of b) b.next) whole
       → AddsRest first c (clause_spans k (all_clauses (drop (i + 1) cs))) all (alternatives context to qs k (all_clauses (drop (i + 1) cs)) (scope_of c) c.next) whole
   clauses_round b c k to qs cs i x within is one before =
@@ -86,13 +89,15 @@ module _ (context : Surroundings) (first : Generator) (all : ℕ) (whole : Rows)
       let alone : m.Clauses = all_clauses (x ∷ []) in
       let wide : (let y = clause_parts x in clause_spans k (m.and_clause y.mark y.patterns y.guard y.body rest)) ≡ clause_spans k alone + clause_spans k rest = omega arith in
       let at : b.next + clause_spans k alone ≡ b.next + clause_spans k alone = refl in
-      rest_round first b c (clause_spans k (all_clauses (drop i cs))) (clause_spans k rest) (clause_spans k alone) all (alternatives context to qs k (all_clauses (drop i cs)) (scope_of b) b.next) (alternatives context to qs k alone (scope_of b) b.next) whole (alternatives context to qs k rest) before one
+      rest_round first b c (clause_spans k (all_clauses (drop i cs))) (clause_spans k rest) (clause_spans k alone) all (alternatives context to qs k (all_clauses (drop i cs)) (scope_of b) b.next)
+      (alternatives context to qs k alone (scope_of b) b.next) whole (alternatives context to qs k rest) before one
       (ap (clause_spans k) opens ∙ wide)
       (ap (λ z. alternatives context to qs k z (scope_of b) b.next) opens ∙ rows_next b to qs k (clause_parts x) rest)
     where
       rows_next : (g : Generator) (to qs : List ℕ) (k : Ask) (y : ClauseParts) (rest : m.Clauses)
           → alternatives context to qs k (m.and_clause y.mark y.patterns y.guard y.body rest) (scope_of g) g.next
-          ≡ alternatives context to qs k (m.and_clause y.mark y.patterns y.guard y.body m.no_clause) (scope_of g) g.next ++ alternatives context to qs k rest (scope_of g) (g.next + clause_spans k (m.and_clause y.mark y.patterns y.guard y.body m.no_clause))
+          ≡ alternatives context to qs k (m.and_clause y.mark y.patterns y.guard y.body m.no_clause) (scope_of g) g.next
+          ++ alternatives context to qs k rest (scope_of g) (g.next + clause_spans k (m.and_clause y.mark y.patterns y.guard y.body m.no_clause))
       rows_next g to qs k y rest =
           ap (λ s. alternatives context to qs k (m.and_clause y.mark y.patterns y.guard y.body m.no_clause) (scope_of g) g.next ++ alternatives context to qs k rest (scope_of g) s)
           (let e : g.next + outer_span y.patterns + span one_value y.guard + span k y.body ≡ g.next + clause_spans k (m.and_clause y.mark y.patterns y.guard y.body m.no_clause) = omega arith in e)
@@ -116,7 +121,8 @@ module _ (context : Surroundings) where
   abbrev stepped : m.Steps → Scope → ℕ → Rows
   stepped ss sc s = step_rows (knowing context) context.home.now sc s ss
 
-  step_adds : (sc : Scope) (s : ℕ) (x : StepOf Expr) (rest : List (StepOf Expr)) → stepped (all_steps (x ∷ rest)) sc s ≡ stepped (all_steps (x ∷ [])) sc s ++ stepped (all_steps rest) (with_bindings sc (step_bindings s (all_steps (x ∷ [])))) (s + step_spans (all_steps (x ∷ [])))
+  step_adds : (sc : Scope) (s : ℕ) (x : StepOf Expr) (rest : List (StepOf Expr))
+      → stepped (all_steps (x ∷ rest)) sc s ≡ stepped (all_steps (x ∷ [])) sc s ++ stepped (all_steps rest) (with_bindings sc (step_bindings s (all_steps (x ∷ [])))) (s + step_spans (all_steps (x ∷ [])))
   step_adds sc s (Let i xs e) rest =
       let n : ℕ = length xs in
       let k : Ask = Exactly n in
@@ -137,7 +143,8 @@ module _ (context : Surroundings) where
       let rest : List (StepOf Expr) = drop (i + 1) ss in
       let opens : all_steps (drop i ss) ≡ all_steps (x ∷ rest) = all_steps-next ss i x within ∙ ap (λ z. all_steps (z ∷ rest)) (sym is) in
       let alone : m.Steps = all_steps (x ∷ []) in
-      bind_round first b c (step_spans (all_steps (drop i ss))) (step_spans (all_steps rest)) (step_spans alone) all (stepped (all_steps (drop i ss)) (scope_of b) b.next) (stepped alone (scope_of b) b.next) whole (step_bindings b.next (all_steps (drop i ss))) (step_bindings b.next alone) bound (stepped (all_steps rest)) (λ k. step_bindings k (all_steps rest)) before one
+      bind_round first b c (step_spans (all_steps (drop i ss))) (step_spans (all_steps rest)) (step_spans alone) all (stepped (all_steps (drop i ss)) (scope_of b) b.next) (stepped alone (scope_of b) b.next) whole
+      (step_bindings b.next (all_steps (drop i ss))) (step_bindings b.next alone) bound (stepped (all_steps rest)) (λ k. step_bindings k (all_steps rest)) before one
       (ap step_spans opens ∙ step_wide x rest)
       (ap (λ z. stepped z (scope_of b) b.next) opens ∙ step_adds (scope_of b) b.next x rest)
       (ap (step_bindings b.next) opens ∙ step_binds b.next x rest)

@@ -7,7 +7,8 @@ use Rattle.core_ast.specs.Model as m
 use Rattle.core_scope.specs.Asks.{function_name}
 use Rattle.core_scope.specs.Names.{defined_names}
 use Rattle.call_graph.specs.Targets.CallTarget.{remote}
-use Rattle.call_graph.specs.Targets.{CallTarget, targets, all_targets, pair_targets, segment_targets, step_targets, clause_targets, def_targets, pattern_targets, patterns_targets, pat_pair_targets, pat_segment_targets, targets_of, target_of, applied, called}
+use Rattle.call_graph.specs.Targets.{CallTarget, targets, all_targets, pair_targets, segment_targets, step_targets, clause_targets, def_targets}
+use Rattle.call_graph.specs.Targets.{pattern_targets, patterns_targets, pat_pair_targets, pat_segment_targets, targets_of, target_of, applied, called}
 use Rattle.cons_tree.specs.declared.parts.Callee.{Callee}
 use Rattle.cons_gen_rows.specs.Counts.{both_atoms}
 use Rattle.cons_gen_frame.specs.Agreement.{Agrees, EachAgrees, Agree}

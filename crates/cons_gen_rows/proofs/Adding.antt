@@ -113,7 +113,8 @@ adds_binds a b c m n w at r f g one two begins wide = record {
 }
 
 -- the variables end that were bound
-pub left : (a b c : Generator) (n around : ℕ) (r : Rows) (xs : List Binding) → Binds a b n r xs → around ≡ length a.variables → c.next ≡ b.next → c.members ≡ b.members → c.variables ≡ take around b.variables → c.functions ≡ b.functions → Adds a c n r
+pub left : (a b c : Generator) (n around : ℕ) (r : Rows) (xs : List Binding) → Binds a b n r xs → around ≡ length a.variables → c.next ≡ b.next → c.members ≡ b.members → c.variables ≡ take around b.variables
+    → c.functions ≡ b.functions → Adds a c n r
 left a b c n around r xs one is next members variables functions = record {
   next = next ∙ one.next;
   rows = ap (λ m. map constraint m.items) members ∙ one.rows;
@@ -123,7 +124,8 @@ left a b c n around r xs one is next members variables functions = record {
 
 -- ---- rows that become one constraint
 
-pub gathers_all : (a b c : Generator) (start : ℕ) (all : List Constraint) → all ≡ drop start a.members.items → b.members.items ≡ take start a.members.items → b.next ≡ a.next → b.variables ≡ a.variables → b.functions ≡ a.functions
+pub gathers_all : (a b c : Generator) (start : ℕ) (all : List Constraint) → all ≡ drop start a.members.items → b.members.items ≡ take start a.members.items → b.next ≡ a.next → b.variables ≡ a.variables
+    → b.functions ≡ a.functions
     → Pushes b c (tree.All all) → Gathers (λ rows. together rows ∷ []) start a c
 gathers_all a b c start all all_is rest next variables functions h = record {
   next = h.next ∙ next;
@@ -134,7 +136,8 @@ gathers_all a b c start all all_is rest next variables functions h = record {
   functions = h.functions ∙ functions;
 }
 
-pub gathers_any : (a b c : Generator) (start : ℕ) (any : List Constraint) → any ≡ drop start a.members.items → b.members.items ≡ take start a.members.items → b.next ≡ a.next → b.variables ≡ a.variables → b.functions ≡ a.functions
+pub gathers_any : (a b c : Generator) (start : ℕ) (any : List Constraint) → any ≡ drop start a.members.items → b.members.items ≡ take start a.members.items → b.next ≡ a.next → b.variables ≡ a.variables
+    → b.functions ≡ a.functions
     → Pushes b c (tree.Any any) → Gathers one_of start a c
 gathers_any a b c start any any_is rest next variables functions h = record {
   next = h.next ∙ next;
@@ -167,7 +170,8 @@ rest_ends a b left n rest r none nothing h = record {
   functions = h.functions;
 }
 
-pub rest_round : (a b c : Generator) (left more n all : ℕ) (rest r rows : Rows) (f : Scope → ℕ → Rows) → AddsRest a b left all rest rows → Adds b c n r → left ≡ n + more → rest ≡ r ++ f (scope_of b) (b.next + n) → AddsRest a c more all (f (scope_of c) c.next) rows
+pub rest_round : (a b c : Generator) (left more n all : ℕ) (rest r rows : Rows) (f : Scope → ℕ → Rows) → AddsRest a b left all rest rows → Adds b c n r → left ≡ n + more → rest ≡ r ++ f (scope_of b) (b.next + n)
+    → AddsRest a c more all (f (scope_of c) c.next) rows
 rest_round a b c left more n all rest r rows f h one less opened = record {
   next = ap (λ k. k + more) one.next ∙ (let e : b.next + n + more ≡ b.next + left = omega arith in e) ∙ h.next;
   added = ap (λ s. rows_of c ++ f s c.next) (same_scope c b one.variables one.functions) ∙ ap (λ k. rows_of c ++ f (scope_of b) k) one.next
@@ -185,7 +189,8 @@ bind_ends a b left n rest r bs bound none nothing unbound h = record {
 }
 
 pub bind_round : (a b c : Generator) (left more n all : ℕ) (rest r rows : Rows) (bs xs bound : List Binding) (f : Scope → ℕ → Rows) (g : ℕ → List Binding)
-    → BindsRest a b left all rest rows bs bound → Binds b c n r xs → left ≡ n + more → rest ≡ r ++ f (with_bindings (scope_of b) xs) (b.next + n) → bs ≡ xs ++ g (b.next + n) → BindsRest a c more all (f (scope_of c) c.next) rows (g c.next) bound
+    → BindsRest a b left all rest rows bs bound → Binds b c n r xs → left ≡ n + more → rest ≡ r ++ f (with_bindings (scope_of b) xs) (b.next + n) → bs ≡ xs ++ g (b.next + n)
+    → BindsRest a c more all (f (scope_of c) c.next) rows (g c.next) bound
 bind_round a b c left more n all rest r rows bs xs bound f g h one less opened named = record {
   next = ap (λ k. k + more) one.next ∙ (let e : b.next + n + more ≡ b.next + left = omega arith in e) ∙ h.next;
   added = ap (λ s. rows_of c ++ f s c.next) scopes ∙ ap (λ k. rows_of c ++ f (with_bindings (scope_of b) xs) k) one.next

@@ -47,8 +47,10 @@ module _ (old new : List (Atom × List FunName)) (home : Atom) (name : FunName) 
       by false e = refl
 
 -- the functions that a module had, and those of a module that had none
-pub had : (old : List (Atom × List FunName)) (home : Atom) (v w : List FunName) (name : FunName) → Some v ≡ lookup (same_home home) old → ((f : FunName) → has_name w f ≡ (same_name name f || has_name v f)) → (f : FunName) → has_name w f ≡ (same_name name f || has_name (names_of old home) f)
+pub had : (old : List (Atom × List FunName)) (home : Atom) (v w : List FunName) (name : FunName) → Some v ≡ lookup (same_home home) old → ((f : FunName) → has_name w f ≡ (same_name name f || has_name v f)) → (f : FunName)
+    → has_name w f ≡ (same_name name f || has_name (names_of old home) f)
 had old home v w name e h f = h f ∙ ap (λ o. same_name name f || has_name (unwrap_or o []) f) e
 
-pub had_none : (old : List (Atom × List FunName)) (home : Atom) (w : List FunName) (name : FunName) → None ≡ lookup (same_home home) old → ((f : FunName) → has_name w f ≡ same_name name f) → (f : FunName) → has_name w f ≡ (same_name name f || has_name (names_of old home) f)
+pub had_none : (old : List (Atom × List FunName)) (home : Atom) (w : List FunName) (name : FunName) → None ≡ lookup (same_home home) old → ((f : FunName) → has_name w f ≡ same_name name f) → (f : FunName)
+    → has_name w f ≡ (same_name name f || has_name (names_of old home) f)
 had_none old home w name e h f = h f ∙ sym (or-false (same_name name f)) ∙ ap (λ o. same_name name f || has_name (unwrap_or o []) f) e

@@ -9,7 +9,8 @@ use Rattle.core_scope.specs.declared.ask.Ask.{Ask}
 use Rattle.core_scope.specs.Asks.{call_gives}
 use Rattle.cons_gen_rows.specs.Counts.{call_results, result_count}
 
-pub call_count : (k : Ask) (e x y x1 y1 : Expr) (xs : List Expr) (n : ℕ) (given : Ask) (r : ℕ) → e.form ≡ f.Call x y xs → x1 ≡ x → y1 ≡ y → n ≡ length xs → given ≡ call_gives (tree x1) (tree y1) n → r ≡ call_results k given → r ≡ result_count k (tree e)
+pub call_count : (k : Ask) (e x y x1 y1 : Expr) (xs : List Expr) (n : ℕ) (given : Ask) (r : ℕ) → e.form ≡ f.Call x y xs → x1 ≡ x → y1 ≡ y → n ≡ length xs → given ≡ call_gives (tree x1) (tree y1) n
+    → r ≡ call_results k given → r ≡ result_count k (tree e)
 call_count k e x y x1 y1 xs n given r is home name count gives result =
     result
     ∙ ap (call_results k) (gives ∙ ap (λ z. call_gives (tree z) (tree y1) n) home ∙ ap (λ z. call_gives (tree x) (tree z) n) name ∙ ap (call_gives (tree x) (tree y)) (count ∙ sym (how_many-length xs)))

@@ -1,5 +1,6 @@
 -- Runs of slots, slots that are equal one by one, and the cells of lists: what each round of a loop keeps.
-use Rattle.std.proofs.Common.{◌≡◌, ℕ, zero, suc, ◌+◌, ◌-◌, ◌<◌, ◌≤◌, min, List, [], ◌∷◌, ◌++◌, map, length, take, drop, get_or, refl, sym, ap, ◌∙◌, arith, append_assoc, length-append, length-drop, length-take-le, drop-cons}
+use Rattle.std.proofs.Common.{◌≡◌, ℕ, zero, suc, ◌+◌, ◌-◌, ◌<◌, ◌≤◌, min, List, [], ◌∷◌, ◌++◌, map, length, take, drop, get_or}
+use Rattle.std.proofs.Common.{refl, sym, ap, ◌∙◌, arith, append_assoc, length-append, length-drop, length-take-le, drop-cons}
 use Rattle.cons_tree.specs.declared.parts.Part.TheVariants as part
 use Rattle.core_ast.specs.declared.syntax.VarName.{VarName}
 use Rattle.cons_gen_rows.specs.Scopes.{binding, bindings}
@@ -14,7 +15,8 @@ pub run_next : (first count i : ℕ) → i < count → slots_from (first + i) (c
 run_next first count i within =
     ap (slots_from (first + i)) (let e : count - i ≡ suc (count - (i + 1)) = omega arith in e) ∙ ap (λ n. (first + i) ∷ slots_from n (count - (i + 1))) (let e : first + i + 1 ≡ first + (i + 1) = omega arith in e)
 
-pub run_round : (first count i s : ℕ) (ss more : List ℕ) → i < count → s ≡ first + i → more ≡ ss ++ s ∷ [] → ss ++ slots_from (first + i) (count - i) ≡ slots_from first count → more ++ slots_from (first + (i + 1)) (count - (i + 1)) ≡ slots_from first count
+pub run_round : (first count i s : ℕ) (ss more : List ℕ) → i < count → s ≡ first + i → more ≡ ss ++ s ∷ [] → ss ++ slots_from (first + i) (count - i) ≡ slots_from first count
+    → more ++ slots_from (first + (i + 1)) (count - (i + 1)) ≡ slots_from first count
 run_round first count i s ss more within is added before =
     let rest : List ℕ = slots_from (first + (i + 1)) (count - (i + 1)) in
     ap (λ l. l ++ rest) (added ∙ ap (λ n. ss ++ n ∷ []) is) ∙ append_assoc ss ((first + i) ∷ []) rest ∙ ap (λ l. ss ++ l) (sym (run_next first count i within)) ∙ before
@@ -58,7 +60,8 @@ taken_behind k (suc s) m [] is = none_taken k ∙ sym (ap (drop (suc s)) (none_t
 taken_behind k (suc s) zero (x ∷ xs) is = absurd (omega arith)
 taken_behind k (suc s) (suc m) (x ∷ xs) is = taken_behind k s m xs (omega arith)
 
-pub rotated : {X : Type 0} (xs part new post : List X) (s m : ℕ) → s ≤ m → m ≤ length xs → part ≡ take (length xs - s) (drop s xs) → new ≡ drop (m - s) part ++ take (m - s) part → post ≡ [] → take s xs ++ (new ++ post) ≡ (take s xs ++ drop m xs) ++ drop s (take m xs)
+pub rotated : {X : Type 0} (xs part new post : List X) (s m : ℕ) → s ≤ m → m ≤ length xs → part ≡ take (length xs - s) (drop s xs) → new ≡ drop (m - s) part ++ take (m - s) part → post ≡ []
+    → take s xs ++ (new ++ post) ≡ (take s xs ++ drop m xs) ++ drop s (take m xs)
 rotated xs part new post s m first second part_is new_is post_is =
     let len : length (drop s xs) ≡ length xs - s = length-drop s xs in
     let all : part ≡ drop s xs = part_is ∙ take_all (length xs - s) (drop s xs) (omega arith) in
@@ -67,7 +70,8 @@ rotated xs part new post s m first second part_is new_is post_is =
     ap (λ l. take s xs ++ (new ++ l)) post_is ∙ ap (λ l. take s xs ++ l) (append-nil new ∙ there) ∙ sym (append_assoc (take s xs) (drop m xs) (drop s (take m xs)))
 
 -- the same of what the rows stand for
-pub rotated_rows : {X Y : Type 0} (f : X → Y) (items xs new : List X) (s m : ℕ) → s ≤ m → m ≤ length items → xs ≡ items → new ≡ drop (m - s) (take (length xs - s) (drop s xs)) ++ take (m - s) (take (length xs - s) (drop s xs))
+pub rotated_rows : {X Y : Type 0} (f : X → Y) (items xs new : List X) (s m : ℕ) → s ≤ m → m ≤ length items → xs ≡ items
+    → new ≡ drop (m - s) (take (length xs - s) (drop s xs)) ++ take (m - s) (take (length xs - s) (drop s xs))
     → map f (take s xs ++ (new ++ drop (length xs - s) (drop s xs))) ≡ (take s (map f items) ++ drop m (map f items)) ++ drop s (take m (map f items))
 rotated_rows f items xs new s m first second is new_is =
     let within : m ≤ length xs = omega (arith, ap length is) in

@@ -60,7 +60,8 @@ at_position (suc p) (y ∷ xs) (s ∷ ss) x same there innermost =
     let rest = at_position p xs ss x (omega arith) there innermost in
     (rest.0, (rest.1.0, ap (λ o. or_outer o (if same_atom y x then Some s else None)) rest.1.1))
 
-pub found_slot : (p : ℕ) (xs : List Atom) (ss : List ℕ) (vs : List Binding) (x : Atom) (o : Option ℕ) → zip xs ss ≡ vs → length xs ≡ length ss → list_any (same_atom x) (drop p xs) ≡ true → list_any (same_atom x) (drop (p + 1) xs) ≡ false → o ≡ slice_get ss p → o ≡ slot_of vs x
+pub found_slot : (p : ℕ) (xs : List Atom) (ss : List ℕ) (vs : List Binding) (x : Atom) (o : Option ℕ) → zip xs ss ≡ vs → length xs ≡ length ss → list_any (same_atom x) (drop p xs) ≡ true
+    → list_any (same_atom x) (drop (p + 1) xs) ≡ false → o ≡ slice_get ss p → o ≡ slot_of vs x
 found_slot p xs ss vs x o view same there innermost got =
     let at = at_position p xs ss x same there (ap (λ n. list_any (same_atom x) (drop n xs)) (let e : suc p ≡ p + 1 = omega arith in e) ∙ innermost) in
     got ∙ at.1.0 ∙ sym at.1.1 ∙ ap (λ l. slot_of l x) view
@@ -86,7 +87,8 @@ drop_min (suc n) (s ∷ ss) = ap (λ k. drop k (s ∷ ss)) (let e : min (suc n) 
 pub slots_behind : (names : List Atom) (ss : List ℕ) (vs : List Binding) (n least : ℕ) → zip names ss ≡ vs → length names ≡ length ss → least ≡ min n (length ss) → drop least ss ≡ map (λ b. b.1) (drop n vs)
 slots_behind names ss vs n least view same is = ap (λ k. drop k ss) is ∙ drop_min n ss ∙ sym (zip_slots n names ss same) ∙ ap (λ l. map (λ b. b.1) (drop n l)) view
 
-pub slots_sliced : (names : List Atom) (ss part got : List ℕ) (vs : List Binding) (n least len : ℕ) → zip names ss ≡ vs → length names ≡ length ss → len ≡ length ss → least ≡ min n len → part ≡ ss → got ≡ take (length part - least) (drop least part) → got ≡ map (λ b. b.1) (drop n vs)
+pub slots_sliced : (names : List Atom) (ss part got : List ℕ) (vs : List Binding) (n least len : ℕ) → zip names ss ≡ vs → length names ≡ length ss → len ≡ length ss → least ≡ min n len → part ≡ ss
+    → got ≡ take (length part - least) (drop least part) → got ≡ map (λ b. b.1) (drop n vs)
 slots_sliced names ss part got vs n least len view same long is part_is got_is =
     got_is ∙ take_all (length part - least) (drop least part) (let e : length (drop least part) ≡ length part - least = length-drop least part in omega arith) ∙ ap (drop least) part_is
     ∙ slots_behind names ss vs n least view same (is ∙ ap (min n) long)

@@ -75,7 +75,8 @@ impl Generator {
         value: Slot,
         args: &[Slot],
     ) -> Result<(), Memory>
-        ensures { OnOk result (Adds self.old self.new 0 (applied_rows (knowing context.now) context.now.home.now self.old.functions name.now (length args.now) value args.now)) }
+        ensures { OnOk result (Adds self.old self.new 0
+            (applied_rows (knowing context.now) context.now.home.now self.old.functions name.now (length args.now) value args.now)) }
     {
         if name.arity as usize != args.len() {
             return self.bound(value, Ty::none());
@@ -137,7 +138,8 @@ impl Generator {
         value: Slot,
         args: &[Slot],
     ) -> Result<(), Memory>
-        ensures { OnOk result (Adds self.old self.new 0 (by_names (knowing context.now) home.now name.now (found context.now.known.now home.now name.now) value args.now)) }
+        ensures { OnOk result (Adds self.old self.new 0
+            (by_names (knowing context.now) home.now name.now (found context.now.known.now home.now name.now) value args.now)) }
     {
         match context.known.find(home, name) {
             Callee::Known(summary) => self.summary(context, home, name, summary, value, args),

@@ -71,7 +71,8 @@ pub fn result_count(ask: Ask, expr: &Expr) -> usize
 
 /// The module and the name of a call, where both are literal atoms. Takes no memory.
 pub fn call_names<'a>(home: &'a Expr, name: &'a Expr) -> Option<(&'a Atom, &'a Atom)>
-    ensures { MatchOption result (call_names (tree home.now) (tree name.now) ≡ None) (λ names. call_names (tree home.now) (tree name.now) ≡ Some (names.0.now, names.1.now)) }
+    ensures { MatchOption result (call_names (tree home.now) (tree name.now) ≡ None)
+        (λ names. call_names (tree home.now) (tree name.now) ≡ Some (names.0.now, names.1.now)) }
 {
     match (home.atom(), name.atom()) {
         (Some(home), Some(name)) => Some((home, name)),

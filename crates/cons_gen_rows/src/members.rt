@@ -120,7 +120,8 @@ impl Members {
     /// Adds a function, which may be there already. `Memory` if allocation fails; then all is as before.
     pub fn add(&mut self, home: &Atom, name: &FunName) -> Result<(), Memory>
         ensures added { OnOk result (is_member self.new home.now name.now ≡ true) }
-        ensures others { OnOk result ((h : Atom) (f : FunName) → ((h ≡ home.now) × (f ≡ name.now) → ⊥) → is_member self.new h f ≡ is_member self.old h f) }
+        ensures others { OnOk result ((h : Atom) (f : FunName) → ((h ≡ home.now) × (f ≡ name.now) → ⊥)
+            → is_member self.new h f ≡ is_member self.old h f) }
         ensures err { OnErr result (self.new ≡ self.old) }
     {
         match name.copy(self.alloc) {
@@ -132,7 +133,8 @@ impl Members {
     // The same with a name of its own.
     fn put(&mut self, home: &Atom, name: FunName) -> Result<(), Memory>
         ensures added { OnOk result (is_member self.new home.now name ≡ true) }
-        ensures others { OnOk result ((h : Atom) (f : FunName) → ((h ≡ home.now) × (f ≡ name) → ⊥) → is_member self.new h f ≡ is_member self.old h f) }
+        ensures others { OnOk result ((h : Atom) (f : FunName) → ((h ≡ home.now) × (f ≡ name) → ⊥)
+            → is_member self.new h f ≡ is_member self.old h f) }
         ensures err { OnErr result (self.new ≡ self.old) }
     {
         if let Some(table) = self.tables.get_mut(home) {

@@ -3,7 +3,9 @@
 ghost use Rattle.std.specs.Prelude.{◌≡◌, ◌+◌, [], ◌∷◌, ◌++◌, ℕ, None, Some, drop, length, IfOk, MatchOption, OnOk};
 ghost use Rattle.core_ast.specs.Tree.{all_pat_pairs, all_pat_segments, all_patterns, all_trees, pattern_tree};
 ghost use Rattle.core_scope.specs.Segments.{is_integer_segment, kind_named, segment_kind, third};
-ghost use Rattle.cons_gen_rows.specs.Patterns.{outer_bindings, outer_rows, outer_span, pat_pair_spans, pat_pairs_bindings, pat_pairs_rows, pat_segment_spans, pat_segments_bindings, pat_segments_rows, pattern_bindings, pattern_rows, pattern_slots, pattern_span, pattern_spans, patterns_bindings, patterns_rows, segment_rows};
+ghost use Rattle.cons_gen_rows.specs.Patterns.{outer_bindings, outer_rows, outer_span, pat_pair_spans, pat_pairs_bindings, pat_pairs_rows};
+ghost use Rattle.cons_gen_rows.specs.Patterns.{pat_segment_spans, pat_segments_bindings, pat_segments_rows, pattern_bindings, pattern_rows};
+ghost use Rattle.cons_gen_rows.specs.Patterns.{pattern_slots, pattern_span, pattern_spans, patterns_bindings, patterns_rows, segment_rows};
 ghost use Rattle.cons_gen_rows.specs.Scopes.{binding};
 ghost use Rattle.cons_gen_rows.specs.Walking.{Adds, Binds};
 ghost use Rattle.cons_gen_rows.specs.Words.{bound, equal, inner_cells, list_rows, literal_type};
@@ -128,7 +130,8 @@ fn walk_pattern(made: &mut Generator, matched: Slot, pattern: &Pattern) -> Resul
 #[cycle(patterns)]
 fn walk_own(made: &mut Generator, pattern: &Pattern) -> Result<Slot, Memory>
     ensures slot { IfOk result (λ slot. slot ≡ made.old.next) }
-    ensures pattern { OnOk result (Binds made.old made.new (1 + pattern_span (pattern_tree pattern.now)) (pattern_rows made.old.next (made.old.next + 1) (pattern_tree pattern.now)) (pattern_bindings (made.old.next + 1) (pattern_tree pattern.now))) }
+    ensures pattern { OnOk result (Binds made.old made.new (1 + pattern_span (pattern_tree pattern.now))
+        (pattern_rows made.old.next (made.old.next + 1) (pattern_tree pattern.now)) (pattern_bindings (made.old.next + 1) (pattern_tree pattern.now))) }
 {
     let slot = made.take(1)?;
     walk_pattern(made, slot, pattern)?;
@@ -139,7 +142,8 @@ fn walk_own(made: &mut Generator, pattern: &Pattern) -> Result<Slot, Memory>
 #[cycle(patterns)]
 fn walk_each(made: &mut Generator, patterns: &[Pattern]) -> Result<List<Slot>, Memory>
     ensures slots { IfOk result (λ slots. slots ≡ pattern_slots made.old.next (all_patterns patterns.now)) }
-    ensures patterns { OnOk result (Binds made.old made.new (pattern_spans (all_patterns patterns.now)) (patterns_rows made.old.next (all_patterns patterns.now)) (patterns_bindings made.old.next (all_patterns patterns.now))) }
+    ensures patterns { OnOk result (Binds made.old made.new (pattern_spans (all_patterns patterns.now))
+        (patterns_rows made.old.next (all_patterns patterns.now)) (patterns_bindings made.old.next (all_patterns patterns.now))) }
 {
     let mut slots = List::new(made.alloc);
     for pattern in patterns {
@@ -153,8 +157,11 @@ fn walk_each(made: &mut Generator, patterns: &[Pattern]) -> Result<List<Slot>, M
 #[cycle(patterns)]
 fn walk_elements(made: &mut Generator, patterns: &[Pattern]) -> Result<Elements, Memory>
     ensures cells { IfOk result (λ elements. elements.cells ≡ made.old.next) }
-    ensures slots { IfOk result (λ elements. elements.slots ≡ pattern_slots (made.old.next + inner_cells (length patterns.now)) (all_patterns patterns.now)) }
-    ensures patterns { OnOk result (Binds made.old made.new (inner_cells (length patterns.now) + pattern_spans (all_patterns patterns.now)) (patterns_rows (made.old.next + inner_cells (length patterns.now)) (all_patterns patterns.now)) (patterns_bindings (made.old.next + inner_cells (length patterns.now)) (all_patterns patterns.now))) }
+    ensures slots { IfOk result (λ elements. elements.slots
+        ≡ pattern_slots (made.old.next + inner_cells (length patterns.now)) (all_patterns patterns.now)) }
+    ensures patterns { OnOk result (Binds made.old made.new (inner_cells (length patterns.now) + pattern_spans (all_patterns patterns.now))
+        (patterns_rows (made.old.next + inner_cells (length patterns.now)) (all_patterns patterns.now))
+        (patterns_bindings (made.old.next + inner_cells (length patterns.now)) (all_patterns patterns.now))) }
 {
     let cells = made.take(inner_cells(patterns.len()))?;
     let slots = walk_each(made, patterns)?;
@@ -169,7 +176,9 @@ fn walk_tail(
     elements: &Elements,
     tail: &Pattern,
 ) -> Result<(), Memory>
-    ensures { OnOk result (Binds made.old made.new (1 + pattern_span (pattern_tree tail.now)) (pattern_rows made.old.next (made.old.next + 1) (pattern_tree tail.now) ++ list_rows matched elements.now.cells elements.now.slots made.old.next) (pattern_bindings (made.old.next + 1) (pattern_tree tail.now))) }
+    ensures { OnOk result (Binds made.old made.new (1 + pattern_span (pattern_tree tail.now))
+        (pattern_rows made.old.next (made.old.next + 1) (pattern_tree tail.now) ++ list_rows matched elements.now.cells elements.now.slots made.old.next)
+        (pattern_bindings (made.old.next + 1) (pattern_tree tail.now))) }
 {
     let rest = walk_own(made, tail)?;
     made.list(matched, elements, rest)
@@ -178,7 +187,8 @@ fn walk_tail(
 // The pairs of a map.
 #[cycle(patterns)]
 fn walk_pairs(made: &mut Generator, pairs: &[PatPair]) -> Result<(), Memory>
-    ensures { OnOk result (Binds made.old made.new (pat_pair_spans (all_pat_pairs pairs.now)) (pat_pairs_rows made.old.next (all_pat_pairs pairs.now)) (pat_pairs_bindings made.old.next (all_pat_pairs pairs.now))) }
+    ensures { OnOk result (Binds made.old made.new (pat_pair_spans (all_pat_pairs pairs.now)) (pat_pairs_rows made.old.next (all_pat_pairs pairs.now))
+        (pat_pairs_bindings made.old.next (all_pat_pairs pairs.now))) }
 {
     for pair in pairs {
         walk_own(made, &pair.value)?;
@@ -189,7 +199,8 @@ fn walk_pairs(made: &mut Generator, pairs: &[PatPair]) -> Result<(), Memory>
 // The segments of a binary.
 #[cycle(patterns)]
 fn walk_segments(made: &mut Generator, segments: &[PatSegment]) -> Result<(), Memory>
-    ensures { OnOk result (Binds made.old made.new (pat_segment_spans (all_pat_segments segments.now)) (pat_segments_rows made.old.next (all_pat_segments segments.now)) (pat_segments_bindings made.old.next (all_pat_segments segments.now))) }
+    ensures { OnOk result (Binds made.old made.new (pat_segment_spans (all_pat_segments segments.now))
+        (pat_segments_rows made.old.next (all_pat_segments segments.now)) (pat_segments_bindings made.old.next (all_pat_segments segments.now))) }
 {
     for segment in segments {
         walk_segment(made, segment)?;
@@ -200,7 +211,9 @@ fn walk_segments(made: &mut Generator, segments: &[PatSegment]) -> Result<(), Me
 // One segment.
 #[cycle(patterns)]
 fn walk_segment(made: &mut Generator, segment: &PatSegment) -> Result<(), Memory>
-    ensures { OnOk result (Binds made.old made.new (pat_segment_spans (all_pat_segments (segment.now ∷ []))) (pat_segments_rows made.old.next (all_pat_segments (segment.now ∷ []))) (pat_segments_bindings made.old.next (all_pat_segments (segment.now ∷ [])))) }
+    ensures { OnOk result (Binds made.old made.new (pat_segment_spans (all_pat_segments (segment.now ∷ [])))
+        (pat_segments_rows made.old.next (all_pat_segments (segment.now ∷ [])))
+        (pat_segments_bindings made.old.next (all_pat_segments (segment.now ∷ [])))) }
 {
     let slot = made.take(1)?;
     made.segment_value(slot, segment.args.as_slice())?;
@@ -224,7 +237,9 @@ fn walk_outermost(
     position: usize,
     pattern: &Pattern,
 ) -> Result<(), Memory>
-    ensures { OnOk result (Binds made.old made.new (outer_span (all_patterns (pattern.now ∷ []))) (outer_rows (drop position slots.now) made.old.next (all_patterns (pattern.now ∷ []))) (outer_bindings made.old.next (all_patterns (pattern.now ∷ [])))) }
+    ensures { OnOk result (Binds made.old made.new (outer_span (all_patterns (pattern.now ∷ [])))
+        (outer_rows (drop position slots.now) made.old.next (all_patterns (pattern.now ∷ [])))
+        (outer_bindings made.old.next (all_patterns (pattern.now ∷ [])))) }
 {
     if position < slots.len() {
         return walk_pattern(made, slots[position], pattern);
@@ -234,7 +249,8 @@ fn walk_outermost(
 
 /// The outermost patterns of a clause, at the slots of its arguments.
 pub fn walk_outer(made: &mut Generator, slots: &[Slot], patterns: &[Pattern]) -> Result<(), Memory>
-    ensures { OnOk result (Binds made.old made.new (outer_span (all_patterns patterns.now)) (outer_rows slots.now made.old.next (all_patterns patterns.now)) (outer_bindings made.old.next (all_patterns patterns.now))) }
+    ensures { OnOk result (Binds made.old made.new (outer_span (all_patterns patterns.now)) (outer_rows slots.now made.old.next (all_patterns patterns.now))
+        (outer_bindings made.old.next (all_patterns patterns.now))) }
 {
     for (position, pattern) in patterns.iter().enumerate() {
         walk_outermost(made, slots, position, pattern)?;

@@ -18,7 +18,8 @@ pub record Between (cs left : ConsList Part) (whole : State) (best : Outcome) (p
   pub good : GoodAny cs (memos ps) ks xs
   pub rest : merged environments (best_of best xs) left xs ≡ whole
 
-pub between_as : (cs left : ConsList Part) (whole : State) (b c : Outcome) (ps qs : List Plan) (ks js : List Outcome) (xs ys : Types) → c ≡ b → qs ≡ ps → js ≡ ks → ys ≡ xs → Between cs left whole b ps ks xs → Between cs left whole c qs js ys
+pub between_as : (cs left : ConsList Part) (whole : State) (b c : Outcome) (ps qs : List Plan) (ks js : List Outcome) (xs ys : Types) → c ≡ b → qs ≡ ps → js ≡ ks → ys ≡ xs → Between cs left whole b ps ks xs
+    → Between cs left whole c qs js ys
 between_as cs left whole b c ps qs ks js xs ys d e f h k =
     subst (λ x. Between cs left whole c qs js x) (sym h) (subst (λ x. Between cs left whole c qs x xs) (sym f) (subst (λ x. Between cs left whole c x ks xs) (sym e) (subst (λ x. Between cs left whole x ps ks xs) (sym d) k)))
 

@@ -64,7 +64,8 @@ module _ (facts : TypeFacts) (frames : Frames) where
       alternatives_same : (n : ℕ) (cs : ConsList Part) → FreeEach s cs → Same (W.alternatives environments n cs)
       alternatives_same n no_cons d xs = refl
       alternatives_same n (and_cons c cs) d xs =
-          ap (λ r. W.joined environments r (W.alternatives environments n cs (set xs s t))) (reached_same n c d.0 xs) ∙ ap (W.joined environments (with_slot s t (W.reached environments n c xs))) (alternatives_same n cs d.1 xs) ∙ joined_same (W.reached environments n c xs) (W.alternatives environments n cs xs)
+          ap (λ r. W.joined environments r (W.alternatives environments n cs (set xs s t))) (reached_same n c d.0 xs) ∙ ap (W.joined environments (with_slot s t (W.reached environments n c xs))) (alternatives_same n cs d.1 xs)
+          ∙ joined_same (W.reached environments n c xs) (W.alternatives environments n cs xs)
 
   module _ (laws : W.Laws environments) where
     pub solution_same : (c : Cons Part) (s : ℕ) (t : Type4) (xs : Types) → Free s c → solution c (set xs s t) ≡ with_slot s t (solution c xs)

@@ -1,5 +1,6 @@
 -- Entering members at slots, and the namings by rising slots.
-use Rattle.std.proofs.Common.{◌≡◌, ℕ, zero, suc, ◌+◌, ◌<◌, ◌≤◌, Bool, true, false, cond, List, [], ◌∷◌, ◌++◌, length, get_or, map, take, drop, refl, sym, ap, ◌∙◌, subst, arith, inl, inr, nat_eq, leb, ltb, eqb-true, eq-eqb, ltb-true, ltb-false, leb-true, leb-false}
+use Rattle.std.proofs.Common.{◌≡◌, ℕ, zero, suc, ◌+◌, ◌<◌, ◌≤◌, Bool, true, false, cond, List, [], ◌∷◌, ◌++◌, length, get_or, map, take, drop, refl}
+use Rattle.std.proofs.Common.{sym, ap, ◌∙◌, subst, arith, inl, inr, nat_eq, leb, ltb, eqb-true, eq-eqb, ltb-true, ltb-false, leb-true, leb-false}
 use Rattle.std.specs.List.{Contains}
 use Rattle.std.specs.List.Sorted.{IsPermutation, IsPartitionPoint}
 use Rattle.std.proofs.lemmas.List.{get_or-drop, length-drop}
@@ -23,7 +24,8 @@ has_less : (b : Bool) (x : Naming) (v : List Naming) (k : ℕ) → Has (map (λ 
 has_less true x v k h = inr h
 has_less false x v k h = h
 
-has_more : (b : Bool) (x : Naming) (u v : List Naming) (k : ℕ) → (Has (map (λ n. n.member) u) k → Has (map (λ n. n.member) v) k) → Has (map (λ n. n.member) (cond b (x ∷ u) u)) k → Has (map (λ n. n.member) (cond b (x ∷ v) v)) k
+has_more : (b : Bool) (x : Naming) (u v : List Naming) (k : ℕ) → (Has (map (λ n. n.member) u) k → Has (map (λ n. n.member) v) k) → Has (map (λ n. n.member) (cond b (x ∷ u) u)) k
+    → Has (map (λ n. n.member) (cond b (x ∷ v) v)) k
 has_more true x u v k f (inl e) = inl e
 has_more true x u v k f (inr h) = inr (f h)
 has_more false x u v k f h = f h
@@ -134,12 +136,14 @@ named_past (x ∷ xs) s (suc a) h =
     named_past xs s a (λ i d l m. h (suc i) d (omega (arith, l)) (omega (arith, m))) ∙ sym (not_first s x xs (λ e. omega (arith, e, lower)))
 
 -- none is lower, and just the first of them are not higher
-named_front : (xs : List Naming) (s k : ℕ) → ((i : ℕ) (d : Naming) → i < length xs → s ≤ (get_or xs i d).slot) → ((i : ℕ) (d : Naming) → i < k → i < length xs → (get_or xs i d).slot ≤ s) → ((i : ℕ) (d : Naming) → k ≤ i → i < length xs → s < (get_or xs i d).slot) → take k xs ≡ named xs s
+named_front : (xs : List Naming) (s k : ℕ) → ((i : ℕ) (d : Naming) → i < length xs → s ≤ (get_or xs i d).slot) → ((i : ℕ) (d : Naming) → i < k → i < length xs → (get_or xs i d).slot ≤ s)
+    → ((i : ℕ) (d : Naming) → k ≤ i → i < length xs → s < (get_or xs i d).slot) → take k xs ≡ named xs s
 named_front [] s zero f g h = refl
 named_front [] s (suc k) f g h = refl
 named_front (x ∷ xs) s zero f g h =
     let higher : s < x.slot = h 0 x (omega arith) (omega arith) in
-    nothing xs ∙ named_front xs s zero (λ i d l. f (suc i) d (omega (arith, l))) (λ i d l m. absurd (omega (arith, l))) (λ i d l m. h (suc i) d (omega arith) (omega (arith, m))) ∙ sym (not_first s x xs (λ e. omega (arith, e, higher)))
+    nothing xs ∙ named_front xs s zero (λ i d l. f (suc i) d (omega (arith, l))) (λ i d l m. absurd (omega (arith, l))) (λ i d l m. h (suc i) d (omega arith) (omega (arith, m)))
+    ∙ sym (not_first s x xs (λ e. omega (arith, e, higher)))
   where
     nothing : (l : List Naming) → [] ≡ take 0 l
     nothing [] = refl
@@ -147,11 +151,14 @@ named_front (x ∷ xs) s zero f g h =
 named_front (x ∷ xs) s (suc k) f g h =
     let low : s ≤ x.slot = f 0 x (omega arith) in
     let high : x.slot ≤ s = g 0 x (omega arith) (omega arith) in
-    ap (λ l. x ∷ l) (named_front xs s k (λ i d l. f (suc i) d (omega (arith, l))) (λ i d l m. g (suc i) d (omega (arith, l)) (omega (arith, m))) (λ i d l m. h (suc i) d (omega (arith, l)) (omega (arith, m)))) ∙ sym (is_first s x xs (omega (arith, low, high)))
+    ap (λ l. x ∷ l) (named_front xs s k (λ i d l. f (suc i) d (omega (arith, l))) (λ i d l m. g (suc i) d (omega (arith, l)) (omega (arith, m))) (λ i d l m. h (suc i) d (omega (arith, l)) (omega (arith, m))))
+    ∙ sym (is_first s x xs (omega (arith, low, high)))
 
-pub named_at : (xs rest : List Naming) (s a k : ℕ) → rest ≡ drop a xs → IsPartitionPoint (λ n. ltb n.slot s ≡ true) (λ n. ltb n.slot s ≡ false) xs a → IsPartitionPoint (λ n. leb n.slot s ≡ true) (λ n. leb n.slot s ≡ false) rest k → take k rest ≡ named xs s
+pub named_at : (xs rest : List Naming) (s a k : ℕ) → rest ≡ drop a xs → IsPartitionPoint (λ n. ltb n.slot s ≡ true) (λ n. ltb n.slot s ≡ false) xs a
+    → IsPartitionPoint (λ n. leb n.slot s ≡ true) (λ n. leb n.slot s ≡ false) rest k → take k rest ≡ named xs s
 named_at xs rest s a k e lower upper =
-    named_front rest s k (λ i d l. above i d l) (λ i d l m. leb-true _ s (upper.0 i d (omega arith) l)) (λ i d l m. leb-false _ s (upper.1 i d l m)) ∙ ap (λ l. named l s) e ∙ named_past xs s a (λ i d l m. ltb-true _ s (lower.0 i d (omega arith) l))
+    named_front rest s k (λ i d l. above i d l) (λ i d l m. leb-true _ s (upper.0 i d (omega arith) l)) (λ i d l m. leb-false _ s (upper.1 i d l m)) ∙ ap (λ l. named l s) e
+    ∙ named_past xs s a (λ i d l m. ltb-true _ s (lower.0 i d (omega arith) l))
   where
     within : (i : ℕ) → i < length (drop a xs) → a + i < length xs
     within i l = omega (arith, l, length-drop a xs)

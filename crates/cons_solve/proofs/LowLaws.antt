@@ -107,15 +107,18 @@ module _ (facts : TypeFacts) where
 
 -- ---- the two ways on, as the code meets them
 
-pub first_gathered : (best : Option (List TrailEntry)) (alive : Bool) (told new : List TrailEntry) (xs : Types) → best ≡ None → alive ≡ true → new ≡ map (now_of xs) told → joined environments (best_of best (laid told xs)) (answer alive xs) ≡ Some (laid new (laid told xs))
+pub first_gathered : (best : Option (List TrailEntry)) (alive : Bool) (told new : List TrailEntry) (xs : Types) → best ≡ None → alive ≡ true → new ≡ map (now_of xs) told
+    → joined environments (best_of best (laid told xs)) (answer alive xs) ≡ Some (laid new (laid told xs))
 first_gathered best alive told new xs e f g =
     ap (λ b. joined environments (best_of b (laid told xs)) (answer alive xs)) e ∙ ap (λ a. joined environments None (answer a xs)) f ∙ first_joined told new xs g
 
-pub next_kept : TypeFacts → (best : Option (List TrailEntry)) (alive : Bool) (lows same new : List TrailEntry) (begin xs : Types) → best ≡ Some lows → alive ≡ true → same ≡ lows → new ≡ map (raised_by xs) same → (alive ≡ true → AreBelow xs begin) → Kept best begin → KeptLows new begin
+pub next_kept : TypeFacts → (best : Option (List TrailEntry)) (alive : Bool) (lows same new : List TrailEntry) (begin xs : Types) → best ≡ Some lows → alive ≡ true → same ≡ lows → new ≡ map (raised_by xs) same
+    → (alive ≡ true → AreBelow xs begin) → Kept best begin → KeptLows new begin
 next_kept facts best alive lows same new begin xs e f s g h k =
     kept_next facts lows new begin xs (g ∙ ap (map (raised_by xs)) s) (h f) (subst (λ b. Kept b begin) e k)
 
-pub next_gathered : TypeFacts → (best : Option (List TrailEntry)) (alive : Bool) (lows same new : List TrailEntry) (begin xs : Types) → best ≡ Some lows → alive ≡ true → same ≡ lows → new ≡ map (raised_by xs) same → (alive ≡ true → AreBelow xs begin) → joined environments (best_of best begin) (answer alive xs) ≡ Some (laid new begin)
+pub next_gathered : TypeFacts → (best : Option (List TrailEntry)) (alive : Bool) (lows same new : List TrailEntry) (begin xs : Types) → best ≡ Some lows → alive ≡ true → same ≡ lows → new ≡ map (raised_by xs) same
+    → (alive ≡ true → AreBelow xs begin) → joined environments (best_of best begin) (answer alive xs) ≡ Some (laid new begin)
 next_gathered facts best alive lows same new begin xs e f s g h =
     ap (λ b. joined environments (best_of b begin) (answer alive xs)) e ∙ ap (λ a. joined environments (Some (laid lows begin)) (answer a xs)) f ∙ next_joined facts lows new begin xs (g ∙ ap (map (raised_by xs)) s) (h f)
 

@@ -57,6 +57,7 @@ end_of (c ∷ cs) (suc i) h = end_of cs i (omega (arith, h))
 
 -- ---- one member of Any
 
-pub union_goes_on : (cs : List Constraint) (i : ℕ) (x : Constraint) (xs : Types) (s t u r : State) → i < length cs → x ≡ get_or cs i x → solution (constraint x) xs ≡ t → joined environments s t ≡ u → merged environments s (constraints (drop i cs)) xs ≡ r → merged environments u (constraints (drop (i + 1) cs)) xs ≡ r
+pub union_goes_on : (cs : List Constraint) (i : ℕ) (x : Constraint) (xs : Types) (s t u r : State) → i < length cs → x ≡ get_or cs i x → solution (constraint x) xs ≡ t → joined environments s t ≡ u
+    → merged environments s (constraints (drop i cs)) xs ≡ r → merged environments u (constraints (drop (i + 1) cs)) xs ≡ r
 union_goes_on cs i x xs s t u r l e h k q =
     sym (ap (λ m. merged environments s m xs) (next_of cs i x l e) ∙ ap (λ v. merged environments v (constraints (drop (i + 1) cs)) xs) (ap (joined environments s) h ∙ k)) ∙ q

@@ -17,11 +17,13 @@ module _ (laws : W.Laws environments) where
   member_solved : (ms : List Constraint) (i : ℕ) (m : Constraint) → i < length ms → m ≡ get_or ms i m → (y : Types) → W.SolvesEach environments (constraints ms) y → W.Solves environments (constraint m) y
   member_solved ms i m l is y q = subst (λ c. W.Solves environments (constraint c) y) (sym is) (each_at ms i m y l q)
 
-  pub member_moves : (ms : List Constraint) (i : ℕ) (m : Constraint) (xs ys : Types) → i < length ms → m ≡ get_or ms i m → solution (constraint m) xs ≡ Some ys → solution (all_of (constraints ms)) ys ≡ solution (all_of (constraints ms)) xs
+  pub member_moves : (ms : List Constraint) (i : ℕ) (m : Constraint) (xs ys : Types) → i < length ms → m ≡ get_or ms i m → solution (constraint m) xs ≡ Some ys
+      → solution (all_of (constraints ms)) ys ≡ solution (all_of (constraints ms)) xs
   member_moves ms i m xs ys l is h =
       let all = all_of (constraints ms) in
       let best = S.is_greatest environments laws (constraint m) xs in
-      sym (S.greatest_is environments laws all xs (solution all ys) (S.moved environments laws (W.Solves environments all) xs ys (solution all ys) (subst (λ r. W.Under environments r (Some xs)) h best.below) (λ y b q. subst (W.Under environments (Some y)) h (best.above y b (member_solved ms i m l is y q))) (S.is_greatest environments laws all ys)))
+      sym (S.greatest_is environments laws all xs (solution all ys) (S.moved environments laws (W.Solves environments all) xs ys (solution all ys) (subst (λ r. W.Under environments r (Some xs)) h best.below)
+      (λ y b q. subst (W.Under environments (Some y)) h (best.above y b (member_solved ms i m l is y q))) (S.is_greatest environments laws all ys)))
 
   pub member_dies : (ms : List Constraint) (i : ℕ) (m : Constraint) (xs : Types) → i < length ms → m ≡ get_or ms i m → solution (constraint m) xs ≡ None → solution (all_of (constraints ms)) xs ≡ None
   member_dies ms i m xs l is h =

@@ -47,7 +47,8 @@ blank_each (c ∷ cs) (p ∷ ps) xs h = (good_blank (constraint c) p xs (h 0), b
 kept_blank : (c : Cons Part) (m : Memo) (k : Outcome) (xs : Types) → k ≡ Some [] → Good c m xs → IsKept c k (Good c m) xs
 kept_blank c m k xs e g = subst (λ o. IsKept c o (Good c m) xs) (sym e) (tt, λ ys b q. tt, g)
 
-pub blank_any : (cs : List Constraint) (ps : List Plan) (ks : List Outcome) (xs : Types) → ((i : ℕ) → get_or ps i v.Blank ≡ v.Blank) → length ks ≡ length cs → ((i : ℕ) → get_or ks i (Some []) ≡ Some []) → GoodAny (constraints cs) (memos ps) ks xs
+pub blank_any : (cs : List Constraint) (ps : List Plan) (ks : List Outcome) (xs : Types) → ((i : ℕ) → get_or ps i v.Blank ≡ v.Blank) → length ks ≡ length cs → ((i : ℕ) → get_or ks i (Some []) ≡ Some [])
+    → GoodAny (constraints cs) (memos ps) ks xs
 blank_any [] ps ks xs h l n = tt
 blank_any (c ∷ cs) ps [] xs h l n = absurd (omega (arith, l))
 blank_any (c ∷ cs) [] (k ∷ ks) xs h l n =
@@ -61,7 +62,8 @@ kept_as c (Some lows) G H xs f h = (h.0, h.1, f (fallen lows xs) h.2)
 
 -- ---- an index of the members
 
-index_from : (cs : List Constraint) (i : ℕ) (index : List Naming) → ((j s : ℕ) → j < length cs → (Has (here index s) (i + j) → ⊥) → (x : Constraint) → Free s (constraint (get_or cs j x))) → IsIndex (constraints cs) i index
+index_from : (cs : List Constraint) (i : ℕ) (index : List Naming) → ((j s : ℕ) → j < length cs → (Has (here index s) (i + j) → ⊥) → (x : Constraint) → Free s (constraint (get_or cs j x)))
+    → IsIndex (constraints cs) i index
 index_from [] i index h = tt
 index_from (c ∷ cs) i index h =
     (λ s n. h 0 s (omega arith) (λ has. n (subst (Has (here index s)) (omega arith) has)) c, index_from cs (suc i) index (λ j s l n x. h (suc j) s (omega (arith, l)) (λ has. n (subst (Has (here index s)) (omega arith) has)) x))
@@ -80,7 +82,8 @@ covers cs index h j s l n x = covers_from cs 0 j s index h l (λ has. n (subst (
 
 -- ---- a member of a list
 
-pub each_at : (cs : List Constraint) (ps : List Plan) (i : ℕ) (x : Constraint) (p : Plan) (xs : Types) → GoodEach (constraints cs) (memos ps) xs → i < length cs → x ≡ get_or cs i x → p ≡ get_or ps i v.Blank → Good (constraint x) (memo p) xs
+pub each_at : (cs : List Constraint) (ps : List Plan) (i : ℕ) (x : Constraint) (p : Plan) (xs : Types) → GoodEach (constraints cs) (memos ps) xs → i < length cs → x ≡ get_or cs i x → p ≡ get_or ps i v.Blank
+    → Good (constraint x) (memo p) xs
 each_at [] ps i x p xs g l e f = absurd (omega (arith, l))
 each_at (c ∷ cs) [] zero x p xs g l e f = good_blank (constraint x) p xs f
 each_at (c ∷ cs) [] (suc i) x p xs g l e f = good_blank (constraint x) p xs f
@@ -88,14 +91,16 @@ each_at (c ∷ cs) (q ∷ ps) zero x p xs g l e f =
     subst (λ y. Good (constraint y) (memo p) xs) (sym e) (subst (λ y. Good (constraint c) (memo y) xs) (sym f) g.0)
 each_at (c ∷ cs) (q ∷ ps) (suc i) x p xs g l e f = each_at cs ps i x p xs g.1 (omega (arith, l)) e f
 
-each_set : (cs : List Constraint) (ps : List Plan) (i : ℕ) (x : Constraint) (p : Plan) (xs : Types) → GoodEach (constraints cs) (memos ps) xs → x ≡ get_or cs i x → Good (constraint x) (memo p) xs → GoodEach (constraints cs) (memos (set ps i p)) xs
+each_set : (cs : List Constraint) (ps : List Plan) (i : ℕ) (x : Constraint) (p : Plan) (xs : Types) → GoodEach (constraints cs) (memos ps) xs → x ≡ get_or cs i x → Good (constraint x) (memo p) xs
+    → GoodEach (constraints cs) (memos (set ps i p)) xs
 each_set [] ps i x p xs g e h = tt
 each_set (c ∷ cs) [] i x p xs g e h = g
 each_set (c ∷ cs) (q ∷ ps) zero x p xs g e h = (subst (λ y. Good (constraint y) (memo p) xs) e h, g.1)
 each_set (c ∷ cs) (q ∷ ps) (suc i) x p xs g e h = (g.0, each_set cs ps i x p xs g.1 e h)
 
 -- its plan was taken out, and another one put there
-pub each_again : (cs : List Constraint) (ps qs rs : List Plan) (i : ℕ) (x : Constraint) (b p : Plan) (xs : Types) → qs ≡ set ps i b → rs ≡ set qs i p → GoodEach (constraints cs) (memos ps) xs → x ≡ get_or cs i x → Good (constraint x) (memo p) xs → GoodEach (constraints cs) (memos rs) xs
+pub each_again : (cs : List Constraint) (ps qs rs : List Plan) (i : ℕ) (x : Constraint) (b p : Plan) (xs : Types) → qs ≡ set ps i b → rs ≡ set qs i p → GoodEach (constraints cs) (memos ps) xs → x ≡ get_or cs i x
+    → Good (constraint x) (memo p) xs → GoodEach (constraints cs) (memos rs) xs
 each_again cs ps qs rs i x b p xs d f g e h =
     subst (λ l. GoodEach (constraints cs) (memos l) xs) (sym (f ∙ ap (λ l. set l i p) d ∙ set-set ps i b p)) (each_set cs ps i x p xs g e h)
 
@@ -108,20 +113,25 @@ any_long (c ∷ cs) ps (k ∷ ks) zero xs g l = omega arith
 any_long (c ∷ cs) [] (k ∷ ks) (suc i) xs g l = let r = any_long cs [] ks i xs g.1 (omega (arith, l)) in omega (arith, r)
 any_long (c ∷ cs) (p ∷ ps) (k ∷ ks) (suc i) xs g l = let r = any_long cs ps ks i xs g.1 (omega (arith, l)) in omega (arith, r)
 
-any_at : (cs : List Constraint) (ps : List Plan) (ks : List Outcome) (i : ℕ) (x : Constraint) (p : Plan) (k : Outcome) (xs : Types) → GoodAny (constraints cs) (memos ps) ks xs → i < length cs → x ≡ get_or cs i x → p ≡ get_or ps i v.Blank → get_or ks i k ≡ k → IsKept (constraint x) k (Good (constraint x) (memo p)) xs
+any_at : (cs : List Constraint) (ps : List Plan) (ks : List Outcome) (i : ℕ) (x : Constraint) (p : Plan) (k : Outcome) (xs : Types) → GoodAny (constraints cs) (memos ps) ks xs → i < length cs → x ≡ get_or cs i x
+    → p ≡ get_or ps i v.Blank → get_or ks i k ≡ k → IsKept (constraint x) k (Good (constraint x) (memo p)) xs
 any_at [] ps ks i x p k xs g l e f h = absurd (omega (arith, l))
 any_at (c ∷ cs) ps [] i x p k xs g l e f h = absurd g
 any_at (c ∷ cs) [] (j ∷ ks) zero x p k xs g l e f h =
-    subst (λ y. IsKept (constraint y) k (Good (constraint y) (memo p)) xs) (sym e) (subst (λ m. IsKept (constraint c) k (Good (constraint c) m) xs) (sym (ap memo f ∙ memo_blank)) (subst (λ y. IsKept (constraint c) y (Good (constraint c) blank) xs) h g.0))
+    subst (λ y. IsKept (constraint y) k (Good (constraint y) (memo p)) xs) (sym e)
+    (subst (λ m. IsKept (constraint c) k (Good (constraint c) m) xs) (sym (ap memo f ∙ memo_blank)) (subst (λ y. IsKept (constraint c) y (Good (constraint c) blank) xs) h g.0))
 any_at (c ∷ cs) (q ∷ ps) (j ∷ ks) zero x p k xs g l e f h =
-    subst (λ y. IsKept (constraint y) k (Good (constraint y) (memo p)) xs) (sym e) (subst (λ y. IsKept (constraint c) k (Good (constraint c) (memo y)) xs) (sym f) (subst (λ y. IsKept (constraint c) y (Good (constraint c) (memo q)) xs) h g.0))
+    subst (λ y. IsKept (constraint y) k (Good (constraint y) (memo p)) xs) (sym e)
+    (subst (λ y. IsKept (constraint c) k (Good (constraint c) (memo y)) xs) (sym f) (subst (λ y. IsKept (constraint c) y (Good (constraint c) (memo q)) xs) h g.0))
 any_at (c ∷ cs) [] (j ∷ ks) (suc i) x p k xs g l e f h = any_at cs [] ks i x p k xs g.1 (omega (arith, l)) e f h
 any_at (c ∷ cs) (q ∷ ps) (j ∷ ks) (suc i) x p k xs g l e f h = any_at cs ps ks i x p k xs g.1 (omega (arith, l)) e f h
 
-pub any_here : (cs : List Constraint) (ps : List Plan) (ks : List Outcome) (i : ℕ) (x : Constraint) (p : Plan) (k : Outcome) (xs : Types) → GoodAny (constraints cs) (memos ps) ks xs → i < length cs → x ≡ get_or cs i x → p ≡ get_or ps i v.Blank → slice_get ks i ≡ Some k → IsKept (constraint x) k (Good (constraint x) (memo p)) xs
+pub any_here : (cs : List Constraint) (ps : List Plan) (ks : List Outcome) (i : ℕ) (x : Constraint) (p : Plan) (k : Outcome) (xs : Types) → GoodAny (constraints cs) (memos ps) ks xs → i < length cs → x ≡ get_or cs i x
+    → p ≡ get_or ps i v.Blank → slice_get ks i ≡ Some k → IsKept (constraint x) k (Good (constraint x) (memo p)) xs
 any_here cs ps ks i x p k xs g l e f h = any_at cs ps ks i x p k xs g l e f (get_or_from_slice_get ks i k k h)
 
-any_set : (cs : List Constraint) (ps : List Plan) (ks : List Outcome) (i : ℕ) (x : Constraint) (p : Plan) (k : Outcome) (xs : Types) → GoodAny (constraints cs) (memos ps) ks xs → x ≡ get_or cs i x → IsKept (constraint x) k (Good (constraint x) (memo p)) xs → GoodAny (constraints cs) (memos (set ps i p)) (set ks i k) xs
+any_set : (cs : List Constraint) (ps : List Plan) (ks : List Outcome) (i : ℕ) (x : Constraint) (p : Plan) (k : Outcome) (xs : Types) → GoodAny (constraints cs) (memos ps) ks xs → x ≡ get_or cs i x
+    → IsKept (constraint x) k (Good (constraint x) (memo p)) xs → GoodAny (constraints cs) (memos (set ps i p)) (set ks i k) xs
 any_set [] ps ks i x p k xs g e h = tt
 any_set (c ∷ cs) ps [] i x p k xs g e h = absurd g
 any_set (c ∷ cs) [] (j ∷ ks) zero x p k xs g e h =
@@ -136,9 +146,11 @@ pub none_again : (ks js : List Outcome) (i : ℕ) → slice_get ks i ≡ Some No
 none_again ks js i h e = e ∙ ap (set ks i) (sym (get_or_from_slice_get ks i None None h)) ∙ set-get_or ks i None
 
 -- its plan and what was kept were taken out, and others put there
-pub any_again : (cs : List Constraint) (ps qs rs : List Plan) (ks js ls : List Outcome) (i : ℕ) (x : Constraint) (b p : Plan) (a k : Outcome) (xs : Types) → qs ≡ set ps i b → rs ≡ set qs i p → js ≡ set ks i a → ls ≡ set js i k → GoodAny (constraints cs) (memos ps) ks xs → x ≡ get_or cs i x → IsKept (constraint x) k (Good (constraint x) (memo p)) xs → GoodAny (constraints cs) (memos rs) ls xs
+pub any_again : (cs : List Constraint) (ps qs rs : List Plan) (ks js ls : List Outcome) (i : ℕ) (x : Constraint) (b p : Plan) (a k : Outcome) (xs : Types) → qs ≡ set ps i b → rs ≡ set qs i p → js ≡ set ks i a
+    → ls ≡ set js i k → GoodAny (constraints cs) (memos ps) ks xs → x ≡ get_or cs i x → IsKept (constraint x) k (Good (constraint x) (memo p)) xs → GoodAny (constraints cs) (memos rs) ls xs
 any_again cs ps qs rs ks js ls i x b p a k xs d f d2 f2 g e h =
-    subst (λ l. GoodAny (constraints cs) (memos rs) l xs) (sym (f2 ∙ ap (λ l. set l i k) d2 ∙ set-set ks i a k)) (subst (λ l. GoodAny (constraints cs) (memos l) (set ks i k) xs) (sym (f ∙ ap (λ l. set l i p) d ∙ set-set ps i b p)) (any_set cs ps ks i x p k xs g e h))
+    subst (λ l. GoodAny (constraints cs) (memos rs) l xs) (sym (f2 ∙ ap (λ l. set l i k) d2 ∙ set-set ks i a k))
+    (subst (λ l. GoodAny (constraints cs) (memos l) (set ks i k) xs) (sym (f ∙ ap (λ l. set l i p) d ∙ set-set ps i b p)) (any_set cs ps ks i x p k xs g e h))
 
 -- ---- lists of one item
 

@@ -154,7 +154,8 @@ module _ (facts : TypeFacts) (laws : W.Laws environments) where
       S.solved_on environments laws c xs (fallen lows xs) (fallen_below facts lows xs) (λ zs b q. fallen_above facts lows xs zs b (k.1 zs b q))
 
   -- what a solution lowered is kept, and that there is none
-  pub kept_new : (c : Cons Part) (G : Types → Type 0) (fs : List TrailEntry) (begin xs : Types) (alive : Bool) (k : Outcome) → ((us ws : Types) → AreBelow ws us → G us → G ws) → solution c begin ≡ answer alive xs → laid fs xs ≡ begin → Within (length xs) fs → length begin ≡ length xs → (alive ≡ true → G xs) → k ≡ cond alive (Some (map (now_of xs) fs)) None → IsKept c k G begin
+  pub kept_new : (c : Cons Part) (G : Types → Type 0) (fs : List TrailEntry) (begin xs : Types) (alive : Bool) (k : Outcome) → ((us ws : Types) → AreBelow ws us → G us → G ws) → solution c begin ≡ answer alive xs
+      → laid fs xs ≡ begin → Within (length xs) fs → length begin ≡ length xs → (alive ≡ true → G xs) → k ≡ cond alive (Some (map (now_of xs) fs)) None → IsKept c k G begin
   kept_new c G fs begin xs true k f h e w l g is =
       subst (λ o. IsKept c o G begin) (sym is) (
         now_within (length begin) fs xs (subst (λ n. Within n fs) (sym l) w),
@@ -164,7 +165,8 @@ module _ (facts : TypeFacts) (laws : W.Laws environments) where
   kept_new c G fs begin xs false k f h e w l g is =
       subst (λ o. IsKept c o G begin) (sym is) (λ zs b q. S.stays_under environments laws c begin None h zs b q)
 
-  pub kept_after : (c : Cons Part) (m : Memo) (fs : List TrailEntry) (begin xs : Types) (alive : Bool) (k : Outcome) → solution c begin ≡ answer alive xs → laid fs xs ≡ begin → Within (length xs) fs → length begin ≡ length xs → (alive ≡ true → Good c m xs) → k ≡ cond alive (Some (map (now_of xs) fs)) None → IsKept c k (Good c m) begin
+  pub kept_after : (c : Cons Part) (m : Memo) (fs : List TrailEntry) (begin xs : Types) (alive : Bool) (k : Outcome) → solution c begin ≡ answer alive xs → laid fs xs ≡ begin → Within (length xs) fs → length begin ≡ length xs
+      → (alive ≡ true → Good c m xs) → k ≡ cond alive (Some (map (now_of xs) fs)) None → IsKept c k (Good c m) begin
   kept_after c m fs begin xs alive k h e w l g is =
       kept_new c (Good c m) fs begin xs alive k (λ us ws b q. good_falls c m us ws b q) h e w l g is
 
@@ -175,7 +177,8 @@ joined_none (Some x) = refl
 
 -- ---- lowering entry by entry, the last first
 
-pub lowering_on : (old new : List TrailEntry) (f : TrailEntry) (xs ys : Types) (m : Type4) → old ≡ new ++ f ∷ [] → m ≡ meet (type_at xs f.slot) f.ty → ys ≡ set xs f.slot m → Within (length xs) old → Within (length ys) new × (fallen new ys ≡ fallen old xs)
+pub lowering_on : (old new : List TrailEntry) (f : TrailEntry) (xs ys : Types) (m : Type4) → old ≡ new ++ f ∷ [] → m ≡ meet (type_at xs f.slot) f.ty → ys ≡ set xs f.slot m → Within (length xs) old
+    → Within (length ys) new × (fallen new ys ≡ fallen old xs)
 lowering_on old new f xs ys m e is g w =
     let here : ys ≡ met xs f = g ∙ ap (set xs f.slot) is in
     let kept = (within_parts (length xs) new f (subst (Within (length xs)) e w)).0 in

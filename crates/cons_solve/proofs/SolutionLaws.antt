@@ -195,7 +195,8 @@ module _ (S : Space) (laws : W.Laws S) where
       reached_solve (any_of cs) e l =
           at (alternatives cs e) refl (λ y k. joins cs y k) (λ y h b. again cs e y l h b)
         where
-          at : (r : State S) → alternatives cs e ≡ r → ((y : Env) → rank y < limit → IsJoin cs y (alternatives cs y)) → ((y : Env) → Leq y e → Under (alternatives cs e) (Some y) → Under (alternatives cs e) (alternatives cs y)) → W.Holds S (W.Solves S (any_of cs)) r
+          at : (r : State S) → alternatives cs e ≡ r → ((y : Env) → rank y < limit → IsJoin cs y (alternatives cs y))
+              → ((y : Env) → Leq y e → Under (alternatives cs e) (Some y) → Under (alternatives cs e) (alternatives cs y)) → W.Holds S (W.Solves S (any_of cs)) r
           at None q j g = tt
           at (Some y) q j g =
               let h : Leq y e = subst (λ r. Under r (Some e)) q (alternatives_below cs e) in
@@ -287,7 +288,8 @@ module _ (S : Space) (laws : W.Laws S) where
 
   pub part_moves : (p : Part) (e f : Env) → narrow p e ≡ Some f → greatest S (only p) f ≡ greatest S (only p) e
   part_moves p e f h =
-      sym (greatest_is (only p) e (greatest S (only p) f) (moved (W.Solves S (only p)) e f _ (subst (λ r. Under r (Some e)) h (laws.narrow_below p e)) (λ x b q. subst (Under (Some x)) h (subst (λ r. Under r (narrow p e)) q (laws.narrow_grows p x e b))) (is_greatest (only p) f)))
+      sym (greatest_is (only p) e (greatest S (only p) f) (moved (W.Solves S (only p)) e f _ (subst (λ r. Under r (Some e)) h (laws.narrow_below p e))
+      (λ x b q. subst (Under (Some x)) h (subst (λ r. Under r (narrow p e)) q (laws.narrow_grows p x e b))) (is_greatest (only p) f)))
 
   pub part_stays : (p : Part) (e : Env) → narrow p e ≡ Some e → greatest S (only p) e ≡ Some e
   part_stays p e h = greatest_is (only p) e (Some e) (own_solution (W.Solves S (only p)) e h)
@@ -315,7 +317,8 @@ module _ (S : Space) (laws : W.Laws S) where
 
   pub all_moves : (cs : ConsList Part) (e f : Env) → P.passes S cs e ≡ Some f → greatest S (all_of cs) f ≡ greatest S (all_of cs) e
   all_moves cs e f h =
-      sym (greatest_is (all_of cs) e (greatest S (all_of cs) f) (moved (W.Solves S (all_of cs)) e f _ (subst (λ r. Under r (Some e)) h (passes_below cs e)) (λ x b q. subst (Under (Some x)) h (passes_above cs x e b q)) (is_greatest (all_of cs) f)))
+      sym (greatest_is (all_of cs) e (greatest S (all_of cs) f) (moved (W.Solves S (all_of cs)) e f _ (subst (λ r. Under r (Some e)) h (passes_below cs e)) (λ x b q. subst (Under (Some x)) h (passes_above cs x e b q))
+      (is_greatest (all_of cs) f)))
 
   pub all_stays : (cs : ConsList Part) (e : Env) → P.passes S cs e ≡ Some e → greatest S (all_of cs) e ≡ Some e
   all_stays cs e h =

@@ -46,7 +46,8 @@ count_less (true ∷ ws) (suc i) h = let k = count_less ws i h in omega (arith, 
 count_less (false ∷ ws) (suc i) h = count_less ws i h
 
 -- a turn lowers the array, or fewer members wait after it
-pub turn_falls : Falling rank → (ms : List Constraint) (old mid new : List Bool) (told : List TrailEntry) (s t : Slots) (m i : ℕ) → Trailed s t → m ≡ length s.trail → told ≡ drop m t.trail → mid ≡ set old i false → (told ≡ [] → new ≡ mid) → length new ≡ length ms → get_or old i false ≡ true
+pub turn_falls : Falling rank → (ms : List Constraint) (old mid new : List Bool) (told : List TrailEntry) (s t : Slots) (m i : ℕ) → Trailed s t → m ≡ length s.trail → told ≡ drop m t.trail → mid ≡ set old i false
+    → (told ≡ [] → new ≡ mid) → length new ≡ length ms → get_or old i false ≡ true
     → (length ms + 1) * ranks t.types + count_waiting new < (length ms + 1) * ranks s.types + count_waiting old
 turn_falls f ms old mid new told s t m i r checkpoint is e quiet long was = elim (cases_eq (length t.trail) (length s.trail)) [
   | inl same ↦
@@ -79,7 +80,9 @@ module _ (facts : TypeFacts) (frames : Frames) (laws : W.Laws environments) wher
       S.greatest_is environments laws c ys (Some ys) (S.own_solution environments laws (W.Solves environments c) ys (subst (W.Holds environments (W.Solves environments c)) h (S.is_greatest environments laws c xs).holds))
 
   -- after a turn with one member
-  pub rest_goes_on : (old mid new : List Bool) (ms : List Constraint) (index : List Naming) (told : List TrailEntry) (s t : Slots) (checkpoint i : ℕ) (m : Constraint) → i < length ms → m ≡ get_or ms i m → solution (constraint m) s.types ≡ Some t.types → Trailed s t → checkpoint ≡ length s.trail → told ≡ drop checkpoint t.trail → Covers ms index → mid ≡ set old i false → Woke i index told mid new → Rest old ms s.types → Rest new ms t.types
+  pub rest_goes_on : (old mid new : List Bool) (ms : List Constraint) (index : List Naming) (told : List TrailEntry) (s t : Slots) (checkpoint i : ℕ) (m : Constraint) → i < length ms → m ≡ get_or ms i m
+      → solution (constraint m) s.types ≡ Some t.types → Trailed s t → checkpoint ≡ length s.trail → told ≡ drop checkpoint t.trail → Covers ms index → mid ≡ set old i false → Woke i index told mid new
+      → Rest old ms s.types → Rest new ms t.types
   rest_goes_on old mid new ms index told s t checkpoint i m lt is h trail marked same cover e woke r j l off x = elim (cases_eq j i) [
     | inl here_now ↦
         let member : m ≡ get_or ms j x = is ∙ get_or_default ms i m x lt ∙ ap (λ n. get_or ms n x) (sym here_now) in

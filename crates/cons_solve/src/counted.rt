@@ -77,7 +77,8 @@ pub fn count_slots<L: Ledger>(
 ) -> Result<bool, Memory>
     ensures value { IfOk result (λ alive. solution (constraint c.now) slots.old.types ≡ answer alive slots.new.types) }
     ensures cost { IfOk result (λ _. (h : Type4 → ℕ) → Falling h → steps.new ≤ steps.old + (1 + summed h slots.old.types)) }
-    ensures still { IfOk result (λ alive. (members : List Constraint) → c.now ≡ Constraint.All members → steps.new ≡ steps.old → (alive ≡ true) × (slots.new.types ≡ slots.old.types)) }
+    ensures still { IfOk result (λ alive. (members : List Constraint) → c.now ≡ Constraint.All members → steps.new ≡ steps.old
+        → (alive ≡ true) × (slots.new.types ≡ slots.old.types)) }
 {
     match c {
         Constraint::Part(_) => solve_slots(alloc, c, slots, visits),

@@ -67,7 +67,8 @@ pub fn list_plan(
     members: &[Constraint],
     plan: Plan,
 ) -> Result<(List<Plan>, Index), Memory>
-    ensures { IfOk result (λ r. (xs : Types) → Good (all_of (constraints members.now)) (memo plan) xs → Good (all_of (constraints members.now)) (listing (memos r.0) r.1.namings) xs) }
+    ensures { IfOk result (λ r. (xs : Types) → Good (all_of (constraints members.now)) (memo plan) xs
+        → Good (all_of (constraints members.now)) (listing (memos r.0) r.1.namings) xs) }
 {
     match plan {
         Plan::All(plans, index) => Ok((plans, index)),
@@ -87,7 +88,8 @@ pub fn choice_plan(
     members: &[Constraint],
     plan: Plan,
 ) -> Result<(List<Plan>, List<Option<List<TrailEntry>>>), Memory>
-    ensures { IfOk result (λ r. (xs : Types) → Good (any_of (constraints members.now)) (memo plan) xs → GoodAny (constraints members.now) (memos r.0) r.1 xs) }
+    ensures { IfOk result (λ r. (xs : Types) → Good (any_of (constraints members.now)) (memo plan) xs
+        → GoodAny (constraints members.now) (memos r.0) r.1 xs) }
 {
     match plan {
         Plan::Any(plans, kept) => Ok((plans, kept)),

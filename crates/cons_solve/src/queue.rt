@@ -183,7 +183,8 @@ impl Queue {
     /// allocation fails.
     pub fn next(&mut self) -> Result<Option<usize>, Memory>
         requires { Queued self.old.flags (self.old.soon ++ self.old.later) }
-        ensures some { IfOk result (λ next. IfSome next (λ at. (at < length self.old.flags) × (get_or self.old.flags at false ≡ true) × (self.new.flags ≡ set self.old.flags at false))) }
+        ensures some { IfOk result (λ next. IfSome next (λ at. (at < length self.old.flags) × (get_or self.old.flags at false ≡ true)
+            × (self.new.flags ≡ set self.old.flags at false))) }
         ensures queued { IfOk result (λ next. IfSome next (λ at. Queued self.new.flags (self.new.soon ++ self.new.later))) }
         ensures none { IfOk result (λ next. IfNone next ((j : ℕ) → j < length self.old.flags → get_or self.old.flags j true ≡ false)) }
     {

@@ -92,7 +92,8 @@ pub fn solve_counted<L: Ledger>(
 ) -> Result<Env, Memory>
     ensures value { IfOk result (λ e. e ≡ env_of (on_types (state_of begin) (solution (constraint c.now)))) }
     ensures cost { IfOk result (λ _. (h : Type4 → ℕ) → Falling h → steps.new ≤ steps.old + (1 + summed_over h (state_of begin))) }
-    ensures still { IfOk result (λ e. (members : List Constraint) → c.now ≡ Constraint.All members → steps.new ≡ steps.old → e ≡ env_of (state_of begin)) }
+    ensures still { IfOk result (λ e. (members : List Constraint) → c.now ≡ Constraint.All members → steps.new ≡ steps.old
+        → e ≡ env_of (state_of begin)) }
 {
     match entered(alloc, begin) {
         None => Ok(Env::Bottom),

@@ -25,5 +25,6 @@ pub fn narrowed_twice(alloc: Global, part: &Part, env: &Env) -> Result<(Env, Env
 /// The head of a list of an integer and anything satisfies the part of `hd`, whatever type of lists the
 /// argument is to be of.
 pub fn some_head()
-    ensures { (a : Assignment) (t : Type4) (n : ℤ) (rest : Value) → a 0 ≡ int n → a 1 ≡ cons (int n) rest → HasType (a 1) t → SatPart (Builtin 0 (1 ∷ []) (t ∷ []) Head) a }
+    ensures { (a : Assignment) (t : Type4) (n : ℤ) (rest : Value) → a 0 ≡ int n → a 1 ≡ cons (int n) rest → HasType (a 1) t
+        → SatPart (Builtin 0 (1 ∷ []) (t ∷ []) Head) a }
 {}

@@ -25,7 +25,8 @@ pub name_set : (old new : List (FunName × Callee)) (rest : Callee) (name : FunN
 name_set old new rest name v h f =
     ap (λ o. unwrap_or o rest) (h f) ∙ put_value (same_name name f) v rest (lookup (same_name f) old)
 
-pub set_fits : (old new : HomeCallees) (name : FunName) (v : Callee) → ((f : FunName) → callee_in new f ≡ cond (same_name name f) v (callee_in old f)) → Fits v name.arity → ((f : FunName) → Fits (callee_in old f) f.arity) → (f : FunName) → Fits (callee_in new f) f.arity
+pub set_fits : (old new : HomeCallees) (name : FunName) (v : Callee) → ((f : FunName) → callee_in new f ≡ cond (same_name name f) v (callee_in old f)) → Fits v name.arity → ((f : FunName) → Fits (callee_in old f) f.arity)
+    → (f : FunName) → Fits (callee_in new f) f.arity
 set_fits old new name v h k l f = subst (λ c. Fits c f.arity) (sym (h f)) (by (same_name name f) refl)
   where
     by : (b : Bool) → same_name name f ≡ b → Fits (cond b v (callee_in old f)) f.arity
@@ -91,10 +92,12 @@ module _ (old new : Tables) (home : Atom) (name : FunName) (callee : Callee) (w 
       by false e = refl
 
 -- the table that a module had, and what a table of one callee is in position of none
-pub had : (old : Tables) (home : Atom) (v w : HomeCallees) (name : FunName) (callee : Callee) → Some v ≡ lookup (same_home home) old → ((f : FunName) → callee_in w f ≡ cond (same_name name f) callee (callee_in v f)) → (f : FunName) → callee_in w f ≡ cond (same_name name f) callee (callee_in (callees_of old home) f)
+pub had : (old : Tables) (home : Atom) (v w : HomeCallees) (name : FunName) (callee : Callee) → Some v ≡ lookup (same_home home) old → ((f : FunName) → callee_in w f ≡ cond (same_name name f) callee (callee_in v f))
+    → (f : FunName) → callee_in w f ≡ cond (same_name name f) callee (callee_in (callees_of old home) f)
 had old home v w name callee e h f = h f ∙ ap (λ o. cond (same_name name f) callee (callee_in (unwrap_or o ([], Unknown)) f)) e
 
-pub had_none : (old : Tables) (home : Atom) (w : HomeCallees) (name : FunName) (callee : Callee) → None ≡ lookup (same_home home) old → ((f : FunName) → callee_in w f ≡ cond (same_name name f) callee Unknown) → (f : FunName) → callee_in w f ≡ cond (same_name name f) callee (callee_in (callees_of old home) f)
+pub had_none : (old : Tables) (home : Atom) (w : HomeCallees) (name : FunName) (callee : Callee) → None ≡ lookup (same_home home) old → ((f : FunName) → callee_in w f ≡ cond (same_name name f) callee Unknown) → (f : FunName)
+    → callee_in w f ≡ cond (same_name name f) callee (callee_in (callees_of old home) f)
 had_none old home w name callee e h f = h f ∙ ap (λ o. cond (same_name name f) callee (callee_in (unwrap_or o ([], Unknown)) f)) e
 
 -- the table of a module was put

@@ -42,7 +42,8 @@ home_either h k =
 pub none_in : (es : HomeCallees) (new : HomeCallees) (n : ℕ) → length es.0 ≤ n → ((f : FunName) → callee_in new f ≡ es.1) → (f : FunName) → callee_in new f ≡ callee_in (drop n es.0, es.1) f
 none_in es new n h is f = is f ∙ ap (λ ds. callee_in (ds, es.1) f) (sym (drop_of_length-le es.0 h))
 
-pub one_in : (es old new : HomeCallees) (i n : ℕ) → n ≡ suc i → i < length es.0 → ((e : FunName × Callee) → slice_get es.0 i ≡ Some e → (f : FunName) → callee_in new f ≡ cond (same_name e.0 f) e.1 (callee_in old f)) → ((f : FunName) → callee_in old f ≡ callee_in (drop n es.0, es.1) f) → (f : FunName) → callee_in new f ≡ callee_in (drop i es.0, es.1) f
+pub one_in : (es old new : HomeCallees) (i n : ℕ) → n ≡ suc i → i < length es.0 → ((e : FunName × Callee) → slice_get es.0 i ≡ Some e → (f : FunName) → callee_in new f ≡ cond (same_name e.0 f) e.1 (callee_in old f))
+    → ((f : FunName) → callee_in old f ≡ callee_in (drop n es.0, es.1) f) → (f : FunName) → callee_in new f ≡ callee_in (drop i es.0, es.1) f
 one_in es old new i n after h set is f =
     let o = opened es.0 i h in
     let e = o.entry in
@@ -62,7 +63,8 @@ unfolding found
 none_found es new n k is h f = is h f ∙ ap (λ ds. found ds h f) (sym (drop_of_length-le es k))
 
 -- a module's table was put, which answers as another one
-pub table_put : (old new : Tables) (home : Atom) (t w : HomeCallees) → ((q : Atom) → lookup (same_home q) new ≡ cond (same_home home q) (Some w) (lookup (same_home q) old)) → ((f : FunName) → callee_in w f ≡ callee_in t f) → (h : Atom) (f : FunName) → found new h f ≡ cond (same_home home h) (callee_in t f) (found old h f)
+pub table_put : (old new : Tables) (home : Atom) (t w : HomeCallees) → ((q : Atom) → lookup (same_home q) new ≡ cond (same_home home q) (Some w) (lookup (same_home q) old)) → ((f : FunName) → callee_in w f ≡ callee_in t f)
+    → (h : Atom) (f : FunName) → found new h f ≡ cond (same_home home h) (callee_in t f) (found old h f)
 unfolding found
 table_put old new home t w put same h f = ap (λ o. callee_in (unwrap_or o ([], Unknown)) f) (put h) ∙ by (same_home home h)
   where
@@ -79,7 +81,8 @@ first_table e es h f = by (same_home h e.0) ∙ ap (λ b. cond b (callee_in e.1 
     by true = refl
     by false = refl
 
-pub one_found : (es old new : Tables) (i n : ℕ) → n ≡ suc i → i < length es → ((e : Atom × HomeCallees) → slice_get es i ≡ Some e → (h : Atom) (f : FunName) → found new h f ≡ cond (same_home e.0 h) (callee_in e.1 f) (found old h f)) → ((h : Atom) (f : FunName) → found old h f ≡ found (drop n es) h f) → (h : Atom) (f : FunName) → found new h f ≡ found (drop i es) h f
+pub one_found : (es old new : Tables) (i n : ℕ) → n ≡ suc i → i < length es → ((e : Atom × HomeCallees) → slice_get es i ≡ Some e → (h : Atom) (f : FunName)
+    → found new h f ≡ cond (same_home e.0 h) (callee_in e.1 f) (found old h f)) → ((h : Atom) (f : FunName) → found old h f ≡ found (drop n es) h f) → (h : Atom) (f : FunName) → found new h f ≡ found (drop i es) h f
 one_found es old new i n after k set is h f =
     let o = opened es i k in
     let e = o.entry in

@@ -48,7 +48,8 @@ got (y ∷ l) (suc i) x d h e = got l i x d (omega (arith, h)) e
 
 -- ---- each slot with its type
 
-typed_open : (vs : List ℕ) (ts : Types) (i : ℕ) (xs : Types) → i < length vs → i < length ts → each_typed (drop i vs) (drop i ts) xs ≡ on_types (lowered xs (get_or vs i 0) (get_or ts i any)) (each_typed (drop (i + 1) vs) (drop (i + 1) ts))
+typed_open : (vs : List ℕ) (ts : Types) (i : ℕ) (xs : Types) → i < length vs → i < length ts
+    → each_typed (drop i vs) (drop i ts) xs ≡ on_types (lowered xs (get_or vs i 0) (get_or ts i any)) (each_typed (drop (i + 1) vs) (drop (i + 1) ts))
 unfolding each_typed
 typed_open vs ts i xs h k = λ j. each_typed (drop_more vs i 0 h j) (drop_more ts i any k j) xs
 
@@ -56,7 +57,8 @@ pub typed_stops : (vs : List ℕ) (ts : Types) (i : ℕ) (t : Type4) (xs : Types
 typed_stops vs ts i t xs h k e n =
     typed_open vs ts i xs h k ∙ ap (λ r. on_types r (each_typed (drop (i + 1) vs) (drop (i + 1) ts))) (ap (lowered xs (get_or vs i 0)) (sym e) ∙ n)
 
-pub typed_goes_on : (vs : List ℕ) (ts : Types) (i : ℕ) (t : Type4) (xs ys : Types) → i < length vs → i < length ts → t ≡ get_or ts i any → lowered xs (get_or vs i 0) t ≡ Some ys → each_typed (drop i vs) (drop i ts) xs ≡ each_typed (drop (i + 1) vs) (drop (i + 1) ts) ys
+pub typed_goes_on : (vs : List ℕ) (ts : Types) (i : ℕ) (t : Type4) (xs ys : Types) → i < length vs → i < length ts → t ≡ get_or ts i any → lowered xs (get_or vs i 0) t ≡ Some ys
+    → each_typed (drop i vs) (drop i ts) xs ≡ each_typed (drop (i + 1) vs) (drop (i + 1) ts) ys
 typed_goes_on vs ts i t xs ys h k e n =
     typed_open vs ts i xs h k ∙ ap (λ r. on_types r (each_typed (drop (i + 1) vs) (drop (i + 1) ts))) (ap (lowered xs (get_or vs i 0)) (sym e) ∙ n)
 
@@ -83,16 +85,19 @@ typed_end vs ts i xs h = elim (cases_lt i (length vs)) [
 
 -- ---- each slot with what stands at its position
 
-projected_open : (v n : ℕ) (ws : List ℕ) (i : ℕ) (xs : Types) → i < length ws → each_projected v n (i + 1) (drop i ws) xs ≡ on_types (lowered xs (get_or ws i 0) (project (type_at xs v) n (i + 1))) (each_projected v n (i + 1 + 1) (drop (i + 1) ws))
+projected_open : (v n : ℕ) (ws : List ℕ) (i : ℕ) (xs : Types) → i < length ws → each_projected v n (i + 1) (drop i ws) xs
+    ≡ on_types (lowered xs (get_or ws i 0) (project (type_at xs v) n (i + 1))) (each_projected v n (i + 1 + 1) (drop (i + 1) ws))
 unfolding each_projected
 projected_open v n ws i xs h =
     ap (λ l. each_projected v n (i + 1) l xs) (drop_more ws i 0 h) ∙ ap (λ m. on_types (lowered xs (get_or ws i 0) (project (type_at xs v) n (i + 1))) (each_projected v n m (drop (i + 1) ws))) (sym (add-one (i + 1)))
 
-pub projected_stops : (v n : ℕ) (ws : List ℕ) (i : ℕ) (t : Type4) (xs : Types) → i < length ws → t ≡ project (type_at xs v) n (i + 1) → lowered xs (get_or ws i 0) t ≡ None → each_projected v n (i + 1) (drop i ws) xs ≡ None
+pub projected_stops : (v n : ℕ) (ws : List ℕ) (i : ℕ) (t : Type4) (xs : Types) → i < length ws → t ≡ project (type_at xs v) n (i + 1) → lowered xs (get_or ws i 0) t ≡ None
+    → each_projected v n (i + 1) (drop i ws) xs ≡ None
 projected_stops v n ws i t xs h e k =
     projected_open v n ws i xs h ∙ ap (λ r. on_types r (each_projected v n (i + 1 + 1) (drop (i + 1) ws))) (ap (lowered xs (get_or ws i 0)) (sym e) ∙ k)
 
-pub projected_goes_on : (v n : ℕ) (ws : List ℕ) (i : ℕ) (t : Type4) (xs ys : Types) → i < length ws → t ≡ project (type_at xs v) n (i + 1) → lowered xs (get_or ws i 0) t ≡ Some ys → each_projected v n (i + 1) (drop i ws) xs ≡ each_projected v n (i + 1 + 1) (drop (i + 1) ws) ys
+pub projected_goes_on : (v n : ℕ) (ws : List ℕ) (i : ℕ) (t : Type4) (xs ys : Types) → i < length ws → t ≡ project (type_at xs v) n (i + 1) → lowered xs (get_or ws i 0) t ≡ Some ys
+    → each_projected v n (i + 1) (drop i ws) xs ≡ each_projected v n (i + 1 + 1) (drop (i + 1) ws) ys
 projected_goes_on v n ws i t xs ys h e k =
     projected_open v n ws i xs h ∙ ap (λ r. on_types r (each_projected v n (i + 1 + 1) (drop (i + 1) ws))) (ap (lowered xs (get_or ws i 0)) (sym e) ∙ k)
 

@@ -11,8 +11,10 @@ use Rattle.cons_tree.specs.declared.parts.Part.{Part}
 use Rattle.cons_tree.specs.declared.parts.Part.TheVariants.{Bound, Equal, Tuple, Cons, Builtin, Call}
 use Rattle.cons_tree.specs.declared.parts.Transfer.{Transfer}
 use Rattle.cons_tree.specs.declared.parts.Transfer.TheVariants.{Plain, Arith, Abs, Head, Tail, Element, Test, TestSome, Same, Differ, Never}
-use Rattle.cons_tree.proofs.StepLaws.{IsLawful, Keeps, lawful_then, lawful_skip, lawful_where, lawful_meets, lawful_alike, lawful_typed, lawful_projected, keeps_then, keeps_where, keeps_meets, keeps_lowered, keeps_alike, keeps_typed, keeps_projected}
-use Rattle.cons_tree.proofs.NamedLaws.{arithmetic_grows, arithmetic_has, absolute_grows, absolute_has, selected_grows, selected_has, only_true, only_false, tested_grows, tested_has, tested_some_grows, tested_some_has, same_grows, same_has, other_grows, other_has, differ}
+use Rattle.cons_tree.proofs.StepLaws.{IsLawful, Keeps, lawful_then, lawful_skip, lawful_where, lawful_meets, lawful_alike, lawful_typed}
+use Rattle.cons_tree.proofs.StepLaws.{lawful_projected, keeps_then, keeps_where, keeps_meets, keeps_lowered, keeps_alike, keeps_typed, keeps_projected}
+use Rattle.cons_tree.proofs.NamedLaws.{arithmetic_grows, arithmetic_has, absolute_grows, absolute_has, selected_grows, selected_has, only_true, only_false}
+use Rattle.cons_tree.proofs.NamedLaws.{tested_grows, tested_has, tested_some_grows, tested_some_has, same_grows, same_has, other_grows, other_has, differ}
 
 -- the types of some slots
 types_below : (xs ys : Types) (ws : List ℕ) → AreBelow xs ys → AreBelow (map (type_at xs) ws) (map (type_at ys) ws)

@@ -23,7 +23,8 @@ where_yes c f ys e = ap (λ b. cond b (f ys) (Some ys)) e
 pub typed_as : (ws vs : List ℕ) (ts us xs : Types) (r : State) → ws ≡ vs → ts ≡ us → each_typed ws ts xs ≡ r → each_typed vs us xs ≡ r
 typed_as ws vs ts us xs r e f h = sym (λ i. each_typed (e i) (f i) xs) ∙ h
 
-pub arith_row : (v : ℕ) (args : List ℕ) (xs : Types) (b d : Bool) (w t : Type4) → b ≡ list_all has_integer (map (type_at xs) args) → d ≡ list_any has_float (map (type_at xs) args) → w ≡ integers → t ≡ join (where_so b w) (where_so d floats) → transferred Arith v args xs ≡ lowered xs v t
+pub arith_row : (v : ℕ) (args : List ℕ) (xs : Types) (b d : Bool) (w t : Type4) → b ≡ list_all has_integer (map (type_at xs) args) → d ≡ list_any has_float (map (type_at xs) args) → w ≡ integers
+    → t ≡ join (where_so b w) (where_so d floats) → transferred Arith v args xs ≡ lowered xs v t
 unfolding transferred arithmetic
 arith_row v args xs b d w t e f g h = ap (lowered xs v) (sym (h ∙ (λ i. join (where_so (e i) (g i)) (where_so (f i) floats))))
 
@@ -64,7 +65,8 @@ unfolding transferred
 test_short t v [] xs h = refl
 test_short t v (a ∷ args) xs h = absurd (omega (arith, h))
 
-pub test_row : (t : Type4) (v : ℕ) (args : List ℕ) (xs : Types) → 1 ≤ length args → transferred (Test t) v args xs ≡ on_types (lowered xs v (tested t (type_at xs (get_or args 0 0)))) (only_where (is_true v) (meets (get_or args 0 0) (λ ys. t)))
+pub test_row : (t : Type4) (v : ℕ) (args : List ℕ) (xs : Types) → 1 ≤ length args
+    → transferred (Test t) v args xs ≡ on_types (lowered xs v (tested t (type_at xs (get_or args 0 0)))) (only_where (is_true v) (meets (get_or args 0 0) (λ ys. t)))
 unfolding transferred
 test_row t v [] xs h = absurd (omega (arith, h))
 test_row t v (a ∷ args) xs h = refl
@@ -74,7 +76,8 @@ unfolding transferred
 test_some_short t v [] xs h = refl
 test_some_short t v (a ∷ args) xs h = absurd (omega (arith, h))
 
-pub test_some_row : (t : Type4) (v : ℕ) (args : List ℕ) (xs : Types) → 1 ≤ length args → transferred (TestSome t) v args xs ≡ on_types (lowered xs v (tested_some t (type_at xs (get_or args 0 0)))) (only_where (is_true v) (meets (get_or args 0 0) (λ ys. t)))
+pub test_some_row : (t : Type4) (v : ℕ) (args : List ℕ) (xs : Types) → 1 ≤ length args
+    → transferred (TestSome t) v args xs ≡ on_types (lowered xs v (tested_some t (type_at xs (get_or args 0 0)))) (only_where (is_true v) (meets (get_or args 0 0) (λ ys. t)))
 unfolding transferred
 test_some_row t v [] xs h = absurd (omega (arith, h))
 test_some_row t v (a ∷ args) xs h = refl
@@ -99,7 +102,8 @@ same_short v [] xs h = refl
 same_short v (a ∷ []) xs h = refl
 same_short v (a ∷ b ∷ args) xs h = absurd (omega (arith, h))
 
-pub same_row : (v : ℕ) (args : List ℕ) (xs : Types) → 2 ≤ length args → transferred Same v args xs ≡ on_types (lowered xs v (same_values (type_at xs (get_or args 0 0)) (type_at xs (get_or args 1 0)))) (only_where (is_true v) (alike (get_or args 0 0) (get_or args 1 0)))
+pub same_row : (v : ℕ) (args : List ℕ) (xs : Types) → 2 ≤ length args → transferred Same v args xs
+    ≡ on_types (lowered xs v (same_values (type_at xs (get_or args 0 0)) (type_at xs (get_or args 1 0)))) (only_where (is_true v) (alike (get_or args 0 0) (get_or args 1 0)))
 unfolding transferred
 same_row v [] xs h = absurd (omega (arith, h))
 same_row v (a ∷ []) xs h = absurd (omega (arith, h))
@@ -111,7 +115,8 @@ differ_short v [] xs h = refl
 differ_short v (a ∷ []) xs h = refl
 differ_short v (a ∷ b ∷ args) xs h = absurd (omega (arith, h))
 
-pub differ_row : (v : ℕ) (args : List ℕ) (xs : Types) → 2 ≤ length args → transferred Differ v args xs ≡ on_types (lowered xs v (other_values (type_at xs (get_or args 0 0)) (type_at xs (get_or args 1 0)))) (only_where (is_false v) (alike (get_or args 0 0) (get_or args 1 0)))
+pub differ_row : (v : ℕ) (args : List ℕ) (xs : Types) → 2 ≤ length args → transferred Differ v args xs
+    ≡ on_types (lowered xs v (other_values (type_at xs (get_or args 0 0)) (type_at xs (get_or args 1 0)))) (only_where (is_false v) (alike (get_or args 0 0) (get_or args 1 0)))
 unfolding transferred
 differ_row v [] xs h = absurd (omega (arith, h))
 differ_row v (a ∷ []) xs h = absurd (omega (arith, h))

@@ -1,5 +1,6 @@
 -- Trails: what was added to one gives back what was there.
-use Rattle.std.proofs.Common.{◌≡◌, ℕ, zero, suc, ◌+◌, ◌<◌, ◌≤◌, Bool, true, false, cond, List, [], ◌∷◌, ◌++◌, length, set, take, drop, slice_get, Some, None, refl, sym, ap, ◌∙◌, subst, arith, append_assoc, length-append}
+use Rattle.std.proofs.Common.{◌≡◌, ℕ, zero, suc, ◌+◌, ◌<◌, ◌≤◌, Bool, true, false, cond, List, [], ◌∷◌, ◌++◌, length, set}
+use Rattle.std.proofs.Common.{take, drop, slice_get, Some, None, refl, sym, ap, ◌∙◌, subst, arith, append_assoc, length-append}
 use Rattle.std.specs.Prelude.{Result, Ok, Err, IfOk, not, ◌↔◌}
 use Rattle.std.proofs.lemmas.Option.{get_or_from_slice_get}
 use Rattle.std.proofs.lemmas.List.{length-set, set-set, set-get_or, drop-append-le, take-append-le}
@@ -40,7 +41,8 @@ summed_set h (x ∷ xs) zero t l = omega arith
 summed_set h (x ∷ xs) (suc s) t l = let e = summed_set h xs s t (omega (arith, l)) in omega (arith, e)
 
 -- one slot was lowered
-pub trailed_one : (old new : Slots) (s : ℕ) (t u : Type4) → new.types ≡ set old.types s t → new.trail ≡ old.trail ++ (record { slot = s; ty = u }) ∷ [] → s < length old.types → u ≡ type_at old.types s → Below t u → (Below u t → ⊥) → Trailed old new
+pub trailed_one : (old new : Slots) (s : ℕ) (t u : Type4) → new.types ≡ set old.types s t → new.trail ≡ old.trail ++ (record { slot = s; ty = u }) ∷ [] → s < length old.types → u ≡ type_at old.types s → Below t u
+    → (Below u t → ⊥) → Trailed old new
 trailed_one old new s t u types trail l is k n = record {
   added = (record { slot = s; ty = u }) ∷ [];
   trail = trail;

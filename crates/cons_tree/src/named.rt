@@ -2,7 +2,8 @@
 ghost use Rattle.std.specs.Prelude.{◌≡◌, ◌∷◌, ◌<◌, ◌^◌, [], IfOk, length, not};
 ghost use Rattle.type_lattice.specs.Types.{is_none, meet, join, of_atoms};
 ghost use Rattle.type_kinds_sets.specs.Names.{listed};
-ghost use Rattle.cons_tree.specs.Named.{integers, naturals, floats, just_true, just_false, truths, has_integer, has_float, where_so, absolute, positions, selected, tested, tested_some, same_values, other_values};
+ghost use Rattle.cons_tree.specs.Named.{integers, naturals, floats, just_true, just_false, truths, has_integer, has_float};
+ghost use Rattle.cons_tree.specs.Named.{where_so, absolute, positions, selected, tested, tested_some, same_values, other_values};
 
 use crate::signatures::discard;
 use std::alloc::Global;

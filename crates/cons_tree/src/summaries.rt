@@ -116,7 +116,8 @@ impl CalleeTable {
 
     // Sets what the entry at a position of another table says.
     fn set_entry(&mut self, alloc: Global, table: &CalleeTable, at: usize) -> Result<(), Memory>
-        ensures { OnOk result ((e : FunName × Callee) → slice_get (table.now).0 at ≡ Some e → (f : FunName) → callee_in self.new f ≡ cond (same_name e.0 f) e.1 (callee_in self.old f)) }
+        ensures { OnOk result ((e : FunName × Callee) → slice_get (table.now).0 at ≡ Some e → (f : FunName)
+            → callee_in self.new f ≡ cond (same_name e.0 f) e.1 (callee_in self.old f)) }
     {
         match table.callees.get_index(at) {
             None => Ok(()),
@@ -206,7 +207,8 @@ impl Summaries {
     pub fn set(&mut self, home: &Atom, name: &FunName, callee: Callee) -> Result<(), Memory>
         requires { Fits callee name.now.arity }
         ensures set { OnOk result (found self.new home.now name.now ≡ callee) }
-        ensures others { OnOk result ((h : Atom) (f : FunName) → ((h ≡ home.now) × (f ≡ name.now) → ⊥) → found self.new h f ≡ found self.old h f) }
+        ensures others { OnOk result ((h : Atom) (f : FunName) → ((h ≡ home.now) × (f ≡ name.now) → ⊥)
+            → found self.new h f ≡ found self.old h f) }
         ensures err { OnErr result (self.new ≡ self.old) }
     {
         match name.copy(self.alloc) {
@@ -260,7 +262,8 @@ impl Summaries {
 
     // Adds a second table of the module at a position of other summaries.
     fn add_entry(&mut self, from: &Summaries, at: usize) -> Result<(), Memory>
-        ensures { OnOk result ((e : Atom × HomeCallees) → slice_get from.now at ≡ Some e → (h : Atom) (f : FunName) → found self.new h f ≡ cond (same_home e.0 h) (callee_in e.1 f) (found self.old h f)) }
+        ensures { OnOk result ((e : Atom × HomeCallees) → slice_get from.now at ≡ Some e → (h : Atom) (f : FunName)
+            → found self.new h f ≡ cond (same_home e.0 h) (callee_in e.1 f) (found self.old h f)) }
     {
         match from.tables.get_index(at) {
             None => Ok(()),

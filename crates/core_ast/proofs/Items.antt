@@ -11,7 +11,8 @@ use Rattle.core_ast.specs.declared.syntax.Segment.{Segment}
 use Rattle.core_ast.specs.declared.syntax.PatSegment.{PatSegment}
 use Rattle.core_ast.specs.declared.syntax.Pattern.{Pattern}
 use Rattle.core_ast.specs.Model as m
-use Rattle.core_ast.specs.Tree.{steps, tree, pattern_tree, clause_parts, pair_parts, pat_pair_parts, segment_parts, pat_segment_parts, step_tree, all_trees, all_patterns, all_clauses, all_pairs, all_pat_pairs, all_segments, all_pat_segments, all_steps, all_defs}
+use Rattle.core_ast.specs.Tree.{steps, tree, pattern_tree, clause_parts, pair_parts, pat_pair_parts, segment_parts, pat_segment_parts, step_tree}
+use Rattle.core_ast.specs.Tree.{all_trees, all_patterns, all_clauses, all_pairs, all_pat_pairs, all_segments, all_pat_segments, all_steps, all_defs}
 use Rattle.core_ast.specs.Lengths.{how_many, how_many_patterns}
 
 pub all_trees-next : (es : List Expr) (i : ℕ) (d : Expr) → i < length es → all_trees (drop i es) ≡ m.and_tree (tree (get_or es i d)) (all_trees (drop (i + 1) es))
@@ -32,7 +33,8 @@ all_pat_pairs-next ps i d within = ap all_pat_pairs (drop_more ps i d within)
 pub all_segments-next : (ss : List Segment) (i : ℕ) (d : Segment) → i < length ss → all_segments (drop i ss) ≡ (let s = segment_parts (get_or ss i d) in m.and_segment s.value s.args (all_segments (drop (i + 1) ss)))
 all_segments-next ss i d within = ap all_segments (drop_more ss i d within)
 
-pub all_pat_segments-next : (ss : List PatSegment) (i : ℕ) (d : PatSegment) → i < length ss → all_pat_segments (drop i ss) ≡ (let s = pat_segment_parts (get_or ss i d) in m.and_pat_segment s.value s.args (all_pat_segments (drop (i + 1) ss)))
+pub all_pat_segments-next : (ss : List PatSegment) (i : ℕ) (d : PatSegment) → i < length ss
+    → all_pat_segments (drop i ss) ≡ (let s = pat_segment_parts (get_or ss i d) in m.and_pat_segment s.value s.args (all_pat_segments (drop (i + 1) ss)))
 all_pat_segments-next ss i d within = ap all_pat_segments (drop_more ss i d within)
 
 pub all_steps-next : (ss : List (StepOf Expr)) (i : ℕ) (d : StepOf Expr) → i < length ss → all_steps (drop i ss) ≡ steps (step_tree (get_or ss i d) ∷ map step_tree (drop (i + 1) ss))

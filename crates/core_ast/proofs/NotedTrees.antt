@@ -37,7 +37,8 @@ pub pattern_noted : (n : Note) (e d : Pattern) → d.form ≡ e.form → d.mark 
 pattern_noted n e d is k = pattern_tree-is d ∙ ap (pat_form_tree d.form) k ∙ ap (λ x. pat_form_tree x (marked n e.mark)) is ∙ pattern_form_noted n e.mark e.form ∙ ap (noted_pattern n) (sym (pattern_tree-is e))
 
 -- a chain, and every other form
-pub chain_noted : (n : Note) (e d : Expr) (xs ys : List (StepOf Expr)) (x : Expr) → e.form ≡ f.Chain xs x → d.form ≡ f.Chain ys x → d.mark ≡ e.mark → all_steps ys ≡ note_steps n (all_steps xs) → tree d ≡ note_tree n (tree e)
+pub chain_noted : (n : Note) (e d : Expr) (xs ys : List (StepOf Expr)) (x : Expr) → e.form ≡ f.Chain xs x → d.form ≡ f.Chain ys x → d.mark ≡ e.mark → all_steps ys ≡ note_steps n (all_steps xs)
+    → tree d ≡ note_tree n (tree e)
 chain_noted n e d xs ys x a b k h =
     chain_tree d ys x b ∙ ap (λ z. m.chain z (all_steps ys) (tree x)) k ∙ ap (λ z. m.chain e.mark z (tree x)) h ∙ ap (note_tree n) (sym (chain_tree e xs x a))
 

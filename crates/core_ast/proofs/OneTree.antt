@@ -13,7 +13,8 @@ use Rattle.core_ast.specs.declared.syntax.Pattern.{Pattern}
 use Rattle.core_ast.specs.declared.syntax.PatForm.TheVariants as p
 use Rattle.core_ast.specs.declared.syntax.Form.TheVariants as f
 use Rattle.core_ast.specs.Model as m
-use Rattle.core_ast.specs.Tree.{ClauseParts, PairParts, PatPairParts, SegmentParts, PatSegmentParts, tree, pattern_tree, clause_parts, pair_parts, pat_pair_parts, segment_parts, pat_segment_parts, def_tree, all_trees, all_patterns, all_clauses, all_pairs, all_pat_pairs, all_segments, all_pat_segments, all_steps, all_defs}
+use Rattle.core_ast.specs.Tree.{ClauseParts, PairParts, PatPairParts, SegmentParts, PatSegmentParts, tree, pattern_tree, clause_parts, pair_parts, pat_pair_parts, segment_parts}
+use Rattle.core_ast.specs.Tree.{pat_segment_parts, def_tree, all_trees, all_patterns, all_clauses, all_pairs, all_pat_pairs, all_segments, all_pat_segments, all_steps, all_defs}
 use Rattle.core_ast.proofs.Trees.{clause-is, pair-is, pat_pair-is, segment-is, pat_segment-is}
 use Rattle.core_ast.proofs.Forms.{opened, opened_pattern}
 
@@ -91,7 +92,13 @@ mutual
       node a b (between _ _ _ _ o.1 q.1 (λ i. f.Primop x (one_trees ts o.0 q.0 o.3 q.3 i))) (o.2 ∙ sym q.2)
   one_tree (m.try k t zs u vs w) a b is js =
       let o = opened a (m.try k t zs u vs w) is in let q = opened b (m.try k t zs u vs w) js in
-      node a b (between _ _ _ _ o.1 q.1 (λ i. f.Try (record { arg = one_tree t o.0.arg q.0.arg o.3 q.3 i; vars = (o.4 ∙ sym q.4) i; body = one_tree u o.0.body q.0.body o.5 q.5 i; catch_vars = (o.6 ∙ sym q.6) i; handler = one_tree w o.0.handler q.0.handler o.7 q.7 i }))) (o.2 ∙ sym q.2)
+      node a b (between _ _ _ _ o.1 q.1 (λ i. f.Try (record {
+        arg = one_tree t o.0.arg q.0.arg o.3 q.3 i;
+        vars = (o.4 ∙ sym q.4) i;
+        body = one_tree u o.0.body q.0.body o.5 q.5 i;
+        catch_vars = (o.6 ∙ sym q.6) i;
+        handler = one_tree w o.0.handler q.0.handler o.7 q.7 i;
+      }))) (o.2 ∙ sym q.2)
   one_tree (m.receive k us t u) a b is js =
       let o = opened a (m.receive k us t u) is in let q = opened b (m.receive k us t u) js in
       node a b (between _ _ _ _ o.3 q.3 (λ i. f.Receive (one_clauses us o.0 q.0 o.5 q.5 i) (one_tree t o.1 q.1 o.6 q.6 i) (one_tree u o.2 q.2 o.7 q.7 i))) (o.4 ∙ sym q.4)
@@ -209,7 +216,8 @@ mutual
       let is1 = ap (λ (z : PatSegmentParts). z.args) (sym (pat_segment-is x)) ∙ e1 in
       let js1 = ap (λ (z : PatSegmentParts). z.args) (sym (pat_segment-is y)) ∙ g1 in
       let e : all_pat_segments xs ≡ rest = cc in let g : all_pat_segments ys ≡ rest = cc in
-      λ i. (pat_segment_of x y (λ i. record { value = one_pattern value (out-PatSegment x).value (out-PatSegment y).value is0 js0 i; args = one_trees args (out-PatSegment x).args (out-PatSegment y).args is1 js1 i })) i ∷ one_pat_segments rest xs ys e g i
+      λ i. (pat_segment_of x y (λ i. record { value = one_pattern value (out-PatSegment x).value (out-PatSegment y).value is0 js0 i; args = one_trees args (out-PatSegment x).args (out-PatSegment y).args is1 js1 i })) i
+      ∷ one_pat_segments rest xs ys e g i
 
   one_clauses : (ts : m.Clauses) (xs ys : List Clause) → all_clauses xs ≡ ts → all_clauses ys ≡ ts → xs ≡ ys
   one_clauses m.no_clause [] [] is js = refl
@@ -231,7 +239,12 @@ mutual
       let is3 = ap (λ (z : ClauseParts). z.body) (sym (clause-is x)) ∙ e3 in
       let js3 = ap (λ (z : ClauseParts). z.body) (sym (clause-is y)) ∙ g3 in
       let e : all_clauses xs ≡ rest = cc in let g : all_clauses ys ≡ rest = cc in
-      λ i. (clause_of x y (λ i. record { mark = (is0 ∙ sym js0) i; patterns = one_patterns patterns (out-Clause x).patterns (out-Clause y).patterns is1 js1 i; guard = one_tree guard (out-Clause x).guard (out-Clause y).guard is2 js2 i; body = one_tree body (out-Clause x).body (out-Clause y).body is3 js3 i })) i ∷ one_clauses rest xs ys e g i
+      λ i. (clause_of x y (λ i. record {
+        mark = (is0 ∙ sym js0) i;
+        patterns = one_patterns patterns (out-Clause x).patterns (out-Clause y).patterns is1 js1 i;
+        guard = one_tree guard (out-Clause x).guard (out-Clause y).guard is2 js2 i;
+        body = one_tree body (out-Clause x).body (out-Clause y).body is3 js3 i;
+      })) i ∷ one_clauses rest xs ys e g i
 
   one_defs : (ts : m.Defs) (xs ys : List (FunDefOf Expr)) → all_defs xs ≡ ts → all_defs ys ≡ ts → xs ≡ ys
   one_defs m.no_def [] [] is js = refl

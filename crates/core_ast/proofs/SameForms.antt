@@ -22,12 +22,15 @@ use Rattle.core_ast.specs.declared.syntax.PatForm.TheVariants as p
 use Rattle.core_ast.specs.declared.syntax.Form.TheVariants as f
 use Rattle.core_ast.specs.Model as m
 use Rattle.core_ast.specs.declared.syntax.Form.TheOpen.{Form-F, PatForm-F}
-use Rattle.core_ast.specs.Tree.{Marked, MarkedPattern, ClauseParts, PairParts, PatPairParts, SegmentParts, PatSegmentParts, form_layer, pat_form_layer, clause_parts, pair_parts, pat_pair_parts, segment_parts, pat_segment_parts, step_tree, def_tree, tree, pattern_tree, all_trees, all_patterns, all_clauses, all_pairs, all_pat_pairs, all_segments, all_pat_segments, all_steps, all_defs}
-use Rattle.core_ast.specs.Compared.{compared_mark, compared_variable, compared, compared_all, compared_pairs, compared_segments, compared_steps, compared_clauses, compared_defs, compared_pattern, compared_patterns, compared_pat_pairs, compared_pat_segments}
+use Rattle.core_ast.specs.Tree.{Marked, MarkedPattern, ClauseParts, PairParts, PatPairParts, SegmentParts, PatSegmentParts, form_layer, pat_form_layer, clause_parts, pair_parts, pat_pair_parts, segment_parts}
+use Rattle.core_ast.specs.Tree.{pat_segment_parts, step_tree, def_tree, tree, pattern_tree, all_trees, all_patterns, all_clauses, all_pairs, all_pat_pairs, all_segments, all_pat_segments, all_steps, all_defs}
+use Rattle.core_ast.specs.Compared.{compared_mark, compared_variable, compared, compared_all, compared_pairs, compared_segments, compared_steps}
+use Rattle.core_ast.specs.Compared.{compared_clauses, compared_defs, compared_pattern, compared_patterns, compared_pat_pairs, compared_pat_segments}
 use Rattle.core_ast.specs.Same.{Same}
 use Rattle.core_ast.specs.steps.Comparing.{compared_pair, compared_segment, compared_step, compared_clause, compared_def, compared_pat_pair, compared_pat_segment, SameTry, SameUpdated, IsComposed, IsControl}
 use Rattle.core_ast.proofs.Trees.{clause-is, pair-is, pat_pair-is, segment-is, pat_segment-is, tree-is, form_tree-out, pattern_tree-is, pat_form_tree-out}
-use Rattle.core_ast.proofs.Forms.{variable_tree, local_tree, external_tree, literal_tree, fun_tree, listed_tree, tuple_tree, new_map_tree, updated_map_tree, binary_tree, values_tree, chain_tree, case_tree, letrec_tree, apply_tree, call_tree, primop_tree, try_tree, receive_tree, catch_tree, binds_pattern, equals_pattern, list_of_pattern, tuple_of_pattern, map_of_pattern, binary_of_pattern, alias_pattern, opened, opened_pattern}
+use Rattle.core_ast.proofs.Forms.{variable_tree, local_tree, external_tree, literal_tree, fun_tree, listed_tree, tuple_tree, new_map_tree, updated_map_tree, binary_tree, values_tree, chain_tree, case_tree, letrec_tree, apply_tree}
+use Rattle.core_ast.proofs.Forms.{call_tree, primop_tree, try_tree, receive_tree, catch_tree, binds_pattern, equals_pattern, list_of_pattern, tuple_of_pattern, map_of_pattern, binary_of_pattern, alias_pattern, opened, opened_pattern}
 use Rattle.core_ast.proofs.SameItems.{fails}
 
 -- ---- answers put together
@@ -53,7 +56,9 @@ joined s t u v r e g make open_ tells = (λ h. e ∙ make (tells.0 h) ∙ sym g,
 
 -- ---- which forms are left
 
-pub composed_left : (e : Expr) → ((x : Atom) → e.form ≡ f.Var x → ⊥) → ((x : FunName) → e.form ≡ f.Local x → ⊥) → ((x : Atom) (y : FunName) → e.form ≡ f.External x y → ⊥) → ((x : Literal) → e.form ≡ f.Lit x → ⊥) → ((xs : List Expr) → e.form ≡ f.Tuple xs → ⊥) → ((xs : List Expr) → e.form ≡ f.Values xs → ⊥) → ((xs : List Segment) → e.form ≡ f.Binary xs → ⊥) → IsComposed (tree e)
+pub composed_left : (e : Expr) → ((x : Atom) → e.form ≡ f.Var x → ⊥) → ((x : FunName) → e.form ≡ f.Local x → ⊥) → ((x : Atom) (y : FunName) → e.form ≡ f.External x y → ⊥)
+    → ((x : Literal) → e.form ≡ f.Lit x → ⊥) → ((xs : List Expr) → e.form ≡ f.Tuple xs → ⊥) → ((xs : List Expr) → e.form ≡ f.Values xs → ⊥) → ((xs : List Segment) → e.form ≡ f.Binary xs → ⊥)
+    → IsComposed (tree e)
 composed_left e no_variable no_local no_external no_literal no_tuple no_values no_binary = by (tree e) refl
   where
     by : (t : m.Tree) → tree e ≡ t → IsComposed t
@@ -66,7 +71,9 @@ composed_left e no_variable no_local no_external no_literal no_tuple no_values n
     by (m.binary k ss) is = let o = opened e (m.binary k ss) is in no_binary o.0 o.1
     by t is = tt
 
-pub control_left : (e : Expr) → IsComposed (tree e) → ((x : FunOf Expr) → e.form ≡ f.Fun x → ⊥) → ((xs : List Expr) (x : Expr) → e.form ≡ f.Listed xs x → ⊥) → ((xs : List MapPair) (x : Option Expr) → e.form ≡ f.Map xs x → ⊥) → ((x : Expr) (xs : List Expr) → e.form ≡ f.Apply x xs → ⊥) → ((x : Atom) (xs : List Expr) → e.form ≡ f.Primop x xs → ⊥) → ((x : Expr) → e.form ≡ f.Catch x → ⊥) → IsControl (tree e)
+pub control_left : (e : Expr) → IsComposed (tree e) → ((x : FunOf Expr) → e.form ≡ f.Fun x → ⊥) → ((xs : List Expr) (x : Expr) → e.form ≡ f.Listed xs x → ⊥)
+    → ((xs : List MapPair) (x : Option Expr) → e.form ≡ f.Map xs x → ⊥) → ((x : Expr) (xs : List Expr) → e.form ≡ f.Apply x xs → ⊥) → ((x : Atom) (xs : List Expr) → e.form ≡ f.Primop x xs → ⊥)
+    → ((x : Expr) → e.form ≡ f.Catch x → ⊥) → IsControl (tree e)
 control_left e composed no_fun no_list no_map no_apply no_primop no_catch = by (tree e) refl composed
   where
     by : (t : m.Tree) → tree e ≡ t → IsComposed t → IsControl t
@@ -133,60 +140,118 @@ pattern_layer_mark k y = refl
 module _ (places : Bool) where
   -- ---- expressions
 
-  pub variable_same : (a b : Expr) (x : Atom) (x2 : Atom) (r : Bool) → a.form ≡ f.Var x → b.form ≡ f.Var x2 → compared_mark places a.mark ≡ compared_mark places b.mark → (IsTrue r ↔ (x ≡ x2)) → IsTrue r ↔ (compared places (tree a) ≡ compared places (tree b))
-  variable_same a b x x2 r is js k = joined _ _ (m.variable (compared_mark places a.mark) (x)) (m.variable (compared_mark places b.mark) (x2)) r (ap (compared places) (variable_tree a x is)) (ap (compared places) (variable_tree b x2 js)) (λ w i. m.variable (k i) (w i)) (λ w. let e : x ≡ x2 = cc in e)
+  pub variable_same : (a b : Expr) (x : Atom) (x2 : Atom) (r : Bool) → a.form ≡ f.Var x → b.form ≡ f.Var x2 → compared_mark places a.mark ≡ compared_mark places b.mark → (IsTrue r ↔ (x ≡ x2))
+      → IsTrue r ↔ (compared places (tree a) ≡ compared places (tree b))
+  variable_same a b x x2 r is js k = joined _ _ (m.variable (compared_mark places a.mark) (x)) (m.variable (compared_mark places b.mark) (x2)) r (ap (compared places) (variable_tree a x is)) (ap (compared places) (variable_tree b x2 js))
+      (λ w i. m.variable (k i) (w i)) (λ w. let e : x ≡ x2 = cc in e)
 
-  pub local_same : (a b : Expr) (x : FunName) (x2 : FunName) (r : Bool) → a.form ≡ f.Local x → b.form ≡ f.Local x2 → compared_mark places a.mark ≡ compared_mark places b.mark → (IsTrue r ↔ (x ≡ x2)) → IsTrue r ↔ (compared places (tree a) ≡ compared places (tree b))
-  local_same a b x x2 r is js k = joined _ _ (m.local (compared_mark places a.mark) (x)) (m.local (compared_mark places b.mark) (x2)) r (ap (compared places) (local_tree a x is)) (ap (compared places) (local_tree b x2 js)) (λ w i. m.local (k i) (w i)) (λ w. let e : x ≡ x2 = cc in e)
+  pub local_same : (a b : Expr) (x : FunName) (x2 : FunName) (r : Bool) → a.form ≡ f.Local x → b.form ≡ f.Local x2 → compared_mark places a.mark ≡ compared_mark places b.mark → (IsTrue r ↔ (x ≡ x2))
+      → IsTrue r ↔ (compared places (tree a) ≡ compared places (tree b))
+  local_same a b x x2 r is js k = joined _ _ (m.local (compared_mark places a.mark) (x)) (m.local (compared_mark places b.mark) (x2)) r (ap (compared places) (local_tree a x is)) (ap (compared places) (local_tree b x2 js))
+      (λ w i. m.local (k i) (w i)) (λ w. let e : x ≡ x2 = cc in e)
 
-  pub external_same : (a b : Expr) (x : Atom) (y : FunName) (x2 : Atom) (y2 : FunName) (r : Bool) → a.form ≡ f.External x y → b.form ≡ f.External x2 y2 → compared_mark places a.mark ≡ compared_mark places b.mark → (IsTrue r ↔ ((x ≡ x2) × (y ≡ y2))) → IsTrue r ↔ (compared places (tree a) ≡ compared places (tree b))
-  external_same a b x y x2 y2 r is js k = joined _ _ (m.external (compared_mark places a.mark) (x) (y)) (m.external (compared_mark places b.mark) (x2) (y2)) r (ap (compared places) (external_tree a x y is)) (ap (compared places) (external_tree b x2 y2 js)) (λ w i. m.external (k i) (w.0 i) (w.1 i)) (λ w. let e0 : x ≡ x2 = cc in let e1 : y ≡ y2 = cc in (e0, e1))
+  pub external_same : (a b : Expr) (x : Atom) (y : FunName) (x2 : Atom) (y2 : FunName) (r : Bool) → a.form ≡ f.External x y → b.form ≡ f.External x2 y2 → compared_mark places a.mark ≡ compared_mark places b.mark
+      → (IsTrue r ↔ ((x ≡ x2) × (y ≡ y2))) → IsTrue r ↔ (compared places (tree a) ≡ compared places (tree b))
+  external_same a b x y x2 y2 r is js k = joined _ _ (m.external (compared_mark places a.mark) (x) (y)) (m.external (compared_mark places b.mark) (x2) (y2)) r (ap (compared places) (external_tree a x y is))
+      (ap (compared places) (external_tree b x2 y2 js)) (λ w i. m.external (k i) (w.0 i) (w.1 i)) (λ w. let e0 : x ≡ x2 = cc in let e1 : y ≡ y2 = cc in (e0, e1))
 
-  pub literal_same : (a b : Expr) (x : Literal) (x2 : Literal) (r : Bool) → a.form ≡ f.Lit x → b.form ≡ f.Lit x2 → compared_mark places a.mark ≡ compared_mark places b.mark → (IsTrue r ↔ (x ≡ x2)) → IsTrue r ↔ (compared places (tree a) ≡ compared places (tree b))
-  literal_same a b x x2 r is js k = joined _ _ (m.literal (compared_mark places a.mark) (x)) (m.literal (compared_mark places b.mark) (x2)) r (ap (compared places) (literal_tree a x is)) (ap (compared places) (literal_tree b x2 js)) (λ w i. m.literal (k i) (w i)) (λ w. let e : x ≡ x2 = cc in e)
+  pub literal_same : (a b : Expr) (x : Literal) (x2 : Literal) (r : Bool) → a.form ≡ f.Lit x → b.form ≡ f.Lit x2 → compared_mark places a.mark ≡ compared_mark places b.mark → (IsTrue r ↔ (x ≡ x2))
+      → IsTrue r ↔ (compared places (tree a) ≡ compared places (tree b))
+  literal_same a b x x2 r is js k = joined _ _ (m.literal (compared_mark places a.mark) (x)) (m.literal (compared_mark places b.mark) (x2)) r (ap (compared places) (literal_tree a x is)) (ap (compared places) (literal_tree b x2 js))
+      (λ w i. m.literal (k i) (w i)) (λ w. let e : x ≡ x2 = cc in e)
 
-  pub fun_same : (a b : Expr) (x : FunOf Expr) (x2 : FunOf Expr) (r : Bool) → a.form ≡ f.Fun x → b.form ≡ f.Fun x2 → compared_mark places a.mark ≡ compared_mark places b.mark → (IsTrue r ↔ ((map (compared_variable places) x.params ≡ map (compared_variable places) x2.params) × (compared places (tree x.body) ≡ compared places (tree x2.body)))) → IsTrue r ↔ (compared places (tree a) ≡ compared places (tree b))
-  fun_same a b x x2 r is js k = joined _ _ (m.function (compared_mark places a.mark) (map (compared_variable places) x.params) (compared places (tree x.body))) (m.function (compared_mark places b.mark) (map (compared_variable places) x2.params) (compared places (tree x2.body))) r (ap (compared places) (fun_tree a x is)) (ap (compared places) (fun_tree b x2 js)) (λ w i. m.function (k i) (w.0 i) (w.1 i)) (λ w. let e0 : map (compared_variable places) x.params ≡ map (compared_variable places) x2.params = cc in let e1 : compared places (tree x.body) ≡ compared places (tree x2.body) = cc in (e0, e1))
+  pub fun_same : (a b : Expr) (x : FunOf Expr) (x2 : FunOf Expr) (r : Bool) → a.form ≡ f.Fun x → b.form ≡ f.Fun x2 → compared_mark places a.mark ≡ compared_mark places b.mark
+      → (IsTrue r ↔ ((map (compared_variable places) x.params ≡ map (compared_variable places) x2.params) × (compared places (tree x.body) ≡ compared places (tree x2.body))))
+      → IsTrue r ↔ (compared places (tree a) ≡ compared places (tree b))
+  fun_same a b x x2 r is js k = joined _ _ (m.function (compared_mark places a.mark) (map (compared_variable places) x.params) (compared places (tree x.body)))
+      (m.function (compared_mark places b.mark) (map (compared_variable places) x2.params) (compared places (tree x2.body))) r (ap (compared places) (fun_tree a x is)) (ap (compared places) (fun_tree b x2 js))
+      (λ w i. m.function (k i) (w.0 i) (w.1 i)) (λ w. let e0 : map (compared_variable places) x.params ≡ map (compared_variable places) x2.params = cc in let e1 : compared places (tree x.body)
+      ≡ compared places (tree x2.body) = cc in (e0, e1))
 
-  pub listed_same : (a b : Expr) (xs : List Expr) (x : Expr) (xs2 : List Expr) (x2 : Expr) (r : Bool) → a.form ≡ f.Listed xs x → b.form ≡ f.Listed xs2 x2 → compared_mark places a.mark ≡ compared_mark places b.mark → (IsTrue r ↔ ((compared_all places (all_trees xs) ≡ compared_all places (all_trees xs2)) × (compared places (tree x) ≡ compared places (tree x2)))) → IsTrue r ↔ (compared places (tree a) ≡ compared places (tree b))
-  listed_same a b xs x xs2 x2 r is js k = joined _ _ (m.listed (compared_mark places a.mark) (compared_all places (all_trees xs)) (compared places (tree x))) (m.listed (compared_mark places b.mark) (compared_all places (all_trees xs2)) (compared places (tree x2))) r (ap (compared places) (listed_tree a xs x is)) (ap (compared places) (listed_tree b xs2 x2 js)) (λ w i. m.listed (k i) (w.0 i) (w.1 i)) (λ w. let e0 : compared_all places (all_trees xs) ≡ compared_all places (all_trees xs2) = cc in let e1 : compared places (tree x) ≡ compared places (tree x2) = cc in (e0, e1))
+  pub listed_same : (a b : Expr) (xs : List Expr) (x : Expr) (xs2 : List Expr) (x2 : Expr) (r : Bool) → a.form ≡ f.Listed xs x → b.form ≡ f.Listed xs2 x2 → compared_mark places a.mark ≡ compared_mark places b.mark
+      → (IsTrue r ↔ ((compared_all places (all_trees xs) ≡ compared_all places (all_trees xs2)) × (compared places (tree x) ≡ compared places (tree x2)))) → IsTrue r ↔ (compared places (tree a) ≡ compared places (tree b))
+  listed_same a b xs x xs2 x2 r is js k = joined _ _ (m.listed (compared_mark places a.mark) (compared_all places (all_trees xs)) (compared places (tree x)))
+      (m.listed (compared_mark places b.mark) (compared_all places (all_trees xs2)) (compared places (tree x2))) r (ap (compared places) (listed_tree a xs x is)) (ap (compared places) (listed_tree b xs2 x2 js))
+      (λ w i. m.listed (k i) (w.0 i) (w.1 i)) (λ w. let e0 : compared_all places (all_trees xs) ≡ compared_all places (all_trees xs2) = cc in let e1 : compared places (tree x) ≡ compared places (tree x2) = cc in (e0, e1))
 
-  pub tuple_same : (a b : Expr) (xs : List Expr) (xs2 : List Expr) (r : Bool) → a.form ≡ f.Tuple xs → b.form ≡ f.Tuple xs2 → compared_mark places a.mark ≡ compared_mark places b.mark → (IsTrue r ↔ (compared_all places (all_trees xs) ≡ compared_all places (all_trees xs2))) → IsTrue r ↔ (compared places (tree a) ≡ compared places (tree b))
-  tuple_same a b xs xs2 r is js k = joined _ _ (m.tuple (compared_mark places a.mark) (compared_all places (all_trees xs))) (m.tuple (compared_mark places b.mark) (compared_all places (all_trees xs2))) r (ap (compared places) (tuple_tree a xs is)) (ap (compared places) (tuple_tree b xs2 js)) (λ w i. m.tuple (k i) (w i)) (λ w. let e : compared_all places (all_trees xs) ≡ compared_all places (all_trees xs2) = cc in e)
+  pub tuple_same : (a b : Expr) (xs : List Expr) (xs2 : List Expr) (r : Bool) → a.form ≡ f.Tuple xs → b.form ≡ f.Tuple xs2 → compared_mark places a.mark ≡ compared_mark places b.mark
+      → (IsTrue r ↔ (compared_all places (all_trees xs) ≡ compared_all places (all_trees xs2))) → IsTrue r ↔ (compared places (tree a) ≡ compared places (tree b))
+  tuple_same a b xs xs2 r is js k = joined _ _ (m.tuple (compared_mark places a.mark) (compared_all places (all_trees xs))) (m.tuple (compared_mark places b.mark) (compared_all places (all_trees xs2))) r
+      (ap (compared places) (tuple_tree a xs is)) (ap (compared places) (tuple_tree b xs2 js)) (λ w i. m.tuple (k i) (w i)) (λ w. let e : compared_all places (all_trees xs) ≡ compared_all places (all_trees xs2) = cc in e)
 
-  pub binary_same : (a b : Expr) (xs : List Segment) (xs2 : List Segment) (r : Bool) → a.form ≡ f.Binary xs → b.form ≡ f.Binary xs2 → compared_mark places a.mark ≡ compared_mark places b.mark → (IsTrue r ↔ (compared_segments places (all_segments xs) ≡ compared_segments places (all_segments xs2))) → IsTrue r ↔ (compared places (tree a) ≡ compared places (tree b))
-  binary_same a b xs xs2 r is js k = joined _ _ (m.binary (compared_mark places a.mark) (compared_segments places (all_segments xs))) (m.binary (compared_mark places b.mark) (compared_segments places (all_segments xs2))) r (ap (compared places) (binary_tree a xs is)) (ap (compared places) (binary_tree b xs2 js)) (λ w i. m.binary (k i) (w i)) (λ w. let e : compared_segments places (all_segments xs) ≡ compared_segments places (all_segments xs2) = cc in e)
+  pub binary_same : (a b : Expr) (xs : List Segment) (xs2 : List Segment) (r : Bool) → a.form ≡ f.Binary xs → b.form ≡ f.Binary xs2 → compared_mark places a.mark ≡ compared_mark places b.mark
+      → (IsTrue r ↔ (compared_segments places (all_segments xs) ≡ compared_segments places (all_segments xs2))) → IsTrue r ↔ (compared places (tree a) ≡ compared places (tree b))
+  binary_same a b xs xs2 r is js k = joined _ _ (m.binary (compared_mark places a.mark) (compared_segments places (all_segments xs))) (m.binary (compared_mark places b.mark) (compared_segments places (all_segments xs2))) r
+      (ap (compared places) (binary_tree a xs is)) (ap (compared places) (binary_tree b xs2 js)) (λ w i. m.binary (k i) (w i))
+      (λ w. let e : compared_segments places (all_segments xs) ≡ compared_segments places (all_segments xs2) = cc in e)
 
-  pub values_same : (a b : Expr) (xs : List Expr) (xs2 : List Expr) (r : Bool) → a.form ≡ f.Values xs → b.form ≡ f.Values xs2 → compared_mark places a.mark ≡ compared_mark places b.mark → (IsTrue r ↔ (compared_all places (all_trees xs) ≡ compared_all places (all_trees xs2))) → IsTrue r ↔ (compared places (tree a) ≡ compared places (tree b))
-  values_same a b xs xs2 r is js k = joined _ _ (m.values (compared_mark places a.mark) (compared_all places (all_trees xs))) (m.values (compared_mark places b.mark) (compared_all places (all_trees xs2))) r (ap (compared places) (values_tree a xs is)) (ap (compared places) (values_tree b xs2 js)) (λ w i. m.values (k i) (w i)) (λ w. let e : compared_all places (all_trees xs) ≡ compared_all places (all_trees xs2) = cc in e)
+  pub values_same : (a b : Expr) (xs : List Expr) (xs2 : List Expr) (r : Bool) → a.form ≡ f.Values xs → b.form ≡ f.Values xs2 → compared_mark places a.mark ≡ compared_mark places b.mark
+      → (IsTrue r ↔ (compared_all places (all_trees xs) ≡ compared_all places (all_trees xs2))) → IsTrue r ↔ (compared places (tree a) ≡ compared places (tree b))
+  values_same a b xs xs2 r is js k = joined _ _ (m.values (compared_mark places a.mark) (compared_all places (all_trees xs))) (m.values (compared_mark places b.mark) (compared_all places (all_trees xs2))) r
+      (ap (compared places) (values_tree a xs is)) (ap (compared places) (values_tree b xs2 js)) (λ w i. m.values (k i) (w i)) (λ w. let e : compared_all places (all_trees xs) ≡ compared_all places (all_trees xs2) = cc in e)
 
-  pub chain_same : (a b : Expr) (xs : List (StepOf Expr)) (x : Expr) (xs2 : List (StepOf Expr)) (x2 : Expr) (r : Bool) → a.form ≡ f.Chain xs x → b.form ≡ f.Chain xs2 x2 → compared_mark places a.mark ≡ compared_mark places b.mark → (IsTrue r ↔ ((compared_steps places (all_steps xs) ≡ compared_steps places (all_steps xs2)) × (compared places (tree x) ≡ compared places (tree x2)))) → IsTrue r ↔ (compared places (tree a) ≡ compared places (tree b))
-  chain_same a b xs x xs2 x2 r is js k = joined _ _ (m.chain (compared_mark places a.mark) (compared_steps places (all_steps xs)) (compared places (tree x))) (m.chain (compared_mark places b.mark) (compared_steps places (all_steps xs2)) (compared places (tree x2))) r (ap (compared places) (chain_tree a xs x is)) (ap (compared places) (chain_tree b xs2 x2 js)) (λ w i. m.chain (k i) (w.0 i) (w.1 i)) (λ w. let e0 : compared_steps places (all_steps xs) ≡ compared_steps places (all_steps xs2) = cc in let e1 : compared places (tree x) ≡ compared places (tree x2) = cc in (e0, e1))
+  pub chain_same : (a b : Expr) (xs : List (StepOf Expr)) (x : Expr) (xs2 : List (StepOf Expr)) (x2 : Expr) (r : Bool) → a.form ≡ f.Chain xs x → b.form ≡ f.Chain xs2 x2 → compared_mark places a.mark ≡ compared_mark places b.mark
+      → (IsTrue r ↔ ((compared_steps places (all_steps xs) ≡ compared_steps places (all_steps xs2)) × (compared places (tree x) ≡ compared places (tree x2)))) → IsTrue r ↔ (compared places (tree a) ≡ compared places (tree b))
+  chain_same a b xs x xs2 x2 r is js k = joined _ _ (m.chain (compared_mark places a.mark) (compared_steps places (all_steps xs)) (compared places (tree x)))
+      (m.chain (compared_mark places b.mark) (compared_steps places (all_steps xs2)) (compared places (tree x2))) r (ap (compared places) (chain_tree a xs x is)) (ap (compared places) (chain_tree b xs2 x2 js))
+      (λ w i. m.chain (k i) (w.0 i) (w.1 i)) (λ w. let e0 : compared_steps places (all_steps xs) ≡ compared_steps places (all_steps xs2) = cc in let e1 : compared places (tree x) ≡ compared places (tree x2) = cc in (e0, e1))
 
-  pub case_same : (a b : Expr) (x : Expr) (xs : List Clause) (x2 : Expr) (xs2 : List Clause) (r : Bool) → a.form ≡ f.Case x xs → b.form ≡ f.Case x2 xs2 → compared_mark places a.mark ≡ compared_mark places b.mark → (IsTrue r ↔ ((compared places (tree x) ≡ compared places (tree x2)) × (compared_clauses places (all_clauses xs) ≡ compared_clauses places (all_clauses xs2)))) → IsTrue r ↔ (compared places (tree a) ≡ compared places (tree b))
-  case_same a b x xs x2 xs2 r is js k = joined _ _ (m.case (compared_mark places a.mark) (compared places (tree x)) (compared_clauses places (all_clauses xs))) (m.case (compared_mark places b.mark) (compared places (tree x2)) (compared_clauses places (all_clauses xs2))) r (ap (compared places) (case_tree a x xs is)) (ap (compared places) (case_tree b x2 xs2 js)) (λ w i. m.case (k i) (w.0 i) (w.1 i)) (λ w. let e0 : compared places (tree x) ≡ compared places (tree x2) = cc in let e1 : compared_clauses places (all_clauses xs) ≡ compared_clauses places (all_clauses xs2) = cc in (e0, e1))
+  pub case_same : (a b : Expr) (x : Expr) (xs : List Clause) (x2 : Expr) (xs2 : List Clause) (r : Bool) → a.form ≡ f.Case x xs → b.form ≡ f.Case x2 xs2 → compared_mark places a.mark ≡ compared_mark places b.mark
+      → (IsTrue r ↔ ((compared places (tree x) ≡ compared places (tree x2)) × (compared_clauses places (all_clauses xs) ≡ compared_clauses places (all_clauses xs2))))
+      → IsTrue r ↔ (compared places (tree a) ≡ compared places (tree b))
+  case_same a b x xs x2 xs2 r is js k = joined _ _ (m.case (compared_mark places a.mark) (compared places (tree x)) (compared_clauses places (all_clauses xs)))
+      (m.case (compared_mark places b.mark) (compared places (tree x2)) (compared_clauses places (all_clauses xs2))) r (ap (compared places) (case_tree a x xs is)) (ap (compared places) (case_tree b x2 xs2 js))
+      (λ w i. m.case (k i) (w.0 i) (w.1 i)) (λ w. let e0 : compared places (tree x) ≡ compared places (tree x2) = cc in let e1 : compared_clauses places (all_clauses xs) ≡ compared_clauses places (all_clauses xs2) = cc in (e0, e1))
 
-  pub letrec_same : (a b : Expr) (xs : List (FunDefOf Expr)) (x : Expr) (xs2 : List (FunDefOf Expr)) (x2 : Expr) (r : Bool) → a.form ≡ f.Letrec xs x → b.form ≡ f.Letrec xs2 x2 → compared_mark places a.mark ≡ compared_mark places b.mark → (IsTrue r ↔ ((compared_defs places (all_defs xs) ≡ compared_defs places (all_defs xs2)) × (compared places (tree x) ≡ compared places (tree x2)))) → IsTrue r ↔ (compared places (tree a) ≡ compared places (tree b))
-  letrec_same a b xs x xs2 x2 r is js k = joined _ _ (m.letrec (compared_mark places a.mark) (compared_defs places (all_defs xs)) (compared places (tree x))) (m.letrec (compared_mark places b.mark) (compared_defs places (all_defs xs2)) (compared places (tree x2))) r (ap (compared places) (letrec_tree a xs x is)) (ap (compared places) (letrec_tree b xs2 x2 js)) (λ w i. m.letrec (k i) (w.0 i) (w.1 i)) (λ w. let e0 : compared_defs places (all_defs xs) ≡ compared_defs places (all_defs xs2) = cc in let e1 : compared places (tree x) ≡ compared places (tree x2) = cc in (e0, e1))
+  pub letrec_same : (a b : Expr) (xs : List (FunDefOf Expr)) (x : Expr) (xs2 : List (FunDefOf Expr)) (x2 : Expr) (r : Bool) → a.form ≡ f.Letrec xs x → b.form ≡ f.Letrec xs2 x2
+      → compared_mark places a.mark ≡ compared_mark places b.mark → (IsTrue r ↔ ((compared_defs places (all_defs xs) ≡ compared_defs places (all_defs xs2)) × (compared places (tree x) ≡ compared places (tree x2))))
+      → IsTrue r ↔ (compared places (tree a) ≡ compared places (tree b))
+  letrec_same a b xs x xs2 x2 r is js k = joined _ _ (m.letrec (compared_mark places a.mark) (compared_defs places (all_defs xs)) (compared places (tree x)))
+      (m.letrec (compared_mark places b.mark) (compared_defs places (all_defs xs2)) (compared places (tree x2))) r (ap (compared places) (letrec_tree a xs x is)) (ap (compared places) (letrec_tree b xs2 x2 js))
+      (λ w i. m.letrec (k i) (w.0 i) (w.1 i)) (λ w. let e0 : compared_defs places (all_defs xs) ≡ compared_defs places (all_defs xs2) = cc in let e1 : compared places (tree x) ≡ compared places (tree x2) = cc in (e0, e1))
 
-  pub apply_same : (a b : Expr) (x : Expr) (xs : List Expr) (x2 : Expr) (xs2 : List Expr) (r : Bool) → a.form ≡ f.Apply x xs → b.form ≡ f.Apply x2 xs2 → compared_mark places a.mark ≡ compared_mark places b.mark → (IsTrue r ↔ ((compared places (tree x) ≡ compared places (tree x2)) × (compared_all places (all_trees xs) ≡ compared_all places (all_trees xs2)))) → IsTrue r ↔ (compared places (tree a) ≡ compared places (tree b))
-  apply_same a b x xs x2 xs2 r is js k = joined _ _ (m.apply (compared_mark places a.mark) (compared places (tree x)) (compared_all places (all_trees xs))) (m.apply (compared_mark places b.mark) (compared places (tree x2)) (compared_all places (all_trees xs2))) r (ap (compared places) (apply_tree a x xs is)) (ap (compared places) (apply_tree b x2 xs2 js)) (λ w i. m.apply (k i) (w.0 i) (w.1 i)) (λ w. let e0 : compared places (tree x) ≡ compared places (tree x2) = cc in let e1 : compared_all places (all_trees xs) ≡ compared_all places (all_trees xs2) = cc in (e0, e1))
+  pub apply_same : (a b : Expr) (x : Expr) (xs : List Expr) (x2 : Expr) (xs2 : List Expr) (r : Bool) → a.form ≡ f.Apply x xs → b.form ≡ f.Apply x2 xs2 → compared_mark places a.mark ≡ compared_mark places b.mark
+      → (IsTrue r ↔ ((compared places (tree x) ≡ compared places (tree x2)) × (compared_all places (all_trees xs) ≡ compared_all places (all_trees xs2)))) → IsTrue r ↔ (compared places (tree a) ≡ compared places (tree b))
+  apply_same a b x xs x2 xs2 r is js k = joined _ _ (m.apply (compared_mark places a.mark) (compared places (tree x)) (compared_all places (all_trees xs)))
+      (m.apply (compared_mark places b.mark) (compared places (tree x2)) (compared_all places (all_trees xs2))) r (ap (compared places) (apply_tree a x xs is)) (ap (compared places) (apply_tree b x2 xs2 js))
+      (λ w i. m.apply (k i) (w.0 i) (w.1 i)) (λ w. let e0 : compared places (tree x) ≡ compared places (tree x2) = cc in let e1 : compared_all places (all_trees xs) ≡ compared_all places (all_trees xs2) = cc in (e0, e1))
 
-  pub call_same : (a b : Expr) (h : Expr) (x : Expr) (xs : List Expr) (h2 : Expr) (x2 : Expr) (xs2 : List Expr) (r : Bool) → a.form ≡ f.Call h x xs → b.form ≡ f.Call h2 x2 xs2 → compared_mark places a.mark ≡ compared_mark places b.mark → (IsTrue r ↔ ((compared places (tree h) ≡ compared places (tree h2)) × (compared places (tree x) ≡ compared places (tree x2)) × (compared_all places (all_trees xs) ≡ compared_all places (all_trees xs2)))) → IsTrue r ↔ (compared places (tree a) ≡ compared places (tree b))
-  call_same a b h x xs h2 x2 xs2 r is js k = joined _ _ (m.call (compared_mark places a.mark) (compared places (tree h)) (compared places (tree x)) (compared_all places (all_trees xs))) (m.call (compared_mark places b.mark) (compared places (tree h2)) (compared places (tree x2)) (compared_all places (all_trees xs2))) r (ap (compared places) (call_tree a h x xs is)) (ap (compared places) (call_tree b h2 x2 xs2 js)) (λ w i. m.call (k i) (w.0 i) (w.1 i) (w.2 i)) (λ w. let e0 : compared places (tree h) ≡ compared places (tree h2) = cc in let e1 : compared places (tree x) ≡ compared places (tree x2) = cc in let e2 : compared_all places (all_trees xs) ≡ compared_all places (all_trees xs2) = cc in (e0, e1, e2))
+  pub call_same : (a b : Expr) (h : Expr) (x : Expr) (xs : List Expr) (h2 : Expr) (x2 : Expr) (xs2 : List Expr) (r : Bool) → a.form ≡ f.Call h x xs → b.form ≡ f.Call h2 x2 xs2
+      → compared_mark places a.mark ≡ compared_mark places b.mark
+      → (IsTrue r ↔ ((compared places (tree h) ≡ compared places (tree h2)) × (compared places (tree x) ≡ compared places (tree x2)) × (compared_all places (all_trees xs) ≡ compared_all places (all_trees xs2))))
+      → IsTrue r ↔ (compared places (tree a) ≡ compared places (tree b))
+  call_same a b h x xs h2 x2 xs2 r is js k = joined _ _ (m.call (compared_mark places a.mark) (compared places (tree h)) (compared places (tree x)) (compared_all places (all_trees xs)))
+      (m.call (compared_mark places b.mark) (compared places (tree h2)) (compared places (tree x2)) (compared_all places (all_trees xs2))) r (ap (compared places) (call_tree a h x xs is)) (ap (compared places) (call_tree b h2 x2 xs2 js))
+      (λ w i. m.call (k i) (w.0 i) (w.1 i) (w.2 i)) (λ w. let e0 : compared places (tree h) ≡ compared places (tree h2) = cc in let e1 : compared places (tree x)
+      ≡ compared places (tree x2) = cc in let e2 : compared_all places (all_trees xs) ≡ compared_all places (all_trees xs2) = cc in (e0, e1, e2))
 
-  pub primop_same : (a b : Expr) (x : Atom) (xs : List Expr) (x2 : Atom) (xs2 : List Expr) (r : Bool) → a.form ≡ f.Primop x xs → b.form ≡ f.Primop x2 xs2 → compared_mark places a.mark ≡ compared_mark places b.mark → (IsTrue r ↔ ((x ≡ x2) × (compared_all places (all_trees xs) ≡ compared_all places (all_trees xs2)))) → IsTrue r ↔ (compared places (tree a) ≡ compared places (tree b))
-  primop_same a b x xs x2 xs2 r is js k = joined _ _ (m.primop (compared_mark places a.mark) (x) (compared_all places (all_trees xs))) (m.primop (compared_mark places b.mark) (x2) (compared_all places (all_trees xs2))) r (ap (compared places) (primop_tree a x xs is)) (ap (compared places) (primop_tree b x2 xs2 js)) (λ w i. m.primop (k i) (w.0 i) (w.1 i)) (λ w. let e0 : x ≡ x2 = cc in let e1 : compared_all places (all_trees xs) ≡ compared_all places (all_trees xs2) = cc in (e0, e1))
+  pub primop_same : (a b : Expr) (x : Atom) (xs : List Expr) (x2 : Atom) (xs2 : List Expr) (r : Bool) → a.form ≡ f.Primop x xs → b.form ≡ f.Primop x2 xs2 → compared_mark places a.mark ≡ compared_mark places b.mark
+      → (IsTrue r ↔ ((x ≡ x2) × (compared_all places (all_trees xs) ≡ compared_all places (all_trees xs2)))) → IsTrue r ↔ (compared places (tree a) ≡ compared places (tree b))
+  primop_same a b x xs x2 xs2 r is js k = joined _ _ (m.primop (compared_mark places a.mark) (x) (compared_all places (all_trees xs))) (m.primop (compared_mark places b.mark) (x2) (compared_all places (all_trees xs2))) r
+      (ap (compared places) (primop_tree a x xs is)) (ap (compared places) (primop_tree b x2 xs2 js)) (λ w i. m.primop (k i) (w.0 i) (w.1 i))
+      (λ w. let e0 : x ≡ x2 = cc in let e1 : compared_all places (all_trees xs) ≡ compared_all places (all_trees xs2) = cc in (e0, e1))
 
-  pub receive_same : (a b : Expr) (xs : List Clause) (t : Expr) (x : Expr) (xs2 : List Clause) (t2 : Expr) (x2 : Expr) (r : Bool) → a.form ≡ f.Receive xs t x → b.form ≡ f.Receive xs2 t2 x2 → compared_mark places a.mark ≡ compared_mark places b.mark → (IsTrue r ↔ ((compared_clauses places (all_clauses xs) ≡ compared_clauses places (all_clauses xs2)) × (compared places (tree t) ≡ compared places (tree t2)) × (compared places (tree x) ≡ compared places (tree x2)))) → IsTrue r ↔ (compared places (tree a) ≡ compared places (tree b))
-  receive_same a b xs t x xs2 t2 x2 r is js k = joined _ _ (m.receive (compared_mark places a.mark) (compared_clauses places (all_clauses xs)) (compared places (tree t)) (compared places (tree x))) (m.receive (compared_mark places b.mark) (compared_clauses places (all_clauses xs2)) (compared places (tree t2)) (compared places (tree x2))) r (ap (compared places) (receive_tree a xs t x is)) (ap (compared places) (receive_tree b xs2 t2 x2 js)) (λ w i. m.receive (k i) (w.0 i) (w.1 i) (w.2 i)) (λ w. let e0 : compared_clauses places (all_clauses xs) ≡ compared_clauses places (all_clauses xs2) = cc in let e1 : compared places (tree t) ≡ compared places (tree t2) = cc in let e2 : compared places (tree x) ≡ compared places (tree x2) = cc in (e0, e1, e2))
+  pub receive_same : (a b : Expr) (xs : List Clause) (t : Expr) (x : Expr) (xs2 : List Clause) (t2 : Expr) (x2 : Expr) (r : Bool) → a.form ≡ f.Receive xs t x → b.form ≡ f.Receive xs2 t2 x2
+      → compared_mark places a.mark ≡ compared_mark places b.mark
+      → (IsTrue r ↔ ((compared_clauses places (all_clauses xs) ≡ compared_clauses places (all_clauses xs2)) × (compared places (tree t) ≡ compared places (tree t2)) × (compared places (tree x) ≡ compared places (tree x2))))
+      → IsTrue r ↔ (compared places (tree a) ≡ compared places (tree b))
+  receive_same a b xs t x xs2 t2 x2 r is js k = joined _ _ (m.receive (compared_mark places a.mark) (compared_clauses places (all_clauses xs)) (compared places (tree t)) (compared places (tree x)))
+      (m.receive (compared_mark places b.mark) (compared_clauses places (all_clauses xs2)) (compared places (tree t2)) (compared places (tree x2))) r (ap (compared places) (receive_tree a xs t x is))
+      (ap (compared places) (receive_tree b xs2 t2 x2 js)) (λ w i. m.receive (k i) (w.0 i) (w.1 i) (w.2 i))
+      (λ w. let e0 : compared_clauses places (all_clauses xs) ≡ compared_clauses places (all_clauses xs2) = cc in let e1 : compared places (tree t) ≡ compared places (tree t2) = cc in let e2 : compared places (tree x)
+      ≡ compared places (tree x2) = cc in (e0, e1, e2))
 
-  pub catch_same : (a b : Expr) (x : Expr) (x2 : Expr) (r : Bool) → a.form ≡ f.Catch x → b.form ≡ f.Catch x2 → compared_mark places a.mark ≡ compared_mark places b.mark → (IsTrue r ↔ (compared places (tree x) ≡ compared places (tree x2))) → IsTrue r ↔ (compared places (tree a) ≡ compared places (tree b))
-  catch_same a b x x2 r is js k = joined _ _ (m.catch (compared_mark places a.mark) (compared places (tree x))) (m.catch (compared_mark places b.mark) (compared places (tree x2))) r (ap (compared places) (catch_tree a x is)) (ap (compared places) (catch_tree b x2 js)) (λ w i. m.catch (k i) (w i)) (λ w. let e : compared places (tree x) ≡ compared places (tree x2) = cc in e)
+  pub catch_same : (a b : Expr) (x : Expr) (x2 : Expr) (r : Bool) → a.form ≡ f.Catch x → b.form ≡ f.Catch x2 → compared_mark places a.mark ≡ compared_mark places b.mark
+      → (IsTrue r ↔ (compared places (tree x) ≡ compared places (tree x2))) → IsTrue r ↔ (compared places (tree a) ≡ compared places (tree b))
+  catch_same a b x x2 r is js k = joined _ _ (m.catch (compared_mark places a.mark) (compared places (tree x))) (m.catch (compared_mark places b.mark) (compared places (tree x2))) r (ap (compared places) (catch_tree a x is))
+      (ap (compared places) (catch_tree b x2 js)) (λ w i. m.catch (k i) (w i)) (λ w. let e : compared places (tree x) ≡ compared places (tree x2) = cc in e)
 
-  pub try_same : (a b : Expr) (x y : TryOf Expr) (r : Bool) → a.form ≡ f.Try x → b.form ≡ f.Try y → compared_mark places a.mark ≡ compared_mark places b.mark → (IsTrue r ↔ SameTry places x y) → IsTrue r ↔ (compared places (tree a) ≡ compared places (tree b))
+  pub try_same : (a b : Expr) (x y : TryOf Expr) (r : Bool) → a.form ≡ f.Try x → b.form ≡ f.Try y → compared_mark places a.mark ≡ compared_mark places b.mark → (IsTrue r ↔ SameTry places x y)
+      → IsTrue r ↔ (compared places (tree a) ≡ compared places (tree b))
   try_same a b x y r is js k =
-      joined _ _ (m.try (compared_mark places a.mark) (compared places (tree x.arg)) (map (compared_variable places) x.vars) (compared places (tree x.body)) (map (compared_variable places) x.catch_vars) (compared places (tree x.handler))) (m.try (compared_mark places b.mark) (compared places (tree y.arg)) (map (compared_variable places) y.vars) (compared places (tree y.body)) (map (compared_variable places) y.catch_vars) (compared places (tree y.handler))) r (ap (compared places) (try_tree a x is)) (ap (compared places) (try_tree b y js))
+      joined _ _ (m.try (compared_mark places a.mark) (compared places (tree x.arg)) (map (compared_variable places) x.vars) (compared places (tree x.body)) (map (compared_variable places) x.catch_vars) (compared places (tree x.handler)))
+      (m.try (compared_mark places b.mark) (compared places (tree y.arg)) (map (compared_variable places) y.vars) (compared places (tree y.body)) (map (compared_variable places) y.catch_vars) (compared places (tree y.handler))) r
+      (ap (compared places) (try_tree a x is)) (ap (compared places) (try_tree b y js))
       (λ w i. m.try (k i) (w.0 i) (w.3 i) (w.1 i) (w.4 i) (w.2 i))
       (λ w.
       let e0 : compared places (tree x.arg) ≡ compared places (tree y.arg) = cc in
@@ -198,40 +263,69 @@ module _ (places : Bool) where
 
   -- ---- patterns
 
-  pub binds_same : (a b : Pattern) (x : Atom) (x2 : Atom) (r : Bool) → a.form ≡ p.Var x → b.form ≡ p.Var x2 → compared_mark places a.mark ≡ compared_mark places b.mark → (IsTrue r ↔ (x ≡ x2)) → IsTrue r ↔ (compared_pattern places (pattern_tree a) ≡ compared_pattern places (pattern_tree b))
-  binds_same a b x x2 r is js k = joined _ _ (m.binds (compared_mark places a.mark) (x)) (m.binds (compared_mark places b.mark) (x2)) r (ap (compared_pattern places) (binds_pattern a x is)) (ap (compared_pattern places) (binds_pattern b x2 js)) (λ w i. m.binds (k i) (w i)) (λ w. let e : x ≡ x2 = cc in e)
+  pub binds_same : (a b : Pattern) (x : Atom) (x2 : Atom) (r : Bool) → a.form ≡ p.Var x → b.form ≡ p.Var x2 → compared_mark places a.mark ≡ compared_mark places b.mark → (IsTrue r ↔ (x ≡ x2))
+      → IsTrue r ↔ (compared_pattern places (pattern_tree a) ≡ compared_pattern places (pattern_tree b))
+  binds_same a b x x2 r is js k = joined _ _ (m.binds (compared_mark places a.mark) (x)) (m.binds (compared_mark places b.mark) (x2)) r (ap (compared_pattern places) (binds_pattern a x is))
+      (ap (compared_pattern places) (binds_pattern b x2 js)) (λ w i. m.binds (k i) (w i)) (λ w. let e : x ≡ x2 = cc in e)
 
-  pub equals_same : (a b : Pattern) (x : Literal) (x2 : Literal) (r : Bool) → a.form ≡ p.Lit x → b.form ≡ p.Lit x2 → compared_mark places a.mark ≡ compared_mark places b.mark → (IsTrue r ↔ (x ≡ x2)) → IsTrue r ↔ (compared_pattern places (pattern_tree a) ≡ compared_pattern places (pattern_tree b))
-  equals_same a b x x2 r is js k = joined _ _ (m.equals (compared_mark places a.mark) (x)) (m.equals (compared_mark places b.mark) (x2)) r (ap (compared_pattern places) (equals_pattern a x is)) (ap (compared_pattern places) (equals_pattern b x2 js)) (λ w i. m.equals (k i) (w i)) (λ w. let e : x ≡ x2 = cc in e)
+  pub equals_same : (a b : Pattern) (x : Literal) (x2 : Literal) (r : Bool) → a.form ≡ p.Lit x → b.form ≡ p.Lit x2 → compared_mark places a.mark ≡ compared_mark places b.mark → (IsTrue r ↔ (x ≡ x2))
+      → IsTrue r ↔ (compared_pattern places (pattern_tree a) ≡ compared_pattern places (pattern_tree b))
+  equals_same a b x x2 r is js k = joined _ _ (m.equals (compared_mark places a.mark) (x)) (m.equals (compared_mark places b.mark) (x2)) r (ap (compared_pattern places) (equals_pattern a x is))
+      (ap (compared_pattern places) (equals_pattern b x2 js)) (λ w i. m.equals (k i) (w i)) (λ w. let e : x ≡ x2 = cc in e)
 
-  pub list_of_same : (a b : Pattern) (xs : List Pattern) (x : Pattern) (xs2 : List Pattern) (x2 : Pattern) (r : Bool) → a.form ≡ p.Listed xs x → b.form ≡ p.Listed xs2 x2 → compared_mark places a.mark ≡ compared_mark places b.mark → (IsTrue r ↔ ((compared_patterns places (all_patterns xs) ≡ compared_patterns places (all_patterns xs2)) × (compared_pattern places (pattern_tree x) ≡ compared_pattern places (pattern_tree x2)))) → IsTrue r ↔ (compared_pattern places (pattern_tree a) ≡ compared_pattern places (pattern_tree b))
-  list_of_same a b xs x xs2 x2 r is js k = joined _ _ (m.list_of (compared_mark places a.mark) (compared_patterns places (all_patterns xs)) (compared_pattern places (pattern_tree x))) (m.list_of (compared_mark places b.mark) (compared_patterns places (all_patterns xs2)) (compared_pattern places (pattern_tree x2))) r (ap (compared_pattern places) (list_of_pattern a xs x is)) (ap (compared_pattern places) (list_of_pattern b xs2 x2 js)) (λ w i. m.list_of (k i) (w.0 i) (w.1 i)) (λ w. let e0 : compared_patterns places (all_patterns xs) ≡ compared_patterns places (all_patterns xs2) = cc in let e1 : compared_pattern places (pattern_tree x) ≡ compared_pattern places (pattern_tree x2) = cc in (e0, e1))
+  pub list_of_same : (a b : Pattern) (xs : List Pattern) (x : Pattern) (xs2 : List Pattern) (x2 : Pattern) (r : Bool) → a.form ≡ p.Listed xs x → b.form ≡ p.Listed xs2 x2
+      → compared_mark places a.mark ≡ compared_mark places b.mark
+      → (IsTrue r ↔ ((compared_patterns places (all_patterns xs) ≡ compared_patterns places (all_patterns xs2)) × (compared_pattern places (pattern_tree x) ≡ compared_pattern places (pattern_tree x2))))
+      → IsTrue r ↔ (compared_pattern places (pattern_tree a) ≡ compared_pattern places (pattern_tree b))
+  list_of_same a b xs x xs2 x2 r is js k = joined _ _ (m.list_of (compared_mark places a.mark) (compared_patterns places (all_patterns xs)) (compared_pattern places (pattern_tree x)))
+      (m.list_of (compared_mark places b.mark) (compared_patterns places (all_patterns xs2)) (compared_pattern places (pattern_tree x2))) r (ap (compared_pattern places) (list_of_pattern a xs x is))
+      (ap (compared_pattern places) (list_of_pattern b xs2 x2 js)) (λ w i. m.list_of (k i) (w.0 i) (w.1 i))
+      (λ w. let e0 : compared_patterns places (all_patterns xs) ≡ compared_patterns places (all_patterns xs2) = cc in let e1 : compared_pattern places (pattern_tree x) ≡ compared_pattern places (pattern_tree x2) = cc in (e0, e1))
 
-  pub tuple_of_same : (a b : Pattern) (xs : List Pattern) (xs2 : List Pattern) (r : Bool) → a.form ≡ p.Tuple xs → b.form ≡ p.Tuple xs2 → compared_mark places a.mark ≡ compared_mark places b.mark → (IsTrue r ↔ (compared_patterns places (all_patterns xs) ≡ compared_patterns places (all_patterns xs2))) → IsTrue r ↔ (compared_pattern places (pattern_tree a) ≡ compared_pattern places (pattern_tree b))
-  tuple_of_same a b xs xs2 r is js k = joined _ _ (m.tuple_of (compared_mark places a.mark) (compared_patterns places (all_patterns xs))) (m.tuple_of (compared_mark places b.mark) (compared_patterns places (all_patterns xs2))) r (ap (compared_pattern places) (tuple_of_pattern a xs is)) (ap (compared_pattern places) (tuple_of_pattern b xs2 js)) (λ w i. m.tuple_of (k i) (w i)) (λ w. let e : compared_patterns places (all_patterns xs) ≡ compared_patterns places (all_patterns xs2) = cc in e)
+  pub tuple_of_same : (a b : Pattern) (xs : List Pattern) (xs2 : List Pattern) (r : Bool) → a.form ≡ p.Tuple xs → b.form ≡ p.Tuple xs2 → compared_mark places a.mark ≡ compared_mark places b.mark
+      → (IsTrue r ↔ (compared_patterns places (all_patterns xs) ≡ compared_patterns places (all_patterns xs2))) → IsTrue r ↔ (compared_pattern places (pattern_tree a) ≡ compared_pattern places (pattern_tree b))
+  tuple_of_same a b xs xs2 r is js k = joined _ _ (m.tuple_of (compared_mark places a.mark) (compared_patterns places (all_patterns xs))) (m.tuple_of (compared_mark places b.mark) (compared_patterns places (all_patterns xs2))) r
+      (ap (compared_pattern places) (tuple_of_pattern a xs is)) (ap (compared_pattern places) (tuple_of_pattern b xs2 js)) (λ w i. m.tuple_of (k i) (w i))
+      (λ w. let e : compared_patterns places (all_patterns xs) ≡ compared_patterns places (all_patterns xs2) = cc in e)
 
-  pub map_of_same : (a b : Pattern) (xs : List PatPair) (xs2 : List PatPair) (r : Bool) → a.form ≡ p.Map xs → b.form ≡ p.Map xs2 → compared_mark places a.mark ≡ compared_mark places b.mark → (IsTrue r ↔ (compared_pat_pairs places (all_pat_pairs xs) ≡ compared_pat_pairs places (all_pat_pairs xs2))) → IsTrue r ↔ (compared_pattern places (pattern_tree a) ≡ compared_pattern places (pattern_tree b))
-  map_of_same a b xs xs2 r is js k = joined _ _ (m.map_of (compared_mark places a.mark) (compared_pat_pairs places (all_pat_pairs xs))) (m.map_of (compared_mark places b.mark) (compared_pat_pairs places (all_pat_pairs xs2))) r (ap (compared_pattern places) (map_of_pattern a xs is)) (ap (compared_pattern places) (map_of_pattern b xs2 js)) (λ w i. m.map_of (k i) (w i)) (λ w. let e : compared_pat_pairs places (all_pat_pairs xs) ≡ compared_pat_pairs places (all_pat_pairs xs2) = cc in e)
+  pub map_of_same : (a b : Pattern) (xs : List PatPair) (xs2 : List PatPair) (r : Bool) → a.form ≡ p.Map xs → b.form ≡ p.Map xs2 → compared_mark places a.mark ≡ compared_mark places b.mark
+      → (IsTrue r ↔ (compared_pat_pairs places (all_pat_pairs xs) ≡ compared_pat_pairs places (all_pat_pairs xs2))) → IsTrue r ↔ (compared_pattern places (pattern_tree a) ≡ compared_pattern places (pattern_tree b))
+  map_of_same a b xs xs2 r is js k = joined _ _ (m.map_of (compared_mark places a.mark) (compared_pat_pairs places (all_pat_pairs xs))) (m.map_of (compared_mark places b.mark) (compared_pat_pairs places (all_pat_pairs xs2))) r
+      (ap (compared_pattern places) (map_of_pattern a xs is)) (ap (compared_pattern places) (map_of_pattern b xs2 js)) (λ w i. m.map_of (k i) (w i))
+      (λ w. let e : compared_pat_pairs places (all_pat_pairs xs) ≡ compared_pat_pairs places (all_pat_pairs xs2) = cc in e)
 
-  pub binary_of_same : (a b : Pattern) (xs : List PatSegment) (xs2 : List PatSegment) (r : Bool) → a.form ≡ p.Binary xs → b.form ≡ p.Binary xs2 → compared_mark places a.mark ≡ compared_mark places b.mark → (IsTrue r ↔ (compared_pat_segments places (all_pat_segments xs) ≡ compared_pat_segments places (all_pat_segments xs2))) → IsTrue r ↔ (compared_pattern places (pattern_tree a) ≡ compared_pattern places (pattern_tree b))
-  binary_of_same a b xs xs2 r is js k = joined _ _ (m.binary_of (compared_mark places a.mark) (compared_pat_segments places (all_pat_segments xs))) (m.binary_of (compared_mark places b.mark) (compared_pat_segments places (all_pat_segments xs2))) r (ap (compared_pattern places) (binary_of_pattern a xs is)) (ap (compared_pattern places) (binary_of_pattern b xs2 js)) (λ w i. m.binary_of (k i) (w i)) (λ w. let e : compared_pat_segments places (all_pat_segments xs) ≡ compared_pat_segments places (all_pat_segments xs2) = cc in e)
+  pub binary_of_same : (a b : Pattern) (xs : List PatSegment) (xs2 : List PatSegment) (r : Bool) → a.form ≡ p.Binary xs → b.form ≡ p.Binary xs2 → compared_mark places a.mark ≡ compared_mark places b.mark
+      → (IsTrue r ↔ (compared_pat_segments places (all_pat_segments xs) ≡ compared_pat_segments places (all_pat_segments xs2))) → IsTrue r ↔ (compared_pattern places (pattern_tree a) ≡ compared_pattern places (pattern_tree b))
+  binary_of_same a b xs xs2 r is js k = joined _ _ (m.binary_of (compared_mark places a.mark) (compared_pat_segments places (all_pat_segments xs)))
+      (m.binary_of (compared_mark places b.mark) (compared_pat_segments places (all_pat_segments xs2))) r (ap (compared_pattern places) (binary_of_pattern a xs is)) (ap (compared_pattern places) (binary_of_pattern b xs2 js))
+      (λ w i. m.binary_of (k i) (w i)) (λ w. let e : compared_pat_segments places (all_pat_segments xs) ≡ compared_pat_segments places (all_pat_segments xs2) = cc in e)
 
-  pub alias_same : (a b : Pattern) (v : VarName) (x : Pattern) (v2 : VarName) (x2 : Pattern) (r : Bool) → a.form ≡ p.Alias v x → b.form ≡ p.Alias v2 x2 → compared_mark places a.mark ≡ compared_mark places b.mark → (IsTrue r ↔ ((compared_variable places v ≡ compared_variable places v2) × (compared_pattern places (pattern_tree x) ≡ compared_pattern places (pattern_tree x2)))) → IsTrue r ↔ (compared_pattern places (pattern_tree a) ≡ compared_pattern places (pattern_tree b))
-  alias_same a b v x v2 x2 r is js k = joined _ _ (m.alias (compared_mark places a.mark) (compared_variable places v) (compared_pattern places (pattern_tree x))) (m.alias (compared_mark places b.mark) (compared_variable places v2) (compared_pattern places (pattern_tree x2))) r (ap (compared_pattern places) (alias_pattern a v x is)) (ap (compared_pattern places) (alias_pattern b v2 x2 js)) (λ w i. m.alias (k i) (w.0 i) (w.1 i)) (λ w. let e0 : compared_variable places v ≡ compared_variable places v2 = cc in let e1 : compared_pattern places (pattern_tree x) ≡ compared_pattern places (pattern_tree x2) = cc in (e0, e1))
+  pub alias_same : (a b : Pattern) (v : VarName) (x : Pattern) (v2 : VarName) (x2 : Pattern) (r : Bool) → a.form ≡ p.Alias v x → b.form ≡ p.Alias v2 x2 → compared_mark places a.mark ≡ compared_mark places b.mark
+      → (IsTrue r ↔ ((compared_variable places v ≡ compared_variable places v2) × (compared_pattern places (pattern_tree x) ≡ compared_pattern places (pattern_tree x2))))
+      → IsTrue r ↔ (compared_pattern places (pattern_tree a) ≡ compared_pattern places (pattern_tree b))
+  alias_same a b v x v2 x2 r is js k = joined _ _ (m.alias (compared_mark places a.mark) (compared_variable places v) (compared_pattern places (pattern_tree x)))
+      (m.alias (compared_mark places b.mark) (compared_variable places v2) (compared_pattern places (pattern_tree x2))) r (ap (compared_pattern places) (alias_pattern a v x is)) (ap (compared_pattern places) (alias_pattern b v2 x2 js))
+      (λ w i. m.alias (k i) (w.0 i) (w.1 i)) (λ w. let e0 : compared_variable places v ≡ compared_variable places v2 = cc in let e1 : compared_pattern places (pattern_tree x)
+      ≡ compared_pattern places (pattern_tree x2) = cc in (e0, e1))
 
   -- a map: new, or one that updates another
-  pub map_same : (a b : Expr) (xs ys : List MapPair) (x y : Option Expr) (r : Bool) → a.form ≡ f.Map xs x → b.form ≡ f.Map ys y → compared_mark places a.mark ≡ compared_mark places b.mark → (IsTrue r ↔ ((compared_pairs places (all_pairs xs) ≡ compared_pairs places (all_pairs ys)) × SameUpdated places x y)) → IsTrue r ↔ (compared places (tree a) ≡ compared places (tree b))
+  pub map_same : (a b : Expr) (xs ys : List MapPair) (x y : Option Expr) (r : Bool) → a.form ≡ f.Map xs x → b.form ≡ f.Map ys y → compared_mark places a.mark ≡ compared_mark places b.mark
+      → (IsTrue r ↔ ((compared_pairs places (all_pairs xs) ≡ compared_pairs places (all_pairs ys)) × SameUpdated places x y)) → IsTrue r ↔ (compared places (tree a) ≡ compared places (tree b))
   map_same a b xs ys None None r is js k =
-      joined _ _ (m.new_map (compared_mark places a.mark) (compared_pairs places (all_pairs xs))) (m.new_map (compared_mark places b.mark) (compared_pairs places (all_pairs ys))) r (ap (compared places) (new_map_tree a xs is)) (ap (compared places) (new_map_tree b ys js))
+      joined _ _ (m.new_map (compared_mark places a.mark) (compared_pairs places (all_pairs xs))) (m.new_map (compared_mark places b.mark) (compared_pairs places (all_pairs ys))) r (ap (compared places) (new_map_tree a xs is))
+      (ap (compared places) (new_map_tree b ys js))
       (λ w i. m.new_map (k i) (w.0 i)) (λ w. let e : compared_pairs places (all_pairs xs) ≡ compared_pairs places (all_pairs ys) = cc in (e, tt))
   map_same a b xs ys (Some x) (Some y) r is js k =
-      joined _ _ (m.updated_map (compared_mark places a.mark) (compared_pairs places (all_pairs xs)) (compared places (tree x))) (m.updated_map (compared_mark places b.mark) (compared_pairs places (all_pairs ys)) (compared places (tree y))) r (ap (compared places) (updated_map_tree a xs x is)) (ap (compared places) (updated_map_tree b ys y js))
+      joined _ _ (m.updated_map (compared_mark places a.mark) (compared_pairs places (all_pairs xs)) (compared places (tree x)))
+      (m.updated_map (compared_mark places b.mark) (compared_pairs places (all_pairs ys)) (compared places (tree y))) r (ap (compared places) (updated_map_tree a xs x is)) (ap (compared places) (updated_map_tree b ys y js))
       (λ w i. m.updated_map (k i) (w.0 i) (w.1 i)) (λ w. let e : compared_pairs places (all_pairs xs) ≡ compared_pairs places (all_pairs ys) = cc in let g : compared places (tree x) ≡ compared places (tree y) = cc in (e, g))
   map_same a b xs ys None (Some y) r is js k =
-      joined _ _ (m.new_map (compared_mark places a.mark) (compared_pairs places (all_pairs xs))) (m.updated_map (compared_mark places b.mark) (compared_pairs places (all_pairs ys)) (compared places (tree y))) r (ap (compared places) (new_map_tree a xs is)) (ap (compared places) (updated_map_tree b ys y js))
+      joined _ _ (m.new_map (compared_mark places a.mark) (compared_pairs places (all_pairs xs))) (m.updated_map (compared_mark places b.mark) (compared_pairs places (all_pairs ys)) (compared places (tree y))) r
+      (ap (compared places) (new_map_tree a xs is)) (ap (compared places) (updated_map_tree b ys y js))
       (λ w. absurd w.1) (λ w. absurd cc)
   map_same a b xs ys (Some x) None r is js k =
-      joined _ _ (m.updated_map (compared_mark places a.mark) (compared_pairs places (all_pairs xs)) (compared places (tree x))) (m.new_map (compared_mark places b.mark) (compared_pairs places (all_pairs ys))) r (ap (compared places) (updated_map_tree a xs x is)) (ap (compared places) (new_map_tree b ys js))
+      joined _ _ (m.updated_map (compared_mark places a.mark) (compared_pairs places (all_pairs xs)) (compared places (tree x))) (m.new_map (compared_mark places b.mark) (compared_pairs places (all_pairs ys))) r
+      (ap (compared places) (updated_map_tree a xs x is)) (ap (compared places) (new_map_tree b ys js))
       (λ w. absurd w.1) (λ w. absurd cc)
 
   -- ---- another form
@@ -299,7 +393,8 @@ module _ (places : Bool) where
       by (m.values k ys) js w = let o = opened b (m.values k ys) js in other o.0 o.1
       by t js w = cc
 
-  pub other_chain : (a b : Expr) (xs : List (StepOf Expr)) (x : Expr) → a.form ≡ f.Chain xs x → ((xs : List (StepOf Expr)) (x : Expr) → b.form ≡ f.Chain xs x → ⊥) → IsTrue false ↔ (compared places (tree a) ≡ compared places (tree b))
+  pub other_chain : (a b : Expr) (xs : List (StepOf Expr)) (x : Expr) → a.form ≡ f.Chain xs x → ((xs : List (StepOf Expr)) (x : Expr) → b.form ≡ f.Chain xs x → ⊥)
+      → IsTrue false ↔ (compared places (tree a) ≡ compared places (tree b))
   other_chain a b xs x is other = refuted (λ h. by (tree b) refl (sym h ∙ ap (compared places) (chain_tree a xs x is)))
     where
       by : (t : m.Tree) → tree b ≡ t → compared places t ≡ m.chain (compared_mark places a.mark) (compared_steps places (all_steps xs)) (compared places (tree x)) → ⊥
@@ -313,7 +408,8 @@ module _ (places : Bool) where
       by (m.case k y ys) js w = let o = opened b (m.case k y ys) js in other o.0 o.1 o.2
       by t js w = cc
 
-  pub other_letrec : (a b : Expr) (xs : List (FunDefOf Expr)) (x : Expr) → a.form ≡ f.Letrec xs x → ((xs : List (FunDefOf Expr)) (x : Expr) → b.form ≡ f.Letrec xs x → ⊥) → IsTrue false ↔ (compared places (tree a) ≡ compared places (tree b))
+  pub other_letrec : (a b : Expr) (xs : List (FunDefOf Expr)) (x : Expr) → a.form ≡ f.Letrec xs x → ((xs : List (FunDefOf Expr)) (x : Expr) → b.form ≡ f.Letrec xs x → ⊥)
+      → IsTrue false ↔ (compared places (tree a) ≡ compared places (tree b))
   other_letrec a b xs x is other = refuted (λ h. by (tree b) refl (sym h ∙ ap (compared places) (letrec_tree a xs x is)))
     where
       by : (t : m.Tree) → tree b ≡ t → compared places t ≡ m.letrec (compared_mark places a.mark) (compared_defs places (all_defs xs)) (compared places (tree x)) → ⊥
@@ -327,7 +423,8 @@ module _ (places : Bool) where
       by (m.apply k y ys) js w = let o = opened b (m.apply k y ys) js in other o.0 o.1 o.2
       by t js w = cc
 
-  pub other_call : (a b : Expr) (h : Expr) (x : Expr) (xs : List Expr) → a.form ≡ f.Call h x xs → ((h : Expr) (x : Expr) (xs : List Expr) → b.form ≡ f.Call h x xs → ⊥) → IsTrue false ↔ (compared places (tree a) ≡ compared places (tree b))
+  pub other_call : (a b : Expr) (h : Expr) (x : Expr) (xs : List Expr) → a.form ≡ f.Call h x xs → ((h : Expr) (x : Expr) (xs : List Expr) → b.form ≡ f.Call h x xs → ⊥)
+      → IsTrue false ↔ (compared places (tree a) ≡ compared places (tree b))
   other_call a b h x xs is other = refuted (λ e. by (tree b) refl (sym e ∙ ap (compared places) (call_tree a h x xs is)))
     where
       by : (t : m.Tree) → tree b ≡ t → compared places t ≡ m.call (compared_mark places a.mark) (compared places (tree h)) (compared places (tree x)) (compared_all places (all_trees xs)) → ⊥
@@ -341,7 +438,8 @@ module _ (places : Bool) where
       by (m.primop k y ys) js w = let o = opened b (m.primop k y ys) js in other y o.0 o.1
       by t js w = cc
 
-  pub other_receive : (a b : Expr) (xs : List Clause) (t : Expr) (x : Expr) → a.form ≡ f.Receive xs t x → ((xs : List Clause) (t : Expr) (x : Expr) → b.form ≡ f.Receive xs t x → ⊥) → IsTrue false ↔ (compared places (tree a) ≡ compared places (tree b))
+  pub other_receive : (a b : Expr) (xs : List Clause) (t : Expr) (x : Expr) → a.form ≡ f.Receive xs t x → ((xs : List Clause) (t : Expr) (x : Expr) → b.form ≡ f.Receive xs t x → ⊥)
+      → IsTrue false ↔ (compared places (tree a) ≡ compared places (tree b))
   other_receive a b xs t x is other = refuted (λ h. by (tree b) refl (sym h ∙ ap (compared places) (receive_tree a xs t x is)))
     where
       by : (z : m.Tree) → tree b ≡ z → compared places z ≡ m.receive (compared_mark places a.mark) (compared_clauses places (all_clauses xs)) (compared places (tree t)) (compared places (tree x)) → ⊥
@@ -358,7 +456,8 @@ module _ (places : Bool) where
   pub other_try : (a b : Expr) (x : TryOf Expr) → a.form ≡ f.Try x → ((x : TryOf Expr) → b.form ≡ f.Try x → ⊥) → IsTrue false ↔ (compared places (tree a) ≡ compared places (tree b))
   other_try a b x is other = refuted (λ h. by (tree b) refl (sym h ∙ ap (compared places) (try_tree a x is)))
     where
-      by : (t : m.Tree) → tree b ≡ t → compared places t ≡ m.try (compared_mark places a.mark) (compared places (tree x.arg)) (map (compared_variable places) x.vars) (compared places (tree x.body)) (map (compared_variable places) x.catch_vars) (compared places (tree x.handler)) → ⊥
+      by : (t : m.Tree) → tree b ≡ t → compared places t ≡ m.try (compared_mark places a.mark) (compared places (tree x.arg)) (map (compared_variable places) x.vars) (compared places (tree x.body))
+          (map (compared_variable places) x.catch_vars) (compared places (tree x.handler)) → ⊥
       by (m.try k t vs u us z) js w = let o = opened b (m.try k t vs u us z) js in other o.0 o.1
       by t js w = cc
 
@@ -376,42 +475,48 @@ module _ (places : Bool) where
       by (m.equals k y) js w = let o = opened_pattern b (m.equals k y) js in other y o.0
       by t js w = cc
 
-  pub other_list_of : (a b : Pattern) (xs : List Pattern) (x : Pattern) → a.form ≡ p.Listed xs x → ((xs : List Pattern) (x : Pattern) → b.form ≡ p.Listed xs x → ⊥) → IsTrue false ↔ (compared_pattern places (pattern_tree a) ≡ compared_pattern places (pattern_tree b))
+  pub other_list_of : (a b : Pattern) (xs : List Pattern) (x : Pattern) → a.form ≡ p.Listed xs x → ((xs : List Pattern) (x : Pattern) → b.form ≡ p.Listed xs x → ⊥)
+      → IsTrue false ↔ (compared_pattern places (pattern_tree a) ≡ compared_pattern places (pattern_tree b))
   other_list_of a b xs x is other = refuted (λ h. by (pattern_tree b) refl (sym h ∙ ap (compared_pattern places) (list_of_pattern a xs x is)))
     where
       by : (t : m.Pattern) → pattern_tree b ≡ t → compared_pattern places t ≡ m.list_of (compared_mark places a.mark) (compared_patterns places (all_patterns xs)) (compared_pattern places (pattern_tree x)) → ⊥
       by (m.list_of k ys y) js w = let o = opened_pattern b (m.list_of k ys y) js in other o.0 o.1 o.2
       by t js w = cc
 
-  pub other_tuple_of : (a b : Pattern) (xs : List Pattern) → a.form ≡ p.Tuple xs → ((xs : List Pattern) → b.form ≡ p.Tuple xs → ⊥) → IsTrue false ↔ (compared_pattern places (pattern_tree a) ≡ compared_pattern places (pattern_tree b))
+  pub other_tuple_of : (a b : Pattern) (xs : List Pattern) → a.form ≡ p.Tuple xs → ((xs : List Pattern) → b.form ≡ p.Tuple xs → ⊥)
+      → IsTrue false ↔ (compared_pattern places (pattern_tree a) ≡ compared_pattern places (pattern_tree b))
   other_tuple_of a b xs is other = refuted (λ h. by (pattern_tree b) refl (sym h ∙ ap (compared_pattern places) (tuple_of_pattern a xs is)))
     where
       by : (t : m.Pattern) → pattern_tree b ≡ t → compared_pattern places t ≡ m.tuple_of (compared_mark places a.mark) (compared_patterns places (all_patterns xs)) → ⊥
       by (m.tuple_of k ys) js w = let o = opened_pattern b (m.tuple_of k ys) js in other o.0 o.1
       by t js w = cc
 
-  pub other_map_of : (a b : Pattern) (xs : List PatPair) → a.form ≡ p.Map xs → ((xs : List PatPair) → b.form ≡ p.Map xs → ⊥) → IsTrue false ↔ (compared_pattern places (pattern_tree a) ≡ compared_pattern places (pattern_tree b))
+  pub other_map_of : (a b : Pattern) (xs : List PatPair) → a.form ≡ p.Map xs → ((xs : List PatPair) → b.form ≡ p.Map xs → ⊥)
+      → IsTrue false ↔ (compared_pattern places (pattern_tree a) ≡ compared_pattern places (pattern_tree b))
   other_map_of a b xs is other = refuted (λ h. by (pattern_tree b) refl (sym h ∙ ap (compared_pattern places) (map_of_pattern a xs is)))
     where
       by : (t : m.Pattern) → pattern_tree b ≡ t → compared_pattern places t ≡ m.map_of (compared_mark places a.mark) (compared_pat_pairs places (all_pat_pairs xs)) → ⊥
       by (m.map_of k ys) js w = let o = opened_pattern b (m.map_of k ys) js in other o.0 o.1
       by t js w = cc
 
-  pub other_binary_of : (a b : Pattern) (xs : List PatSegment) → a.form ≡ p.Binary xs → ((xs : List PatSegment) → b.form ≡ p.Binary xs → ⊥) → IsTrue false ↔ (compared_pattern places (pattern_tree a) ≡ compared_pattern places (pattern_tree b))
+  pub other_binary_of : (a b : Pattern) (xs : List PatSegment) → a.form ≡ p.Binary xs → ((xs : List PatSegment) → b.form ≡ p.Binary xs → ⊥)
+      → IsTrue false ↔ (compared_pattern places (pattern_tree a) ≡ compared_pattern places (pattern_tree b))
   other_binary_of a b xs is other = refuted (λ h. by (pattern_tree b) refl (sym h ∙ ap (compared_pattern places) (binary_of_pattern a xs is)))
     where
       by : (t : m.Pattern) → pattern_tree b ≡ t → compared_pattern places t ≡ m.binary_of (compared_mark places a.mark) (compared_pat_segments places (all_pat_segments xs)) → ⊥
       by (m.binary_of k ys) js w = let o = opened_pattern b (m.binary_of k ys) js in other o.0 o.1
       by t js w = cc
 
-  pub other_alias : (a b : Pattern) (v : VarName) (x : Pattern) → a.form ≡ p.Alias v x → ((v : VarName) (x : Pattern) → b.form ≡ p.Alias v x → ⊥) → IsTrue false ↔ (compared_pattern places (pattern_tree a) ≡ compared_pattern places (pattern_tree b))
+  pub other_alias : (a b : Pattern) (v : VarName) (x : Pattern) → a.form ≡ p.Alias v x → ((v : VarName) (x : Pattern) → b.form ≡ p.Alias v x → ⊥)
+      → IsTrue false ↔ (compared_pattern places (pattern_tree a) ≡ compared_pattern places (pattern_tree b))
   other_alias a b v x is other = refuted (λ h. by (pattern_tree b) refl (sym h ∙ ap (compared_pattern places) (alias_pattern a v x is)))
     where
       by : (t : m.Pattern) → pattern_tree b ≡ t → compared_pattern places t ≡ m.alias (compared_mark places a.mark) (compared_variable places v) (compared_pattern places (pattern_tree x)) → ⊥
       by (m.alias k w2 y) js w = let o = opened_pattern b (m.alias k w2 y) js in other w2 o.0 o.1
       by t js w = cc
 
-  pub other_map : (a b : Expr) (xs : List MapPair) (x : Option Expr) → a.form ≡ f.Map xs x → ((xs : List MapPair) (x : Option Expr) → b.form ≡ f.Map xs x → ⊥) → IsTrue false ↔ (compared places (tree a) ≡ compared places (tree b))
+  pub other_map : (a b : Expr) (xs : List MapPair) (x : Option Expr) → a.form ≡ f.Map xs x → ((xs : List MapPair) (x : Option Expr) → b.form ≡ f.Map xs x → ⊥)
+      → IsTrue false ↔ (compared places (tree a) ≡ compared places (tree b))
   other_map a b xs None is other = refuted (λ h. by (tree b) refl (sym h ∙ ap (compared places) (new_map_tree a xs is)))
     where
       by : (t : m.Tree) → tree b ≡ t → compared places t ≡ m.new_map (compared_mark places a.mark) (compared_pairs places (all_pairs xs)) → ⊥
@@ -423,7 +528,9 @@ module _ (places : Bool) where
       by (m.updated_map k ys y) js w = let o = opened b (m.updated_map k ys y) js in other o.0 (Some o.1) o.2
       by t js w = cc
 
-  pub none_left : (e d : Expr) → IsControl (tree e) → ((xs : List (StepOf Expr)) (x : Expr) → e.form ≡ f.Chain xs x → ⊥) → ((x : Expr) (xs : List Clause) → e.form ≡ f.Case x xs → ⊥) → ((xs : List (FunDefOf Expr)) (x : Expr) → e.form ≡ f.Letrec xs x → ⊥) → ((h x : Expr) (xs : List Expr) → e.form ≡ f.Call h x xs → ⊥) → ((x : TryOf Expr) → e.form ≡ f.Try x → ⊥) → ((xs : List Clause) (t x : Expr) → e.form ≡ f.Receive xs t x → ⊥) → IsTrue false ↔ (compared places (tree e) ≡ compared places (tree d))
+  pub none_left : (e d : Expr) → IsControl (tree e) → ((xs : List (StepOf Expr)) (x : Expr) → e.form ≡ f.Chain xs x → ⊥) → ((x : Expr) (xs : List Clause) → e.form ≡ f.Case x xs → ⊥)
+      → ((xs : List (FunDefOf Expr)) (x : Expr) → e.form ≡ f.Letrec xs x → ⊥) → ((h x : Expr) (xs : List Expr) → e.form ≡ f.Call h x xs → ⊥) → ((x : TryOf Expr) → e.form ≡ f.Try x → ⊥)
+      → ((xs : List Clause) (t x : Expr) → e.form ≡ f.Receive xs t x → ⊥) → IsTrue false ↔ (compared places (tree e) ≡ compared places (tree d))
   none_left e d control no_chain no_case no_letrec no_call no_try no_receive = absurd (by (tree e) refl control)
     where
       by : (t : m.Tree) → tree e ≡ t → IsControl t → ⊥
@@ -452,64 +559,82 @@ module _ (places : Bool) where
   compared_pattern_mark_of t = refl
 
   pattern_mark_is : (e : Pattern) → pattern_mark_of (compared_pattern places (pattern_tree e)) ≡ compared_mark places e.mark
-  pattern_mark_is e = compared_pattern_mark_of (pattern_tree e) ∙ ap (λ t. compared_mark places (pattern_mark_of t)) (pattern_tree-is e ∙ ap (λ g. g e.mark) (pat_form_tree-out e.form)) ∙ ap (compared_mark places) (pattern_layer_mark e.mark _)
+  pattern_mark_is e = compared_pattern_mark_of (pattern_tree e) ∙ ap (λ t. compared_mark places (pattern_mark_of t)) (pattern_tree-is e ∙ ap (λ g. g e.mark) (pat_form_tree-out e.form))
+      ∙ ap (compared_mark places) (pattern_layer_mark e.mark _)
 
-  pub other_pattern_mark : (a b : Pattern) (r : Bool) → (IsTrue r ↔ (compared_mark places a.mark ≡ compared_mark places b.mark)) → r ≡ false → IsTrue false ↔ (compared_pattern places (pattern_tree a) ≡ compared_pattern places (pattern_tree b))
+  pub other_pattern_mark : (a b : Pattern) (r : Bool) → (IsTrue r ↔ (compared_mark places a.mark ≡ compared_mark places b.mark)) → r ≡ false
+      → IsTrue false ↔ (compared_pattern places (pattern_tree a) ≡ compared_pattern places (pattern_tree b))
   other_pattern_mark a b r tells not = refuted (λ h. fails r not tells (sym (pattern_mark_is a) ∙ ap pattern_mark_of h ∙ pattern_mark_is b))
 
-  pub clause_same : (a b : Clause) (r : Bool) → (IsTrue r ↔ ((compared_mark places (out-Clause a).mark ≡ compared_mark places (out-Clause b).mark) × (compared_patterns places (all_patterns (out-Clause a).patterns) ≡ compared_patterns places (all_patterns (out-Clause b).patterns)) × (compared places (tree (out-Clause a).guard) ≡ compared places (tree (out-Clause b).guard)) × (compared places (tree (out-Clause a).body) ≡ compared places (tree (out-Clause b).body)))) → IsTrue r ↔ (compared_clause places (clause_parts a) ≡ compared_clause places (clause_parts b))
+  pub clause_same : (a b : Clause) (r : Bool) → (IsTrue r ↔ ((compared_mark places (out-Clause a).mark ≡ compared_mark places (out-Clause b).mark)
+      × (compared_patterns places (all_patterns (out-Clause a).patterns) ≡ compared_patterns places (all_patterns (out-Clause b).patterns)) × (compared places (tree (out-Clause a).guard) ≡ compared places (tree (out-Clause b).guard))
+      × (compared places (tree (out-Clause a).body) ≡ compared places (tree (out-Clause b).body)))) → IsTrue r ↔ (compared_clause places (clause_parts a) ≡ compared_clause places (clause_parts b))
   clause_same a b r =
       joined _ _ _ _ r (ap (compared_clause places) (clause-is a)) (ap (compared_clause places) (clause-is b))
       (λ w i. record { mark = w.0 i; patterns = w.1 i; guard = w.2 i; body = w.3 i })
       (λ w. (ap (λ (z : ClauseParts). z.mark) w, ap (λ (z : ClauseParts). z.patterns) w, ap (λ (z : ClauseParts). z.guard) w, ap (λ (z : ClauseParts). z.body) w))
 
-  pub pair_same : (a b : MapPair) (r : Bool) → (IsTrue r ↔ ((a.exact ≡ b.exact) × (compared places (tree a.key) ≡ compared places (tree b.key)) × (compared places (tree a.value) ≡ compared places (tree b.value)))) → IsTrue r ↔ (compared_pair places (pair_parts a) ≡ compared_pair places (pair_parts b))
+  pub pair_same : (a b : MapPair) (r : Bool) → (IsTrue r ↔ ((a.exact ≡ b.exact) × (compared places (tree a.key) ≡ compared places (tree b.key)) × (compared places (tree a.value) ≡ compared places (tree b.value))))
+      → IsTrue r ↔ (compared_pair places (pair_parts a) ≡ compared_pair places (pair_parts b))
   pair_same a b r =
       joined _ _ _ _ r (ap (compared_pair places) (pair-is a)) (ap (compared_pair places) (pair-is b))
       (λ w i. record { exact = w.0 i; key = w.1 i; value = w.2 i })
       (λ w. (ap (λ (z : PairParts). z.exact) w, ap (λ (z : PairParts). z.key) w, ap (λ (z : PairParts). z.value) w))
 
-  pub segment_same : (a b : Segment) (r : Bool) → (IsTrue r ↔ ((compared places (tree (out-Segment a).value) ≡ compared places (tree (out-Segment b).value)) × (compared_all places (all_trees (out-Segment a).args) ≡ compared_all places (all_trees (out-Segment b).args)))) → IsTrue r ↔ (compared_segment places (segment_parts a) ≡ compared_segment places (segment_parts b))
+  pub segment_same : (a b : Segment) (r : Bool) → (IsTrue r ↔ ((compared places (tree (out-Segment a).value) ≡ compared places (tree (out-Segment b).value))
+      × (compared_all places (all_trees (out-Segment a).args) ≡ compared_all places (all_trees (out-Segment b).args)))) → IsTrue r ↔ (compared_segment places (segment_parts a) ≡ compared_segment places (segment_parts b))
   segment_same a b r =
       joined _ _ _ _ r (ap (compared_segment places) (segment-is a)) (ap (compared_segment places) (segment-is b))
       (λ w i. record { value = w.0 i; args = w.1 i })
       (λ w. (ap (λ (z : SegmentParts). z.value) w, ap (λ (z : SegmentParts). z.args) w))
 
-  pub pat_pair_same : (a b : PatPair) (r : Bool) → (IsTrue r ↔ ((compared places (tree a.key) ≡ compared places (tree b.key)) × (compared_pattern places (pattern_tree a.value) ≡ compared_pattern places (pattern_tree b.value)))) → IsTrue r ↔ (compared_pat_pair places (pat_pair_parts a) ≡ compared_pat_pair places (pat_pair_parts b))
+  pub pat_pair_same : (a b : PatPair) (r : Bool) → (IsTrue r ↔ ((compared places (tree a.key) ≡ compared places (tree b.key)) × (compared_pattern places (pattern_tree a.value) ≡ compared_pattern places (pattern_tree b.value))))
+      → IsTrue r ↔ (compared_pat_pair places (pat_pair_parts a) ≡ compared_pat_pair places (pat_pair_parts b))
   pat_pair_same a b r =
       joined _ _ _ _ r (ap (compared_pat_pair places) (pat_pair-is a)) (ap (compared_pat_pair places) (pat_pair-is b))
       (λ w i. record { key = w.0 i; value = w.1 i })
       (λ w. (ap (λ (z : PatPairParts). z.key) w, ap (λ (z : PatPairParts). z.value) w))
 
-  pub pat_segment_same : (a b : PatSegment) (r : Bool) → (IsTrue r ↔ ((compared_pattern places (pattern_tree (out-PatSegment a).value) ≡ compared_pattern places (pattern_tree (out-PatSegment b).value)) × (compared_all places (all_trees (out-PatSegment a).args) ≡ compared_all places (all_trees (out-PatSegment b).args)))) → IsTrue r ↔ (compared_pat_segment places (pat_segment_parts a) ≡ compared_pat_segment places (pat_segment_parts b))
+  pub pat_segment_same : (a b : PatSegment) (r : Bool) → (IsTrue r ↔ ((compared_pattern places (pattern_tree (out-PatSegment a).value) ≡ compared_pattern places (pattern_tree (out-PatSegment b).value))
+      × (compared_all places (all_trees (out-PatSegment a).args) ≡ compared_all places (all_trees (out-PatSegment b).args))))
+      → IsTrue r ↔ (compared_pat_segment places (pat_segment_parts a) ≡ compared_pat_segment places (pat_segment_parts b))
   pat_segment_same a b r =
       joined _ _ _ _ r (ap (compared_pat_segment places) (pat_segment-is a)) (ap (compared_pat_segment places) (pat_segment-is b))
       (λ w i. record { value = w.0 i; args = w.1 i })
       (λ w. (ap (λ (z : PatSegmentParts). z.value) w, ap (λ (z : PatSegmentParts). z.args) w))
 
-  pub def_same : (a b : FunDefOf Expr) (r : Bool) → (IsTrue r ↔ ((a.name ≡ b.name) × (compared_mark places a.mark ≡ compared_mark places b.mark) × (map (compared_variable places) a.fun.params ≡ map (compared_variable places) b.fun.params) × (compared places (tree a.fun.body) ≡ compared places (tree b.fun.body)))) → IsTrue r ↔ (compared_def places (def_tree a) ≡ compared_def places (def_tree b))
+  pub def_same : (a b : FunDefOf Expr) (r : Bool) → (IsTrue r ↔ ((a.name ≡ b.name) × (compared_mark places a.mark ≡ compared_mark places b.mark)
+      × (map (compared_variable places) a.fun.params ≡ map (compared_variable places) b.fun.params) × (compared places (tree a.fun.body) ≡ compared places (tree b.fun.body))))
+      → IsTrue r ↔ (compared_def places (def_tree a) ≡ compared_def places (def_tree b))
   def_same a b r =
       joined _ _ _ _ r refl refl
       (λ w i. record { name = w.0 i; mark = w.1 i; fun = record { params = w.2 i; body = w.3 i } })
       (λ w. (ap (λ (z : FunDefOf m.Tree). z.name) w, ap (λ (z : FunDefOf m.Tree). z.mark) w, ap (λ (z : FunDefOf m.Tree). z.fun.params) w, ap (λ (z : FunDefOf m.Tree). z.fun.body) w))
 
-  pub let_same : (a b : StepOf Expr) (k l : Mark) (xs ys : List VarName) (x y : Expr) (r : Bool) → a ≡ Let k xs x → b ≡ Let l ys y → (IsTrue r ↔ ((compared_mark places k ≡ compared_mark places l) × (map (compared_variable places) xs ≡ map (compared_variable places) ys) × (compared places (tree x) ≡ compared places (tree y)))) → IsTrue r ↔ (compared_step places (step_tree a) ≡ compared_step places (step_tree b))
+  pub let_same : (a b : StepOf Expr) (k l : Mark) (xs ys : List VarName) (x y : Expr) (r : Bool) → a ≡ Let k xs x → b ≡ Let l ys y
+      → (IsTrue r ↔ ((compared_mark places k ≡ compared_mark places l) × (map (compared_variable places) xs ≡ map (compared_variable places) ys) × (compared places (tree x) ≡ compared places (tree y))))
+      → IsTrue r ↔ (compared_step places (step_tree a) ≡ compared_step places (step_tree b))
   let_same a b k l xs ys x y r is js =
-      joined _ _ (Let (compared_mark places k) (map (compared_variable places) xs) (compared places (tree x))) (Let (compared_mark places l) (map (compared_variable places) ys) (compared places (tree y))) r (ap (λ z. compared_step places (step_tree z)) is) (ap (λ z. compared_step places (step_tree z)) js)
+      joined _ _ (Let (compared_mark places k) (map (compared_variable places) xs) (compared places (tree x))) (Let (compared_mark places l) (map (compared_variable places) ys) (compared places (tree y))) r
+      (ap (λ z. compared_step places (step_tree z)) is) (ap (λ z. compared_step places (step_tree z)) js)
       (λ w i. Let (w.0 i) (w.1 i) (w.2 i))
-      (λ w. let e0 : compared_mark places k ≡ compared_mark places l = cc in let e1 : map (compared_variable places) xs ≡ map (compared_variable places) ys = cc in let e2 : compared places (tree x) ≡ compared places (tree y) = cc in (e0, e1, e2))
+      (λ w. let e0 : compared_mark places k ≡ compared_mark places l = cc in let e1 : map (compared_variable places) xs ≡ map (compared_variable places) ys = cc in let e2 : compared places (tree x)
+      ≡ compared places (tree y) = cc in (e0, e1, e2))
 
-  pub do_same : (a b : StepOf Expr) (k l : Mark) (x y : Expr) (r : Bool) → a ≡ Do k x → b ≡ Do l y → (IsTrue r ↔ ((compared_mark places k ≡ compared_mark places l) × (compared places (tree x) ≡ compared places (tree y)))) → IsTrue r ↔ (compared_step places (step_tree a) ≡ compared_step places (step_tree b))
+  pub do_same : (a b : StepOf Expr) (k l : Mark) (x y : Expr) (r : Bool) → a ≡ Do k x → b ≡ Do l y → (IsTrue r ↔ ((compared_mark places k ≡ compared_mark places l) × (compared places (tree x) ≡ compared places (tree y))))
+      → IsTrue r ↔ (compared_step places (step_tree a) ≡ compared_step places (step_tree b))
   do_same a b k l x y r is js =
       joined _ _ (Do (compared_mark places k) (compared places (tree x))) (Do (compared_mark places l) (compared places (tree y))) r (ap (λ z. compared_step places (step_tree z)) is) (ap (λ z. compared_step places (step_tree z)) js)
       (λ w i. Do (w.0 i) (w.1 i))
       (λ w. let e0 : compared_mark places k ≡ compared_mark places l = cc in let e1 : compared places (tree x) ≡ compared places (tree y) = cc in (e0, e1))
 
   pub let_and_do : (a b : StepOf Expr) (k l : Mark) (xs : List VarName) (x y : Expr) → a ≡ Let k xs x → b ≡ Do l y → IsTrue false ↔ (compared_step places (step_tree a) ≡ compared_step places (step_tree b))
-  let_and_do a b k l xs x y is js = refuted (λ h. let e : Let (compared_mark places k) (map (compared_variable places) xs) (compared places (tree x)) ≡ Do (compared_mark places l) (compared places (tree y)) = sym (ap (λ z. compared_step places (step_tree z)) is) ∙ h ∙ ap (λ z. compared_step places (step_tree z)) js in cc)
+  let_and_do a b k l xs x y is js = refuted (λ h. let e : Let (compared_mark places k) (map (compared_variable places) xs) (compared places (tree x))
+      ≡ Do (compared_mark places l) (compared places (tree y)) = sym (ap (λ z. compared_step places (step_tree z)) is) ∙ h ∙ ap (λ z. compared_step places (step_tree z)) js in cc)
 
   pub do_and_let : (a b : StepOf Expr) (k l : Mark) (ys : List VarName) (x y : Expr) → a ≡ Do k x → b ≡ Let l ys y → IsTrue false ↔ (compared_step places (step_tree a) ≡ compared_step places (step_tree b))
-  do_and_let a b k l ys x y is js = refuted (λ h. let e : Do (compared_mark places k) (compared places (tree x)) ≡ Let (compared_mark places l) (map (compared_variable places) ys) (compared places (tree y)) = sym (ap (λ z. compared_step places (step_tree z)) is) ∙ h ∙ ap (λ z. compared_step places (step_tree z)) js in cc)
+  do_and_let a b k l ys x y is js = refuted (λ h. let e : Do (compared_mark places k) (compared places (tree x))
+      ≡ Let (compared_mark places l) (map (compared_variable places) ys) (compared places (tree y)) = sym (ap (λ z. compared_step places (step_tree z)) is) ∙ h ∙ ap (λ z. compared_step places (step_tree z)) js in cc)
 
   pub updated_some : (a b : Option Expr) (x y : Expr) (r : Bool) → a ≡ Some x → b ≡ Some y → (IsTrue r ↔ (compared places (tree x) ≡ compared places (tree y))) → IsTrue r ↔ SameUpdated places a b
   updated_some (Some u) (Some v) x y r is js tells = let e : x ≡ u = cc in let g : y ≡ v = cc in along (λ z. compared places (tree z)) u v x y r e g tells

@@ -16,8 +16,10 @@ use Rattle.core_ast.specs.declared.syntax.Segment.{Segment}
 use Rattle.core_ast.specs.declared.syntax.PatSegment.{PatSegment}
 use Rattle.core_ast.specs.declared.syntax.Pattern.{Pattern}
 use Rattle.core_ast.specs.Model as m
-use Rattle.core_ast.specs.Tree.{ClauseParts, PairParts, PatPairParts, SegmentParts, PatSegmentParts, trees, patterns, pairs, pat_pairs, segments, pat_segments, clauses, steps, defs, tree, pattern_tree, clause_parts, pair_parts, pat_pair_parts, segment_parts, pat_segment_parts, step_tree, def_tree, all_trees, all_patterns, all_clauses, all_pairs, all_pat_pairs, all_segments, all_pat_segments, all_steps, all_defs}
-use Rattle.core_ast.specs.Compared.{compared_mark, compared_variable, compared, compared_all, compared_pairs, compared_segments, compared_steps, compared_clauses, compared_defs, compared_pattern, compared_patterns, compared_pat_pairs, compared_pat_segments}
+use Rattle.core_ast.specs.Tree.{ClauseParts, PairParts, PatPairParts, SegmentParts, PatSegmentParts, trees, patterns, pairs, pat_pairs, segments, pat_segments, clauses, steps, defs, tree, pattern_tree, clause_parts, pair_parts}
+use Rattle.core_ast.specs.Tree.{pat_pair_parts, segment_parts, pat_segment_parts, step_tree, def_tree, all_trees, all_patterns, all_clauses, all_pairs, all_pat_pairs, all_segments, all_pat_segments, all_steps, all_defs}
+use Rattle.core_ast.specs.Compared.{compared_mark, compared_variable, compared, compared_all, compared_pairs, compared_segments, compared_steps}
+use Rattle.core_ast.specs.Compared.{compared_clauses, compared_defs, compared_pattern, compared_patterns, compared_pat_pairs, compared_pat_segments}
 use Rattle.core_ast.specs.steps.Comparing.{compared_pair, compared_segment, compared_step, compared_clause, compared_def, compared_pat_pair, compared_pat_segment}
 
 -- ---- tests
@@ -54,7 +56,8 @@ left_from f xs i x within is = ap (map f) (drop-cons xs i x within) ∙ ap (λ y
 pub begun : {X Y : Type 0} (f : X → Y) (xs ys : List X) → length xs ≡ length ys → SoFar f xs ys 0
 begun f xs ys e = record { lengths = e; left = (λ h. h, λ h. h) }
 
-pub one_more : {X Y : Type 0} (f : X → Y) (xs ys : List X) (i : ℕ) (x y : X) (r : Bool) → i < length xs → SoFar f xs ys i → x ≡ get_or xs i x → y ≡ get_or ys i y → (IsTrue r ↔ (f x ≡ f y)) → r ≡ true → SoFar f xs ys (i + 1)
+pub one_more : {X Y : Type 0} (f : X → Y) (xs ys : List X) (i : ℕ) (x y : X) (r : Bool) → i < length xs → SoFar f xs ys i → x ≡ get_or xs i x → y ≡ get_or ys i y → (IsTrue r ↔ (f x ≡ f y)) → r ≡ true
+    → SoFar f xs ys (i + 1)
 one_more f xs ys i x y r within so is js tells same =
     let a = left_from f xs i x within is in
     let b = left_from f ys i y (subst (λ n. i < n) so.lengths within) js in
@@ -64,7 +67,8 @@ one_more f xs ys i x y r within so is js tells same =
       left = (λ h. same_tail _ _ _ _ (sym a ∙ so.left.0 h ∙ b), λ h. so.left.1 (a ∙ ap (λ z. z ∷ map f (drop (i + 1) xs)) e ∙ ap (λ zs. f y ∷ zs) h ∙ sym b));
     }
 
-pub unlike : {X Y : Type 0} (f : X → Y) (xs ys : List X) (i : ℕ) (x y : X) (r : Bool) → i < length xs → SoFar f xs ys i → x ≡ get_or xs i x → y ≡ get_or ys i y → (IsTrue r ↔ (f x ≡ f y)) → r ≡ false → IsTrue false ↔ (map f xs ≡ map f ys)
+pub unlike : {X Y : Type 0} (f : X → Y) (xs ys : List X) (i : ℕ) (x y : X) (r : Bool) → i < length xs → SoFar f xs ys i → x ≡ get_or xs i x → y ≡ get_or ys i y → (IsTrue r ↔ (f x ≡ f y)) → r ≡ false
+    → IsTrue false ↔ (map f xs ≡ map f ys)
 unlike f xs ys i x y r within so is js tells differs =
     let a = left_from f xs i x within is in
     let b = left_from f ys i y (subst (λ n. i < n) so.lengths within) js in
@@ -89,7 +93,8 @@ names_same xs ys = (λ h. sym (map-id xs) ∙ h ∙ map-id ys, λ h. map-id xs �
 -- ---- lists of the model
 
 -- a list of the model is made of its items, and has them
-by_items : {X Y M : Type 0} (f : X → Y) (view : List X → M) (pack : List Y → M) (unpack : M → List Y) → ((xs : List X) → view xs ≡ pack (map f xs)) → ((ys : List Y) → unpack (pack ys) ≡ ys) → (xs ys : List X) → (map f xs ≡ map f ys) ↔ (view xs ≡ view ys)
+by_items : {X Y M : Type 0} (f : X → Y) (view : List X → M) (pack : List Y → M) (unpack : M → List Y) → ((xs : List X) → view xs ≡ pack (map f xs)) → ((ys : List Y) → unpack (pack ys) ≡ ys) → (xs ys : List X)
+    → (map f xs ≡ map f ys) ↔ (view xs ≡ view ys)
 by_items f view pack unpack made has xs ys =
     (λ h. made xs ∙ ap pack h ∙ sym (made ys), λ h. sym (has (map f xs)) ∙ ap unpack (sym (made xs) ∙ h ∙ made ys) ∙ has (map f ys))
 
@@ -196,14 +201,17 @@ module _ (places : Bool) where
   segments-made [] = refl
   segments-made (x ∷ xs) = ap (m.and_segment (compared places (segment_parts x).value) (compared_all places (segment_parts x).args)) (segments-made xs)
 
-  pub segments_same : (xs ys : List Segment) → (map (λ e. compared_segment places (segment_parts e)) xs ≡ map (λ e. compared_segment places (segment_parts e)) ys) ↔ (compared_segments places (all_segments xs) ≡ compared_segments places (all_segments ys))
+  pub segments_same : (xs ys : List Segment) → (map (λ e. compared_segment places (segment_parts e)) xs ≡ map (λ e. compared_segment places (segment_parts e)) ys)
+      ↔ (compared_segments places (all_segments xs) ≡ compared_segments places (all_segments ys))
   segments_same = by_items (λ e. compared_segment places (segment_parts e)) (λ xs. compared_segments places (all_segments xs)) segments un_segments segments-made un_segments-has
 
   clauses-made : (xs : List Clause) → compared_clauses places (all_clauses xs) ≡ clauses (map (λ e. compared_clause places (clause_parts e)) xs)
   clauses-made [] = refl
-  clauses-made (x ∷ xs) = ap (m.and_clause (compared_mark places (clause_parts x).mark) (compared_patterns places (clause_parts x).patterns) (compared places (clause_parts x).guard) (compared places (clause_parts x).body)) (clauses-made xs)
+  clauses-made (x ∷ xs) = ap (m.and_clause (compared_mark places (clause_parts x).mark) (compared_patterns places (clause_parts x).patterns) (compared places (clause_parts x).guard) (compared places (clause_parts x).body))
+      (clauses-made xs)
 
-  pub clauses_same : (xs ys : List Clause) → (map (λ e. compared_clause places (clause_parts e)) xs ≡ map (λ e. compared_clause places (clause_parts e)) ys) ↔ (compared_clauses places (all_clauses xs) ≡ compared_clauses places (all_clauses ys))
+  pub clauses_same : (xs ys : List Clause) → (map (λ e. compared_clause places (clause_parts e)) xs ≡ map (λ e. compared_clause places (clause_parts e)) ys)
+      ↔ (compared_clauses places (all_clauses xs) ≡ compared_clauses places (all_clauses ys))
   clauses_same = by_items (λ e. compared_clause places (clause_parts e)) (λ xs. compared_clauses places (all_clauses xs)) clauses un_clauses clauses-made un_clauses-has
 
   defs-made : (xs : List (FunDefOf Expr)) → compared_defs places (all_defs xs) ≡ defs (map (λ e. compared_def places (def_tree e)) xs)
@@ -217,21 +225,24 @@ module _ (places : Bool) where
   patterns-made [] = refl
   patterns-made (x ∷ xs) = ap (m.and_pattern (compared_pattern places (pattern_tree x))) (patterns-made xs)
 
-  pub patterns_same : (xs ys : List Pattern) → (map (λ e. compared_pattern places (pattern_tree e)) xs ≡ map (λ e. compared_pattern places (pattern_tree e)) ys) ↔ (compared_patterns places (all_patterns xs) ≡ compared_patterns places (all_patterns ys))
+  pub patterns_same : (xs ys : List Pattern) → (map (λ e. compared_pattern places (pattern_tree e)) xs ≡ map (λ e. compared_pattern places (pattern_tree e)) ys)
+      ↔ (compared_patterns places (all_patterns xs) ≡ compared_patterns places (all_patterns ys))
   patterns_same = by_items (λ e. compared_pattern places (pattern_tree e)) (λ xs. compared_patterns places (all_patterns xs)) patterns un_patterns patterns-made un_patterns-has
 
   pat_pairs-made : (xs : List PatPair) → compared_pat_pairs places (all_pat_pairs xs) ≡ pat_pairs (map (λ e. compared_pat_pair places (pat_pair_parts e)) xs)
   pat_pairs-made [] = refl
   pat_pairs-made (x ∷ xs) = ap (m.and_pat_pair (compared places (pat_pair_parts x).key) (compared_pattern places (pat_pair_parts x).value)) (pat_pairs-made xs)
 
-  pub pat_pairs_same : (xs ys : List PatPair) → (map (λ e. compared_pat_pair places (pat_pair_parts e)) xs ≡ map (λ e. compared_pat_pair places (pat_pair_parts e)) ys) ↔ (compared_pat_pairs places (all_pat_pairs xs) ≡ compared_pat_pairs places (all_pat_pairs ys))
+  pub pat_pairs_same : (xs ys : List PatPair) → (map (λ e. compared_pat_pair places (pat_pair_parts e)) xs ≡ map (λ e. compared_pat_pair places (pat_pair_parts e)) ys)
+      ↔ (compared_pat_pairs places (all_pat_pairs xs) ≡ compared_pat_pairs places (all_pat_pairs ys))
   pat_pairs_same = by_items (λ e. compared_pat_pair places (pat_pair_parts e)) (λ xs. compared_pat_pairs places (all_pat_pairs xs)) pat_pairs un_pat_pairs pat_pairs-made un_pat_pairs-has
 
   pat_segments-made : (xs : List PatSegment) → compared_pat_segments places (all_pat_segments xs) ≡ pat_segments (map (λ e. compared_pat_segment places (pat_segment_parts e)) xs)
   pat_segments-made [] = refl
   pat_segments-made (x ∷ xs) = ap (m.and_pat_segment (compared_pattern places (pat_segment_parts x).value) (compared_all places (pat_segment_parts x).args)) (pat_segments-made xs)
 
-  pub pat_segments_same : (xs ys : List PatSegment) → (map (λ e. compared_pat_segment places (pat_segment_parts e)) xs ≡ map (λ e. compared_pat_segment places (pat_segment_parts e)) ys) ↔ (compared_pat_segments places (all_pat_segments xs) ≡ compared_pat_segments places (all_pat_segments ys))
+  pub pat_segments_same : (xs ys : List PatSegment) → (map (λ e. compared_pat_segment places (pat_segment_parts e)) xs ≡ map (λ e. compared_pat_segment places (pat_segment_parts e)) ys)
+      ↔ (compared_pat_segments places (all_pat_segments xs) ≡ compared_pat_segments places (all_pat_segments ys))
   pat_segments_same = by_items (λ e. compared_pat_segment places (pat_segment_parts e)) (λ xs. compared_pat_segments places (all_pat_segments xs)) pat_segments un_pat_segments pat_segments-made un_pat_segments-has
 
   steps-made : (xs : List (StepOf Expr)) → compared_steps places (all_steps xs) ≡ steps (map (λ e. compared_step places (step_tree e)) xs)
@@ -239,5 +250,6 @@ module _ (places : Bool) where
   steps-made (Let k vs e ∷ xs) = ap (m.and_let (compared_mark places k) (map (compared_variable places) vs) (compared places (tree e))) (steps-made xs)
   steps-made (Do k e ∷ xs) = ap (m.and_do (compared_mark places k) (compared places (tree e))) (steps-made xs)
 
-  pub steps_same : (xs ys : List (StepOf Expr)) → (map (λ e. compared_step places (step_tree e)) xs ≡ map (λ e. compared_step places (step_tree e)) ys) ↔ (compared_steps places (all_steps xs) ≡ compared_steps places (all_steps ys))
+  pub steps_same : (xs ys : List (StepOf Expr)) → (map (λ e. compared_step places (step_tree e)) xs ≡ map (λ e. compared_step places (step_tree e)) ys)
+      ↔ (compared_steps places (all_steps xs) ≡ compared_steps places (all_steps ys))
   steps_same = by_items (λ e. compared_step places (step_tree e)) (λ xs. compared_steps places (all_steps xs)) steps un_steps steps-made un_steps-has

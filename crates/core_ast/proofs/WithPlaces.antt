@@ -4,7 +4,8 @@ use Rattle.std.proofs.lemmas.List.{map-id}
 use Rattle.core_ast.specs.declared.syntax.VarName.{VarName}
 use Rattle.core_ast.specs.declared.syntax.FunDefOf.{FunDefOf}
 use Rattle.core_ast.specs.Model as m
-use Rattle.core_ast.specs.Compared.{compared_variable, compared, compared_all, compared_pairs, compared_segments, compared_steps, compared_clauses, compared_defs, compared_pattern, compared_patterns, compared_pat_pairs, compared_pat_segments}
+use Rattle.core_ast.specs.Compared.{compared_variable, compared, compared_all, compared_pairs, compared_segments, compared_steps, compared_clauses}
+use Rattle.core_ast.specs.Compared.{compared_defs, compared_pattern, compared_patterns, compared_pat_pairs, compared_pat_segments}
 use Rattle.core_ast.specs.steps.Comparing.{compared_def}
 
 all_variables : (xs : List VarName) → map (compared_variable true) xs ≡ xs

@@ -1,8 +1,11 @@
 // Whether two trees are the same: with their places where `places` says so, and else apart from them.
 ghost use Rattle.std.specs.Prelude.{◌≡◌, ◌↔◌, IsTrue, map};
-ghost use Rattle.core_ast.specs.Tree.{tree, pattern_tree, all_trees, all_pairs, all_segments, all_steps, all_clauses, all_defs, all_patterns, all_pat_pairs, all_pat_segments, clause_parts, pair_parts, segment_parts, pat_pair_parts, pat_segment_parts, step_tree, def_tree};
-ghost use Rattle.core_ast.specs.Compared.{compared_mark, compared_variable, compared, compared_all, compared_pairs, compared_segments, compared_steps, compared_clauses, compared_defs, compared_pattern, compared_patterns, compared_pat_pairs, compared_pat_segments};
-ghost use Rattle.core_ast.specs.steps.Comparing.{compared_pair, compared_segment, compared_step, compared_clause, compared_def, compared_pat_pair, compared_pat_segment, SameTry, SameUpdated, IsComposed, IsControl};
+ghost use Rattle.core_ast.specs.Tree.{tree, pattern_tree, all_trees, all_pairs, all_segments, all_steps, all_clauses, all_defs, all_patterns, all_pat_pairs};
+ghost use Rattle.core_ast.specs.Tree.{all_pat_segments, clause_parts, pair_parts, segment_parts, pat_pair_parts, pat_segment_parts, step_tree, def_tree};
+ghost use Rattle.core_ast.specs.Compared.{compared_mark, compared_variable, compared, compared_all, compared_pairs, compared_segments, compared_steps};
+ghost use Rattle.core_ast.specs.Compared.{compared_clauses, compared_defs, compared_pattern, compared_patterns, compared_pat_pairs, compared_pat_segments};
+ghost use Rattle.core_ast.specs.steps.Comparing.{compared_pair, compared_segment, compared_step, compared_clause, compared_def};
+ghost use Rattle.core_ast.specs.steps.Comparing.{compared_pat_pair, compared_pat_segment, SameTry, SameUpdated, IsComposed, IsControl};
 
 use crate::comparing::{same_literal, same_mark, same_name, same_variable, same_variables};
 use crate::syntax::{

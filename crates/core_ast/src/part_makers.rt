@@ -1,5 +1,6 @@
 ghost use Rattle.std.specs.Prelude.{◌≡◌, IfOk};
-ghost use Rattle.core_ast.specs.Tree.{tree, pattern_tree, all_trees, all_patterns, clause_parts, pair_parts, pat_pair_parts, segment_parts, pat_segment_parts, def_tree};
+ghost use Rattle.core_ast.specs.Tree.{tree, pattern_tree, all_trees, all_patterns, clause_parts, pair_parts};
+ghost use Rattle.core_ast.specs.Tree.{pat_pair_parts, segment_parts, pat_segment_parts, def_tree};
 
 use crate::drops::discard;
 use crate::expression_makers::{boxed, boxed_two};

@@ -2,8 +2,10 @@
 use Rattle.std.proofs.Common.{◌≡◌, ℕ, suc, ◌+◌, List, ◌++◌, Option, length, refl, sym, ap, ◌∙◌}
 use Rattle.std.proofs.lemmas.List.{length-append}
 use Rattle.core_ast.specs.Model as m
-use Rattle.core_scope.specs.Labels.{labels, labels_of, labels_of_all, labels_of_clauses, labels_of_defs, labels_of_pairs, labels_of_pattern, labels_of_patterns, labels_of_pat_pairs, labels_of_pat_segments, labels_of_segments, labels_of_steps}
-use Rattle.core_lines.specs.Lines.{behind, lines, lines_of, lines_of_all, lines_of_clauses, lines_of_defs, lines_of_pairs, lines_of_pattern, lines_of_patterns, lines_of_pat_pairs, lines_of_pat_segments, lines_of_segments, lines_of_steps, noted}
+use Rattle.core_scope.specs.Labels.{labels, labels_of, labels_of_all, labels_of_clauses, labels_of_defs, labels_of_pairs, labels_of_pattern}
+use Rattle.core_scope.specs.Labels.{labels_of_patterns, labels_of_pat_pairs, labels_of_pat_segments, labels_of_segments, labels_of_steps}
+use Rattle.core_lines.specs.Lines.{behind, lines, lines_of, lines_of_all, lines_of_clauses, lines_of_defs, lines_of_pairs, lines_of_pattern}
+use Rattle.core_lines.specs.Lines.{lines_of_patterns, lines_of_pat_pairs, lines_of_pat_segments, lines_of_segments, lines_of_steps, noted}
 
 both : (ps qs us vs : List ℕ) → length ps ≡ length qs → length us ≡ length vs → length (ps ++ us) ≡ length (qs ++ vs)
 both ps qs us vs e f = length-append ps us ∙ ap (λ n. n + length us) e ∙ ap (λ n. length qs + n) f ∙ sym (length-append qs vs)

@@ -16,7 +16,8 @@ use Rattle.core_ast.specs.declared.syntax.Segment.{Segment}
 use Rattle.core_ast.specs.declared.syntax.Form.TheVariants as f
 use Rattle.core_ast.specs.Model as m
 use Rattle.core_ast.specs.Tree.{tree, all_trees, all_pairs, all_segments, all_steps, all_clauses, all_defs}
-use Rattle.core_ast.proofs.Forms.{variable_tree, local_tree, external_tree, literal_tree, fun_tree, listed_tree, tuple_tree, new_map_tree, updated_map_tree, binary_tree, values_tree, chain_tree, case_tree, letrec_tree, apply_tree, call_tree, primop_tree, try_tree, receive_tree, catch_tree, Opened, opened}
+use Rattle.core_ast.proofs.Forms.{variable_tree, local_tree, external_tree, literal_tree, fun_tree, listed_tree, tuple_tree, new_map_tree, updated_map_tree, binary_tree}
+use Rattle.core_ast.proofs.Forms.{values_tree, chain_tree, case_tree, letrec_tree, apply_tree, call_tree, primop_tree, try_tree, receive_tree, catch_tree, Opened, opened}
 use Rattle.core_lines.specs.Lines.{behind, line_of, lines, lines_of_all, lines_of_clauses, lines_of_defs, lines_of_pairs, lines_of_segments, lines_of_steps, noted}
 use Rattle.core_lines.specs.steps.Parts.{below}
 use Rattle.core_lines.proofs.Joining.{Answer, next, nothing, three_parts}
@@ -96,12 +97,14 @@ module _ (o : List ℕ) (a : Option ℕ) (e : Expr) where
       pub listed_exit : (xs : List Expr) (x : Expr) → e.form ≡ f.Listed xs x → o1 ≡ o ++ lines_of_all a (all_trees xs) → OnOk r (o2 ≡ o1 ++ lines a (tree x)) → OnOk r (o2 ≡ o ++ below a (tree e))
       listed_exit xs x is one = on_ok_weaker r (λ two. next o o1 o2 (lines_of_all a (all_trees xs)) (lines a (tree x)) one two ∙ ap after (sym (listed_tree e xs x is)))
 
-      pub updated_map_exit : (ps qs : List MapPair) (u : Option Expr) (x y : Expr) → e.form ≡ f.Map ps u → qs ≡ ps → o1 ≡ o ++ lines_of_pairs a (all_pairs qs) → u ≡ Some x → y ≡ x → OnOk r (o2 ≡ o1 ++ lines a (tree y)) → OnOk r (o2 ≡ o ++ below a (tree e))
+      pub updated_map_exit : (ps qs : List MapPair) (u : Option Expr) (x y : Expr) → e.form ≡ f.Map ps u → qs ≡ ps → o1 ≡ o ++ lines_of_pairs a (all_pairs qs) → u ≡ Some x → y ≡ x
+          → OnOk r (o2 ≡ o1 ++ lines a (tree y)) → OnOk r (o2 ≡ o ++ below a (tree e))
       updated_map_exit ps qs u x y is pairs_are one some same = on_ok_weaker r (λ two. next o o1 o2 (lines_of_pairs a (all_pairs qs)) (lines a (tree y)) one two
           ∙ ap (λ z. o ++ (lines_of_pairs a (all_pairs z) ++ lines a (tree y))) pairs_are ∙ ap (λ z. o ++ (lines_of_pairs a (all_pairs ps) ++ lines a (tree z))) same
           ∙ ap after (sym (updated_map_tree e ps x (is ∙ ap (f.Map ps) some))))
 
-      pub chain_exit : (ss : List (StepOf Expr)) (x : Expr) (j : Option ℕ) → e.form ≡ f.Chain ss x → j ≡ behind a (all_steps ss) → o1 ≡ o ++ lines_of_steps a (all_steps ss) → OnOk r (o2 ≡ o1 ++ lines j (tree x)) → OnOk r (o2 ≡ o ++ below a (tree e))
+      pub chain_exit : (ss : List (StepOf Expr)) (x : Expr) (j : Option ℕ) → e.form ≡ f.Chain ss x → j ≡ behind a (all_steps ss) → o1 ≡ o ++ lines_of_steps a (all_steps ss) → OnOk r (o2 ≡ o1 ++ lines j (tree x))
+          → OnOk r (o2 ≡ o ++ below a (tree e))
       chain_exit ss x j is last one = on_ok_weaker r (λ two. next o o1 o2 (lines_of_steps a (all_steps ss)) (lines j (tree x)) one two
           ∙ ap (λ z. o ++ (lines_of_steps a (all_steps ss) ++ lines z (tree x))) last ∙ ap after (sym (chain_tree e ss x is)))
 
@@ -116,10 +119,33 @@ module _ (o : List ℕ) (a : Option ℕ) (e : Expr) where
 
       -- and with three
       module _ (o3 : List ℕ) where
-        pub call_exit : (x y : Expr) (xs : List Expr) → e.form ≡ f.Call x y xs → o1 ≡ o ++ lines a (tree x) → o2 ≡ o1 ++ lines a (tree y) → OnOk r (o3 ≡ o2 ++ lines_of_all a (all_trees xs)) → OnOk r (o3 ≡ o ++ below a (tree e))
+        pub call_exit : (x y : Expr) (xs : List Expr) → e.form ≡ f.Call x y xs → o1 ≡ o ++ lines a (tree x) → o2 ≡ o1 ++ lines a (tree y) → OnOk r (o3 ≡ o2 ++ lines_of_all a (all_trees xs))
+            → OnOk r (o3 ≡ o ++ below a (tree e))
         call_exit x y xs is one two = on_ok_weaker r (λ three. three_parts o o1 o2 o3 (lines a (tree x)) (lines a (tree y)) (lines_of_all a (all_trees xs)) one two three ∙ ap after (sym (call_tree e x y xs is)))
 
-        pub receive_exit : (cs : List Clause) (x y : Expr) → e.form ≡ f.Receive cs x y → o1 ≡ o ++ lines_of_clauses a (all_clauses cs) → o2 ≡ o1 ++ lines a (tree x) → OnOk r (o3 ≡ o2 ++ lines a (tree y)) → OnOk r (o3 ≡ o ++ below a (tree e))
+        pub receive_exit : (cs : List Clause) (x y : Expr) → e.form ≡ f.Receive cs x y → o1 ≡ o ++ lines_of_clauses a (all_clauses cs) → o2 ≡ o1 ++ lines a (tree x) → OnOk r (o3 ≡ o2 ++ lines a (tree y))
+            → OnOk r (o3 ≡ o ++ below a (tree e))
         receive_exit cs x y is one two = on_ok_weaker r (λ three. three_parts o o1 o2 o3 (lines_of_clauses a (all_clauses cs)) (lines a (tree x)) (lines a (tree y)) one two three ∙ ap after (sym (receive_tree e cs x y is)))
 
-pub ruleset expression_exits = (variable_exit, local_exit, external_exit, literal_exit, fun_exit, tuple_exit, values_exit, primop_exit, new_map_exit, binary_exit, catch_exit, try_exit, listed_exit, updated_map_exit, chain_exit, case_exit, letrec_exit, apply_exit, call_exit, receive_exit)
+pub ruleset expression_exits = (
+  variable_exit,
+  local_exit,
+  external_exit,
+  literal_exit,
+  fun_exit,
+  tuple_exit,
+  values_exit,
+  primop_exit,
+  new_map_exit,
+  binary_exit,
+  catch_exit,
+  try_exit,
+  listed_exit,
+  updated_map_exit,
+  chain_exit,
+  case_exit,
+  letrec_exit,
+  apply_exit,
+  call_exit,
+  receive_exit,
+)

@@ -26,7 +26,8 @@ own_first a e (m.map_of k us) h = ap (λ k. line_of a k ∷ below_pattern (noted
 own_first a e (m.binary_of k us) h = ap (λ k. line_of a k ∷ below_pattern (noted a k) (m.binary_of k us)) (sym h.2)
 own_first a e (m.alias k x q) h = ap (λ k. line_of a k ∷ below_pattern (noted a k) (m.alias k x q)) (sym h.2)
 
-pub own_pattern_line : (o0 o1 o2 : List ℕ) (a i : Option ℕ) (e : Pattern) → i ≡ noted a e.mark → o1 ≡ o0 ++ unwrap_or i e.mark.place.line ∷ [] → o2 ≡ o1 ++ below_pattern i (pattern_tree e) → o2 ≡ o0 ++ lines_of_pattern a (pattern_tree e)
+pub own_pattern_line : (o0 o1 o2 : List ℕ) (a i : Option ℕ) (e : Pattern) → i ≡ noted a e.mark → o1 ≡ o0 ++ unwrap_or i e.mark.place.line ∷ [] → o2 ≡ o1 ++ below_pattern i (pattern_tree e)
+    → o2 ≡ o0 ++ lines_of_pattern a (pattern_tree e)
 own_pattern_line o0 o1 o2 a i e is one two =
     next o0 o1 o2 (unwrap_or i e.mark.place.line ∷ []) (below_pattern i (pattern_tree e)) one two
     ∙ ap (λ j. o0 ++ unwrap_or j e.mark.place.line ∷ below_pattern j (pattern_tree e)) is ∙ ap (λ x. o0 ++ x) (sym (own_first a e (pattern_tree e) (opened_pattern e (pattern_tree e) refl)))
@@ -55,7 +56,8 @@ module _ (o : List ℕ) (a : Option ℕ) (e : Pattern) where
     pattern_alias v x y is same = on_ok_weaker r (λ one. one ∙ ap (λ z. o ++ lines_of_pattern a (pattern_tree z)) same ∙ ap after (sym (alias_pattern e v x is)))
 
     module _ (o2 : List ℕ) where
-      pub pattern_listed : (ps qs : List Pattern) (x y : Pattern) → e.form ≡ p.Listed ps x → qs ≡ ps → o1 ≡ o ++ lines_of_patterns a (all_patterns qs) → y ≡ x → OnOk r (o2 ≡ o1 ++ lines_of_pattern a (pattern_tree y)) → OnOk r (o2 ≡ o ++ below_pattern a (pattern_tree e))
+      pub pattern_listed : (ps qs : List Pattern) (x y : Pattern) → e.form ≡ p.Listed ps x → qs ≡ ps → o1 ≡ o ++ lines_of_patterns a (all_patterns qs) → y ≡ x → OnOk r (o2 ≡ o1 ++ lines_of_pattern a (pattern_tree y))
+          → OnOk r (o2 ≡ o ++ below_pattern a (pattern_tree e))
       pattern_listed ps qs x y is same one last = on_ok_weaker r (λ two. next o o1 o2 (lines_of_patterns a (all_patterns qs)) (lines_of_pattern a (pattern_tree y)) one two
           ∙ ap (λ z. o ++ (lines_of_patterns a (all_patterns z) ++ lines_of_pattern a (pattern_tree y))) same ∙ ap (λ z. o ++ (lines_of_patterns a (all_patterns ps) ++ lines_of_pattern a (pattern_tree z))) last
           ∙ ap after (sym (list_of_pattern e ps x is)))

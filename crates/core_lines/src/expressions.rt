@@ -1,7 +1,8 @@
 //! The walk through expressions. Only depth takes stack: lists, chains and clauses are loops.
 ghost use Rattle.std.specs.Prelude.{◌≡◌, ◌++◌, IfOk, OnOk};
 ghost use Rattle.core_ast.specs.Tree.{all_clauses, all_defs, all_pairs, all_segments, all_steps, all_trees, module_tree, tree};
-ghost use Rattle.core_lines.specs.Lines.{behind, lines, lines_of, lines_of_all, lines_of_clauses, lines_of_defs, lines_of_pairs, lines_of_segments, lines_of_steps};
+ghost use Rattle.core_lines.specs.Lines.{behind, lines, lines_of, lines_of_all, lines_of_clauses};
+ghost use Rattle.core_lines.specs.Lines.{lines_of_defs, lines_of_pairs, lines_of_segments, lines_of_steps};
 ghost use Rattle.core_lines.specs.steps.Parts.{below, step_expression, step_mark};
 
 use crate::node::{add_line, noted};
@@ -205,7 +206,8 @@ fn add_definitions(out: &mut List<u32>, around: Option<u32>, defs: &[FunDef]) ->
 // Adds those of the parts of a `try`.
 #[cycle(lines)]
 fn add_try(out: &mut List<u32>, inner: Option<u32>, parts: &TryParts) -> Result<(), Memory>
-    ensures { OnOk result (out.new ≡ out.old ++ (lines inner (tree parts.now.arg) ++ lines inner (tree parts.now.body) ++ lines inner (tree parts.now.handler))) }
+    ensures { OnOk result (out.new ≡ out.old ++ (lines inner (tree parts.now.arg) ++ lines inner (tree parts.now.body)
+        ++ lines inner (tree parts.now.handler))) }
 {
     add_expression(out, inner, parts.arg.get())?;
     add_expression(out, inner, parts.body.get())?;

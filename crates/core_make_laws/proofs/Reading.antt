@@ -38,7 +38,8 @@ abbrev pub whole : {deepest : ℕ} {n : Nonterminal} {ts : List Token} → Optio
 whole None = None
 whole (Some r) = Some (record { says = r.says; left = r.left; reads = part r.reads })
 
-abbrev pub either : {deepest : ℕ} {n : Nonterminal} {w : Way (Said n)} {ws : List (Way (Said n))} {ts : List Token} → Option (ReadAll deepest n w.parts w.says ts) → Option (ReadOne deepest n ws ts) → Option (ReadOne deepest n (w ∷ ws) ts)
+abbrev pub either : {deepest : ℕ} {n : Nonterminal} {w : Way (Said n)} {ws : List (Way (Said n))} {ts : List Token} → Option (ReadAll deepest n w.parts w.says ts) → Option (ReadOne deepest n ws ts)
+    → Option (ReadOne deepest n (w ∷ ws) ts)
 either (Some r) more = Some (record { says = r.says; left = r.left; reads = here r.reads })
 either None None = None
 either None (Some r) = Some (record { says = r.says; left = r.left; reads = later r.reads })

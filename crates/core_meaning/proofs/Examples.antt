@@ -11,7 +11,8 @@ use Rattle.type_lattice_model.specs.Values.{Value, int, cons, nil, tuple, Values
 use Rattle.bif_types.specs.Results.{one_value, two_values}
 use Rattle.core_meaning.specs.Programs.{Program}
 use Rattle.core_meaning.specs.Matching.{Match, match_variable, match_literal, match_list, match_head, match_rest, Miss, miss_list, miss_no_list, MissEach, miss_tuple, miss_fewer, miss_here, miss_later, miss_literal, miss_map}
-use Rattle.core_meaning.specs.Meaning.{gives, fails, raised, stopped, Trace, entered, gave, back, give_none, give_next, chain_ends, let_gives, do_gives, Choose, choose_none, choose_missed, choose_refused, choose_raised, choose_this, Enter, enter_gives, Apply, apply_closure, Step, step_variable, step_literal}
+use Rattle.core_meaning.specs.Meaning.{gives, fails, raised, stopped, Trace, entered, gave, back, give_none, give_next, chain_ends, let_gives, do_gives, Choose, choose_none}
+use Rattle.core_meaning.specs.Meaning.{choose_missed, choose_refused, choose_raised, choose_this, Enter, enter_gives, Apply, apply_closure, Step, step_variable, step_literal}
 use Rattle.core_meaning.specs.Meaning.{step_list, step_tuple, step_chain, step_case, step_letrec, step_apply_name, step_primop, step_primop_raises, step_caught, step_handle, step_receive, step_timeout}
 use Rattle.core_meaning.specs.Runs.{EvalWith}
 use Rattle.core_meaning.specs.Worked.{mark, name_of}

@@ -19,8 +19,10 @@ use Rattle.core_scope.specs.Names as scopes
 use Rattle.core_scope.specs.Names.{Scope, bound_by, patterns_bound, steps_bound, defined_names}
 use Rattle.core_scope.specs.Places.{StandsInModule}
 use Rattle.core_scope.specs.Places.Piece.{expression, steps, clauses}
-use Rattle.core_scope.specs.Places.HasPart.{listed_items, listed_rest, tuple_items, new_map_pairs, updated_map_pairs, updated_map_itself, binary_segments, values_items, chain_steps, chain_end, case_argument, case_clauses, letrec_body, apply_function, apply_arguments}
-use Rattle.core_scope.specs.Places.HasPart.{call_module, call_name, call_arguments, primop_arguments, try_argument, try_body, try_handler, receive_timeout, catch_argument, let_argument, after_let, do_argument, after_do, clause_guard, clause_body, other_clauses}
+use Rattle.core_scope.specs.Places.HasPart.{listed_items, listed_rest, tuple_items, new_map_pairs, updated_map_pairs, updated_map_itself, binary_segments}
+use Rattle.core_scope.specs.Places.HasPart.{values_items, chain_steps, chain_end, case_argument, case_clauses, letrec_body, apply_function, apply_arguments}
+use Rattle.core_scope.specs.Places.HasPart.{call_module, call_name, call_arguments, primop_arguments, try_argument, try_body, try_handler, receive_timeout}
+use Rattle.core_scope.specs.Places.HasPart.{catch_argument, let_argument, after_let, do_argument, after_do, clause_guard, clause_body, other_clauses}
 use Rattle.core_scope.specs.Places.StandsIn.{deeper}
 use Rattle.type_lattice_model.specs.Canonical.{spelled}
 use Rattle.type_lattice_model.specs.Values.{Value, int, atom, bits, float, nil, tuple, map, closure, external, Values, no_value, and_value, no_pair, Env, and_frame, count}
@@ -30,8 +32,10 @@ use Rattle.core_meaning.specs.Programs.{Program, IsAtLabel, AreAtLabels, locals_
 use Rattle.core_meaning.specs.Environments.{with_variables}
 use Rattle.core_meaning.specs.Matching.{LiteralIs, MatchEach, MissEach}
 use Rattle.core_meaning.specs.Meaning.{Failure, raised, stopped, Outcome, gives, fails, made, chosen, Trace, with_last, in_pairs, in_segments, in_application, operands, list_value, AreOutside}
-use Rattle.core_meaning.specs.Meaning.{AllGive, give_none, give_next, OneFails, fail_here, fail_later, Chained, chain_ends, let_gives, let_fails, do_gives, do_fails, Choose, choose_none, choose_missed, choose_refused, choose_failed, choose_this, apply_raises}
-use Rattle.core_meaning.specs.Meaning.{Step, step_variable, step_literal, step_function, step_name, step_external, step_part_fails, step_list, step_tuple, step_values, step_new_map, step_map_raises, step_binary, step_chain, step_case, step_case_fails, step_letrec}
+use Rattle.core_meaning.specs.Meaning.{AllGive, give_none, give_next, OneFails, fail_here, fail_later, Chained, chain_ends, let_gives, let_fails}
+use Rattle.core_meaning.specs.Meaning.{do_gives, do_fails, Choose, choose_none, choose_missed, choose_refused, choose_failed, choose_this, apply_raises}
+use Rattle.core_meaning.specs.Meaning.{Step, step_variable, step_literal, step_function, step_name, step_external, step_part_fails, step_list, step_tuple}
+use Rattle.core_meaning.specs.Meaning.{step_values, step_new_map, step_map_raises, step_binary, step_chain, step_case, step_case_fails, step_letrec}
 use Rattle.core_meaning.specs.Meaning.{step_apply_name_raises, step_apply, step_call_raises, step_primop_raises, step_try, step_handle, step_try_stops, step_catch, step_caught, step_catch_stops, step_waits, step_receive_fails}
 use Rattle.core_meaning.specs.Runs.{EvalWith}
 use Rattle.core_meaning.proofs.Bound.{BindsAll, binds_none, binds_both, binds_all, Grows, grows_itself, grows_all}
@@ -361,8 +365,10 @@ module _ (once : (v w : Value) → spelled v ≡ spelled w → v ≡ w) (U : Pro
     step s k (m.try i t xs u ys x) env there fit =
         let r = ends s (Exactly (length xs)) t env (deeper there try_argument) fit in
         try_then k i t xs u ys x env r.outcome r.trace r.happens r.meets
-        (λ vs n. ends (scopes.with_variables s (bound_by xs)) k u (with_variables xs vs env) (deeper there try_body) (fits_grown U p.name s env (with_variables xs vs env) (bound_by xs) fit (grows_all U p.name xs vs env) (binds_all U p.name xs vs env n)))
-        (ends (scopes.with_variables s (bound_by ys)) k x (with_variables ys (nils ys) env) (deeper there try_handler) (fits_grown U p.name s env (with_variables ys (nils ys) env) (bound_by ys) fit (grows_all U p.name ys (nils ys) env) (binds_all U p.name ys (nils ys) env (count_nils ys))))
+        (λ vs n. ends (scopes.with_variables s (bound_by xs)) k u (with_variables xs vs env) (deeper there try_body)
+        (fits_grown U p.name s env (with_variables xs vs env) (bound_by xs) fit (grows_all U p.name xs vs env) (binds_all U p.name xs vs env n)))
+        (ends (scopes.with_variables s (bound_by ys)) k x (with_variables ys (nils ys) env) (deeper there try_handler)
+        (fits_grown U p.name s env (with_variables ys (nils ys) env) (bound_by ys) fit (grows_all U p.name ys (nils ys) env) (binds_all U p.name ys (nils ys) env (count_nils ys))))
     step s k (m.receive i cs t u) env there fit = receive_then k i cs t u env (one_or_fails s t env (deeper there receive_timeout) fit)
     step s k (m.catch i t) env there fit = catch_then k i t env (text.degrees s k (m.catch i t) there) (one_or_fails s t env (deeper there catch_argument) fit)
 

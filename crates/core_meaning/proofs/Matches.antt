@@ -14,7 +14,8 @@ use Rattle.type_lattice_model.specs.Values.{Value, int, atom, bits, float, pid, 
 use Rattle.core_meaning.specs.Programs.{Program}
 use Rattle.core_meaning.specs.Environments.{with_variable}
 use Rattle.core_meaning.specs.Matching.{LiteralIs, LiteralMisses, Match, match_variable, match_literal, match_list, match_tuple, match_alias, MatchEach, match_none, match_next, MatchList, match_rest, match_head}
-use Rattle.core_meaning.specs.Matching.{Miss, miss_literal, miss_list, miss_no_tuple, miss_tuple, miss_map, miss_binary, miss_alias, MissEach, miss_more, miss_fewer, miss_here, miss_later, MissList, miss_no_list, miss_head, miss_tail, miss_rest}
+use Rattle.core_meaning.specs.Matching.{Miss, miss_literal, miss_list, miss_no_tuple, miss_tuple, miss_map, miss_binary, miss_alias, MissEach}
+use Rattle.core_meaning.specs.Matching.{miss_more, miss_fewer, miss_here, miss_later, MissList, miss_no_list, miss_head, miss_tail, miss_rest}
 use Rattle.core_meaning.proofs.Bound.{BindsAll, binds_none, binds_both, binds_three, binds_new, Grows, grows_itself, grows_on, grows_one}
 
 -- ---- which form a value has
@@ -165,6 +166,7 @@ module _ (once : (v w : Value) → spelled v ≡ spelled w → v ≡ w) where
           (v : Value) (env : Env) → Reaches env (patterns_bound ps ++ pattern_bound p) (λ to. MatchList W ps p v env to) ⊎ MissList ps p v
       list_or_miss m.no_pattern p last v env = by_rest p v env (last v env)
       list_or_miss (m.and_pattern q ps) p last v env = elim (as_cons v) [
-        | inl r ↦ subst (λ x. Reaches env (pattern_bound q ++ patterns_bound ps ++ pattern_bound p) (λ to. MatchList W (m.and_pattern q ps) p x env to) ⊎ MissList (m.and_pattern q ps) p x) (sym r.1.1) (by_head q ps p r.0 r.1.0 env (match_or_miss q r.0 env) (λ mid. list_or_miss ps p last r.1.0 mid))
+        | inl r ↦ subst (λ x. Reaches env (pattern_bound q ++ patterns_bound ps ++ pattern_bound p) (λ to. MatchList W (m.and_pattern q ps) p x env to) ⊎ MissList (m.and_pattern q ps) p x) (sym r.1.1)
+            (by_head q ps p r.0 r.1.0 env (match_or_miss q r.0 env) (λ mid. list_or_miss ps p last r.1.0 mid))
         | inr other ↦ inr (miss_no_list other)
       ]

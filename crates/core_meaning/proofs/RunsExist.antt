@@ -83,9 +83,11 @@ module _ (once : (v w : Value) → spelled v ≡ spelled w → v ≡ w) (U : Pro
     by_body (fails g) tr h e = run_of (fails g) (entered start vs ∷ tr) (enter_fails (sym d.arity ∙ parameters) d.labelled parameters h)
 
     body_fits : Fits U p.name (scopes.with_variables (module_scope p) (bound_by d.parameters)) (with_variables d.parameters vs no_variable)
-    body_fits = fits_grown U p.name (module_scope p) no_variable (with_variables d.parameters vs no_variable) (bound_by d.parameters) module_fits (grows_all U p.name d.parameters vs no_variable) (binds_all U p.name d.parameters vs no_variable parameters)
+    body_fits = fits_grown U p.name (module_scope p) no_variable (with_variables d.parameters vs no_variable) (bound_by d.parameters) module_fits (grows_all U p.name d.parameters vs no_variable)
+        (binds_all U p.name d.parameters vs no_variable parameters)
 
     pub has_run : HasRun U stage fuel p.name f vs
     has_run =
-        let r = all_end once U p text (λ v. IsOutside U stage v) (tt, λ c h. absurd h) fuel (scopes.with_variables (module_scope p) (bound_by d.parameters)) asks.one_value d.body (with_variables d.parameters vs no_variable) d.stands body_fits in
+        let r = all_end once U p text (λ v. IsOutside U stage v) (tt, λ c h. absurd h) fuel (scopes.with_variables (module_scope p) (bound_by d.parameters)) asks.one_value d.body
+        (with_variables d.parameters vs no_variable) d.stands body_fits in
         by_body r.outcome r.trace r.happens r.meets

@@ -9,8 +9,10 @@ use Rattle.bif_types.specs.Results.{two_values, BifMay}
 use Rattle.core_meaning.specs.Programs.{Program}
 use Rattle.core_meaning.specs.Matching.{match_variable, match_none, match_next, miss_here, miss_literal}
 use Rattle.core_meaning.specs.Meaning.{fails, raised, give_none, give_next, fail_here, fail_later, chain_ends, let_gives, let_fails, do_gives, do_fails, choose_none, choose_missed, choose_refused, choose_raised, choose_failed, choose_this}
-use Rattle.core_meaning.specs.Meaning.{call_built_in, call_outside, call_raises, apply_external, apply_foreign, apply_raises, step_variable, step_literal, step_external, step_part_fails, step_list, step_tuple, step_values, step_new_map, step_new_map_raises}
-use Rattle.core_meaning.specs.Meaning.{step_map, step_map_raises, step_binary, step_binary_raises, step_chain, step_case, step_case_fails, step_apply_name_raises, step_apply, step_call, step_call_raises, step_primop, step_primop_raises, step_try, step_handle}
+use Rattle.core_meaning.specs.Meaning.{call_built_in, call_outside, call_raises, apply_external, apply_foreign, apply_raises, step_variable, step_literal}
+use Rattle.core_meaning.specs.Meaning.{step_external, step_part_fails, step_list, step_tuple, step_values, step_new_map, step_new_map_raises}
+use Rattle.core_meaning.specs.Meaning.{step_map, step_map_raises, step_binary, step_binary_raises, step_chain, step_case, step_case_fails}
+use Rattle.core_meaning.specs.Meaning.{step_apply_name_raises, step_apply, step_call, step_call_raises, step_primop, step_primop_raises, step_try, step_handle}
 use Rattle.core_meaning.specs.Meaning.{step_try_stops, step_catch, step_caught, step_catch_stops, step_receive, step_timeout, step_waits, step_receive_fails}
 use Rattle.core_meaning.specs.Runs.{EvalWith}
 use Rattle.core_meaning.specs.Forms.{number, raising, WorkedParts, WorkedChoices, WorkedCalls}
@@ -45,7 +47,8 @@ module _ (U : Program) (W : Value → Type 0) (home : Atom) (env : Env) (k : Mar
     tuple_raises = λ n. step_part_fails (fail_later (step_literal refl) (fail_here (raises (suc n) env)));
     a_map = λ n. step_new_map (give_next (step_literal refl) (give_next (step_literal refl) give_none)) ((inl (inl refl), inl (inl refl)), tt) refl;
     map_raises = λ n. step_new_map_raises (give_next (step_literal refl) (give_next (step_literal refl) give_none));
-    new_value = λ n. step_map {old = and_pair (number 1) (number 2) no_pair} (give_next (step_literal refl) (give_next (step_literal refl) give_none)) (step_new_map (give_next (step_literal refl) (give_next (step_literal refl) give_none)) ((inl (inl refl), inl (inl refl)), tt) refl) ((inl (inl refl), inl (inl refl)), tt) refl;
+    new_value = λ n. step_map {old = and_pair (number 1) (number 2) no_pair} (give_next (step_literal refl) (give_next (step_literal refl) give_none))
+        (step_new_map (give_next (step_literal refl) (give_next (step_literal refl) give_none)) ((inl (inl refl), inl (inl refl)), tt) refl) ((inl (inl refl), inl (inl refl)), tt) refl;
     no_map = λ n. step_map_raises (give_next (step_literal refl) (give_next (step_literal refl) (give_next (step_literal refl) give_none)));
     a_binary = λ bs n. step_binary give_none;
     binary_raises = λ n. step_binary_raises give_none;
@@ -56,7 +59,8 @@ module _ (U : Program) (W : Value → Type 0) (home : Atom) (env : Env) (k : Mar
     a_case = λ n. step_case (step_literal refl) refl (choose_missed (miss_here (miss_literal one_no_two)) (choose_this (match_next match_variable match_none) (step_literal refl) (step_variable refl)));
     no_clause_fits = λ n. step_case (step_literal refl) refl (choose_missed (miss_here (miss_literal one_no_two)) choose_none);
     case_raises = λ n. step_case_fails (raises (suc n) env);
-    guard_refuses = λ n. step_case (step_literal refl) refl (choose_refused (match_next match_variable match_none) (step_literal refl) false_no_true (choose_this (match_next match_variable match_none) (step_literal refl) (step_variable refl)));
+    guard_refuses = λ n. step_case (step_literal refl) refl (choose_refused (match_next match_variable match_none) (step_literal refl) false_no_true
+        (choose_this (match_next match_variable match_none) (step_literal refl) (step_variable refl)));
     guard_passes = λ n. step_case (step_literal refl) refl (choose_raised (match_next match_variable match_none) (step_primop_raises give_none) (choose_this (match_next match_variable match_none) (step_literal refl) (step_variable refl)));
     guard_raises = λ n. step_case (step_literal refl) refl (choose_failed (match_next match_variable match_none) (step_primop_raises give_none));
     a_try = λ n. step_try (step_literal refl) refl (step_variable refl);
@@ -78,7 +82,8 @@ module _ (U : Program) (W : Value → Type 0) (home : Atom) (env : Env) (k : Mar
       outside_gives = λ v w none n. step_call (give_next (step_literal refl) (give_next (step_literal refl) give_none)) (call_outside none w);
       no_name = λ n. step_call_raises (give_next (step_literal refl) (give_next (step_literal refl) give_none));
       call_may_raise = λ n x name vs. call_raises;
-      external_gives = λ n. step_chain (let_gives step_external refl (chain_ends (step_apply refl (give_next (step_variable refl) (give_next (step_literal refl) (give_next (step_literal refl) give_none))) (apply_external refl (call_built_in refl sum (inl refl))))));
+      external_gives = λ n. step_chain (let_gives step_external refl (chain_ends
+          (step_apply refl (give_next (step_variable refl) (give_next (step_literal refl) (give_next (step_literal refl) give_none))) (apply_external refl (call_built_in refl sum (inl refl))))));
       foreign_gives = λ x v w n. step_apply refl (give_next (step_variable refl) give_none) (apply_foreign refl w);
       no_function = λ n. step_chain (let_gives (step_literal refl) refl (chain_ends (step_apply refl (give_next (step_variable refl) give_none) apply_raises)));
       wrong_arity = λ n. step_apply_name_raises (give_next (step_literal refl) give_none);

@@ -4,7 +4,8 @@ use Rattle.std.specs.Prelude.{codes}
 use Rattle.type_lattice_model.specs.Values.{no_value}
 use Rattle.bif_types.specs.Results.{one_value}
 use Rattle.core_parse_grammar.specs.Labels.{numbered}
-use Rattle.core_meaning.specs.Meaning.{gives, made, Among, give_none, give_next, chain_ends, let_gives, enter_gives, enter_fails, call_enters, apply_closure, step_variable, step_literal, step_function, step_name, step_chain, step_letrec, step_apply_name, step_apply, step_call, step_primop_raises}
+use Rattle.core_meaning.specs.Meaning.{gives, made, Among, give_none, give_next, chain_ends, let_gives, enter_gives, enter_fails, call_enters, apply_closure, step_variable}
+use Rattle.core_meaning.specs.Meaning.{step_literal, step_function, step_name, step_chain, step_letrec, step_apply_name, step_apply, step_call, step_primop_raises}
 use Rattle.core_meaning.specs.Runs.{EnterAt, WasMade, Run}
 use Rattle.core_meaning.specs.Worked.{name_of}
 use Rattle.core_meaning.specs.Forms.{number}

@@ -2,7 +2,8 @@
 use Rattle.std.proofs.Common.{◌≡◌, pos, inl, refl}
 use Rattle.core_ast.specs.declared.syntax.Mark.{Mark}
 use Rattle.type_lattice_model.specs.Values.{Value, nil, cons, tuple, Values, Env}
-use Rattle.core_meaning.specs.Matching.{match_variable, match_literal, match_list, match_tuple, match_map, match_binary, match_alias, match_none, match_next, match_rest, match_head, match_no_pair, match_pair, match_no_segment, match_segment}
+use Rattle.core_meaning.specs.Matching.{match_variable, match_literal, match_list, match_tuple, match_map, match_binary, match_alias, match_none}
+use Rattle.core_meaning.specs.Matching.{match_next, match_rest, match_head, match_no_pair, match_pair, match_no_segment, match_segment}
 use Rattle.core_meaning.specs.Matching.{miss_literal, miss_list, miss_no_tuple, miss_tuple, miss_map, miss_binary, miss_alias, miss_more, miss_fewer, miss_here, miss_later, miss_no_list, miss_head, miss_tail, miss_rest}
 use Rattle.core_meaning.specs.Forms.{number}
 use Rattle.core_meaning.specs.Patterns.{WorkedMatches, WorkedMisses}

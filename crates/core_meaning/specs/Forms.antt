@@ -151,9 +151,11 @@ module _ (U : Program) (W : Value → Type 0) (home : Atom) (env : Env) (k : Mar
     -- a call may raise, whatever it finds
     pub call_may_raise : (n : ℕ) (x name : Atom) (vs : Values) → Called U W (EvalWith U W n) x name vs (fails raised) []
     -- `let <X> = fun 'erlang':'+'/2 in apply X(1,2)`
-    pub external_gives : To (let_x k (m.external k erlang (name_of (codes "+") 2)) (m.apply k (seen k (codes "X")) (two_trees k (num k 1) (num k 2)))) (number 3) (applied home k.label (external erlang (codes "+") 2) ∷ back home k.label (number 3) ∷ [])
+    pub external_gives : To (let_x k (m.external k erlang (name_of (codes "+") 2)) (m.apply k (seen k (codes "X")) (two_trees k (num k 1) (num k 2)))) (number 3)
+        (applied home k.label (external erlang (codes "+") 2) ∷ back home k.label (number 3) ∷ [])
     -- `apply X()`, where X is a foreign function
-    pub foreign_gives : (n : ℕ) (v : Value) → W v → May U W home (and_variable (codes "X") (foreign n 0) env) (m.apply k (seen k (codes "X")) m.no_tree) (gives (one_value v)) (applied home k.label (foreign n 0) ∷ back home k.label v ∷ [])
+    pub foreign_gives : (n : ℕ) (v : Value) → W v → May U W home (and_variable (codes "X") (foreign n 0) env) (m.apply k (seen k (codes "X")) m.no_tree) (gives (one_value v))
+        (applied home k.label (foreign n 0) ∷ back home k.label v ∷ [])
     -- `let <X> = 1 in apply X()` raises, and so may `apply 'f'/0(1)`
     pub no_function : Raises (let_x k (num k 1) (m.apply k (seen k (codes "X")) m.no_tree)) (applied home k.label (number 1) ∷ [])
     pub wrong_arity : Raises (m.apply k (m.local k (name_of (codes "f") 0)) (m.and_tree (num k 1) m.no_tree)) []

@@ -28,8 +28,10 @@ use type_lattice_model::value_laws;
 /// With more fuel an expression may end in each way in which it may end with less: with the same values
 /// or with a raise, and with the same trace. So may a function that is entered.
 pub fn fuel_laws()
-    ensures expression { (U : Program) (stage n j : ℕ) → n ≤ j → (home : Atom) (env : Env) (t : m.Tree) (o : Outcome) (tr : Trace) → HasEnded o → Eval U stage n home env t o tr → Eval U stage j home env t o tr }
-    ensures function { (U : Program) (stage n j : ℕ) → n ≤ j → (c : Value) (vs : Values) (o : Outcome) (tr : Trace) → HasEnded o → EnterAt U stage n c vs o tr → EnterAt U stage j c vs o tr }
+    ensures expression { (U : Program) (stage n j : ℕ) → n ≤ j → (home : Atom) (env : Env) (t : m.Tree) (o : Outcome) (tr : Trace) → HasEnded o
+        → Eval U stage n home env t o tr → Eval U stage j home env t o tr }
+    ensures function { (U : Program) (stage n j : ℕ) → n ≤ j → (c : Value) (vs : Values) (o : Outcome) (tr : Trace) → HasEnded o
+        → EnterAt U stage n c vs o tr → EnterAt U stage j c vs o tr }
 {}
 
 /// There are runs: the exported function `'f'/0` of the module `'r8'`, entered at stage 0 with fuel 20,
@@ -59,7 +61,9 @@ pub fn worked_rows()
 /// In a program with an accepted module, each exported function of it has a run with as many values from
 /// outside as its arity says, in every stage and with any fuel. With fuel 0 it stops.
 pub fn runs_exist()
-    ensures { (c : Checked) (U : Program) (f : FunName) (stage fuel : ℕ) (vs : Values) → HasModule U (tree_of c) → is_exported U (tree_of c).name f ≡ true → count vs ≡ f.arity → AreOutside (λ v. IsOutside U stage v) vs → HasRun U stage fuel (tree_of c).name f vs }
+    ensures { (c : Checked) (U : Program) (f : FunName) (stage fuel : ℕ) (vs : Values) → HasModule U (tree_of c)
+        → is_exported U (tree_of c).name f ≡ true → count vs ≡ f.arity → AreOutside (λ v. IsOutside U stage v) vs
+        → HasRun U stage fuel (tree_of c).name f vs }
 {
     label_laws();
     places_are_sound();
@@ -70,8 +74,10 @@ pub fn runs_exist()
 /// In a program with an accepted module each fun that stands in the module, at any depth, is the one that
 /// is found at its label; so is each definition of a `letrec`, and each of the module's own.
 pub fn label_laws()
-    ensures functions { (c : Checked) (U : Program) (s : Scope) (k : Ask) (i : Mark) (xs : List VarName) (t : m.Tree) → HasModule U (tree_of c) → StandsInModule (tree_of c) (expression s k (m.function i xs t)) → IsAtLabel U (tree_of c).name i None xs t }
-    ensures letrecs { (c : Checked) (U : Program) (s : Scope) (k : Ask) (i : Mark) (ds : m.Defs) (t : m.Tree) → HasModule U (tree_of c) → StandsInModule (tree_of c) (expression s k (m.letrec i ds t)) → AreAtLabels U (tree_of c).name ds }
+    ensures functions { (c : Checked) (U : Program) (s : Scope) (k : Ask) (i : Mark) (xs : List VarName) (t : m.Tree) → HasModule U (tree_of c)
+        → StandsInModule (tree_of c) (expression s k (m.function i xs t)) → IsAtLabel U (tree_of c).name i None xs t }
+    ensures letrecs { (c : Checked) (U : Program) (s : Scope) (k : Ask) (i : Mark) (ds : m.Defs) (t : m.Tree) → HasModule U (tree_of c)
+        → StandsInModule (tree_of c) (expression s k (m.letrec i ds t)) → AreAtLabels U (tree_of c).name ds }
     ensures definitions { (c : Checked) (U : Program) → HasModule U (tree_of c) → AreAtLabels U (tree_of c).name (tree_of c).defs }
 {
     functions_by_label();

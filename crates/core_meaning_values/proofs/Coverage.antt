@@ -7,11 +7,13 @@ use Rattle.core_ast.specs.Model as m
 use Rattle.core_ast.specs.declared.syntax.VarName.{VarName}
 use Rattle.core_scope.specs.Names.{same_atom, wildcard}
 use Rattle.type_lattice_model.specs.Canonical.{HoldsPair}
-use Rattle.type_lattice_model.specs.Values.{Value, int, atom, bits, float, pid, port, reference, nil, cons, tuple, map, closure, external, foreign, Values, no_value, and_value, ValuePairs, no_pair, and_pair, Env, no_variable, and_variable, and_frame, Local}
+use Rattle.type_lattice_model.specs.Values.{Value, int, atom, bits, float, pid, port, reference, nil, cons, tuple, map, closure, external, foreign}
+use Rattle.type_lattice_model.specs.Values.{Values, no_value, and_value, ValuePairs, no_pair, and_pair, Env, no_variable, and_variable, and_frame, Local}
 use Rattle.bif_types.specs.Closures.{HoldsClosure, HoldClosure, PairsHoldClosure}
 use Rattle.core_meaning.specs.Environments as run
 use Rattle.core_meaning.specs.Environments.{value_of, with_variable}
-use Rattle.core_meaning.specs.Matching.{Match, match_variable, match_literal, match_list, match_tuple, match_map, match_binary, match_alias, MatchEach, match_none, match_next, MatchList, match_rest, match_head, MatchPairs, match_no_pair, match_pair, MatchSegments, match_no_segment, match_segment}
+use Rattle.core_meaning.specs.Matching.{Match, match_variable, match_literal, match_list, match_tuple, match_map, match_binary, match_alias, MatchEach, match_none}
+use Rattle.core_meaning.specs.Matching.{match_next, MatchList, match_rest, match_head, MatchPairs, match_no_pair, match_pair, MatchSegments, match_no_segment, match_segment}
 use Rattle.core_meaning.specs.Meaning.{IsAmong, IsMadeOf, keys_given, values_given, list_value, AreOutside}
 use Rattle.core_meaning_values.specs.Covered.{Covered, AreCovered, PairsCovered, CoveredEnv}
 

@@ -2,7 +2,8 @@
 -- environment, and one of the functions of a `letrec` over what stands around it.
 use Rattle.std.specs.Prelude.{ℕ, List}
 use Rattle.type_kinds.specs.declared.atom.Atom.{Atom}
-use Rattle.type_lattice_model.specs.Values.{Value, int, atom, bits, float, pid, port, reference, nil, cons, tuple, map, closure, external, foreign, Values, no_value, and_value, ValuePairs, no_pair, and_pair, Env, no_variable, and_variable, and_frame, Local}
+use Rattle.type_lattice_model.specs.Values.{Value, int, atom, bits, float, pid, port, reference, nil, cons, tuple, map, closure, external, foreign}
+use Rattle.type_lattice_model.specs.Values.{Values, no_value, and_value, ValuePairs, no_pair, and_pair, Env, no_variable, and_variable, and_frame, Local}
 
 module _ (OfClosure : Atom → (label arity : ℕ) → Env → Type 0) (OfFrame : Atom → List Local → Env → Type 0) where
   abbrev mutual

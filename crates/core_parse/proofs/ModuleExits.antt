@@ -104,42 +104,69 @@ module _ (ts from : List Token) (u : AttributesBefore ts from) where
 
 -- what stands before the definitions
 module _ (ts : List Token) where
-  header_0 : Goes «module» (itself «module») (record { parts = a s.Module ∷ the (noted_ (a s.Atom)) ∷ a s.OpenSquare ∷ the (many s.CloseSquare (the (noted_ (the function_name)))) ∷ a s.Attributes ∷ a s.OpenSquare ∷ the (many s.CloseSquare (the attribute)) ∷ the (definitions s.End 1) ∷ []; build = λ _ x _ es _ _ _ ds. module_of x.value es (t.defs ds) } ∷ []) ts ts
+  header_0 : Goes «module» (itself «module») (record {
+    parts = a s.Module ∷ the (noted_ (a s.Atom)) ∷ a s.OpenSquare ∷ the (many s.CloseSquare (the (noted_ (the function_name)))) ∷ a s.Attributes ∷ a s.OpenSquare
+        ∷ the (many s.CloseSquare (the attribute)) ∷ the (definitions s.End 1) ∷ [];
+    build = λ _ x _ es _ _ _ ds. module_of x.value es (t.defs ds);
+  } ∷ []) ts ts
   header_0 = expand «module» «module» [] (λ x. x) [] ts
 
   pub header_0_bad : (f : PartFault) → Misses s.Module ts f → Refuses «module» ts f
   header_0_bad f z = lacking _ s.Module _ _ ts ts f header_0 z
 
   module _ (us0 : List Token) (y0 : Takes s.Module ts us0) where
-    header_1 : Goes «module» (itself «module») (record { parts = the (noted_ (a s.Atom)) ∷ a s.OpenSquare ∷ the (many s.CloseSquare (the (noted_ (the function_name)))) ∷ a s.Attributes ∷ a s.OpenSquare ∷ the (many s.CloseSquare (the attribute)) ∷ the (definitions s.End 1) ∷ []; build = λ x _ es _ _ _ ds. module_of x.value es (t.defs ds) } ∷ []) ts us0
-    header_1 = header_0 >> take_class _ s.Module (the (noted_ (a s.Atom)) ∷ a s.OpenSquare ∷ the (many s.CloseSquare (the (noted_ (the function_name)))) ∷ a s.Attributes ∷ a s.OpenSquare ∷ the (many s.CloseSquare (the attribute)) ∷ the (definitions s.End 1) ∷ []) (λ _ x _ es _ _ _ ds. module_of x.value es (t.defs ds)) ts us0 y0
+    header_1 : Goes «module» (itself «module») (record {
+      parts = the (noted_ (a s.Atom)) ∷ a s.OpenSquare ∷ the (many s.CloseSquare (the (noted_ (the function_name)))) ∷ a s.Attributes ∷ a s.OpenSquare
+          ∷ the (many s.CloseSquare (the attribute)) ∷ the (definitions s.End 1) ∷ [];
+      build = λ x _ es _ _ _ ds. module_of x.value es (t.defs ds);
+    } ∷ []) ts us0
+    header_1 = header_0 >> take_class _ s.Module (the (noted_ (a s.Atom)) ∷ a s.OpenSquare ∷ the (many s.CloseSquare (the (noted_ (the function_name)))) ∷ a s.Attributes ∷ a s.OpenSquare ∷ the (many s.CloseSquare (the attribute))
+        ∷ the (definitions s.End 1) ∷ []) (λ _ x _ es _ _ _ ds. module_of x.value es (t.defs ds)) ts us0 y0
 
     pub header_1_bad : (f : PartFault) → Refuses (noted_ (a s.Atom)) us0 f → Refuses «module» ts f
-    header_1_bad f z = refused _ _ (a s.OpenSquare ∷ the (many s.CloseSquare (the (noted_ (the function_name)))) ∷ a s.Attributes ∷ a s.OpenSquare ∷ the (many s.CloseSquare (the attribute)) ∷ the (definitions s.End 1) ∷ []) (λ x _ es _ _ _ ds. module_of x.value es (t.defs ds)) ts us0 f header_1 ((λ t x. refl), (λ t x. refl), tt) z
+    header_1_bad f z = refused _ _ (a s.OpenSquare ∷ the (many s.CloseSquare (the (noted_ (the function_name)))) ∷ a s.Attributes ∷ a s.OpenSquare ∷ the (many s.CloseSquare (the attribute)) ∷ the (definitions s.End 1) ∷ [])
+        (λ x _ es _ _ _ ds. module_of x.value es (t.defs ds)) ts us0 f header_1 ((λ t x. refl), (λ t x. refl), tt) z
 
     module _ (us1 : List Token) (o1 : Token) (y1 : ReadsAnnotatedAtom us0 o1 us1) where
-      header_2 : Goes «module» (itself «module») (record { parts = a s.OpenSquare ∷ the (many s.CloseSquare (the (noted_ (the function_name)))) ∷ a s.Attributes ∷ a s.OpenSquare ∷ the (many s.CloseSquare (the attribute)) ∷ the (definitions s.End 1) ∷ []; build = λ _ es _ _ _ ds. module_of y1.says.value es (t.defs ds) } ∷ []) ts us1
-      header_2 = header_1 >> through _ _ (a s.OpenSquare ∷ the (many s.CloseSquare (the (noted_ (the function_name)))) ∷ a s.Attributes ∷ a s.OpenSquare ∷ the (many s.CloseSquare (the attribute)) ∷ the (definitions s.End 1) ∷ []) (λ x _ es _ _ _ ds. module_of x.value es (t.defs ds)) us0 us1 y1.says y1.passes ((λ t x. refl), (λ t x. refl), tt)
+      header_2 : Goes «module» (itself «module») (record {
+        parts = a s.OpenSquare ∷ the (many s.CloseSquare (the (noted_ (the function_name)))) ∷ a s.Attributes ∷ a s.OpenSquare ∷ the (many s.CloseSquare (the attribute))
+            ∷ the (definitions s.End 1) ∷ [];
+        build = λ _ es _ _ _ ds. module_of y1.says.value es (t.defs ds);
+      } ∷ []) ts us1
+      header_2 = header_1 >> through _ _ (a s.OpenSquare ∷ the (many s.CloseSquare (the (noted_ (the function_name)))) ∷ a s.Attributes ∷ a s.OpenSquare ∷ the (many s.CloseSquare (the attribute)) ∷ the (definitions s.End 1)
+          ∷ []) (λ x _ es _ _ _ ds. module_of x.value es (t.defs ds)) us0 us1 y1.says y1.passes ((λ t x. refl), (λ t x. refl), tt)
 
       pub header_2_bad : (f : PartFault) → Misses s.OpenSquare us1 f → Refuses «module» ts f
-      header_2_bad f z = lacking _ s.OpenSquare (the (many s.CloseSquare (the (noted_ (the function_name)))) ∷ a s.Attributes ∷ a s.OpenSquare ∷ the (many s.CloseSquare (the attribute)) ∷ the (definitions s.End 1) ∷ []) (λ _ es _ _ _ ds. module_of y1.says.value es (t.defs ds)) ts us1 f header_2 z
+      header_2_bad f z = lacking _ s.OpenSquare (the (many s.CloseSquare (the (noted_ (the function_name)))) ∷ a s.Attributes ∷ a s.OpenSquare ∷ the (many s.CloseSquare (the attribute)) ∷ the (definitions s.End 1) ∷ [])
+          (λ _ es _ _ _ ds. module_of y1.says.value es (t.defs ds)) ts us1 f header_2 z
 
       module _ (us2 : List Token) (y2 : Takes s.OpenSquare us1 us2) where
-        header_3 : Goes «module» (itself «module») (record { parts = the (many s.CloseSquare (the (noted_ (the function_name)))) ∷ a s.Attributes ∷ a s.OpenSquare ∷ the (many s.CloseSquare (the attribute)) ∷ the (definitions s.End 1) ∷ []; build = λ es _ _ _ ds. module_of y1.says.value es (t.defs ds) } ∷ []) ts us2
-        header_3 = header_2 >> take_class _ s.OpenSquare (the (many s.CloseSquare (the (noted_ (the function_name)))) ∷ a s.Attributes ∷ a s.OpenSquare ∷ the (many s.CloseSquare (the attribute)) ∷ the (definitions s.End 1) ∷ []) (λ _ es _ _ _ ds. module_of y1.says.value es (t.defs ds)) us1 us2 y2
+        header_3 : Goes «module» (itself «module») (record {
+          parts = the (many s.CloseSquare (the (noted_ (the function_name)))) ∷ a s.Attributes ∷ a s.OpenSquare ∷ the (many s.CloseSquare (the attribute))
+              ∷ the (definitions s.End 1) ∷ [];
+          build = λ es _ _ _ ds. module_of y1.says.value es (t.defs ds);
+        } ∷ []) ts us2
+        header_3 = header_2 >> take_class _ s.OpenSquare (the (many s.CloseSquare (the (noted_ (the function_name)))) ∷ a s.Attributes ∷ a s.OpenSquare ∷ the (many s.CloseSquare (the attribute)) ∷ the (definitions s.End 1) ∷ [])
+            (λ _ es _ _ _ ds. module_of y1.says.value es (t.defs ds)) us1 us2 y2
 
         pub header_3_bad : (f : PartFault) → Refuses (many s.CloseSquare (A (the function_name))) us2 f → Refuses «module» ts f
-        header_3_bad f z = refused _ _ (a s.Attributes ∷ a s.OpenSquare ∷ the (many s.CloseSquare (the attribute)) ∷ the (definitions s.End 1) ∷ []) (λ es _ _ _ ds. module_of y1.says.value es (t.defs ds)) ts us2 f header_3 ((λ t x. refl), (λ t x. refl), tt) z
+        header_3_bad f z = refused _ _ (a s.Attributes ∷ a s.OpenSquare ∷ the (many s.CloseSquare (the attribute)) ∷ the (definitions s.End 1) ∷ []) (λ es _ _ _ ds. module_of y1.says.value es (t.defs ds)) ts us2 f header_3
+            ((λ t x. refl), (λ t x. refl), tt) z
 
         module _ (us3 : List Token) (names : List FunName) (places : List Place) (y3 : ReadsExports us2 names places us3) where
-          header_4 : Goes «module» (itself «module») (record { parts = a s.Attributes ∷ a s.OpenSquare ∷ the (many s.CloseSquare (the attribute)) ∷ the (definitions s.End 1) ∷ []; build = λ _ _ _ ds. module_of y1.says.value y3.says (t.defs ds) } ∷ []) ts us3
-          header_4 = header_3 >> through _ _ (a s.Attributes ∷ a s.OpenSquare ∷ the (many s.CloseSquare (the attribute)) ∷ the (definitions s.End 1) ∷ []) (λ es _ _ _ ds. module_of y1.says.value es (t.defs ds)) us2 us3 y3.says y3.passes ((λ t x. refl), (λ t x. refl), tt)
+          header_4 : Goes «module» (itself «module») (record {
+            parts = a s.Attributes ∷ a s.OpenSquare ∷ the (many s.CloseSquare (the attribute)) ∷ the (definitions s.End 1) ∷ [];
+            build = λ _ _ _ ds. module_of y1.says.value y3.says (t.defs ds);
+          } ∷ []) ts us3
+          header_4 = header_3 >> through _ _ (a s.Attributes ∷ a s.OpenSquare ∷ the (many s.CloseSquare (the attribute)) ∷ the (definitions s.End 1) ∷ [])
+              (λ es _ _ _ ds. module_of y1.says.value es (t.defs ds)) us2 us3 y3.says y3.passes ((λ t x. refl), (λ t x. refl), tt)
 
           pub header_4_bad : (f : PartFault) → Misses s.Attributes us3 f → Refuses «module» ts f
           header_4_bad f z = lacking _ s.Attributes (a s.OpenSquare ∷ the (many s.CloseSquare (the attribute)) ∷ the (definitions s.End 1) ∷ []) (λ _ _ _ ds. module_of y1.says.value y3.says (t.defs ds)) ts us3 f header_4 z
 
           module _ (us4 : List Token) (y4 : Takes s.Attributes us3 us4) where
-            header_5 : Goes «module» (itself «module») (record { parts = a s.OpenSquare ∷ the (many s.CloseSquare (the attribute)) ∷ the (definitions s.End 1) ∷ []; build = λ _ _ ds. module_of y1.says.value y3.says (t.defs ds) } ∷ []) ts us4
+            header_5 : Goes «module» (itself «module») (record { parts = a s.OpenSquare ∷ the (many s.CloseSquare (the attribute)) ∷ the (definitions s.End 1) ∷ []; build = λ _ _ ds. module_of y1.says.value y3.says (t.defs ds) }
+                ∷ []) ts us4
             header_5 = header_4 >> take_class _ s.Attributes (a s.OpenSquare ∷ the (many s.CloseSquare (the attribute)) ∷ the (definitions s.End 1) ∷ []) (λ _ _ _ ds. module_of y1.says.value y3.says (t.defs ds)) us3 us4 y4
 
             pub header_5_bad : (f : PartFault) → Misses s.OpenSquare us4 f → Refuses «module» ts f

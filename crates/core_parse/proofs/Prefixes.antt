@@ -195,10 +195,13 @@ pub module_is : (ts : List Token) (made : m.Module) → ReadsModule ts made [] �
 module_is ts made h = record {
   spelled = record {
     says = h.says;
-    reads = subst (λ x. Reads depth_limit whole_ x h.says []) (sym h.passes.split) (reads_so depth_limit whole_ (h.passes.used ++ []) [] h.says (un_itself all depth_limit annotated_module (h.passes.used ++ []) [] h.says (h.passes.there all depth_limit (omega arith) [] h.says [] (inl none))));
+    reads = subst (λ x. Reads depth_limit whole_ x h.says []) (sym h.passes.split)
+        (reads_so depth_limit whole_ (h.passes.used ++ []) [] h.says (un_itself all depth_limit annotated_module (h.passes.used ++ []) [] h.says (h.passes.there all depth_limit (omega arith) [] h.says [] (inl none))));
     labels = h.agrees;
   };
-  alone = λ x b. sym b.1.labels ∙ ap (λ y. numbered y) (un_said all (more_than b.0).0 annotated_module h.says b.1.says [] [] (h.passes.only all (more_than b.0).0 (more_than b.0).2 [] refl b.1.says [] no_end (subst (λ y. MatchesBranch all (more_than b.0).0 annotated_module (itself annotated_module) y b.1.says []) h.passes.split (spelling_of ts x b)))).0 ∙ h.agrees;
+  alone = λ x b. sym b.1.labels ∙ ap (λ y. numbered y) (un_said all (more_than b.0).0 annotated_module h.says b.1.says [] []
+      (h.passes.only all (more_than b.0).0 (more_than b.0).2 [] refl b.1.says [] no_end (subst (λ y. MatchesBranch all (more_than b.0).0 annotated_module (itself annotated_module) y b.1.says []) h.passes.split (spelling_of ts x b)))).0
+      ∙ h.agrees;
 }
 
 -- tokens left over behind a whole module
@@ -209,7 +212,8 @@ left_over ts left t made h = record {
   after = left;
   split = h.passes.split;
   place_is = refl;
-  begun = subst (λ x. BeginsTo depth_limit x) (append-nil h.passes.used) (is_front depth_limit whole_ (h.passes.used ++ []) [] h.says refl (un_itself front depth_limit annotated_module (h.passes.used ++ []) [] h.says (h.passes.there front depth_limit (omega arith) [] h.says [] (inl none))));
+  begun = subst (λ x. BeginsTo depth_limit x) (append-nil h.passes.used) (is_front depth_limit whole_ (h.passes.used ++ []) [] h.says refl
+      (un_itself front depth_limit annotated_module (h.passes.used ++ []) [] h.says (h.passes.there front depth_limit (omega arith) [] h.says [] (inl none))));
   first_bad = λ b. let z = branch_of (h.passes.used ++ t ∷ []) b in
       bad (un_said front (more_than b.0).0 annotated_module h.says z.0 (t ∷ []) [] (h.passes.only front (more_than b.0).0 (more_than b.0).2 (t ∷ []) (t, [], left, refl, refl) z.0 [] no_end z.1)).1;
 }

@@ -20,11 +20,13 @@ pub fn lexed_weight()
 /// never both a module and at fault.
 #[tactic(auto, using(crate::proofs::Whole::module_is_no_fault))]
 pub fn module_is_no_fault()
-    ensures { (ts : List Token) (x : ModuleTree) → SpellsTo depth_limit ts x → (end : Place) (fault : ParseFault) → Refused ts end fault → fault ≡ faults.Memory }
+    ensures { (ts : List Token) (x : ModuleTree) → SpellsTo depth_limit ts x → (end : Place) (fault : ParseFault) → Refused ts end fault
+        → fault ≡ faults.Memory }
 {}
 
 /// Tokens that are refused have at most one fault, apart from out of memory: one number and one place.
 #[tactic(auto, using(crate::proofs::OneFault::refused_once))]
 pub fn refused_once()
-    ensures { (ts : List Token) (end : Place) (fault other : ParseFault) → Refused ts end fault → Refused ts end other → fault ≢ faults.Memory → other ≢ faults.Memory → fault ≡ other }
+    ensures { (ts : List Token) (end : Place) (fault other : ParseFault) → Refused ts end fault → Refused ts end other → fault ≢ faults.Memory
+        → other ≢ faults.Memory → fault ≡ other }
 {}

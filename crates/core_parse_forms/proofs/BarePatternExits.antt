@@ -83,7 +83,8 @@ module _ (d n : ℕ) where
     -- no bracket comes first
     module _ (h : q ≡ s.OpenRound → ⊥) where
       pattern_bare : Goes (pattern d) (itself (pattern d)) (record { parts = the (bare_pattern d) ∷ []; build = λ x. x } ∷ []) ts ts
-      pattern_bare = expand (pattern d) (pattern d) [] (λ x. x) [] ts >> expand (pattern d) (noted_ (the (bare_pattern d))) [] _ [] ts >> drop_second _ _ _ _ ts us t b.are (fits_no_other s.OpenRound (sort t) (λ z. absurd cc) (λ z. h (b.sort_is ∙ z)))
+      pattern_bare = expand (pattern d) (pattern d) [] (λ x. x) [] ts >> expand (pattern d) (noted_ (the (bare_pattern d))) [] _ [] ts
+          >> drop_second _ _ _ _ ts us t b.are (fits_no_other s.OpenRound (sort t) (λ z. absurd cc) (λ z. h (b.sort_is ∙ z)))
 
       pub pattern_bare_bad : (f : PartFault) → Refuses (bare_pattern d) ts f → Refuses (pattern d) ts f
       pattern_bare_bad f z = refused _ _ [] (λ x. x) ts ts f pattern_bare ((λ t x. refl), (λ t x. refl), tt) z
@@ -109,13 +110,15 @@ module _ (d n : ℕ) where
 
         module _ (z : r ≡ s.Variable) where
           pub bare_open_deep : depth_limit < d → d ≤ deeper_limit → Sinks (bare_pattern d) (itself (bare_pattern d)) ts there
-          bare_open_deep w x = subst (Sinks (bare_pattern d) (itself (bare_pattern d)) ts) (sym c.place_is) (sink_at 12 (bare_pattern d) _ bare_first ts vs u (subst (λ y. Goes (bare_pattern d) (itself (bare_pattern d)) bare_first ts y) c.are bare_open) tt
+          bare_open_deep w x = subst (Sinks (bare_pattern d) (itself (bare_pattern d)) ts) (sym c.place_is)
+              (sink_at 12 (bare_pattern d) _ bare_first ts vs u (subst (λ y. Goes (bare_pattern d) (itself (bare_pattern d)) bare_first ts y) c.are bare_open) tt
               (subst (λ k. Deep 12 (bare_pattern d) u k bare_first depth_limit) (sym (sym c.sort_is ∙ z)) ((w, tt), tt))
               (subst (λ k. Shallow 12 (bare_pattern d) u k bare_first deeper_limit) (sym (sym c.sort_is ∙ z)) ((x, tt), tt))
               (subst (λ k. Is_open (bare_pattern d) (next 12 (bare_pattern d) u k bare_first)) (sym (sym c.sort_is ∙ z)) tt))
 
           module _ (w : d ≤ depth_limit) where
-            bare_variable : Goes (bare_pattern d) (itself (bare_pattern d)) (record { parts = the annotation ∷ a s.Equals ∷ the (pattern (d + 1)) ∷ []; build = λ k _ p. m.alias (at t.place) (variable_name u.place u k) p } ∷ []) ts vs
+            bare_variable : Goes (bare_pattern d) (itself (bare_pattern d)) (record { parts = the annotation ∷ a s.Equals ∷ the (pattern (d + 1)) ∷ []; build = λ k _ p. m.alias (at t.place) (variable_name u.place u k) p } ∷ []) ts
+                vs
             bare_variable = bare_open >> taken (bare_pattern d) _ us vs u s.Variable c.are (sym c.sort_is ∙ z) refl ((w, tt), tt)
 
             pub bare_note_bad : (f : PartFault) → Refuses annotation vs f → Refuses (bare_pattern d) ts f
@@ -135,17 +138,20 @@ module _ (d n : ℕ) where
                 pub bare_named_bad : (f : PartFault) → Refuses (pattern (d + 1)) xs f → Refuses (bare_pattern d) ts f
                 bare_named_bad f x = refused _ _ [] (λ p. m.alias (at t.place) (variable_name u.place u y.says) p) ts xs f bare_equals ((λ t x. refl), (λ t x. refl), tt) x
 
-                pub bare_named : (left : List Token) (mk : Mark) (x : VarName) (made : m.Pattern) (p : ℕ) → mk ≡ mark n place → x ≡ record { name = text u; place = there; note = k } → ReadsNamed mk x d n xs made left p → ReadsBarePattern d n ts made left p
+                pub bare_named : (left : List Token) (mk : Mark) (x : VarName) (made : m.Pattern) (p : ℕ) → mk ≡ mark n place → x ≡ record { name = text u; place = there; note = k } → ReadsNamed mk x d n xs made left p
+                    → ReadsBarePattern d n ts made left p
                 bare_named left mk x made p i j o = record {
                   says = m.alias (at t.place) (variable_name u.place u y.says) o.says;
                   passes = bare_equals >> through _ _ [] (λ p. m.alias (at t.place) (variable_name u.place u y.says) p) xs left o.says o.passes ((λ t x. refl), (λ t x. refl), tt);
                   agrees = alias_made n p (at t.place) mk (variable_name u.place u y.says) x o.says o.inner made (i ∙ ap (mark n) b.place_is)
-                      (j ∙ ap (λ (g : Place). let r : VarName = record { name = text u; place = g; note = k } in r) c.place_is ∙ ap (λ (g : Note). let r : VarName = record { name = text u; place = u.place; note = g } in r) (sym y.agrees)) o.made_is o.agrees;
+                      (j ∙ ap (λ (g : Place). let r : VarName = record { name = text u; place = g; note = k } in r) c.place_is
+                      ∙ ap (λ (g : Note). let r : VarName = record { name = text u; place = u.place; note = g } in r) (sym y.agrees)) o.made_is o.agrees;
                 }
 
     -- what no pattern without brackets begins with, and a pattern too deep
     pub bare_pattern_dull : starts_pattern q ≡ false → (q ≡ s.OpenRound → ⊥) → Stops (bare_pattern d) (itself (bare_pattern d)) ts place
-    bare_pattern_dull p h = subst (Stops (bare_pattern d) (itself (bare_pattern d)) ts) (sym b.place_is) (halted (bare_pattern d) _ _ ts ts us t (stay (bare_pattern d) (itself (bare_pattern d)) ts) b.are tt (go (sort t) (ap starts_pattern (sym b.sort_is) ∙ p) (λ z. h (b.sort_is ∙ z))))
+    bare_pattern_dull p h = subst (Stops (bare_pattern d) (itself (bare_pattern d)) ts) (sym b.place_is)
+        (halted (bare_pattern d) _ _ ts ts us t (stay (bare_pattern d) (itself (bare_pattern d)) ts) b.are tt (go (sort t) (ap starts_pattern (sym b.sort_is) ∙ p) (λ z. h (b.sort_is ∙ z))))
       where
         go : (q : Sort) → starts_pattern q ≡ false → (q ≡ s.OpenRound → ⊥) → Shut (bare_pattern d) t q (itself (bare_pattern d))
         go s.Variable p h = absurd cc
@@ -164,7 +170,9 @@ module _ (d n : ℕ) where
         go _ p h = (refl, refl)
 
     pub bare_pattern_deep : too_deep q d ≡ true → d ≤ depth_limit + 1 → starts_pattern q ≡ true → Sinks (bare_pattern d) (itself (bare_pattern d)) ts place
-    bare_pattern_deep p r h = subst (Sinks (bare_pattern d) (itself (bare_pattern d)) ts) (sym b.place_is) (sink_at 12 (bare_pattern d) _ _ ts us t (subst (λ x. Goes (bare_pattern d) (itself (bare_pattern d)) (itself (bare_pattern d)) ts x) b.are (stay (bare_pattern d) (itself (bare_pattern d)) ts)) tt (deep (sort t) o' h') (shallow (sort t) h') (on (sort t) h'))
+    bare_pattern_deep p r h = subst (Sinks (bare_pattern d) (itself (bare_pattern d)) ts) (sym b.place_is)
+        (sink_at 12 (bare_pattern d) _ _ ts us t (subst (λ x. Goes (bare_pattern d) (itself (bare_pattern d)) (itself (bare_pattern d)) ts x) b.are (stay (bare_pattern d) (itself (bare_pattern d)) ts)) tt (deep (sort t) o' h')
+        (shallow (sort t) h') (on (sort t) h'))
       where
         h' : starts_pattern (sort t) ≡ true
         h' = ap starts_pattern (sym b.sort_is) ∙ h
@@ -234,11 +242,13 @@ module _ (d n : ℕ) where
       bare_else_ok vs e p z = record { says = z.says; passes = bare_else >> through _ _ [] (λ x. x) ts vs z.says z.passes ((λ t x. refl), (λ t x. refl), tt); agrees = z.agrees }
 
     -- what no other pattern begins with
-    pub other_pattern_dull : (q ≡ s.OpenRound → ⊥) → (q ≡ s.Variable → ⊥) → literal_sort q ≡ false → (q ≡ s.OpenSquare → ⊥) → (q ≡ s.OpenCurly → ⊥) → (q ≡ s.OpenBinary → ⊥) → (q ≡ s.OpenMap → ⊥) → Stops (other_pattern d) (itself (other_pattern d)) ts place
+    pub other_pattern_dull : (q ≡ s.OpenRound → ⊥) → (q ≡ s.Variable → ⊥) → literal_sort q ≡ false → (q ≡ s.OpenSquare → ⊥) → (q ≡ s.OpenCurly → ⊥) → (q ≡ s.OpenBinary → ⊥)
+        → (q ≡ s.OpenMap → ⊥) → Stops (other_pattern d) (itself (other_pattern d)) ts place
     other_pattern_dull p1 p2 p3 p4 p5 p6 p7 = subst (Stops (other_pattern d) (itself (other_pattern d)) ts) (sym b.place_is) (halted (other_pattern d) _ _ ts ts us t (stay (other_pattern d) (itself (other_pattern d)) ts) b.are tt
         (go (sort t) (λ z. p1 (b.sort_is ∙ z)) (λ z. p2 (b.sort_is ∙ z)) (ap literal_sort (sym b.sort_is) ∙ p3) (λ z. p4 (b.sort_is ∙ z)) (λ z. p5 (b.sort_is ∙ z)) (λ z. p6 (b.sort_is ∙ z)) (λ z. p7 (b.sort_is ∙ z))))
       where
-        go : (q : Sort) → (q ≡ s.OpenRound → ⊥) → (q ≡ s.Variable → ⊥) → literal_sort q ≡ false → (q ≡ s.OpenSquare → ⊥) → (q ≡ s.OpenCurly → ⊥) → (q ≡ s.OpenBinary → ⊥) → (q ≡ s.OpenMap → ⊥) → Shut (other_pattern d) t q (itself (other_pattern d))
+        go : (q : Sort) → (q ≡ s.OpenRound → ⊥) → (q ≡ s.Variable → ⊥) → literal_sort q ≡ false → (q ≡ s.OpenSquare → ⊥) → (q ≡ s.OpenCurly → ⊥) → (q ≡ s.OpenBinary → ⊥)
+            → (q ≡ s.OpenMap → ⊥) → Shut (other_pattern d) t q (itself (other_pattern d))
         go s.OpenRound p1 p2 p3 p4 p5 p6 p7 = absurd (p1 refl)
         go s.Variable p1 p2 p3 p4 p5 p6 p7 = absurd (p2 refl)
         go s.Atom p1 p2 p3 p4 p5 p6 p7 = absurd cc
@@ -326,7 +336,10 @@ module _ (d n : ℕ) where
 
       -- a variable, alone or before a pattern that it names
       module _ (h : q ≡ s.Variable) where
-        other_variable : Goes (other_pattern d) (itself (other_pattern d)) (record { parts = []; build = m.binds (at t.place) (text t) } ∷ record { parts = a s.Equals ∷ the (pattern (d + 1)) ∷ []; build = λ _ p. m.alias (at t.place) (variable_name t.place t no_note) p } ∷ []) ts us
+        other_variable : Goes (other_pattern d) (itself (other_pattern d)) (record { parts = []; build = m.binds (at t.place) (text t) } ∷ record {
+          parts = a s.Equals ∷ the (pattern (d + 1)) ∷ [];
+          build = λ _ p. m.alias (at t.place) (variable_name t.place t no_note) p;
+        } ∷ []) ts us
         other_variable = taken (other_pattern d) (itself (other_pattern d)) ts us t s.Variable b.are (sym b.sort_is ∙ h) refl ((w, (w, tt)), tt)
 
         pub other_pattern_variable : opens_with s.Equals us ≡ false → (e : m.Pattern) → e ≡ m.binds (mark n place) (text t) → ReadsOtherPattern d n ts e us (n + 1)
@@ -343,7 +356,8 @@ module _ (d n : ℕ) where
           pub other_pattern_named_bad : (f : PartFault) → Refuses (pattern (d + 1)) vs f → Refuses (other_pattern d) ts f
           other_pattern_named_bad f z = refused _ _ [] (λ p. m.alias (at t.place) (variable_name t.place t no_note) p) ts vs f other_named ((λ t x. refl), (λ t x. refl), tt) z
 
-          pub other_pattern_named : (left : List Token) (mk : Mark) (x : VarName) (made : m.Pattern) (p : ℕ) → mk ≡ mark n place → x ≡ record { name = text t; place = place; note = no_note } → ReadsNamed mk x d n vs made left p → ReadsOtherPattern d n ts made left p
+          pub other_pattern_named : (left : List Token) (mk : Mark) (x : VarName) (made : m.Pattern) (p : ℕ) → mk ≡ mark n place → x ≡ record { name = text t; place = place; note = no_note } → ReadsNamed mk x d n vs made left p
+              → ReadsOtherPattern d n ts made left p
           other_pattern_named left mk x made p i j o = record {
             says = m.alias (at t.place) (variable_name t.place t no_note) o.says;
             passes = other_named >> through _ _ [] (λ p. m.alias (at t.place) (variable_name t.place t no_note) p) vs left o.says o.passes ((λ t x. refl), (λ t x. refl), tt);

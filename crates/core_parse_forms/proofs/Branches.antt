@@ -47,7 +47,8 @@ pub pruned : (n : Nonterminal) (bs : List (Branch n)) (ts left : List Token) (t 
 pruned n bs ts left t q e h = subst (λ x. Goes n bs (live 12 n t q bs) x x) (sym e) (subst (λ k. Goes n bs (live 12 n t k bs) (t ∷ left) (t ∷ left)) h (prune 12 n bs t left))
 
 -- Where the tokens don't begin with one of a sort, none takes it.
-none_taken : (s : Extent) (l : ℕ) (n : Nonterminal) (c : Sort) (ps : List Part) (b : Action (a c ∷ ps) (Said n)) (left seen us : List Token) (v : Said n) → opens_with c left ≡ false → IsSeen s seen left → MatchesAll s l n (a c ∷ ps) b seen v us → ⊥
+none_taken : (s : Extent) (l : ℕ) (n : Nonterminal) (c : Sort) (ps : List Part) (b : Action (a c ∷ ps) (Said n)) (left seen us : List Token) (v : Said n) → opens_with c left ≡ false → IsSeen s seen left
+    → MatchesAll s l n (a c ∷ ps) b seen v us → ⊥
 none_taken all l n c ps b left seen us v e q (one (token {t = t} {ts = ts} h) r) = let z : fits c (sort t) ≡ false = ap (opens_with c) q ∙ e in absurd cc
 none_taken all l n c ps b left seen us v e q (one (unseen h) r) = absurd cc
 none_taken front l n c ps b left seen us v e (u, us_, more, p, k) (one (token {t = t} {ts = ts} h) r) = let z : fits c (sort t) ≡ false = sym (ap (opens_with c) k) ∙ e in absurd cc
@@ -70,7 +71,8 @@ abbrev pub All_want : (n : Nonterminal) → Sort → List (Branch n) → Type 0
 All_want n c [] = Unit {0}
 All_want n c (b ∷ bs) = First_wants c b.parts × All_want n c bs
 
-none_of : (s : Extent) (l : ℕ) (n : Nonterminal) (c : Sort) (bs : List (Branch n)) (left seen us : List Token) (v : Said n) → All_want n c bs → opens_with c left ≡ false → IsSeen s seen left → MatchesBranch s l n bs seen v us → ⊥
+none_of : (s : Extent) (l : ℕ) (n : Nonterminal) (c : Sort) (bs : List (Branch n)) (left seen us : List Token) (v : Said n) → All_want n c bs → opens_with c left ≡ false → IsSeen s seen left → MatchesBranch s l n bs seen v us
+    → ⊥
 none_of s l n c [] left seen us v w e q r = r
 none_of s l n c (b ∷ bs) left seen us v w e q (inl r) = go b.parts b.build w.0 r
   where
@@ -90,7 +92,8 @@ drop_rest n c b bs ts w e = record {
 }
 
 -- What comes behind a part is not begun by a token that is barred there.
-pub drop_guarded : (q : Sort) (m n : Nonterminal) (h : Then m n) (x : Said m) (bs : List (Branch n)) (ts left : List Token) (t : Token) → ts ≡ t ∷ left → sort t ≡ q → barred m q ≡ true → ((t : Token) (x : Said m) → guards q m n h.parts h.build t x ≡ true)
+pub drop_guarded : (q : Sort) (m n : Nonterminal) (h : Then m n) (x : Said m) (bs : List (Branch n)) (ts left : List Token) (t : Token) → ts ≡ t ∷ left → sort t ≡ q → barred m q ≡ true
+    → ((t : Token) (x : Said m) → guards q m n h.parts h.build t x ≡ true)
     → Goes n (record { parts = h.parts; build = h.build x } ∷ bs) bs ts ts
 drop_guarded q m n h x bs ts left t e is k g = record {
   used = [];

@@ -41,29 +41,35 @@ module _ (d n : ℕ) (place : Place) (us : List Token) (q : Sort) where
     step_do vs e p y r k i g = subst (λ k. ReadsStep k d n place us y vs p) (sym h) (record {
       says = do_ r.says;
       goes = λ o qs b. through (expression (d + 1)) o (the (expression d) ∷ qs) (λ e. b (do_ e)) us vs r.says r.passes ((λ t x. refl), (λ t x. refl), tt);
-      agrees = ap (λ (i : m.Tree × ℕ). let z : m.Steps × ℕ = (m.and_do (mark n place) i.0 m.no_step, i.1) in z) r.agrees ∙ ap (λ (i : StepOf m.Tree). let z : m.Steps × ℕ = (steps (i ∷ []), p) in z) (sym (g ∙ ap (λ k. Do k e) i));
+      agrees = ap (λ (i : m.Tree × ℕ). let z : m.Steps × ℕ = (m.and_do (mark n place) i.0 m.no_step, i.1) in z) r.agrees
+          ∙ ap (λ (i : StepOf m.Tree). let z : m.Steps × ℕ = (steps (i ∷ []), p) in z) (sym (g ∙ ap (λ k. Do k e) i));
     })
 
   module _ (h : q ≡ s.Let) where
     pub step_vars_bad : (f : PartFault) → Refuses variables us f → RefusesStep q d us f
-    step_vars_bad f z = subst (λ k. RefusesStep k d us f) (sym h) (λ o qs b ts g. refused variables o (a s.Equals ∷ the (expression (d + 1)) ∷ a s.In ∷ the (expression d) ∷ qs) (λ xs _ e _. b (let_ xs e)) ts us f g ((λ t x. refl), (λ t x. refl), tt) z)
+    step_vars_bad f z = subst (λ k. RefusesStep k d us f) (sym h) (λ o qs b ts g.
+        refused variables o (a s.Equals ∷ the (expression (d + 1)) ∷ a s.In ∷ the (expression d) ∷ qs) (λ xs _ e _. b (let_ xs e)) ts us f g ((λ t x. refl), (λ t x. refl), tt) z)
 
     module _ (us0 : List Token) (o0 : List VarName) (y0 : ReadsVariables us o0 us0) where
-      let_1 : (o : Nonterminal) (qs : List Part) (b : StepParts → m.Tree → Action qs (Said o)) → Goes o (step_branch s.Let d o qs b ∷ []) (record { parts = a s.Equals ∷ the (expression (d + 1)) ∷ a s.In ∷ the (expression d) ∷ qs; build = λ _ e _. b (let_ y0.says e) } ∷ []) us us0
+      let_1 : (o : Nonterminal) (qs : List Part) (b : StepParts → m.Tree → Action qs (Said o))
+          → Goes o (step_branch s.Let d o qs b ∷ []) (record { parts = a s.Equals ∷ the (expression (d + 1)) ∷ a s.In ∷ the (expression d) ∷ qs; build = λ _ e _. b (let_ y0.says e) } ∷ []) us us0
       let_1 o qs b = through variables o (a s.Equals ∷ the (expression (d + 1)) ∷ a s.In ∷ the (expression d) ∷ qs) (λ xs _ e _. b (let_ xs e)) us us0 y0.says y0.passes ((λ t x. refl), (λ t x. refl), tt)
 
       pub step_equals_bad : (f : PartFault) → Misses s.Equals us0 f → RefusesStep q d us f
       step_equals_bad f z = subst (λ k. RefusesStep k d us f) (sym h) (λ o qs b ts g. lacking o s.Equals (the (expression (d + 1)) ∷ a s.In ∷ the (expression d) ∷ qs) (λ _ e _. b (let_ y0.says e)) ts us0 f (g >> let_1 o qs b) z)
 
       module _ (us1 : List Token) (y1 : Takes s.Equals us0 us1) where
-        let_2 : (o : Nonterminal) (qs : List Part) (b : StepParts → m.Tree → Action qs (Said o)) → Goes o (step_branch s.Let d o qs b ∷ []) (record { parts = the (expression (d + 1)) ∷ a s.In ∷ the (expression d) ∷ qs; build = λ e _. b (let_ y0.says e) } ∷ []) us us1
+        let_2 : (o : Nonterminal) (qs : List Part) (b : StepParts → m.Tree → Action qs (Said o))
+            → Goes o (step_branch s.Let d o qs b ∷ []) (record { parts = the (expression (d + 1)) ∷ a s.In ∷ the (expression d) ∷ qs; build = λ e _. b (let_ y0.says e) } ∷ []) us us1
         let_2 o qs b = let_1 o qs b >> take_class o s.Equals (the (expression (d + 1)) ∷ a s.In ∷ the (expression d) ∷ qs) (λ _ e _. b (let_ y0.says e)) us0 us1 y1
 
         pub step_value_bad : (f : PartFault) → Refuses (expression (d + 1)) us1 f → RefusesStep q d us f
-        step_value_bad f z = subst (λ k. RefusesStep k d us f) (sym h) (λ o qs b ts g. refused (expression (d + 1)) o (a s.In ∷ the (expression d) ∷ qs) (λ e _. b (let_ y0.says e)) ts us1 f (g >> let_2 o qs b) ((λ t x. refl), (λ t x. refl), tt) z)
+        step_value_bad f z = subst (λ k. RefusesStep k d us f) (sym h) (λ o qs b ts g.
+            refused (expression (d + 1)) o (a s.In ∷ the (expression d) ∷ qs) (λ e _. b (let_ y0.says e)) ts us1 f (g >> let_2 o qs b) ((λ t x. refl), (λ t x. refl), tt) z)
 
         module _ (us2 : List Token) (o2 : m.Tree) (p : ℕ) (y2 : ReadsExpression (d + 1) (n + 1) us1 o2 us2 p) where
-          let_3 : (o : Nonterminal) (qs : List Part) (b : StepParts → m.Tree → Action qs (Said o)) → Goes o (step_branch s.Let d o qs b ∷ []) (record { parts = a s.In ∷ the (expression d) ∷ qs; build = λ _. b (let_ y0.says y2.says) } ∷ []) us us2
+          let_3 : (o : Nonterminal) (qs : List Part) (b : StepParts → m.Tree → Action qs (Said o))
+              → Goes o (step_branch s.Let d o qs b ∷ []) (record { parts = a s.In ∷ the (expression d) ∷ qs; build = λ _. b (let_ y0.says y2.says) } ∷ []) us us2
           let_3 o qs b = let_2 o qs b >> through (expression (d + 1)) o (a s.In ∷ the (expression d) ∷ qs) (λ e _. b (let_ y0.says e)) us1 us2 y2.says y2.passes ((λ t x. refl), (λ t x. refl), tt)
 
           pub step_in_bad : (f : PartFault) → Misses s.In us2 f → RefusesStep q d us f
@@ -99,7 +105,8 @@ module _ (d n : ℕ) (w : d ≤ depth_limit) (ts us : List Token) (t : Token) (q
   pub chain_first : (vs : List Token) (x : Frame) (p : ℕ) (fs gs : List Frame) → fs ≡ [] → gs ≡ fs ++ x ∷ [] → x.noted ≡ false → ReadsStep q d (n + 1) place us (step_tree x.step) vs p → ReadsSteps d n place ts gs vs p
   chain_first vs x p fs gs i g j r = record {
     raw = raw_step false place r.says ∷ [];
-    goes = subst (λ z. Goes (other_expression d) (itself (other_expression d)) (record { parts = the (expression d) ∷ []; build = λ r_. before z r.says r_ } ∷ []) ts vs) (sym b.place_is) (chain_0 >> r.goes (other_expression d) [] (λ x r. before t.place x r));
+    goes = subst (λ z. Goes (other_expression d) (itself (other_expression d)) (record { parts = the (expression d) ∷ []; build = λ r_. before z r.says r_ } ∷ []) ts vs) (sym b.place_is)
+        (chain_0 >> r.goes (other_expression d) [] (λ x r. before t.place x r));
     agrees = grown x empty r.agrees j (g ∙ ap (λ z. z ++ x ∷ []) i);
     outer_is = λ any. refl;
     some = refl;
@@ -125,16 +132,20 @@ module _ (d n : ℕ) (place : Place) (w : d ≤ depth_limit) (ts us : List Token
 
   next_1 : (vs : List Token) (t : Token) (q : Sort) (here : Place) (noted : Bool) → BeginsStep us t q here vs noted
       → Goes (other_expression d) (itself (other_expression d)) (step_branch q d (other_expression d) (pend_one noted (pend c.raw)) (λ x r. wrap noted t.place x (pend c.raw) (fold c.raw) r) ∷ []) ts vs
-  next_1 vs t q here false (b, h) = c.goes >> subst (λ k. Goes (other_expression d) (record { parts = the (expression d) ∷ pend c.raw; build = fold c.raw } ∷ []) (step_branch k d (other_expression d) (pend c.raw) (λ x r. fold c.raw (before t.place x r)) ∷ []) us vs) (sym b.sort_is) (go (sort t) refl (sym (ap chain_sort b.sort_is) ∙ h))
+  next_1 vs t q here false (b, h) = c.goes >> subst (λ k. Goes (other_expression d) (record { parts = the (expression d) ∷ pend c.raw; build = fold c.raw } ∷ [])
+      (step_branch k d (other_expression d) (pend c.raw) (λ x r. fold c.raw (before t.place x r)) ∷ []) us vs) (sym b.sort_is) (go (sort t) refl (sym (ap chain_sort b.sort_is) ∙ h))
     where
-      go : (k : Sort) → sort t ≡ k → chain_sort k ≡ true → Goes (other_expression d) (record { parts = the (expression d) ∷ pend c.raw; build = fold c.raw } ∷ []) (step_branch k d (other_expression d) (pend c.raw) (λ x r. fold c.raw (before t.place x r)) ∷ []) us vs
+      go : (k : Sort) → sort t ≡ k → chain_sort k ≡ true → Goes (other_expression d) (record { parts = the (expression d) ∷ pend c.raw; build = fold c.raw } ∷ [])
+          (step_branch k d (other_expression d) (pend c.raw) (λ x r. fold c.raw (before t.place x r)) ∷ []) us vs
       go s.Let e i = taken (other_expression d) _ us vs t s.Let b.are e refl ((w, tt), tt)
       go s.Do e i = taken (other_expression d) _ us vs t s.Do b.are e refl ((w, tt), tt)
       go _ e i = absurd cc
   next_1 vs t q here true (ws, y, b, h) = c.goes >> taken (other_expression d) _ us ws y.first s.OpenRound y.are (fits_only s.OpenRound (sort y.first) (λ z. absurd cc) y.fits_it) refl (tt, tt)
-      >> subst (λ k. Goes (other_expression d) (record { parts = the (bare_expression d) ∷ the annotation ∷ pend c.raw; build = λ x k. fold c.raw (note_tree k x) } ∷ []) (step_branch k d (other_expression d) (the annotation ∷ pend c.raw) (λ x r k. fold c.raw (note_tree k (before t.place x r))) ∷ []) ws vs) (sym b.sort_is) (go (sort t) refl (sym (ap chain_sort b.sort_is) ∙ h))
+      >> subst (λ k. Goes (other_expression d) (record { parts = the (bare_expression d) ∷ the annotation ∷ pend c.raw; build = λ x k. fold c.raw (note_tree k x) } ∷ [])
+      (step_branch k d (other_expression d) (the annotation ∷ pend c.raw) (λ x r k. fold c.raw (note_tree k (before t.place x r))) ∷ []) ws vs) (sym b.sort_is) (go (sort t) refl (sym (ap chain_sort b.sort_is) ∙ h))
     where
-      go : (k : Sort) → sort t ≡ k → chain_sort k ≡ true → Goes (other_expression d) (record { parts = the (bare_expression d) ∷ the annotation ∷ pend c.raw; build = λ x k. fold c.raw (note_tree k x) } ∷ []) (step_branch k d (other_expression d) (the annotation ∷ pend c.raw) (λ x r k. fold c.raw (note_tree k (before t.place x r))) ∷ []) ws vs
+      go : (k : Sort) → sort t ≡ k → chain_sort k ≡ true → Goes (other_expression d) (record { parts = the (bare_expression d) ∷ the annotation ∷ pend c.raw; build = λ x k. fold c.raw (note_tree k x) } ∷ [])
+          (step_branch k d (other_expression d) (the annotation ∷ pend c.raw) (λ x r k. fold c.raw (note_tree k (before t.place x r))) ∷ []) ws vs
       go s.Let e i = taken (other_expression d) _ ws vs t s.Let b.are e refl ((w, tt), tt)
       go s.Do e i = taken (other_expression d) _ ws vs t s.Do b.are e refl ((w, tt), tt)
       go _ e i = absurd cc
@@ -150,7 +161,8 @@ module _ (d n : ℕ) (place : Place) (w : d ≤ depth_limit) (ts us : List Token
     pub chain_step : (ws : List Token) (x : Frame) (o : ℕ) (gs : List Frame) → gs ≡ fs ++ x ∷ [] → x.noted ≡ noted → ReadsStep q d p here vs (step_tree x.step) ws o → ReadsSteps d n place ts gs ws o
     chain_step ws x o gs g i r = record {
       raw = raw_step noted here r.says ∷ c.raw;
-      goes = subst (λ z. Goes (other_expression d) (itself (other_expression d)) (record { parts = the (expression d) ∷ pend_one noted (pend c.raw); build = λ r_. wrap noted z r.says (pend c.raw) (fold c.raw) r_ } ∷ []) ts ws) (sym (step_place vs t q here noted b))
+      goes = subst (λ z. Goes (other_expression d) (itself (other_expression d)) (record { parts = the (expression d) ∷ pend_one noted (pend c.raw); build = λ r_. wrap noted z r.says (pend c.raw) (fold c.raw) r_ } ∷ []) ts ws)
+          (sym (step_place vs t q here noted b))
           (next_1 vs t q here noted b >> r.goes (other_expression d) (pend_one noted (pend c.raw)) (λ x r. wrap noted t.place x (pend c.raw) (fold c.raw) r));
       agrees = grown x c.agrees r.agrees i g;
       outer_is = λ any. c.outer_is here;
@@ -198,7 +210,8 @@ pub record Closing (d n : ℕ) (place : Place) (ts left : List Token) (fs : List
   pub outer_is : outer raw here ≡ place
   pub some : filled raw closed ≡ true
 
-pub chain_over : (d n : ℕ) (place : Place) (ts us vs : List Token) (fs : List Frame) (p r : ℕ) (e : m.Tree) → ReadsSteps d n place ts fs us p → opens_chain us ≡ false → ReadsExpression d p us e vs r → (done : List (StepOf Expr)) → done ≡ [] → Closing d n place ts vs fs done e r
+pub chain_over : (d n : ℕ) (place : Place) (ts us vs : List Token) (fs : List Frame) (p r : ℕ) (e : m.Tree) → ReadsSteps d n place ts fs us p → opens_chain us ≡ false → ReadsExpression d p us e vs r
+    → (done : List (StepOf Expr)) → done ≡ [] → Closing d n place ts vs fs done e r
 chain_over d n place ts us vs fs p r e c h x done g = record {
   raw = c.raw;
   closed = m.no_step;
@@ -260,8 +273,10 @@ on_top (m.and_let k xs t ss) zs = m.and_let k xs t zs
 on_top (m.and_do k t ss) zs = m.and_do k t zs
 on_top m.no_step zs = zs
 
-one_step : (p q r : ℕ) (k : Mark) (v : StepParts) (y : StepOf m.Tree) (ss : m.Steps) (ys : List (StepOf m.Tree)) → number_steps p (and_step k v m.no_step) ≡ (steps (y ∷ []), q) → number_steps q ss ≡ (steps ys, r) → number_steps p (and_step k v ss) ≡ (steps (y ∷ ys), r)
-one_step p q r k v y ss ys e h = go v ∙ ap (λ (i : m.Steps × ℕ). let z : m.Steps × ℕ = (on_top i.0 (number_steps i.1 ss).0, (number_steps i.1 ss).1) in z) e ∙ ap (λ (i : m.Steps × ℕ). let z : m.Steps × ℕ = (on_top (steps (y ∷ [])) i.0, i.1) in z) h ∙ ap (λ i. let z : m.Steps × ℕ = (i, r) in z) (top y)
+one_step : (p q r : ℕ) (k : Mark) (v : StepParts) (y : StepOf m.Tree) (ss : m.Steps) (ys : List (StepOf m.Tree)) → number_steps p (and_step k v m.no_step) ≡ (steps (y ∷ []), q) → number_steps q ss ≡ (steps ys, r)
+    → number_steps p (and_step k v ss) ≡ (steps (y ∷ ys), r)
+one_step p q r k v y ss ys e h = go v ∙ ap (λ (i : m.Steps × ℕ). let z : m.Steps × ℕ = (on_top i.0 (number_steps i.1 ss).0, (number_steps i.1 ss).1) in z) e
+    ∙ ap (λ (i : m.Steps × ℕ). let z : m.Steps × ℕ = (on_top (steps (y ∷ [])) i.0, i.1) in z) h ∙ ap (λ i. let z : m.Steps × ℕ = (i, r) in z) (top y)
   where
     go : (v : StepParts) → number_steps p (and_step k v ss) ≡ (let i = number_steps p (and_step k v m.no_step) in (on_top i.0 (number_steps i.1 ss).0, (number_steps i.1 ss).1))
     go (let_ xs t) = refl
@@ -272,7 +287,8 @@ one_step p q r k v y ss ys e h = go v ∙ ap (λ (i : m.Steps × ℕ). let z : m
     top (Do k t) = refl
 
 -- a step with a note
-noted_one : (p q : ℕ) (n : Note) (k : Mark) (v : StepParts) (y : StepOf m.Tree) → number_steps p (and_step k v m.no_step) ≡ (steps (y ∷ []), q) → number_steps p (and_step (marked n k) v m.no_step) ≡ (steps (noted_step n y ∷ []), q)
+noted_one : (p q : ℕ) (n : Note) (k : Mark) (v : StepParts) (y : StepOf m.Tree) → number_steps p (and_step k v m.no_step) ≡ (steps (y ∷ []), q)
+    → number_steps p (and_step (marked n k) v m.no_step) ≡ (steps (noted_step n y ∷ []), q)
 noted_one p q n k v y e = go v ∙ ap (λ (i : m.Steps × ℕ). let z : m.Steps × ℕ = (note_steps n i.0, i.1) in z) e ∙ ap (λ i. let z : m.Steps × ℕ = (i, q) in z) (top y)
   where
     go : (v : StepParts) → number_steps p (and_step (marked n k) v m.no_step) ≡ (let i = number_steps p (and_step k v m.no_step) in (note_steps n i.0, i.1))
@@ -304,7 +320,8 @@ module _ (d n : ℕ) (place : Place) (ts us : List Token) (fs cs : List Frame) (
   z : Popped (n + 1) c.raw cs x c.p
   z = popped (n + 1) c.raw cs fs x c.p c.agrees g
 
-  raw_goes : Goes (other_expression d) (itself (other_expression d)) (record { parts = pend (raw_step x.noted z.place z.value ∷ z.rest); build = fold (raw_step x.noted z.place z.value ∷ z.rest) (built c.here c.closed c.last) } ∷ []) ts us
+  raw_goes : Goes (other_expression d) (itself (other_expression d)) (record { parts = pend (raw_step x.noted z.place z.value ∷ z.rest); build = fold (raw_step x.noted z.place z.value ∷ z.rest) (built c.here c.closed c.last) } ∷ [])
+      ts us
   raw_goes = subst (λ (ws : List Raw). Goes (other_expression d) (itself (other_expression d)) (record { parts = pend ws; build = fold ws (built c.here c.closed c.last) } ∷ []) ts us) z.fs_are c.goes
 
   outer_too : outer z.rest z.place ≡ place
@@ -313,7 +330,8 @@ module _ (d n : ℕ) (place : Place) (ts us : List Token) (fs cs : List Frame) (
   -- a step without annotation brackets
   module _ (h : x.noted ≡ false) where
     bare_goes : Goes (other_expression d) (itself (other_expression d)) (record { parts = pend z.rest; build = fold z.rest (before z.place z.value (built c.here c.closed c.last)) } ∷ []) ts us
-    bare_goes = subst (λ b. Goes (other_expression d) (itself (other_expression d)) (record { parts = pend (raw_step b z.place z.value ∷ z.rest); build = fold (raw_step b z.place z.value ∷ z.rest) (built c.here c.closed c.last) } ∷ []) ts us) h raw_goes
+    bare_goes = subst (λ b. Goes (other_expression d) (itself (other_expression d))
+        (record { parts = pend (raw_step b z.place z.value ∷ z.rest); build = fold (raw_step b z.place z.value ∷ z.rest) (built c.here c.closed c.last) } ∷ []) ts us) h raw_goes
 
     pub chain_bare : (more : List (StepOf Expr)) → more ≡ done ++ x.step ∷ [] → Closing d n place ts us cs more e r
     chain_bare more i = record {
@@ -336,12 +354,14 @@ module _ (d n : ℕ) (place : Place) (ts us : List Token) (fs cs : List Frame) (
   -- a step in annotation brackets
   module _ (h : x.noted ≡ true) where
     noted_goes : Goes (other_expression d) (itself (other_expression d)) (record { parts = the annotation ∷ pend z.rest; build = λ k. fold z.rest (note_tree k (before z.place z.value (built c.here c.closed c.last))) } ∷ []) ts us
-    noted_goes = subst (λ b. Goes (other_expression d) (itself (other_expression d)) (record { parts = pend (raw_step b z.place z.value ∷ z.rest); build = fold (raw_step b z.place z.value ∷ z.rest) (built c.here c.closed c.last) } ∷ []) ts us) h raw_goes
+    noted_goes = subst (λ b. Goes (other_expression d) (itself (other_expression d))
+        (record { parts = pend (raw_step b z.place z.value ∷ z.rest); build = fold (raw_step b z.place z.value ∷ z.rest) (built c.here c.closed c.last) } ∷ []) ts us) h raw_goes
 
     pub chain_note_bad : (f : PartFault) → Refuses annotation us f → Refuses (other_expression d) ts f
     chain_note_bad f i = refused _ _ (pend z.rest) (λ k. fold z.rest (note_tree k (before z.place z.value (built c.here c.closed c.last)))) ts us f noted_goes ((λ t x. refl), (λ t x. refl), tt) i
 
-    pub chain_noted : (vs : List Token) (k : Note) (y : StepOf Expr) (more : List (StepOf Expr)) → ReadsAnnotation us k vs → step_tree y ≡ noted_step k (step_tree x.step) → more ≡ done ++ y ∷ [] → Closing d n place ts vs cs more e r
+    pub chain_noted : (vs : List Token) (k : Note) (y : StepOf Expr) (more : List (StepOf Expr)) → ReadsAnnotation us k vs → step_tree y ≡ noted_step k (step_tree x.step) → more ≡ done ++ y ∷ []
+        → Closing d n place ts vs cs more e r
     chain_noted vs k y more i j l = record {
       raw = z.rest;
       closed = and_step (marked k (at z.place)) z.value c.closed;
@@ -354,7 +374,8 @@ module _ (d n : ℕ) (place : Place) (ts us : List Token) (fs cs : List Frame) (
           (noted_goes >> through _ _ (pend z.rest) (λ k. fold z.rest (note_tree k (before z.place z.value (built c.here c.closed c.last)))) us vs i.says i.passes ((λ t x. refl), (λ t x. refl), tt));
       single = c.single;
       agrees = z.agrees;
-      steps_are = one_step z.before_ c.p c.q (marked k (at z.place)) z.value (noted_step k (step_tree x.step)) c.closed (map step_tree (reverse done)) (noted_one z.before_ c.p k (at z.place) z.value (step_tree x.step) z.value_is) c.steps_are
+      steps_are = one_step z.before_ c.p c.q (marked k (at z.place)) z.value (noted_step k (step_tree x.step)) c.closed (map step_tree (reverse done))
+          (noted_one z.before_ c.p k (at z.place) z.value (step_tree x.step) z.value_is) c.steps_are
           ∙ ap (λ y. let w : m.Steps × ℕ = (y, c.q) in w) (sym (ap (λ y. all_steps (reverse y)) l ∙ done_steps done y ∙ ap (λ y. steps (y ∷ map step_tree (reverse done))) j));
       last_is = c.last_is;
       outer_is = outer_too;
@@ -363,7 +384,8 @@ module _ (d n : ℕ) (place : Place) (ts us : List Token) (fs cs : List Frame) (
 
 -- all is closed
 chain_is : (n q r : ℕ) (k : Mark) (ss zs : m.Steps) (x y : m.Tree) → number_steps (n + 1) ss ≡ (zs, q) → number q x ≡ (y, r) → number n (m.chain k ss x) ≡ (m.chain (labelled n k) zs y, r)
-chain_is n q r k ss zs x y e h = ap (λ (i : m.Steps × ℕ). let z : m.Tree × ℕ = (m.chain (labelled n k) i.0 (number i.1 x).0, (number i.1 x).1) in z) e ∙ ap (λ (i : m.Tree × ℕ). let z : m.Tree × ℕ = (m.chain (labelled n k) zs i.0, i.1) in z) h
+chain_is n q r k ss zs x y e h = ap (λ (i : m.Steps × ℕ). let z : m.Tree × ℕ = (m.chain (labelled n k) i.0 (number i.1 x).0, (number i.1 x).1) in z) e
+    ∙ ap (λ (i : m.Tree × ℕ). let z : m.Tree × ℕ = (m.chain (labelled n k) zs i.0, i.1) in z) h
 
 starts_word : (ts us : List Token) (t : Token) → ts ≡ t ∷ us → chain_sort (sort t) ≡ true → starts_chain ts ≡ false → ⊥
 starts_word ts us t e h k = both_ways _ (sym (ap starts_chain e) ∙ k) h
@@ -378,10 +400,12 @@ module _ (d n : ℕ) (place : Place) (ts us : List Token) (fs : List Frame) (don
   end_goes [] h i = subst (λ (ws : List Raw). Goes (other_expression d) (itself (other_expression d)) (record { parts = pend ws; build = fold ws (built c.here c.closed c.last) } ∷ []) ts us) h c.goes
   end_goes (w ∷ ws) h i = absurd cc
 
-  pub chain_done : (vs : List Token) (t : Token) (q : Sort) → Starts ts t q place vs → chain_sort q ≡ true → (x : m.Tree) (ys : List (StepOf Expr)) → ys ≡ reverse done → (o : Mark) → o ≡ mark n place → x ≡ m.chain o (all_steps ys) e → ReadsOtherExpression d n ts x us r
+  pub chain_done : (vs : List Token) (t : Token) (q : Sort) → Starts ts t q place vs → chain_sort q ≡ true → (x : m.Tree) (ys : List (StepOf Expr)) → ys ≡ reverse done → (o : Mark) → o ≡ mark n place
+      → x ≡ m.chain o (all_steps ys) e → ReadsOtherExpression d n ts x us r
   chain_done vs t q b h x ys j o l k =
       let i = gone (n + 1) c.raw fs c.p c.agrees g in
-      let full : built c.here c.closed c.last ≡ m.chain (at place) c.closed c.last = built_filled c.here c.closed c.last (sym (ap (λ (ws : List Raw). filled ws c.closed) i.0) ∙ c.some) ∙ ap (λ o. m.chain (at o) c.closed c.last) (sym (ap (λ (ws : List Raw). outer ws c.here) i.0) ∙ c.outer_is) in
+      let full : built c.here c.closed c.last ≡ m.chain (at place) c.closed c.last =
+      built_filled c.here c.closed c.last (sym (ap (λ (ws : List Raw). filled ws c.closed) i.0) ∙ c.some) ∙ ap (λ o. m.chain (at o) c.closed c.last) (sym (ap (λ (ws : List Raw). outer ws c.here) i.0) ∙ c.outer_is) in
       record {
         says = m.chain (at place) c.closed c.last;
         passes = subst (λ o. Passes (other_expression d) ts o us) full (end_goes c.raw refl i.0);

@@ -55,20 +55,28 @@ module _ (d : ℕ) where
     when_bad (TooDeep p) z = absurd z
 
     pub when_read : (left : List Token) (n p : ℕ) (made : m.Patterns) → Takes s.When us left → number_patterns n (lists.patterns ps) ≡ (made, p) → ReadsHead d n ts made place noted left p
-    when_read left n p made z e = record { says = ps; goes = g >> take_class (clause d) s.When (the (expression d) ∷ a s.Arrow ∷ the (expression d) ∷ noted_end noted) (λ _ g _ b. clause_end noted (clause_of place (lists.patterns ps) g b)) us left z; agrees = e }
+    when_read left n p made z e = record {
+      says = ps;
+      goes = g >> take_class (clause d) s.When (the (expression d) ∷ a s.Arrow ∷ the (expression d) ∷ noted_end noted)
+          (λ _ g _ b. clause_end noted (clause_of place (lists.patterns ps) g b)) us left z;
+      agrees = e;
+    }
 
   -- Behind one pattern: its annotation in brackets, or the word `when` of a clause in brackets.
   abbrev two_heads : m.Pattern → Place → Place → List (Branch (clause d))
-  two_heads x outer inner = record { parts = the annotation ∷ a s.When ∷ the (expression d) ∷ a s.Arrow ∷ the (expression d) ∷ []; build = λ k _ g _ b. clause_of outer (one (noted_pattern k x)) g b } ∷ before_when true inner (x ∷ []) ∷ []
+  two_heads x outer inner = record { parts = the annotation ∷ a s.When ∷ the (expression d) ∷ a s.Arrow ∷ the (expression d) ∷ []; build = λ k _ g _ b. clause_of outer (one (noted_pattern k x)) g b }
+      ∷ before_when true inner (x ∷ []) ∷ []
 
   module _ (x : m.Pattern) (outer inner : Place) (ts us : List Token) (g : Goes (clause d) (itself (clause d)) (two_heads x outer inner) ts us) where
-    either_noted : opens_with s.Noted us ≡ true → Goes (clause d) (itself (clause d)) (record { parts = the annotation ∷ a s.When ∷ the (expression d) ∷ a s.Arrow ∷ the (expression d) ∷ []; build = λ k _ g _ b. clause_of outer (one (noted_pattern k x)) g b } ∷ []) ts us
+    either_noted : opens_with s.Noted us ≡ true → Goes (clause d) (itself (clause d))
+        (record { parts = the annotation ∷ a s.When ∷ the (expression d) ∷ a s.Arrow ∷ the (expression d) ∷ []; build = λ k _ g _ b. clause_of outer (one (noted_pattern k x)) g b } ∷ []) ts us
     either_noted e = go us refl e
       where
         apart : (q : Sort) → fits s.Noted q ≡ true → fits s.When q ≡ false
         apart q e = fits_no_other s.When q (λ z. absurd cc) (λ z. let y : fits s.Noted s.When ≡ true = ap (fits s.Noted) (sym z) ∙ e in absurd cc)
 
-        go : (vs : List Token) → us ≡ vs → opens_with s.Noted vs ≡ true → Goes (clause d) (itself (clause d)) (record { parts = the annotation ∷ a s.When ∷ the (expression d) ∷ a s.Arrow ∷ the (expression d) ∷ []; build = λ k _ g _ b. clause_of outer (one (noted_pattern k x)) g b } ∷ []) ts us
+        go : (vs : List Token) → us ≡ vs → opens_with s.Noted vs ≡ true → Goes (clause d) (itself (clause d))
+            (record { parts = the annotation ∷ a s.When ∷ the (expression d) ∷ a s.Arrow ∷ the (expression d) ∷ []; build = λ k _ g _ b. clause_of outer (one (noted_pattern k x)) g b } ∷ []) ts us
         go [] h e = absurd cc
         go (t ∷ vs) h e = g >> drop_second (clause d) _ _ [] us vs t h (apart (sort t) e)
 
@@ -76,7 +84,8 @@ module _ (d : ℕ) where
     note_first k vs y = annotation_first us vs y.says y.passes
 
     behind_note : (k : Note) (vs : List Token) (y : ReadsAnnotation us k vs) → Goes (clause d) (itself (clause d)) (before_when false outer (noted_pattern y.says x ∷ []) ∷ []) ts vs
-    behind_note k vs y = either_noted (note_first k vs y) >> through annotation (clause d) (a s.When ∷ the (expression d) ∷ a s.Arrow ∷ the (expression d) ∷ []) (λ k _ g _ b. clause_of outer (one (noted_pattern k x)) g b) us vs y.says y.passes ((λ t x. refl), (λ t x. refl), tt)
+    behind_note k vs y = either_noted (note_first k vs y) >> through annotation (clause d) (a s.When ∷ the (expression d) ∷ a s.Arrow ∷ the (expression d) ∷ [])
+        (λ k _ g _ b. clause_of outer (one (noted_pattern k x)) g b) us vs y.says y.passes ((λ t x. refl), (λ t x. refl), tt)
 
     stuck : (t : Token) (vs : List Token) → us ≡ t ∷ vs → fits s.When (sort t) ≡ false → fits s.Noted (sort t) ≡ false → Stops (clause d) (itself (clause d)) ts t.place
     stuck t vs e h i = halted (clause d) (itself (clause d)) (two_heads x outer inner) ts us vs t g e tt (go (sort t) h i)
@@ -87,7 +96,8 @@ module _ (d : ℕ) where
         go _ h i = (refl, refl)
 
     lacks_both : (f : PartFault) → MissesOrMemory s.When us f → Misses s.Noted us f → Refuses (clause d) ts f
-    lacks_both (Syntax p) h i = subst (Stops (clause d) (itself (clause d)) ts) (sym h.place_is) (stuck h.first h.left h.are h.other (let z : i.first ≡ h.first = same_first (sym i.are ∙ h.are) in subst (λ (t : Token). fits s.Noted (sort t) ≡ false) z i.other))
+    lacks_both (Syntax p) h i = subst (Stops (clause d) (itself (clause d)) ts) (sym h.place_is)
+        (stuck h.first h.left h.are h.other (let z : i.first ≡ h.first = same_first (sym i.are ∙ h.are) in subst (λ (t : Token). fits s.Noted (sort t) ≡ false) z i.other))
       where
         same_first : {t u : Token} {vs ws : List Token} → t ∷ vs ≡ u ∷ ws → t ≡ u
         same_first e = cc
@@ -98,17 +108,20 @@ module _ (d : ℕ) where
     pub either_bad : (f : PartFault) → RefusesEither us f → Refuses (clause d) ts f
     either_bad f (neither h i) = lacks_both f h i
     either_bad f (memory e) = subst (Refuses (clause d) ts) (sym e) tt
-    either_bad f (in_annotation h e) = refused annotation (clause d) (a s.When ∷ the (expression d) ∷ a s.Arrow ∷ the (expression d) ∷ []) (λ k _ g _ b. clause_of outer (one (noted_pattern k x)) g b) ts us f (either_noted e) ((λ t x. refl), (λ t x. refl), tt) h
+    either_bad f (in_annotation h e) = refused annotation (clause d) (a s.When ∷ the (expression d) ∷ a s.Arrow ∷ the (expression d) ∷ []) (λ k _ g _ b. clause_of outer (one (noted_pattern k x)) g b) ts us f (either_noted e)
+        ((λ t x. refl), (λ t x. refl), tt) h
     either_bad f (no_when_behind k vs y h) = when_bad false outer (noted_pattern y.says x ∷ []) ts vs (behind_note k vs y) f h
 
-    pub either_read : (n p : ℕ) (y : m.Pattern) (made : m.Patterns) (place : Place) (noted : Bool) (left : List Token) → number_pattern n x ≡ (y, p) → ReadsEither us y outer inner made place noted left → ReadsHead d n ts made place noted left p
+    pub either_read : (n p : ℕ) (y : m.Pattern) (made : m.Patterns) (place : Place) (noted : Bool) (left : List Token) → number_pattern n x ≡ (y, p) → ReadsEither us y outer inner made place noted left
+        → ReadsHead d n ts made place noted left p
     either_read n p y made place true left e (h, i, j) = subst (λ q. ReadsHead d n ts made q true left p) (sym i) (record {
       says = x ∷ [];
       goes = g >> taken (clause d) (two_heads x outer inner) us left j.first s.When j.are (taken_sort s.When us left (λ z. absurd cc) j) refl (tt, (tt, tt));
       agrees = one_is n p x y e ∙ ap (λ q. let z : m.Patterns × ℕ = (q, p) in z) (sym h);
     })
     either_read n p y made place false left e (k, vs, h, i, r, j) = subst (λ q. ReadsHead d n ts made q false left p) (sym i)
-        (when_read false outer (noted_pattern r.says x ∷ []) ts vs (behind_note k vs r) left n p made j (one_is n p (noted_pattern r.says x) (noted_pattern k y) (noted_is n p r.says k x y r.agrees e) ∙ ap (λ q. let z : m.Patterns × ℕ = (q, p) in z) (sym h)))
+        (when_read false outer (noted_pattern r.says x ∷ []) ts vs (behind_note k vs r) left n p made j
+        (one_is n p (noted_pattern r.says x) (noted_pattern k y) (noted_is n p r.says k x y r.agrees e) ∙ ap (λ q. let z : m.Patterns × ℕ = (q, p) in z) (sym h)))
 
 -- The patterns of a clause, up to and with the word `when`.
 module _ (d n : ℕ) where
@@ -118,14 +131,19 @@ module _ (d n : ℕ) where
   module _ (ts us : List Token) (t : Token) (q : Sort) (place : Place) (b : Starts ts t q place us) where
     -- patterns in angle brackets
     module _ (h : q ≡ s.Less) where
-      head_less : Goes (clause d) (itself (clause d)) (record { parts = the (many s.Greater (the (pattern d))) ∷ a s.When ∷ the (expression d) ∷ a s.Arrow ∷ the (expression d) ∷ []; build = λ ps _ g _ b. clause_of t.place (lists.patterns ps) g b } ∷ []) ts us
+      head_less : Goes (clause d) (itself (clause d)) (record {
+        parts = the (many s.Greater (the (pattern d))) ∷ a s.When ∷ the (expression d) ∷ a s.Arrow ∷ the (expression d) ∷ [];
+        build = λ ps _ g _ b. clause_of t.place (lists.patterns ps) g b;
+      } ∷ []) ts us
       head_less = taken (clause d) (itself (clause d)) ts us t s.Less b.are (sym b.sort_is ∙ h) refl (tt, tt)
 
       several_through : (says : List m.Pattern) (between : List Token) → Passes (many s.Greater (the (pattern d))) us says between → Goes (clause d) (itself (clause d)) (before_when d false t.place says ∷ []) ts between
-      several_through says between z = head_less >> through (many s.Greater (the (pattern d))) (clause d) (a s.When ∷ the (expression d) ∷ a s.Arrow ∷ the (expression d) ∷ []) (λ ps _ g _ b. clause_of t.place (lists.patterns ps) g b) us between says z ((λ t x. refl), (λ t x. refl), tt)
+      several_through says between z = head_less >> through (many s.Greater (the (pattern d))) (clause d) (a s.When ∷ the (expression d) ∷ a s.Arrow ∷ the (expression d) ∷ [])
+          (λ ps _ g _ b. clause_of t.place (lists.patterns ps) g b) us between says z ((λ t x. refl), (λ t x. refl), tt)
 
       pub head_several_bad : (f : PartFault) → RefusesSeveral d us f → Refuses (clause d) ts f
-      head_several_bad f (in_patterns z) = refused (many s.Greater (the (pattern d))) (clause d) (a s.When ∷ the (expression d) ∷ a s.Arrow ∷ the (expression d) ∷ []) (λ ps _ g _ b. clause_of t.place (lists.patterns ps) g b) ts us f head_less ((λ t x. refl), (λ t x. refl), tt) z
+      head_several_bad f (in_patterns z) = refused (many s.Greater (the (pattern d))) (clause d) (a s.When ∷ the (expression d) ∷ a s.Arrow ∷ the (expression d) ∷ [])
+          (λ ps _ g _ b. clause_of t.place (lists.patterns ps) g b) ts us f head_less ((λ t x. refl), (λ t x. refl), tt) z
       head_several_bad f (no_when says between z w) = when_bad d false t.place says ts between (several_through says between z) f w
 
       pub head_several : (made : m.Patterns) (there : Place) (noted : Bool) (left : List Token) (p : ℕ) → there ≡ place → noted ≡ false → ReadsSeveral d n us made left p → ReadsHead d n ts made there noted left p
@@ -134,20 +152,30 @@ module _ (d n : ℕ) where
 
     -- one pattern, without brackets before it
     module _ (h : q ≡ s.Less → ⊥) (g : q ≡ s.OpenRound → ⊥) where
-      head_bare : Goes (clause d) (itself (clause d)) (record { parts = the (bare_pattern d) ∷ a s.When ∷ the (expression d) ∷ a s.Arrow ∷ the (expression d) ∷ []; build = λ x _ g _ b. clause_of (mark_of x).place (one x) g b } ∷ []) ts ts
+      head_bare : Goes (clause d) (itself (clause d)) (record { parts = the (bare_pattern d) ∷ a s.When ∷ the (expression d) ∷ a s.Arrow ∷ the (expression d) ∷ []; build = λ x _ g _ b. clause_of (mark_of x).place (one x) g b }
+          ∷ []) ts ts
       head_bare = expand (clause d) (clause d) [] (λ x. x) [] ts >> expand (clause d) (noted_ (the (bare_clause d))) [] _ [] ts
           >> drop_second _ _ _ _ ts us t b.are (fits_no_other s.OpenRound (sort t) (λ z. absurd cc) (λ z. g (b.sort_is ∙ z)))
-          >> expand (clause d) (bare_clause d) [] (λ x. x) [] ts >> expand (clause d) (clause_patterns d) (a s.When ∷ the (expression d) ∷ a s.Arrow ∷ the (expression d) ∷ []) (λ ps _ g _ b. clause_of ps.place (lists.patterns ps.patterns) g b) [] ts
+          >> expand (clause d) (bare_clause d) [] (λ x. x) [] ts >> expand (clause d) (clause_patterns d) (a s.When ∷ the (expression d) ∷ a s.Arrow ∷ the (expression d) ∷ [])
+          (λ ps _ g _ b. clause_of ps.place (lists.patterns ps.patterns) g b) [] ts
           >> drop_second _ _ _ _ ts us t b.are (fits_no_other s.OpenRound (sort t) (λ z. absurd cc) (λ z. g (b.sort_is ∙ z)))
           >> drop_second _ _ _ _ ts us t b.are (fits_no_other s.Less (sort t) (λ z. absurd cc) (λ z. h (b.sort_is ∙ z)))
 
       pub head_bare_bad : (f : PartFault) → Refuses (bare_pattern d) ts f → Refuses (clause d) ts f
-      head_bare_bad f z = refused (bare_pattern d) (clause d) (a s.When ∷ the (expression d) ∷ a s.Arrow ∷ the (expression d) ∷ []) (λ x _ g _ b. clause_of (mark_of x).place (one x) g b) ts ts f head_bare ((λ t x. refl), (λ t x. refl), tt) z
+      head_bare_bad f z = refused (bare_pattern d) (clause d) (a s.When ∷ the (expression d) ∷ a s.Arrow ∷ the (expression d) ∷ []) (λ x _ g _ b. clause_of (mark_of x).place (one x) g b) ts ts f head_bare (
+        (λ t x. refl),
+        (λ t x. refl),
+        tt,
+      ) z
 
       module _ (vs : List Token) (x : m.Pattern) (p : ℕ) (y : ReadsBarePattern d n ts x vs p) where
         head_one : Goes (clause d) (itself (clause d)) (before_when d false place (y.says ∷ []) ∷ []) ts vs
         head_one = subst (λ z. Goes (clause d) (itself (clause d)) (before_when d false z (y.says ∷ []) ∷ []) ts vs) (bare_place d ts us vs t y.says b.are y.passes ∙ sym b.place_is)
-            (head_bare >> through (bare_pattern d) (clause d) (a s.When ∷ the (expression d) ∷ a s.Arrow ∷ the (expression d) ∷ []) (λ x _ g _ b. clause_of (mark_of x).place (one x) g b) ts vs y.says y.passes ((λ t x. refl), (λ t x. refl), tt))
+            (head_bare >> through (bare_pattern d) (clause d) (a s.When ∷ the (expression d) ∷ a s.Arrow ∷ the (expression d) ∷ []) (λ x _ g _ b. clause_of (mark_of x).place (one x) g b) ts vs y.says y.passes (
+              (λ t x. refl),
+              (λ t x. refl),
+              tt,
+            ))
 
         pub head_one_bad : (f : PartFault) → MissesOrMemory s.When vs f → Refuses (clause d) ts f
         head_one_bad f z = when_bad d false place (y.says ∷ []) ts vs head_one f z
@@ -177,14 +205,19 @@ module _ (d n : ℕ) where
       module _ (vs : List Token) (u : Token) (r : Sort) (there : Place) (c : Starts us u r there vs) where
         -- the clause's, before patterns in angle brackets
         module _ (i : r ≡ s.Less) where
-          inner_less : Goes (clause d) (itself (clause d)) (record { parts = the (many s.Greater (the (pattern d))) ∷ a s.When ∷ the (expression d) ∷ a s.Arrow ∷ the (expression d) ∷ the annotation ∷ []; build = λ ps _ g _ b k. noted_clause k (clause_of u.place (lists.patterns ps) g b) } ∷ []) ts vs
+          inner_less : Goes (clause d) (itself (clause d)) (record {
+            parts = the (many s.Greater (the (pattern d))) ∷ a s.When ∷ the (expression d) ∷ a s.Arrow ∷ the (expression d) ∷ the annotation ∷ [];
+            build = λ ps _ g _ b k. noted_clause k (clause_of u.place (lists.patterns ps) g b);
+          } ∷ []) ts vs
           inner_less = head_open >> taken (clause d) head_branches us vs u s.Less c.are (sym c.sort_is ∙ i) refl (tt, (tt, (tt, tt)))
 
           inner_through : (says : List m.Pattern) (between : List Token) → Passes (many s.Greater (the (pattern d))) vs says between → Goes (clause d) (itself (clause d)) (before_when d true u.place says ∷ []) ts between
-          inner_through says between z = inner_less >> through (many s.Greater (the (pattern d))) (clause d) (a s.When ∷ the (expression d) ∷ a s.Arrow ∷ the (expression d) ∷ the annotation ∷ []) (λ ps _ g _ b k. noted_clause k (clause_of u.place (lists.patterns ps) g b)) vs between says z ((λ t x. refl), (λ t x. refl), tt)
+          inner_through says between z = inner_less >> through (many s.Greater (the (pattern d))) (clause d) (a s.When ∷ the (expression d) ∷ a s.Arrow ∷ the (expression d) ∷ the annotation ∷ [])
+              (λ ps _ g _ b k. noted_clause k (clause_of u.place (lists.patterns ps) g b)) vs between says z ((λ t x. refl), (λ t x. refl), tt)
 
           pub inner_several_bad : (f : PartFault) → RefusesSeveral d vs f → Refuses (clause d) ts f
-          inner_several_bad f (in_patterns z) = refused (many s.Greater (the (pattern d))) (clause d) (a s.When ∷ the (expression d) ∷ a s.Arrow ∷ the (expression d) ∷ the annotation ∷ []) (λ ps _ g _ b k. noted_clause k (clause_of u.place (lists.patterns ps) g b)) ts vs f inner_less ((λ t x. refl), (λ t x. refl), tt) z
+          inner_several_bad f (in_patterns z) = refused (many s.Greater (the (pattern d))) (clause d) (a s.When ∷ the (expression d) ∷ a s.Arrow ∷ the (expression d) ∷ the annotation ∷ [])
+              (λ ps _ g _ b k. noted_clause k (clause_of u.place (lists.patterns ps) g b)) ts vs f inner_less ((λ t x. refl), (λ t x. refl), tt) z
           inner_several_bad f (no_when says between z w) = when_bad d true u.place says ts between (inner_through says between z) f w
 
           pub inner_several : (made : m.Patterns) (place_ : Place) (noted : Bool) (left : List Token) (p : ℕ) → place_ ≡ there → noted ≡ true → ReadsSeveral d n vs made left p → ReadsHead d n ts made place_ noted left p
@@ -194,23 +227,27 @@ module _ (d n : ℕ) where
         -- one pattern, without a bracket and not a variable: the brackets are its own or the clause's
         module _ (i : r ≡ s.Less → ⊥) (j : r ≡ s.Variable → ⊥) (k : r ≡ s.OpenRound → ⊥) where
           inner_two : Goes (clause d) (itself (clause d)) (record { parts = the (bare_pattern d) ∷ the annotation ∷ when_then.parts; build = λ x k. when_then.build (noted_pattern k x) }
-              ∷ record { parts = the (bare_pattern d) ∷ a s.When ∷ the (expression d) ∷ a s.Arrow ∷ the (expression d) ∷ the annotation ∷ []; build = λ x _ g _ b k. noted_clause k (clause_of (mark_of x).place (one x) g b) } ∷ []) ts us
+              ∷ record { parts = the (bare_pattern d) ∷ a s.When ∷ the (expression d) ∷ a s.Arrow ∷ the (expression d) ∷ the annotation ∷ []; build = λ x _ g _ b k. noted_clause k (clause_of (mark_of x).place (one x) g b) }
+              ∷ []) ts us
           inner_two = head_open >> drop _ _ _ us vs u c.are (fits_no_other s.Variable (sort u) (λ z. absurd cc) (λ z. j (c.sort_is ∙ z)))
               >> swapped _ _ _ [] us >> expand (clause d) (bare_clause d) (the annotation ∷ []) (λ c k. noted_clause k c) _ us
-              >> expand (clause d) (clause_patterns d) (a s.When ∷ the (expression d) ∷ a s.Arrow ∷ the (expression d) ∷ the annotation ∷ []) (λ ps _ g _ b k. noted_clause k (clause_of ps.place (lists.patterns ps.patterns) g b)) _ us
+              >> expand (clause d) (clause_patterns d) (a s.When ∷ the (expression d) ∷ a s.Arrow ∷ the (expression d) ∷ the annotation ∷ [])
+              (λ ps _ g _ b k. noted_clause k (clause_of ps.place (lists.patterns ps.patterns) g b)) _ us
               >> drop_second _ _ _ _ us vs u c.are (fits_no_other s.OpenRound (sort u) (λ z. absurd cc) (λ z. k (c.sort_is ∙ z)))
               >> drop_second _ _ _ _ us vs u c.are (fits_no_other s.Less (sort u) (λ z. absurd cc) (λ z. i (c.sort_is ∙ z)))
               >> swapped _ _ _ [] us
 
           abbrev inner_thens : List (Then (bare_pattern d) (clause d))
-          inner_thens = record { parts = the annotation ∷ when_then.parts; build = λ x k. when_then.build (noted_pattern k x) } ∷ record { parts = a s.When ∷ the (expression d) ∷ a s.Arrow ∷ the (expression d) ∷ the annotation ∷ []; build = λ x _ g _ b k. noted_clause k (clause_of (mark_of x).place (one x) g b) } ∷ []
+          inner_thens = record { parts = the annotation ∷ when_then.parts; build = λ x k. when_then.build (noted_pattern k x) }
+              ∷ record { parts = a s.When ∷ the (expression d) ∷ a s.Arrow ∷ the (expression d) ∷ the annotation ∷ []; build = λ x _ g _ b k. noted_clause k (clause_of (mark_of x).place (one x) g b) } ∷ []
 
           pub inner_bare_bad : (f : PartFault) → Refuses (bare_pattern d) us f → Refuses (clause d) ts f
           inner_bare_bad f z = refused_in (bare_pattern d) (clause d) inner_thens ts us f inner_two tt ((λ t x. refl), (λ t x. refl), ((λ t x. refl), (λ t x. refl), tt)) z
 
           module _ (ws : List Token) (x : m.Pattern) (p : ℕ) (y : ReadsBarePattern d n us x ws p) where
             inner_bare : Goes (clause d) (itself (clause d)) (two_heads d y.says place there) ts ws
-            inner_bare = subst (λ z. Goes (clause d) (itself (clause d)) (two_heads d y.says z there) ts ws) (sym b.place_is) (subst (λ z. Goes (clause d) (itself (clause d)) (two_heads d y.says t.place z) ts ws) (bare_place d us vs ws u y.says c.are y.passes ∙ sym c.place_is)
+            inner_bare = subst (λ z. Goes (clause d) (itself (clause d)) (two_heads d y.says z there) ts ws) (sym b.place_is)
+                (subst (λ z. Goes (clause d) (itself (clause d)) (two_heads d y.says t.place z) ts ws) (bare_place d us vs ws u y.says c.are y.passes ∙ sym c.place_is)
                 (inner_two >> pass (bare_pattern d) (clause d) inner_thens us ws y.says ((λ t x. refl), (λ t x. refl), ((λ t x. refl), (λ t x. refl), tt)) y.passes))
 
             pub inner_either_bad : (f : PartFault) → RefusesEither ws f → Refuses (clause d) ts f
@@ -228,9 +265,13 @@ module _ (d n : ℕ) where
           outer_then = record { parts = the annotation ∷ a s.When ∷ the (expression d) ∷ a s.Arrow ∷ the (expression d) ∷ []; build = λ x k _ g _ b. clause_of place (one (noted_pattern k x)) g b }
 
           second_open : Goes (clause d) (itself (clause d)) (in_brackets d there (clause d) inner_then (outer_then ∷ inner_then ∷ [])) ts vs
-          second_open = subst (λ z. Goes (clause d) (itself (clause d)) (in_brackets d there (clause d) inner_then (record { parts = the annotation ∷ a s.When ∷ the (expression d) ∷ a s.Arrow ∷ the (expression d) ∷ []; build = λ x k _ g _ b. clause_of z (one (noted_pattern k x)) g b } ∷ inner_then ∷ [])) ts vs) (sym b.place_is)
-              (subst (λ z. Goes (clause d) (itself (clause d)) (in_brackets d z (clause d) (record { parts = a s.When ∷ the (expression d) ∷ a s.Arrow ∷ the (expression d) ∷ the annotation ∷ []; build = λ x _ g _ b k. noted_clause k (clause_of z (one x) g b) })
-              (record { parts = the annotation ∷ a s.When ∷ the (expression d) ∷ a s.Arrow ∷ the (expression d) ∷ []; build = λ x k _ g _ b. clause_of t.place (one (noted_pattern k x)) g b } ∷ record { parts = a s.When ∷ the (expression d) ∷ a s.Arrow ∷ the (expression d) ∷ the annotation ∷ []; build = λ x _ g _ b k. noted_clause k (clause_of z (one x) g b) } ∷ [])) ts vs) (sym c.place_is)
+          second_open = subst (λ z. Goes (clause d) (itself (clause d)) (in_brackets d there (clause d) inner_then
+              (record { parts = the annotation ∷ a s.When ∷ the (expression d) ∷ a s.Arrow ∷ the (expression d) ∷ []; build = λ x k _ g _ b. clause_of z (one (noted_pattern k x)) g b } ∷ inner_then ∷ [])) ts vs)
+              (sym b.place_is)
+              (subst (λ z. Goes (clause d) (itself (clause d)) (in_brackets d z (clause d)
+              (record { parts = a s.When ∷ the (expression d) ∷ a s.Arrow ∷ the (expression d) ∷ the annotation ∷ []; build = λ x _ g _ b k. noted_clause k (clause_of z (one x) g b) })
+              (record { parts = the annotation ∷ a s.When ∷ the (expression d) ∷ a s.Arrow ∷ the (expression d) ∷ []; build = λ x k _ g _ b. clause_of t.place (one (noted_pattern k x)) g b }
+              ∷ record { parts = a s.When ∷ the (expression d) ∷ a s.Arrow ∷ the (expression d) ∷ the annotation ∷ []; build = λ x _ g _ b k. noted_clause k (clause_of z (one x) g b) } ∷ [])) ts vs) (sym c.place_is)
               (head_open >> taken (clause d) head_branches us vs u s.OpenRound c.are (sym c.sort_is ∙ i) refl (tt, (tt, (tt, tt))) >> turned (clause d) _ _ _ vs))
 
           thens_guarded : Guarded (pattern d) (clause d) (inner_then ∷ outer_then ∷ inner_then ∷ [])
@@ -265,7 +306,8 @@ module _ (d n : ℕ) where
         -- a variable: five branches are open behind it
         module _ (i : r ≡ s.Variable) where
           pub head_variable_deep : depth_limit < d → d ≤ deeper_limit → Sinks (clause d) (itself (clause d)) ts there
-          head_variable_deep w x = subst (Sinks (clause d) (itself (clause d)) ts) (sym c.place_is) (sink_at 12 (clause d) (itself (clause d)) head_branches ts vs u (subst (λ y. Goes (clause d) (itself (clause d)) head_branches ts y) c.are head_open) tt
+          head_variable_deep w x = subst (Sinks (clause d) (itself (clause d)) ts) (sym c.place_is)
+              (sink_at 12 (clause d) (itself (clause d)) head_branches ts vs u (subst (λ y. Goes (clause d) (itself (clause d)) head_branches ts y) c.are head_open) tt
               (subst (λ k. Deep 12 (clause d) u k head_branches depth_limit) (sym (sym c.sort_is ∙ i)) ((w, tt), ((w, (w, tt)), ((w, (w, tt)), tt))))
               (subst (λ k. Shallow 12 (clause d) u k head_branches deeper_limit) (sym (sym c.sort_is ∙ i)) ((x, tt), ((x, (x, tt)), ((x, (x, tt)), tt))))
               (subst (λ k. Is_open (clause d) (next 12 (clause d) u k head_branches)) (sym (sym c.sort_is ∙ i)) tt))
@@ -284,7 +326,10 @@ module _ (d n : ℕ) where
                 ∷ record { parts = the annotation ∷ when_then.parts; build = λ k. when_then.build (noted_pattern k binds) }
                 ∷ record { parts = a s.Equals ∷ the (pattern (d + 1)) ∷ the annotation ∷ when_then.parts; build = λ _ x k. when_then.build (noted_pattern k (names x)) }
                 ∷ before_when d true u.place (binds ∷ [])
-                ∷ record { parts = a s.Equals ∷ the (pattern (d + 1)) ∷ a s.When ∷ the (expression d) ∷ a s.Arrow ∷ the (expression d) ∷ the annotation ∷ []; build = λ _ x _ g _ b k. noted_clause k (clause_of u.place (one (names x)) g b) } ∷ []
+                ∷ record {
+                  parts = a s.Equals ∷ the (pattern (d + 1)) ∷ a s.When ∷ the (expression d) ∷ a s.Arrow ∷ the (expression d) ∷ the annotation ∷ [];
+                  build = λ _ x _ g _ b k. noted_clause k (clause_of u.place (one (names x)) g b);
+                } ∷ []
 
             head_variable : Goes (clause d) (itself (clause d)) five ts vs
             head_variable = head_open >> taken (clause d) head_branches us vs u s.Variable c.are (sym c.sort_is ∙ i) refl ((w, tt), ((w, (w, tt)), ((w, (w, tt)), tt)))
@@ -299,7 +344,8 @@ module _ (d n : ℕ) where
                 place_then = record { parts = a s.When ∷ the (expression d) ∷ a s.Arrow ∷ the (expression d) ∷ []; build = λ x _ g _ b. clause_of place (one x) g b }
 
                 variable_two : Goes (clause d) (itself (clause d)) (variable_noted d u (clause d) place_then ∷ alias_behind d place u (clause d) (place_then ∷ [])) ts vs
-                variable_two = subst (λ z. Goes (clause d) (itself (clause d)) (variable_noted d u (clause d) (record { parts = a s.When ∷ the (expression d) ∷ a s.Arrow ∷ the (expression d) ∷ []; build = λ x _ g _ b. clause_of z (one x) g b })
+                variable_two = subst (λ z. Goes (clause d) (itself (clause d)) (variable_noted d u (clause d)
+                    (record { parts = a s.When ∷ the (expression d) ∷ a s.Arrow ∷ the (expression d) ∷ []; build = λ x _ g _ b. clause_of z (one x) g b })
                     ∷ alias_behind d z u (clause d) (record { parts = a s.When ∷ the (expression d) ∷ a s.Arrow ∷ the (expression d) ∷ []; build = λ x _ g _ b. clause_of z (one x) g b } ∷ [])) ts vs) (sym b.place_is)
                     (head_variable >> pruned (clause d) five vs ws x s.Noted e.are (sym e.sort_is ∙ j) >> swapped _ _ _ [] vs)
 
@@ -335,9 +381,11 @@ module _ (d n : ℕ) where
                 pub head_named_bad : (f : PartFault) → Refuses (pattern (d + 1)) ws f → Refuses (clause d) ts f
                 head_named_bad f z = refused_in (pattern (d + 1)) (clause d) named_thens ts ws f named_open tt ((λ t x. refl), (λ t x. refl), ((λ t x. refl), (λ t x. refl), tt)) z
 
-                module _ (xs : List Token) (mk : Mark) (name : VarName) (y : m.Pattern) (p : ℕ) (mk_is : mk ≡ mark n there) (name_is : name ≡ record { name = text u; place = there; note = no_note }) (v : ReadsNamed mk name d n ws y xs p) where
+                module _ (xs : List Token) (mk : Mark) (name : VarName) (y : m.Pattern) (p : ℕ) (mk_is : mk ≡ mark n there) (name_is : name ≡ record { name = text u; place = there; note = no_note })
+                    (v : ReadsNamed mk name d n ws y xs p) where
                   head_named : Goes (clause d) (itself (clause d)) (two_heads d (names v.says) place there) ts xs
-                  head_named = subst (λ z. Goes (clause d) (itself (clause d)) (two_heads d (names v.says) z there) ts xs) (sym b.place_is) (subst (λ z. Goes (clause d) (itself (clause d)) (two_heads d (names v.says) t.place z) ts xs) (sym c.place_is)
+                  head_named = subst (λ z. Goes (clause d) (itself (clause d)) (two_heads d (names v.says) z there) ts xs) (sym b.place_is)
+                      (subst (λ z. Goes (clause d) (itself (clause d)) (two_heads d (names v.says) t.place z) ts xs) (sym c.place_is)
                       (named_open >> pass (pattern (d + 1)) (clause d) named_thens ws xs v.says ((λ t x. refl), (λ t x. refl), ((λ t x. refl), (λ t x. refl), tt)) v.passes))
 
                   pub head_named_either_bad : (f : PartFault) → RefusesEither xs f → Refuses (clause d) ts f
@@ -345,7 +393,8 @@ module _ (d n : ℕ) where
 
                   pub head_named_either : (made : m.Patterns) (place_ : Place) (noted : Bool) (left : List Token) → ReadsEither xs y place there made place_ noted left → ReadsHead d n ts made place_ noted left p
                   head_named_either made place_ noted left z = either_read d (names v.says) place there ts xs head_named n p y made place_ noted left
-                      (alias_made n p (at u.place) mk (variable_name u.place u no_note) name v.says v.inner y (mk_is ∙ ap (mark n) c.place_is) (name_is ∙ ap (λ (g : Place). let r : VarName = record { name = text u; place = g; note = no_note } in r) c.place_is) v.made_is v.agrees) z
+                      (alias_made n p (at u.place) mk (variable_name u.place u no_note) name v.says v.inner y (mk_is ∙ ap (mark n) c.place_is)
+                      (name_is ∙ ap (λ (g : Place). let r : VarName = record { name = text u; place = g; note = no_note } in r) c.place_is) v.made_is v.agrees) z
 
               -- neither: the brackets are the clause's, and `when` comes
               module _ (j : o ≡ s.Noted → ⊥) (k : o ≡ s.Equals → ⊥) where
@@ -372,7 +421,8 @@ module _ (d n : ℕ) where
                 head_variable_when left made y f g z = subst (λ q. ReadsHead d n ts made q true left (n + 1)) (sym c.place_is) (record {
                   says = binds ∷ [];
                   goes = head_variable >> taken (clause d) five vs left z.first s.When z.are (taken_sort s.When vs left (λ z. absurd cc) z) refl (tt, (tt, (tt, (tt, (tt, tt)))));
-                  agrees = ap (λ (q : Place). let r : m.Patterns × ℕ = (one (m.binds (mark n q) (text u)), n + 1) in r) (sym c.place_is) ∙ ap (λ q. let r : m.Patterns × ℕ = (one q, n + 1) in r) (sym f) ∙ ap (λ q. let r : m.Patterns × ℕ = (q, n + 1) in r) (sym g);
+                  agrees = ap (λ (q : Place). let r : m.Patterns × ℕ = (one (m.binds (mark n q) (text u)), n + 1) in r) (sym c.place_is) ∙ ap (λ q. let r : m.Patterns × ℕ = (one q, n + 1) in r) (sym f)
+                      ∙ ap (λ q. let r : m.Patterns × ℕ = (q, n + 1) in r) (sym g);
                 })
 
 -- A clause, behind the word `when`.
@@ -383,7 +433,11 @@ module _ (d n : ℕ) (ts us : List Token) (patterns : m.Patterns) (place : Place
 
     module _ (vs : List Token) (g : m.Tree) (q : ℕ) (y : ReadsExpression d p us g vs q) where
       guarded_by : Goes (clause d) (itself (clause d)) (record { parts = a s.Arrow ∷ the (expression d) ∷ noted_end noted; build = λ _ b. clause_end noted (clause_of place (lists.patterns e.says) y.says b) } ∷ []) ts vs
-      guarded_by = e.goes >> through (expression d) (clause d) (a s.Arrow ∷ the (expression d) ∷ noted_end noted) (λ g _ b. clause_end noted (clause_of place (lists.patterns e.says) g b)) us vs y.says y.passes ((λ t x. refl), (λ t x. refl), tt)
+      guarded_by = e.goes >> through (expression d) (clause d) (a s.Arrow ∷ the (expression d) ∷ noted_end noted) (λ g _ b. clause_end noted (clause_of place (lists.patterns e.says) g b)) us vs y.says y.passes (
+        (λ t x. refl),
+        (λ t x. refl),
+        tt,
+      )
 
       pub arrow_bad : (f : PartFault) → Misses s.Arrow vs f → Refuses (clause d) ts f
       arrow_bad f z = lacking (clause d) s.Arrow (the (expression d) ∷ noted_end noted) (λ _ b. clause_end noted (clause_of place (lists.patterns e.says) y.says b)) ts vs f guarded_by z
@@ -408,7 +462,8 @@ module _ (d n : ℕ) (ts us : List Token) (patterns : m.Patterns) (place : Place
               ∙ ap (λ (v : m.Tree × ℕ). let w = number v.1 i.says in let z : m.Clauses × ℕ = (m.and_clause (marked k (mark n place)) patterns v.0 w.0 m.no_clause, w.1) in z) y.agrees
               ∙ ap (λ (w : m.Tree × ℕ). let z : m.Clauses × ℕ = (m.and_clause (marked k (mark n place)) patterns g w.0 m.no_clause, w.1) in z) i.agrees
 
-  module _ (e : ReadsHead d (n + 1) ts patterns place false us p) (vs : List Token) (g : m.Tree) (q : ℕ) (y : ReadsExpression d p us g vs q) (ws : List Token) (z : Takes s.Arrow vs ws) (xs : List Token) (b : m.Tree) (o : ℕ) (i : ReadsExpression d q ws b xs o) where
+  module _ (e : ReadsHead d (n + 1) ts patterns place false us p) (vs : List Token) (g : m.Tree) (q : ℕ) (y : ReadsExpression d p us g vs q) (ws : List Token) (z : Takes s.Arrow vs ws) (xs : List Token) (b : m.Tree) (o : ℕ)
+      (i : ReadsExpression d q ws b xs o) where
     pub clause_read : (made : lists.ClauseParts) → made ≡ record { mark = mark n place; patterns = patterns; guard = g; body = b } → ReadsClause d n ts made xs o
     clause_read made j = record {
       says = clause_of place (lists.patterns e.says) y.says i.says;
@@ -416,11 +471,13 @@ module _ (d n : ℕ) (ts us : List Token) (patterns : m.Patterns) (place : Place
       agrees = clause_numbers false e vs g q y ws z xs b o i no_note ∙ ap (λ (c : lists.ClauseParts). let r : m.Clauses × ℕ = (lists.clauses (c ∷ []), o) in r) (sym j);
     }
 
-  module _ (e : ReadsHead d (n + 1) ts patterns place true us p) (vs : List Token) (g : m.Tree) (q : ℕ) (y : ReadsExpression d p us g vs q) (ws : List Token) (z : Takes s.Arrow vs ws) (xs : List Token) (b : m.Tree) (o : ℕ) (i : ReadsExpression d q ws b xs o) where
+  module _ (e : ReadsHead d (n + 1) ts patterns place true us p) (vs : List Token) (g : m.Tree) (q : ℕ) (y : ReadsExpression d p us g vs q) (ws : List Token) (z : Takes s.Arrow vs ws) (xs : List Token) (b : m.Tree) (o : ℕ)
+      (i : ReadsExpression d q ws b xs o) where
     pub clause_note_bad : (f : PartFault) → Refuses annotation xs f → Refuses (clause d) ts f
     clause_note_bad f j = refused annotation (clause d) [] (λ k. noted_clause k (clause_of place (lists.patterns e.says) y.says i.says)) ts xs f (bodied true e vs g q y ws z xs b o i) ((λ t x. refl), (λ t x. refl), tt) j
 
-    pub clause_noted_read : (left : List Token) (k : Note) (c made : lists.ClauseParts) → c ≡ record { mark = mark n place; patterns = patterns; guard = g; body = b } → made ≡ noted_clause k c → ReadsAnnotation xs k left → ReadsClause d n ts made left o
+    pub clause_noted_read : (left : List Token) (k : Note) (c made : lists.ClauseParts) → c ≡ record { mark = mark n place; patterns = patterns; guard = g; body = b } → made ≡ noted_clause k c → ReadsAnnotation xs k left
+        → ReadsClause d n ts made left o
     clause_noted_read left k c made j l v = record {
       says = noted_clause v.says (clause_of place (lists.patterns e.says) y.says i.says);
       passes = bodied true e vs g q y ws z xs b o i >> through annotation (clause d) [] (λ k. noted_clause k (clause_of place (lists.patterns e.says) y.says i.says)) xs left v.says v.passes ((λ t x. refl), (λ t x. refl), tt);

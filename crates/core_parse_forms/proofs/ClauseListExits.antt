@@ -77,7 +77,8 @@ module _ (c : Sort) (d n : ℕ) (k : ends_clauses c ≡ true) (before : List Cla
             not_integer : (c : Sort) → ends_clauses c ≡ true → c ≡ s.Integer → ⊥
             not_integer c k e = let z : ends_clauses s.Integer ≡ true = ap ends_clauses (sym e) ∙ k in absurd cc
 
-        clause_guarded : (c : Sort) → ends_clauses c ≡ true → (f : lists.ClauseParts → List lists.ClauseParts → List lists.ClauseParts) → Guarded (clause d) (clauses_to c d) (record { parts = the (clauses_to c d) ∷ []; build = f } ∷ [])
+        clause_guarded : (c : Sort) → ends_clauses c ≡ true → (f : lists.ClauseParts → List lists.ClauseParts → List lists.ClauseParts)
+            → Guarded (clause d) (clauses_to c d) (record { parts = the (clauses_to c d) ∷ []; build = f } ∷ [])
         clause_guarded s.End k f = ((λ t x. refl), (λ t x. refl), tt)
         clause_guarded s.After k f = ((λ t x. refl), (λ t x. refl), tt)
         clause_guarded _ k f = absurd cc

@@ -16,8 +16,10 @@ use Rattle.core_parse_grammar.specs.Faults.{Takes, Misses, MissesOrMemory}
 use Rattle.core_parse_grammar.specs.Readings.{ReadsAnnotation}
 use Rattle.core_parse_grammar.specs.Weights.{weight}
 
-pub single_head : (d n : ℕ) (ts us : List Token) (x : m.Pattern) (place : Place) (noted : Bool) (p : ℕ) → ((left : List Token) (made : m.Patterns) → made ≡ patterns (x ∷ []) → Takes s.When us left → ReadsHead d n ts made place noted left p)
-    → (r : Result ReadHead PartFault) → IfOk r (λ h. Takes s.When us h.rest.now) → IfOk r (λ h. all_patterns h.patterns ≡ patterns (x ∷ [])) → IfOk r (λ h. h.place ≡ place) → IfOk r (λ h. h.noted ≡ noted) → IfOk r (λ h. h.label ≡ p)
+pub single_head : (d n : ℕ) (ts us : List Token) (x : m.Pattern) (place : Place) (noted : Bool) (p : ℕ)
+    → ((left : List Token) (made : m.Patterns) → made ≡ patterns (x ∷ []) → Takes s.When us left → ReadsHead d n ts made place noted left p)
+    → (r : Result ReadHead PartFault) → IfOk r (λ h. Takes s.When us h.rest.now) → IfOk r (λ h. all_patterns h.patterns ≡ patterns (x ∷ [])) → IfOk r (λ h. h.place ≡ place) → IfOk r (λ h. h.noted ≡ noted)
+    → IfOk r (λ h. h.label ≡ p)
     → IfOk r (λ h. ReadsHead d n ts (all_patterns h.patterns) h.place h.noted h.rest.now h.label)
 single_head d n ts us x place noted p f (Ok h) a b c e g =
     subst (λ (q : ℕ). ReadsHead d n ts (all_patterns h.patterns) h.place h.noted h.rest.now q) (sym g)
@@ -25,7 +27,8 @@ single_head d n ts us x place noted p f (Ok h) a b c e g =
     (subst (λ (q : Place). ReadsHead d n ts (all_patterns h.patterns) q noted h.rest.now p) (sym c) (f h.rest.now (all_patterns h.patterns) b a)))
 single_head d n ts us x place noted p f (Err e) a b c g h = tt
 
-pub either_head : (d n : ℕ) (ts us : List Token) (x : m.Pattern) (outer inner : Place) (p : ℕ) → ((made : m.Patterns) (place : Place) (noted : Bool) (left : List Token) → ReadsEither us x outer inner made place noted left → ReadsHead d n ts made place noted left p)
+pub either_head : (d n : ℕ) (ts us : List Token) (x : m.Pattern) (outer inner : Place) (p : ℕ)
+    → ((made : m.Patterns) (place : Place) (noted : Bool) (left : List Token) → ReadsEither us x outer inner made place noted left → ReadsHead d n ts made place noted left p)
     → (r : Result ReadHead PartFault) → IfOk r (λ h. ReadsEither us x outer inner (all_patterns h.patterns) h.place h.noted h.rest.now) → IfOk r (λ h. h.label ≡ p)
     → IfOk r (λ h. ReadsHead d n ts (all_patterns h.patterns) h.place h.noted h.rest.now h.label)
 either_head d n ts us x outer inner p f (Ok h) a b = subst (λ (q : ℕ). ReadsHead d n ts (all_patterns h.patterns) h.place h.noted h.rest.now q) (sym b) (f (all_patterns h.patterns) h.place h.noted h.rest.now a)

@@ -58,8 +58,10 @@ variable_made e k j name made g h i = g ∙ ap (λ x. m.variable x name) h ∙ a
 pub literal_made : (e : m.Tree) (k j : Mark) (value made : Literal) → e ≡ m.literal k value → k ≡ j → value ≡ made → e ≡ m.literal j made
 literal_made e k j value made g h i = g ∙ ap (λ x. m.literal x value) h ∙ ap (λ x. m.literal j x) i
 
-pub name_made : (e : m.Tree) (k j : Mark) (name made : List ℕ) (number arity : ℕ) → e ≡ m.local k (record { name = name; arity = number }) → k ≡ j → name ≡ made → number ≡ arity → e ≡ m.local j (record { name = made; arity = arity })
-name_made e k j name made number arity g h i o = g ∙ ap (λ x. m.local x (record { name = name; arity = number })) h ∙ ap (λ (x : List ℕ). m.local j (record { name = x; arity = number })) i ∙ ap (λ (x : ℕ). m.local j (record { name = made; arity = x })) o
+pub name_made : (e : m.Tree) (k j : Mark) (name made : List ℕ) (number arity : ℕ) → e ≡ m.local k (record { name = name; arity = number }) → k ≡ j → name ≡ made → number ≡ arity
+    → e ≡ m.local j (record { name = made; arity = arity })
+name_made e k j name made number arity g h i o = g ∙ ap (λ x. m.local x (record { name = name; arity = number })) h ∙ ap (λ (x : List ℕ). m.local j (record { name = x; arity = number })) i
+    ∙ ap (λ (x : ℕ). m.local j (record { name = made; arity = x })) o
 
 module _ (d n : ℕ) where
   pub expression_none : (ts : List Token) (f : PartFault) → RanOut ts f → Refuses (expression d) ts f
@@ -91,7 +93,8 @@ module _ (d n : ℕ) where
         expression_noted ws k r g z = record {
           says = note_tree z.says v.says;
           passes = open_1 >> through _ _ [] (λ k. note_tree k v.says) vs ws z.says z.passes ((λ t x. refl), (λ t x. refl), tt);
-          agrees = ap (λ k. number n (note_tree k v.says)) z.agrees ∙ noted_tree_number n k v.says ∙ ap (λ (r : m.Tree × ℕ). let w : m.Tree × ℕ = (note_tree k r.0, r.1) in w) v.agrees ∙ ap (λ x. let w : m.Tree × ℕ = (x, p) in w) (sym g);
+          agrees = ap (λ k. number n (note_tree k v.says)) z.agrees ∙ noted_tree_number n k v.says ∙ ap (λ (r : m.Tree × ℕ). let w : m.Tree × ℕ = (note_tree k r.0, r.1) in w) v.agrees
+              ∙ ap (λ x. let w : m.Tree × ℕ = (x, p) in w) (sym g);
           single = λ o. noted_single z.says v.says (v.single (opens_inside ts us t b.are (sym b.sort_is ∙ h) o));
         }
 
@@ -104,11 +107,17 @@ module _ (d n : ℕ) where
       expression_bare_bad f z = refused _ _ [] (λ x. x) ts ts f bare_0 ((λ t x. refl), (λ t x. refl), tt) z
 
       pub expression_bare : (vs : List Token) (e : m.Tree) (p : ℕ) → ReadsBareExpression d n ts e vs p → ReadsExpression d n ts e vs p
-      expression_bare vs e p z = record { says = z.says; passes = bare_0 >> through _ _ [] (λ x. x) ts vs z.says z.passes ((λ t x. refl), (λ t x. refl), tt); agrees = z.agrees; single = λ o. z.single (opens_bare ts us t b.are (λ w. h (b.sort_is ∙ w)) o) }
+      expression_bare vs e p z = record {
+        says = z.says;
+        passes = bare_0 >> through _ _ [] (λ x. x) ts vs z.says z.passes ((λ t x. refl), (λ t x. refl), tt);
+        agrees = z.agrees;
+        single = λ o. z.single (opens_bare ts us t b.are (λ w. h (b.sort_is ∙ w)) o);
+      }
 
     -- no expression begins so
     pub bare_expression_dull : (y : Bool) → y ≡ starts_expression q → y ≡ false → Stops (bare_expression d) (itself (bare_expression d)) ts place
-    bare_expression_dull y g p = subst (Stops (bare_expression d) (itself (bare_expression d)) ts) (sym b.place_is) (halted (bare_expression d) _ _ ts ts us t (stay (bare_expression d) (itself (bare_expression d)) ts) b.are tt (go (sort t) (ap starts_expression (sym b.sort_is) ∙ sym g ∙ p)))
+    bare_expression_dull y g p = subst (Stops (bare_expression d) (itself (bare_expression d)) ts) (sym b.place_is)
+        (halted (bare_expression d) _ _ ts ts us t (stay (bare_expression d) (itself (bare_expression d)) ts) b.are tt (go (sort t) (ap starts_expression (sym b.sort_is) ∙ sym g ∙ p)))
       where
         go : (q : Sort) → starts_expression q ≡ false → Shut (bare_expression d) t q (itself (bare_expression d))
         go s.Small p = absurd cc
@@ -140,7 +149,8 @@ module _ (d n : ℕ) where
     -- an expression too deep
     pub bare_expression_deep : (x : Bool) → x ≡ too_deep q d → x ≡ true → d ≤ 401 → (y : Bool) → y ≡ starts_expression q → y ≡ true → Sinks (bare_expression d) (itself (bare_expression d)) ts place
     bare_expression_deep x e h r y g p = subst (Sinks (bare_expression d) (itself (bare_expression d)) ts) (sym b.place_is)
-        (sink_at 12 (bare_expression d) _ _ ts us t (subst (λ x. Goes (bare_expression d) (itself (bare_expression d)) (itself (bare_expression d)) ts x) b.are (stay (bare_expression d) (itself (bare_expression d)) ts)) tt (deep (sort t) h_ p_) (shallow (sort t) p_) (on (sort t) p_))
+        (sink_at 12 (bare_expression d) _ _ ts us t (subst (λ x. Goes (bare_expression d) (itself (bare_expression d)) (itself (bare_expression d)) ts x) b.are (stay (bare_expression d) (itself (bare_expression d)) ts)) tt
+        (deep (sort t) h_ p_) (shallow (sort t) p_) (on (sort t) p_))
       where
         h_ : too_deep (sort t) d ≡ true
         h_ = ap (λ z. too_deep z d) (sym b.sort_is) ∙ sym e ∙ h
@@ -264,11 +274,18 @@ module _ (d n : ℕ) where
       bare_other vs e p z = record { says = z.says; passes = other_0 >> through _ _ [] (λ x. x) ts vs z.says z.passes ((λ t x. refl), (λ t x. refl), tt); agrees = z.agrees; single = z.single }
 
     -- no word or symbol that an expression begins with
-    pub other_else : (y : Bool) → y ≡ starts_literal q → y ≡ false → (q ≡ s.Variable → ⊥) → (q ≡ s.Atom → ⊥) → (q ≡ s.OpenSquare → ⊥) → (q ≡ s.OpenCurly → ⊥) → (q ≡ s.Less → ⊥) → (q ≡ s.OpenBinary → ⊥) → (q ≡ s.OpenMap → ⊥) → (q ≡ s.Fun → ⊥) → (q ≡ s.Let → ⊥) → (q ≡ s.Do → ⊥) → (q ≡ s.Case → ⊥) → (q ≡ s.Letrec → ⊥) → (q ≡ s.Apply → ⊥) → (q ≡ s.Call → ⊥) → (q ≡ s.Primop → ⊥) → (q ≡ s.Try → ⊥) → (q ≡ s.Receive → ⊥) → (q ≡ s.Catch → ⊥) → Stops (other_expression d) (itself (other_expression d)) ts place
-    other_else y e h a0 a1 a2 a3 a4 a5 a6 a7 a8 a9 a10 a11 a12 a13 a14 a15 a16 a17 = subst (Stops (other_expression d) (itself (other_expression d)) ts) (sym b.place_is) (halted (other_expression d) _ _ ts ts us t (stay (other_expression d) (itself (other_expression d)) ts) b.are tt
-        (go (sort t) (ap starts_literal (sym b.sort_is) ∙ sym e ∙ h) (λ z. a0 (b.sort_is ∙ z)) (λ z. a1 (b.sort_is ∙ z)) (λ z. a2 (b.sort_is ∙ z)) (λ z. a3 (b.sort_is ∙ z)) (λ z. a4 (b.sort_is ∙ z)) (λ z. a5 (b.sort_is ∙ z)) (λ z. a6 (b.sort_is ∙ z)) (λ z. a7 (b.sort_is ∙ z)) (λ z. a8 (b.sort_is ∙ z)) (λ z. a9 (b.sort_is ∙ z)) (λ z. a10 (b.sort_is ∙ z)) (λ z. a11 (b.sort_is ∙ z)) (λ z. a12 (b.sort_is ∙ z)) (λ z. a13 (b.sort_is ∙ z)) (λ z. a14 (b.sort_is ∙ z)) (λ z. a15 (b.sort_is ∙ z)) (λ z. a16 (b.sort_is ∙ z)) (λ z. a17 (b.sort_is ∙ z))))
+    pub other_else : (y : Bool) → y ≡ starts_literal q → y ≡ false → (q ≡ s.Variable → ⊥) → (q ≡ s.Atom → ⊥) → (q ≡ s.OpenSquare → ⊥) → (q ≡ s.OpenCurly → ⊥) → (q ≡ s.Less → ⊥)
+        → (q ≡ s.OpenBinary → ⊥) → (q ≡ s.OpenMap → ⊥) → (q ≡ s.Fun → ⊥) → (q ≡ s.Let → ⊥) → (q ≡ s.Do → ⊥) → (q ≡ s.Case → ⊥) → (q ≡ s.Letrec → ⊥) → (q ≡ s.Apply → ⊥)
+        → (q ≡ s.Call → ⊥) → (q ≡ s.Primop → ⊥) → (q ≡ s.Try → ⊥) → (q ≡ s.Receive → ⊥) → (q ≡ s.Catch → ⊥) → Stops (other_expression d) (itself (other_expression d)) ts place
+    other_else y e h a0 a1 a2 a3 a4 a5 a6 a7 a8 a9 a10 a11 a12 a13 a14 a15 a16 a17 =
+        subst (Stops (other_expression d) (itself (other_expression d)) ts) (sym b.place_is) (halted (other_expression d) _ _ ts ts us t (stay (other_expression d) (itself (other_expression d)) ts) b.are tt
+        (go (sort t) (ap starts_literal (sym b.sort_is) ∙ sym e ∙ h) (λ z. a0 (b.sort_is ∙ z)) (λ z. a1 (b.sort_is ∙ z)) (λ z. a2 (b.sort_is ∙ z)) (λ z. a3 (b.sort_is ∙ z)) (λ z. a4 (b.sort_is ∙ z))
+        (λ z. a5 (b.sort_is ∙ z)) (λ z. a6 (b.sort_is ∙ z)) (λ z. a7 (b.sort_is ∙ z)) (λ z. a8 (b.sort_is ∙ z)) (λ z. a9 (b.sort_is ∙ z)) (λ z. a10 (b.sort_is ∙ z)) (λ z. a11 (b.sort_is ∙ z))
+        (λ z. a12 (b.sort_is ∙ z)) (λ z. a13 (b.sort_is ∙ z)) (λ z. a14 (b.sort_is ∙ z)) (λ z. a15 (b.sort_is ∙ z)) (λ z. a16 (b.sort_is ∙ z)) (λ z. a17 (b.sort_is ∙ z))))
       where
-        go : (q : Sort) → starts_literal q ≡ false → (q ≡ s.Variable → ⊥) → (q ≡ s.Atom → ⊥) → (q ≡ s.OpenSquare → ⊥) → (q ≡ s.OpenCurly → ⊥) → (q ≡ s.Less → ⊥) → (q ≡ s.OpenBinary → ⊥) → (q ≡ s.OpenMap → ⊥) → (q ≡ s.Fun → ⊥) → (q ≡ s.Let → ⊥) → (q ≡ s.Do → ⊥) → (q ≡ s.Case → ⊥) → (q ≡ s.Letrec → ⊥) → (q ≡ s.Apply → ⊥) → (q ≡ s.Call → ⊥) → (q ≡ s.Primop → ⊥) → (q ≡ s.Try → ⊥) → (q ≡ s.Receive → ⊥) → (q ≡ s.Catch → ⊥) → Shut (other_expression d) t q (itself (other_expression d))
+        go : (q : Sort) → starts_literal q ≡ false → (q ≡ s.Variable → ⊥) → (q ≡ s.Atom → ⊥) → (q ≡ s.OpenSquare → ⊥) → (q ≡ s.OpenCurly → ⊥) → (q ≡ s.Less → ⊥) → (q ≡ s.OpenBinary → ⊥)
+            → (q ≡ s.OpenMap → ⊥) → (q ≡ s.Fun → ⊥) → (q ≡ s.Let → ⊥) → (q ≡ s.Do → ⊥) → (q ≡ s.Case → ⊥) → (q ≡ s.Letrec → ⊥) → (q ≡ s.Apply → ⊥) → (q ≡ s.Call → ⊥)
+            → (q ≡ s.Primop → ⊥) → (q ≡ s.Try → ⊥) → (q ≡ s.Receive → ⊥) → (q ≡ s.Catch → ⊥) → Shut (other_expression d) t q (itself (other_expression d))
         go s.Variable h a0 a1 a2 a3 a4 a5 a6 a7 a8 a9 a10 a11 a12 a13 a14 a15 a16 a17 = absurd (a0 refl)
         go s.Atom h a0 a1 a2 a3 a4 a5 a6 a7 a8 a9 a10 a11 a12 a13 a14 a15 a16 a17 = absurd (a1 refl)
         go s.OpenSquare h a0 a1 a2 a3 a4 a5 a6 a7 a8 a9 a10 a11 a12 a13 a14 a15 a16 a17 = absurd (a2 refl)
@@ -336,7 +353,10 @@ module _ (d n : ℕ) where
 
       -- an atom, or a function's name where a slash comes
       module _ (h : q ≡ s.Atom) where
-        atom_0 : Goes (other_expression d) (itself (other_expression d)) (record { parts = a s.Slash ∷ a s.Small ∷ []; build = λ _ x. m.local (at t.place) (fun_name t x) } ∷ record { parts = []; build = m.literal (at t.place) (l.Atom (text t)) } ∷ []) ts us
+        atom_0 : Goes (other_expression d) (itself (other_expression d)) (record { parts = a s.Slash ∷ a s.Small ∷ []; build = λ _ x. m.local (at t.place) (fun_name t x) } ∷ record {
+          parts = [];
+          build = m.literal (at t.place) (l.Atom (text t));
+        } ∷ []) ts us
         atom_0 = taken (other_expression d) (itself (other_expression d)) ts us t s.Atom b.are (sym b.sort_is ∙ h) refl ((w, (w, tt)), tt)
 
         module _ (e : m.Tree) (g : e ≡ m.literal (mark n place) (l.Atom (text t))) where
@@ -365,7 +385,8 @@ module _ (d n : ℕ) where
 
           module _ (ws : List Token) (x : Token) (r : Sort) (at_ : Place) (c : Starts vs x r at_ ws) where
             pub name_bad : (r ≡ s.Small → ⊥) → Stops (other_expression d) (itself (other_expression d)) ts at_
-            name_bad y = lacking _ s.Small [] (λ x. m.local (at t.place) (fun_name t x)) ts vs (Syntax at_) slash_0 (record { first = x; left = ws; are = c.are; place_is = c.place_is; other = fits_no_other s.Small (sort x) (λ z. absurd cc) (λ v. y (c.sort_is ∙ v)) })
+            name_bad y = lacking _ s.Small [] (λ x. m.local (at t.place) (fun_name t x)) ts vs (Syntax at_) slash_0
+                (record { first = x; left = ws; are = c.are; place_is = c.place_is; other = fits_no_other s.Small (sort x) (λ z. absurd cc) (λ v. y (c.sort_is ∙ v)) })
 
             pub name_ok : r ≡ s.Small → (e : m.Tree) → e ≡ m.local (mark n place) (fun_name t x) → ReadsOtherExpression d n ts e ws (n + 1)
             name_ok y e g = record {

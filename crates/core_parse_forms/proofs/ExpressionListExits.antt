@@ -40,7 +40,8 @@ pub record Elements (d n : ℕ) (place : Place) (ts left : List Token) (k : ℕ)
   pub agrees : number_each number (n + 1) raw ≡ (map tree items, p)
 
 -- one more element
-grown_ends : (k : ℕ) (f : Action (closers k) m.Tree) (place : Place) (raw : List m.Tree) (x : m.Tree) (r : Items m.Tree) → Ends k f (m.listed (at place) (trees (raw ++ x ∷ r.items)) r.tail) → Ends k f (m.listed (at place) (trees ((raw ++ x ∷ []) ++ r.items)) r.tail)
+grown_ends : (k : ℕ) (f : Action (closers k) m.Tree) (place : Place) (raw : List m.Tree) (x : m.Tree) (r : Items m.Tree) → Ends k f (m.listed (at place) (trees (raw ++ x ∷ r.items)) r.tail)
+    → Ends k f (m.listed (at place) (trees ((raw ++ x ∷ []) ++ r.items)) r.tail)
 grown_ends k f place raw x r h = subst (λ z. Ends k f (m.listed (at place) (trees z) r.tail)) (sym (append_assoc raw (x ∷ []) r.items)) h
 
 listed_is : (n p q : ℕ) (k : Mark) (raw done : List m.Tree) (x y : m.Tree) → number_each number (n + 1) raw ≡ (done, p) → number p x ≡ (y, q) → number n (m.listed k (trees raw) x) ≡ (m.listed (labelled n k) (trees done) y, q)
@@ -50,7 +51,8 @@ listed_is n p q k raw done x y h e =
 
 -- A string that has bytes.
 module _ (d n : ℕ) (ts us : List Token) (t : Token) (q : Sort) (place : Place) (b : Starts ts t q place us) (h : q ≡ s.Text) (w : d + 1 ≤ depth_limit) where
-  pub string_ok : (none items : List Expr) (k : Mark) (x e : m.Tree) (p : ℕ) → none ≡ [] → map tree items ≡ map tree none ++ labelled_bytes (n + 1) t.place (text t) → p ≡ n + 1 + length (text t) → x ≡ m.literal (mark p place) l.Nil → k ≡ mark n place → e ≡ m.listed k (all_trees items) x → ReadsBareExpression d n ts e us (p + 1)
+  pub string_ok : (none items : List Expr) (k : Mark) (x e : m.Tree) (p : ℕ) → none ≡ [] → map tree items ≡ map tree none ++ labelled_bytes (n + 1) t.place (text t) → p ≡ n + 1 + length (text t)
+      → x ≡ m.literal (mark p place) l.Nil → k ≡ mark n place → e ≡ m.listed k (all_trees items) x → ReadsBareExpression d n ts e us (p + 1)
   string_ok none items k x e p o i j y f g = record {
     says = m.listed (at t.place) (trees (byte_trees t.place (text t))) (nil t.place);
     passes = taken (bare_expression d) (itself (bare_expression d)) ts us t s.Text b.are (sym b.sort_is ∙ h) refl ((w, tt), tt);
@@ -62,7 +64,8 @@ module _ (d n : ℕ) (ts us : List Token) (t : Token) (q : Sort) (place : Place)
   }
 
 module _ (d n : ℕ) (ts us : List Token) (t : Token) (q : Sort) (place : Place) (b : Starts ts t q place us) (h : q ≡ s.OpenSquare) (w : d ≤ depth_limit) where
-  square_0 : Goes (bare_expression d) (itself (bare_expression d)) (record { parts = the (expression (d + 1)) ∷ the (list_rest d) ∷ []; build = λ x r. m.listed (at t.place) (trees (x ∷ r.items)) r.tail } ∷ record { parts = a s.CloseSquare ∷ []; build = λ _. nil t.place } ∷ []) ts us
+  square_0 : Goes (bare_expression d) (itself (bare_expression d)) (record { parts = the (expression (d + 1)) ∷ the (list_rest d) ∷ []; build = λ x r. m.listed (at t.place) (trees (x ∷ r.items)) r.tail }
+      ∷ record { parts = a s.CloseSquare ∷ []; build = λ _. nil t.place } ∷ []) ts us
   square_0 = taken (bare_expression d) (itself (bare_expression d)) ts us t s.OpenSquare b.are (sym b.sort_is ∙ h) refl ((w, (w, tt)), tt)
 
   pub list_open_end : (f : PartFault) → RanOut us f → Refuses (bare_expression d) ts f
@@ -100,7 +103,8 @@ module _ (d n : ℕ) (place : Place) (ts us : List Token) (k : ℕ) (items : Lis
   module _ (vs : List Token) (t : Token) (q : Sort) (here : Place) (b : Starts us t q here vs) where
     -- no token that a list goes on with
     pub list_stuck : (q ≡ s.CloseSquare → ⊥) → (q ≡ s.Comma → ⊥) → (q ≡ s.Bar → ⊥) → Stops (bare_expression d) (itself (bare_expression d)) ts here
-    list_stuck x y z = subst (Stops (bare_expression d) (itself (bare_expression d)) ts) (sym b.place_is) (halted (bare_expression d) _ _ ts us vs t e.goes b.are tt (go (sort t) (λ v. x (b.sort_is ∙ v)) (λ v. y (b.sort_is ∙ v)) (λ v. z (b.sort_is ∙ v))))
+    list_stuck x y z = subst (Stops (bare_expression d) (itself (bare_expression d)) ts) (sym b.place_is)
+        (halted (bare_expression d) _ _ ts us vs t e.goes b.are tt (go (sort t) (λ v. x (b.sort_is ∙ v)) (λ v. y (b.sort_is ∙ v)) (λ v. z (b.sort_is ∙ v))))
       where
         go : (q : Sort) → (q ≡ s.CloseSquare → ⊥) → (q ≡ s.Comma → ⊥) → (q ≡ s.Bar → ⊥) → Shut (bare_expression d) t q (record { parts = the (list_rest d) ∷ closers k; build = e.build } ∷ [])
         go s.CloseSquare x y z = absurd (x refl)
@@ -147,7 +151,8 @@ module _ (d n : ℕ) (place : Place) (ts us : List Token) (k : ℕ) (items : Lis
       module _ (ws : List Token) (u : Token) (r : Sort) (there : Place) (c : Starts vs u r there ws) where
         -- a string: its bytes go into the list
         module _ (g : r ≡ s.Text) where
-          pub list_text : (grown : List Expr) (x : m.Tree) (o : ℕ) → map tree grown ≡ map tree items ++ labelled_bytes p u.place (text u) → o ≡ p + length (text u) → x ≡ m.literal (mark o there) l.Nil → ReadsElements d n place ts (suc k) (all_trees grown) x ws (o + 1)
+          pub list_text : (grown : List Expr) (x : m.Tree) (o : ℕ) → map tree grown ≡ map tree items ++ labelled_bytes p u.place (text u) → o ≡ p + length (text u) → x ≡ m.literal (mark o there) l.Nil
+              → ReadsElements d n place ts (suc k) (all_trees grown) x ws (o + 1)
           list_text grown x o i j y = record {
             build = λ _. e.build (record { items = byte_trees u.place (text u); tail = nil u.place });
             goes = bar_0 >> taken (bare_expression d) _ vs ws u s.Text c.are (sym c.sort_is ∙ g) refl ((w, tt), tt);
@@ -199,7 +204,8 @@ module _ (d n : ℕ) (place : Place) (ts us : List Token) (k : ℕ) (items : Lis
 
         -- a tail in annotation brackets
         module _ (g : r ≡ s.OpenRound) where
-          round_0 : Goes (bare_expression d) (itself (bare_expression d)) (record { parts = the (bare_expression (d + 1)) ∷ the annotation ∷ a s.CloseSquare ∷ closers k; build = λ x o _. e.build (only_tail (note_tree o x)) } ∷ []) ts ws
+          round_0 : Goes (bare_expression d) (itself (bare_expression d)) (record { parts = the (bare_expression (d + 1)) ∷ the annotation ∷ a s.CloseSquare ∷ closers k; build = λ x o _. e.build (only_tail (note_tree o x)) } ∷ [])
+              ts ws
           round_0 = bar_0 >> taken (bare_expression d) _ vs ws u s.OpenRound c.are (sym c.sort_is ∙ g) refl (tt, tt)
 
           pub list_round_bad : (f : PartFault) → Refuses (bare_expression (d + 1)) ws f → Refuses (bare_expression d) ts f
@@ -220,7 +226,8 @@ module _ (d n : ℕ) (place : Place) (ts us : List Token) (k : ℕ) (items : Lis
               raw_tail = note_tree z.says v.says;
               ends = λ _. subst (λ j. Ends k (e.build (only_tail (note_tree z.says v.says))) (m.listed (at place) (trees j) (note_tree z.says v.says))) (append-nil e.raw) (e.ends (only_tail (note_tree z.says v.says)));
               agrees = listed_is n p o (at place) e.raw (map tree items) (note_tree z.says v.says) y e.agrees
-                  (ap (λ k. number p (note_tree k v.says)) z.agrees ∙ noted_tree_number p i v.says ∙ ap (λ (r : m.Tree × ℕ). let w : m.Tree × ℕ = (note_tree i r.0, r.1) in w) v.agrees ∙ ap (λ x. let w : m.Tree × ℕ = (x, o) in w) (sym f));
+                  (ap (λ k. number p (note_tree k v.says)) z.agrees ∙ noted_tree_number p i v.says ∙ ap (λ (r : m.Tree × ℕ). let w : m.Tree × ℕ = (note_tree i r.0, r.1) in w) v.agrees
+                  ∙ ap (λ x. let w : m.Tree × ℕ = (x, o) in w) (sym f));
             }
 
         -- any other tail

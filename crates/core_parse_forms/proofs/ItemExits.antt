@@ -66,28 +66,106 @@ module _ (c : Sort) (m : Nonterminal) (k : Closes c m) (one : ℕ → Said m →
 
 -- The closing tokens that lists of each kind have.
 pub closes_expressions : (d : ℕ) (c : Sort) → closing c ≡ true → Closes c (expression d)
-closes_expressions d s.CloseRound k = record { empty = λ ts left t e h. taken _ (itself _) ts left t s.CloseRound e h refl (tt, tt); guarded = λ b. ((λ t x. refl), (λ t x. refl), tt); exact = λ z. absurd cc; own = refl; no_comma = λ z. absurd cc }
-closes_expressions d s.CloseCurly k = record { empty = λ ts left t e h. taken _ (itself _) ts left t s.CloseCurly e h refl (tt, tt); guarded = λ b. ((λ t x. refl), (λ t x. refl), tt); exact = λ z. absurd cc; own = refl; no_comma = λ z. absurd cc }
-closes_expressions d s.CloseSquare k = record { empty = λ ts left t e h. taken _ (itself _) ts left t s.CloseSquare e h refl (tt, tt); guarded = λ b. ((λ t x. refl), (λ t x. refl), tt); exact = λ z. absurd cc; own = refl; no_comma = λ z. absurd cc }
-closes_expressions d s.Greater k = record { empty = λ ts left t e h. taken _ (itself _) ts left t s.Greater e h refl (tt, tt); guarded = λ b. ((λ t x. refl), (λ t x. refl), tt); exact = λ z. absurd cc; own = refl; no_comma = λ z. absurd cc }
-closes_expressions d s.CloseBinary k = record { empty = λ ts left t e h. taken _ (itself _) ts left t s.CloseBinary e h refl (tt, tt); guarded = λ b. ((λ t x. refl), (λ t x. refl), tt); exact = λ z. absurd cc; own = refl; no_comma = λ z. absurd cc }
-closes_expressions d s.CloseMap k = record { empty = λ ts left t e h. taken _ (itself _) ts left t s.CloseMap e h refl (tt, tt); guarded = λ b. ((λ t x. refl), (λ t x. refl), tt); exact = λ z. absurd cc; own = refl; no_comma = λ z. absurd cc }
+closes_expressions d s.CloseRound k = record {
+  empty = λ ts left t e h. taken _ (itself _) ts left t s.CloseRound e h refl (tt, tt);
+  guarded = λ b. ((λ t x. refl), (λ t x. refl), tt);
+  exact = λ z. absurd cc;
+  own = refl;
+  no_comma = λ z. absurd cc;
+}
+closes_expressions d s.CloseCurly k = record {
+  empty = λ ts left t e h. taken _ (itself _) ts left t s.CloseCurly e h refl (tt, tt);
+  guarded = λ b. ((λ t x. refl), (λ t x. refl), tt);
+  exact = λ z. absurd cc;
+  own = refl;
+  no_comma = λ z. absurd cc;
+}
+closes_expressions d s.CloseSquare k = record {
+  empty = λ ts left t e h. taken _ (itself _) ts left t s.CloseSquare e h refl (tt, tt);
+  guarded = λ b. ((λ t x. refl), (λ t x. refl), tt);
+  exact = λ z. absurd cc;
+  own = refl;
+  no_comma = λ z. absurd cc;
+}
+closes_expressions d s.Greater k = record {
+  empty = λ ts left t e h. taken _ (itself _) ts left t s.Greater e h refl (tt, tt);
+  guarded = λ b. ((λ t x. refl), (λ t x. refl), tt);
+  exact = λ z. absurd cc;
+  own = refl;
+  no_comma = λ z. absurd cc;
+}
+closes_expressions d s.CloseBinary k = record {
+  empty = λ ts left t e h. taken _ (itself _) ts left t s.CloseBinary e h refl (tt, tt);
+  guarded = λ b. ((λ t x. refl), (λ t x. refl), tt);
+  exact = λ z. absurd cc;
+  own = refl;
+  no_comma = λ z. absurd cc;
+}
+closes_expressions d s.CloseMap k = record {
+  empty = λ ts left t e h. taken _ (itself _) ts left t s.CloseMap e h refl (tt, tt);
+  guarded = λ b. ((λ t x. refl), (λ t x. refl), tt);
+  exact = λ z. absurd cc;
+  own = refl;
+  no_comma = λ z. absurd cc;
+}
 closes_expressions d _ k = absurd cc
 
 pub closes_patterns : (d : ℕ) (c : Sort) → closing c ≡ true → Closes c (pattern d)
-closes_patterns d s.CloseRound k = record { empty = λ ts left t e h. taken _ (itself _) ts left t s.CloseRound e h refl (tt, tt); guarded = λ b. ((λ t x. refl), (λ t x. refl), tt); exact = λ z. absurd cc; own = refl; no_comma = λ z. absurd cc }
-closes_patterns d s.CloseCurly k = record { empty = λ ts left t e h. taken _ (itself _) ts left t s.CloseCurly e h refl (tt, tt); guarded = λ b. ((λ t x. refl), (λ t x. refl), tt); exact = λ z. absurd cc; own = refl; no_comma = λ z. absurd cc }
-closes_patterns d s.CloseSquare k = record { empty = λ ts left t e h. taken _ (itself _) ts left t s.CloseSquare e h refl (tt, tt); guarded = λ b. ((λ t x. refl), (λ t x. refl), tt); exact = λ z. absurd cc; own = refl; no_comma = λ z. absurd cc }
-closes_patterns d s.Greater k = record { empty = λ ts left t e h. taken _ (itself _) ts left t s.Greater e h refl (tt, tt); guarded = λ b. ((λ t x. refl), (λ t x. refl), tt); exact = λ z. absurd cc; own = refl; no_comma = λ z. absurd cc }
-closes_patterns d s.CloseBinary k = record { empty = λ ts left t e h. taken _ (itself _) ts left t s.CloseBinary e h refl (tt, tt); guarded = λ b. ((λ t x. refl), (λ t x. refl), tt); exact = λ z. absurd cc; own = refl; no_comma = λ z. absurd cc }
-closes_patterns d s.CloseMap k = record { empty = λ ts left t e h. taken _ (itself _) ts left t s.CloseMap e h refl (tt, tt); guarded = λ b. ((λ t x. refl), (λ t x. refl), tt); exact = λ z. absurd cc; own = refl; no_comma = λ z. absurd cc }
+closes_patterns d s.CloseRound k = record {
+  empty = λ ts left t e h. taken _ (itself _) ts left t s.CloseRound e h refl (tt, tt);
+  guarded = λ b. ((λ t x. refl), (λ t x. refl), tt);
+  exact = λ z. absurd cc;
+  own = refl;
+  no_comma = λ z. absurd cc;
+}
+closes_patterns d s.CloseCurly k = record {
+  empty = λ ts left t e h. taken _ (itself _) ts left t s.CloseCurly e h refl (tt, tt);
+  guarded = λ b. ((λ t x. refl), (λ t x. refl), tt);
+  exact = λ z. absurd cc;
+  own = refl;
+  no_comma = λ z. absurd cc;
+}
+closes_patterns d s.CloseSquare k = record {
+  empty = λ ts left t e h. taken _ (itself _) ts left t s.CloseSquare e h refl (tt, tt);
+  guarded = λ b. ((λ t x. refl), (λ t x. refl), tt);
+  exact = λ z. absurd cc;
+  own = refl;
+  no_comma = λ z. absurd cc;
+}
+closes_patterns d s.Greater k = record {
+  empty = λ ts left t e h. taken _ (itself _) ts left t s.Greater e h refl (tt, tt);
+  guarded = λ b. ((λ t x. refl), (λ t x. refl), tt);
+  exact = λ z. absurd cc;
+  own = refl;
+  no_comma = λ z. absurd cc;
+}
+closes_patterns d s.CloseBinary k = record {
+  empty = λ ts left t e h. taken _ (itself _) ts left t s.CloseBinary e h refl (tt, tt);
+  guarded = λ b. ((λ t x. refl), (λ t x. refl), tt);
+  exact = λ z. absurd cc;
+  own = refl;
+  no_comma = λ z. absurd cc;
+}
+closes_patterns d s.CloseMap k = record {
+  empty = λ ts left t e h. taken _ (itself _) ts left t s.CloseMap e h refl (tt, tt);
+  guarded = λ b. ((λ t x. refl), (λ t x. refl), tt);
+  exact = λ z. absurd cc;
+  own = refl;
+  no_comma = λ z. absurd cc;
+}
 closes_patterns d _ k = absurd cc
 
 pub closes_segments : (d : ℕ) → Closes s.CloseBinary (segment d)
 closes_segments d = record { empty = λ ts left t e h. taken _ (itself _) ts left t s.CloseBinary e h refl (tt, tt); guarded = λ b. ((λ t x. refl), (λ t x. refl), tt); exact = λ z. absurd cc; own = refl; no_comma = λ z. absurd cc }
 
 pub closes_pattern_segments : (d : ℕ) → Closes s.CloseBinary (pattern_segment d)
-closes_pattern_segments d = record { empty = λ ts left t e h. taken _ (itself _) ts left t s.CloseBinary e h refl (tt, tt); guarded = λ b. ((λ t x. refl), (λ t x. refl), tt); exact = λ z. absurd cc; own = refl; no_comma = λ z. absurd cc }
+closes_pattern_segments d = record {
+  empty = λ ts left t e h. taken _ (itself _) ts left t s.CloseBinary e h refl (tt, tt);
+  guarded = λ b. ((λ t x. refl), (λ t x. refl), tt);
+  exact = λ z. absurd cc;
+  own = refl;
+  no_comma = λ z. absurd cc;
+}
 
 pub closes_pattern_pairs : (d : ℕ) → Closes s.CloseMap (pattern_pair d)
 closes_pattern_pairs d = record { empty = λ ts left t e h. taken _ (itself _) ts left t s.CloseMap e h refl (tt, tt); guarded = λ b. ((λ t x. refl), (λ t x. refl), tt); exact = λ z. absurd cc; own = refl; no_comma = λ z. absurd cc }
@@ -117,7 +195,8 @@ patterns_of {n = n} z = record { says = z.says; passes = z.passes; agrees = patt
 pub segments_of : {d n : ℕ} {ts left : List Token} {made : List t.SegmentParts} {p : ℕ} → ReadsItems s.CloseBinary (segment d) number_segment n ts made left p → ReadsSegments d n ts (t.segments made) left p
 segments_of {n = n} z = record { says = z.says; passes = z.passes; agrees = segments_each n z.says ∙ ap (λ (r : List t.SegmentParts × ℕ). let w : m.Segments × ℕ = (t.segments r.0, r.1) in w) z.agrees }
 
-pub pattern_segments_of : {d n : ℕ} {ts left : List Token} {made : List t.PatSegmentParts} {p : ℕ} → ReadsItems s.CloseBinary (pattern_segment d) number_pat_segment n ts made left p → ReadsPatternSegments d n ts (t.pat_segments made) left p
+pub pattern_segments_of : {d n : ℕ} {ts left : List Token} {made : List t.PatSegmentParts} {p : ℕ} → ReadsItems s.CloseBinary (pattern_segment d) number_pat_segment n ts made left p
+    → ReadsPatternSegments d n ts (t.pat_segments made) left p
 pattern_segments_of {n = n} z = record { says = z.says; passes = z.passes; agrees = pat_segments_each n z.says ∙ ap (λ (r : List t.PatSegmentParts × ℕ). let w : m.PatSegments × ℕ = (t.pat_segments r.0, r.1) in w) z.agrees }
 
 pub pattern_pairs_of : {d n : ℕ} {ts left : List Token} {made : List t.PatPairParts} {p : ℕ} → ReadsItems s.CloseMap (pattern_pair d) number_pat_pair n ts made left p → ReadsPatternPairs d n ts (t.pat_pairs made) left p

@@ -19,7 +19,8 @@ module _ {A : Type 0} (one : ℕ → A → A × ℕ) where
       go n (r ∷ raw) = ap (λ (s : List A × ℕ). let z : List A × ℕ = ((one n r).0 ∷ s.0, s.1) in z) (go (one n r).1 raw)
 
   -- the code's list with one item more
-  pub each_pushed : {B : Type 0} (f : B → A) (n p q : ℕ) (raw : List A) (items grown : List B) (x : A) (y : B) → grown ≡ items ++ y ∷ [] → number_each one n raw ≡ (map f items, p) → one p x ≡ (f y, q) → number_each one n (raw ++ x ∷ []) ≡ (map f grown, q)
+  pub each_pushed : {B : Type 0} (f : B → A) (n p q : ℕ) (raw : List A) (items grown : List B) (x : A) (y : B) → grown ≡ items ++ y ∷ [] → number_each one n raw ≡ (map f items, p) → one p x ≡ (f y, q)
+      → number_each one n (raw ++ x ∷ []) ≡ (map f grown, q)
   each_pushed f n p q raw items grown x y g h e = each_more n p q raw (map f items) x (f y) h e ∙ ap (λ zs. let z : List A × ℕ = (zs, q) in z) (sym (ap (map f) g ∙ map-append f items (y ∷ [])))
 
 -- Lists of the model are numbered item after item.
@@ -99,8 +100,10 @@ noted_tree_number n k (m.chain mark (m.and_do o u ss) x) = refl
 noted_tree_number n k _ = refl
 
 -- Items behind items.
-pub each_append : {A : Type 0} (one : ℕ → A → A × ℕ) (n p q : ℕ) (raw more done last : List A) → number_each one n raw ≡ (done, p) → number_each one p more ≡ (last, q) → number_each one n (raw ++ more) ≡ (done ++ last, q)
-each_append {A} one n p q raw more done last h e = go n raw ∙ ap (λ (r : List A × ℕ). let s = number_each one r.1 more in let z : List A × ℕ = (r.0 ++ s.0, s.1) in z) h ∙ ap (λ (s : List A × ℕ). let z : List A × ℕ = (done ++ s.0, s.1) in z) e
+pub each_append : {A : Type 0} (one : ℕ → A → A × ℕ) (n p q : ℕ) (raw more done last : List A) → number_each one n raw ≡ (done, p) → number_each one p more ≡ (last, q)
+    → number_each one n (raw ++ more) ≡ (done ++ last, q)
+each_append {A} one n p q raw more done last h e = go n raw ∙ ap (λ (r : List A × ℕ). let s = number_each one r.1 more in let z : List A × ℕ = (r.0 ++ s.0, s.1) in z) h
+    ∙ ap (λ (s : List A × ℕ). let z : List A × ℕ = (done ++ s.0, s.1) in z) e
   where
     go : (n : ℕ) (raw : List A) → number_each one n (raw ++ more) ≡ (let r = number_each one n raw in let s = number_each one r.1 more in (r.0 ++ s.0, s.1))
     go n [] = refl
@@ -109,6 +112,7 @@ each_append {A} one n p q raw more done last h e = go n raw ∙ ap (λ (r : List
 pub patterns_are : (n p : ℕ) (raw done : List m.Pattern) → number_each number_pattern n raw ≡ (done, p) → number_patterns n (t.patterns raw) ≡ (t.patterns done, p)
 patterns_are n p raw done e = patterns_each n raw ∙ ap (λ (r : List m.Pattern × ℕ). let z : m.Patterns × ℕ = (t.patterns r.0, r.1) in z) e
 
-pub list_of_is : (n p q : ℕ) (k : Mark) (raw done : List m.Pattern) (x y : m.Pattern) → number_each number_pattern (n + 1) raw ≡ (done, p) → number_pattern p x ≡ (y, q) → number_pattern n (m.list_of k (t.patterns raw) x) ≡ (m.list_of (labelled n k) (t.patterns done) y, q)
+pub list_of_is : (n p q : ℕ) (k : Mark) (raw done : List m.Pattern) (x y : m.Pattern) → number_each number_pattern (n + 1) raw ≡ (done, p) → number_pattern p x ≡ (y, q)
+    → number_pattern n (m.list_of k (t.patterns raw) x) ≡ (m.list_of (labelled n k) (t.patterns done) y, q)
 list_of_is n p q k raw done x y h e = ap (λ (r : m.Patterns × ℕ). let s = number_pattern r.1 x in let z : m.Pattern × ℕ = (m.list_of (labelled n k) r.0 s.0, s.1) in z) (patterns_are (n + 1) p raw done h)
     ∙ ap (λ (s : m.Pattern × ℕ). let z : m.Pattern × ℕ = (m.list_of (labelled n k) (t.patterns done) s.0, s.1) in z) e

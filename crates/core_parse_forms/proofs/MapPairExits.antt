@@ -110,7 +110,8 @@ module _ (d n : ℕ) (ts us : List Token) (items : List MapPair) (p : ℕ) (e : 
       map_bar : Goes (pairs d) (itself (pairs d)) (record { parts = the (expression d) ∷ a s.CloseMap ∷ []; build = λ x _. e.build (with_map [] x) } ∷ []) ts vs
       map_bar = go (no_items items) e.goes
         where
-          go : (k : Bool) → Goes (pairs d) (itself (pairs d)) (behind_pair d k e.build) ts us → Goes (pairs d) (itself (pairs d)) (record { parts = the (expression d) ∷ a s.CloseMap ∷ []; build = λ x _. e.build (with_map [] x) } ∷ []) ts vs
+          go : (k : Bool) → Goes (pairs d) (itself (pairs d)) (behind_pair d k e.build) ts us
+              → Goes (pairs d) (itself (pairs d)) (record { parts = the (expression d) ∷ a s.CloseMap ∷ []; build = λ x _. e.build (with_map [] x) } ∷ []) ts vs
           go true g = g >> taken (pairs d) (behind_pair d true e.build) us vs t s.Bar b.are (sym b.sort_is ∙ h) refl (tt, (tt, (tt, tt)))
           go false g = g >> taken (pairs d) (behind_pair d false e.build) us vs t s.Bar b.are (sym b.sort_is ∙ h) refl (tt, (tt, (tt, tt)))
 
@@ -158,7 +159,8 @@ module _ (d n : ℕ) (ts us : List Token) (items : List MapPair) (p : ℕ) (e : 
       pub map_pairs_next : (from : List Token) → PairStart k q us vs from → MapPairsBefore d n ts from items p
       map_pairs_next from z = record { build = e.build; goes = go k z map_pairs_behind; raw = e.raw; builds = e.builds; agrees = e.agrees }
         where
-          go : (k : Bool) → PairStart k q us vs from → Goes (pairs d) (itself (pairs d)) (behind_pair d k e.build) ts us → Goes (pairs d) (itself (pairs d)) (record { parts = the (pair d) ∷ the (more_pairs d) ∷ []; build = λ p r. e.build (next_pair p r) } ∷ []) ts from
+          go : (k : Bool) → PairStart k q us vs from → Goes (pairs d) (itself (pairs d)) (behind_pair d k e.build) ts us
+              → Goes (pairs d) (itself (pairs d)) (record { parts = the (pair d) ∷ the (more_pairs d) ∷ []; build = λ p r. e.build (next_pair p r) } ∷ []) ts from
           go true z g = subst (λ w. Goes (pairs d) (itself (pairs d)) (record { parts = the (pair d) ∷ the (more_pairs d) ∷ []; build = λ p r. e.build (next_pair p r) } ∷ []) ts w) (sym z)
               (g >> drop _ _ _ us vs t b.are (fits_no_other s.CloseMap (sort t) (λ w. absurd cc) (λ w. x (b.sort_is ∙ w))) >> drop _ _ _ us vs t b.are (fits_no_other s.Bar (sort t) (λ w. absurd cc) (λ w. y (b.sort_is ∙ w))))
           go false z g = subst (λ w. Goes (pairs d) (itself (pairs d)) (record { parts = the (pair d) ∷ the (more_pairs d) ∷ []; build = λ p r. e.build (next_pair p r) } ∷ []) ts w) (sym z.1)
@@ -188,7 +190,8 @@ module _ (d n : ℕ) (us : List Token) where
   updated_lacks ws x p y f z o b ts g = lacking o s.CloseMap [] (b y.says) ts ws f (g >> through (expression d) o (a s.CloseMap ∷ []) b us ws y.says y.passes ((λ t x. refl), (λ t x. refl), tt)) z
 
 -- The first pair, and one behind a comma.
-pub map_pairs_first : (d n : ℕ) (ts us : List Token) (items : List MapPair) → items ≡ [] → (t : Token) (q : Sort) (place : Place) → Starts ts t q place us → (q ≡ s.CloseMap → ⊥) → (q ≡ s.Bar → ⊥) → MapPairsBefore d n ts ts items n
+pub map_pairs_first : (d n : ℕ) (ts us : List Token) (items : List MapPair) → items ≡ [] → (t : Token) (q : Sort) (place : Place) → Starts ts t q place us → (q ≡ s.CloseMap → ⊥) → (q ≡ s.Bar → ⊥)
+    → MapPairsBefore d n ts ts items n
 map_pairs_first d n ts us items e t q place b x y = map_pairs_next d n ts ts items n (map_pairs_begin d n ts items e) us t q place b x y true (λ _. e) (λ _. refl) ts refl
 
 module _ (d n : ℕ) (ts us : List Token) (items : List MapPair) (p : ℕ) (e : MapPairsSoFar d n ts us items p) (some : items ≡ [] → ⊥) (vs : List Token) (t : Token) (q : Sort) (place : Place) (b : Starts us t q place vs) where

@@ -28,7 +28,8 @@ use Rattle.core_parse_grammar.proofs.Lists.{fits_only}
 use Rattle.core_parse_forms.proofs.Branches.{drop_unless}
 
 -- a clause before others
-two_clauses : (n p q : ℕ) (x y : lists.ClauseParts) (xs : List lists.ClauseParts) (zs : m.Clauses) → number_clauses n (lists.clauses (x ∷ [])) ≡ (lists.clauses (y ∷ []), p) → number_clauses p (lists.clauses xs) ≡ (zs, q) → number_clauses n (lists.clauses (x ∷ xs)) ≡ (joined (lists.clauses (y ∷ [])) zs, q)
+two_clauses : (n p q : ℕ) (x y : lists.ClauseParts) (xs : List lists.ClauseParts) (zs : m.Clauses) → number_clauses n (lists.clauses (x ∷ [])) ≡ (lists.clauses (y ∷ []), p) → number_clauses p (lists.clauses xs) ≡ (zs, q)
+    → number_clauses n (lists.clauses (x ∷ xs)) ≡ (joined (lists.clauses (y ∷ [])) zs, q)
 two_clauses n p q x y xs zs e h =
     ap (λ (r : m.Clauses × ℕ). let z : m.Clauses × ℕ = (joined r.0 (number_clauses r.1 (lists.clauses xs)).0, (number_clauses r.1 (lists.clauses xs)).1) in z) e
     ∙ ap (λ (r : m.Clauses × ℕ). let z : m.Clauses × ℕ = (joined (lists.clauses (y ∷ [])) r.0, r.1) in z) h
@@ -39,7 +40,10 @@ one_clause old items x e h = ap lists.all_clauses (h ∙ ap (λ z. z ++ x ∷ []
 
 module _ (d n : ℕ) (ts us : List Token) (t : Token) (q : Sort) (place : Place) (b : Starts ts t q place us) (w : d ≤ depth_limit) where
   module _ (h : q ≡ s.Fun) where
-    fun_0 : Goes (other_expression d) (itself (other_expression d)) (record { parts = a s.OpenRound ∷ the (many s.CloseRound (the variable)) ∷ a s.Arrow ∷ the (expression (d + 1)) ∷ []; build = λ _ xs _ e. m.function (at t.place) xs e }
+    fun_0 : Goes (other_expression d) (itself (other_expression d)) (record {
+      parts = a s.OpenRound ∷ the (many s.CloseRound (the variable)) ∷ a s.Arrow ∷ the (expression (d + 1)) ∷ [];
+      build = λ _ xs _ e. m.function (at t.place) xs e;
+    }
         ∷ record { parts = a s.Atom ∷ a s.Colon ∷ the function_name ∷ []; build = λ x _ f. m.external (at t.place) (text x) f.name } ∷ []) ts us
     fun_0 = taken (other_expression d) (itself (other_expression d)) ts us t s.Fun b.are (sym b.sort_is ∙ h) refl ((w, (w, tt)), tt)
 
@@ -48,7 +52,8 @@ module _ (d n : ℕ) (ts us : List Token) (t : Token) (q : Sort) (place : Place)
 
     -- a fun
     module _ (vs : List Token) (y : Takes s.OpenRound us vs) where
-      fun_1 : Goes (other_expression d) (itself (other_expression d)) (record { parts = the (many s.CloseRound (the variable)) ∷ a s.Arrow ∷ the (expression (d + 1)) ∷ []; build = λ xs _ e. m.function (at t.place) xs e } ∷ []) ts vs
+      fun_1 : Goes (other_expression d) (itself (other_expression d)) (record { parts = the (many s.CloseRound (the variable)) ∷ a s.Arrow ∷ the (expression (d + 1)) ∷ []; build = λ xs _ e. m.function (at t.place) xs e } ∷ []) ts
+          vs
       fun_1 = fun_0 >> taken (other_expression d) _ us vs y.first s.OpenRound y.are (fits_only s.OpenRound (sort y.first) (λ z. absurd cc) y.fits_it) refl (tt, (tt, tt))
 
       pub fun_1_bad : (f : PartFault) → Refuses (many s.CloseRound (the variable)) vs f → Refuses (other_expression d) ts f
@@ -100,7 +105,8 @@ module _ (d n : ℕ) (ts us : List Token) (t : Token) (q : Sort) (place : Place)
           pub external_3_bad : (f : PartFault) → Refuses function_name us1 f → Refuses (other_expression d) ts f
           external_3_bad f z = refused _ _ [] (λ f. m.external (at t.place) (text y0.first) f.name) ts us1 f external_3 ((λ t x. refl), (λ t x. refl), tt) z
 
-          pub external_ok : (us2 : List Token) (at2 : Place) (o2 : FunName) → ReadsFunctionName us1 at2 o2 us2 → (k : Mark) → k ≡ mark n place → (e : m.Tree) → e ≡ m.external k o0 o2 → ReadsOtherExpression d n ts e us2 (n + 1)
+          pub external_ok : (us2 : List Token) (at2 : Place) (o2 : FunName) → ReadsFunctionName us1 at2 o2 us2 → (k : Mark) → k ≡ mark n place → (e : m.Tree) → e ≡ m.external k o0 o2
+              → ReadsOtherExpression d n ts e us2 (n + 1)
           external_ok us2 at2 o2 y2 k i e g = record {
             says = m.external (at t.place) (text y0.first) y2.says.name;
             passes = external_3 >> through _ _ [] (λ f. m.external (at t.place) (text y0.first) f.name) us1 us2 y2.says y2.passes ((λ t x. refl), (λ t x. refl), tt);
@@ -128,21 +134,26 @@ module _ (d n : ℕ) (ts us : List Token) (t : Token) (q : Sort) (place : Place)
 
   -- a `case`
   module _ (h : q ≡ s.Case) where
-    case_0 : Goes (other_expression d) (itself (other_expression d)) (record { parts = the (expression (d + 1)) ∷ a s.Of ∷ the (clause (d + 1)) ∷ the (clauses_to s.End (d + 1)) ∷ []; build = λ e _ c cs. m.case (at t.place) e (lists.clauses (c ∷ cs)) } ∷ []) ts us
+    case_0 : Goes (other_expression d) (itself (other_expression d)) (record {
+      parts = the (expression (d + 1)) ∷ a s.Of ∷ the (clause (d + 1)) ∷ the (clauses_to s.End (d + 1)) ∷ [];
+      build = λ e _ c cs. m.case (at t.place) e (lists.clauses (c ∷ cs));
+    } ∷ []) ts us
     case_0 = taken (other_expression d) (itself (other_expression d)) ts us t s.Case b.are (sym b.sort_is ∙ h) refl ((w, tt), tt)
 
     pub case_0_bad : (f : PartFault) → Refuses (expression (d + 1)) us f → Refuses (other_expression d) ts f
     case_0_bad f z = refused _ _ (a s.Of ∷ the (clause (d + 1)) ∷ the (clauses_to s.End (d + 1)) ∷ []) (λ e _ c cs. m.case (at t.place) e (lists.clauses (c ∷ cs))) ts us f case_0 ((λ t x. refl), (λ t x. refl), tt) z
 
     module _ (us0 : List Token) (o0 : m.Tree) (p0 : ℕ) (y0 : ReadsExpression (d + 1) (n + 1) us o0 us0 p0) where
-      case_1 : Goes (other_expression d) (itself (other_expression d)) (record { parts = a s.Of ∷ the (clause (d + 1)) ∷ the (clauses_to s.End (d + 1)) ∷ []; build = λ _ c cs. m.case (at t.place) y0.says (lists.clauses (c ∷ cs)) } ∷ []) ts us0
+      case_1 : Goes (other_expression d) (itself (other_expression d)) (record { parts = a s.Of ∷ the (clause (d + 1)) ∷ the (clauses_to s.End (d + 1)) ∷ []; build = λ _ c cs. m.case (at t.place) y0.says (lists.clauses (c ∷ cs)) }
+          ∷ []) ts us0
       case_1 = case_0 >> through _ _ (a s.Of ∷ the (clause (d + 1)) ∷ the (clauses_to s.End (d + 1)) ∷ []) (λ e _ c cs. m.case (at t.place) e (lists.clauses (c ∷ cs))) us us0 y0.says y0.passes ((λ t x. refl), (λ t x. refl), tt)
 
       pub case_1_bad : (f : PartFault) → Misses s.Of us0 f → Refuses (other_expression d) ts f
       case_1_bad f z = lacking _ s.Of (the (clause (d + 1)) ∷ the (clauses_to s.End (d + 1)) ∷ []) (λ _ c cs. m.case (at t.place) y0.says (lists.clauses (c ∷ cs))) ts us0 f case_1 z
 
       module _ (us1 : List Token) (y1 : Takes s.Of us0 us1) where
-        case_2 : Goes (other_expression d) (itself (other_expression d)) (record { parts = the (clause (d + 1)) ∷ the (clauses_to s.End (d + 1)) ∷ []; build = λ c cs. m.case (at t.place) y0.says (lists.clauses (c ∷ cs)) } ∷ []) ts us1
+        case_2 : Goes (other_expression d) (itself (other_expression d)) (record { parts = the (clause (d + 1)) ∷ the (clauses_to s.End (d + 1)) ∷ []; build = λ c cs. m.case (at t.place) y0.says (lists.clauses (c ∷ cs)) } ∷ []) ts
+            us1
         case_2 = case_1 >> take_class _ s.Of (the (clause (d + 1)) ∷ the (clauses_to s.End (d + 1)) ∷ []) (λ _ c cs. m.case (at t.place) y0.says (lists.clauses (c ∷ cs))) us0 us1 y1
 
         pub case_2_bad : (f : PartFault) → Refuses (clause (d + 1)) us1 f → Refuses (other_expression d) ts f
@@ -155,12 +166,15 @@ module _ (d n : ℕ) (ts us : List Token) (t : Token) (q : Sort) (place : Place)
           pub case_3_bad : (f : PartFault) → Refuses (clauses_to s.End (d + 1)) us2 f → Refuses (other_expression d) ts f
           case_3_bad f z = refused _ _ [] (λ cs. m.case (at t.place) y0.says (lists.clauses (y2.says ∷ cs))) ts us2 f case_3 ((λ t x. refl), (λ t x. refl), tt) z
 
-          pub case_ok : (us3 : List Token) (before o3 : m.Clauses) (p3 : ℕ) → before ≡ lists.clauses (o2 ∷ []) → ReadsMoreClauses s.End (d + 1) p2 before us2 o3 us3 p3 → (k : Mark) → k ≡ mark n place → (e : m.Tree) → e ≡ m.case k o0 o3 → ReadsOtherExpression d n ts e us3 p3
+          pub case_ok : (us3 : List Token) (before o3 : m.Clauses) (p3 : ℕ) → before ≡ lists.clauses (o2 ∷ []) → ReadsMoreClauses s.End (d + 1) p2 before us2 o3 us3 p3 → (k : Mark) → k ≡ mark n place → (e : m.Tree)
+              → e ≡ m.case k o0 o3 → ReadsOtherExpression d n ts e us3 p3
           case_ok us3 before o3 p3 l y3 k i e g = record {
             says = m.case (at t.place) y0.says (lists.clauses (y2.says ∷ y3.says));
             passes = case_3 >> through _ _ [] (λ cs. m.case (at t.place) y0.says (lists.clauses (y2.says ∷ cs))) us2 us3 y3.says y3.passes ((λ t x. refl), (λ t x. refl), tt);
-            agrees = ap (λ (r : m.Tree × ℕ). let z : m.Tree × ℕ = (m.case (labelled n (at t.place)) r.0 (number_clauses r.1 (lists.clauses (y2.says ∷ y3.says))).0, (number_clauses r.1 (lists.clauses (y2.says ∷ y3.says))).1) in z) y0.agrees
-                ∙ ap (λ (r : m.Clauses × ℕ). let z : m.Tree × ℕ = (m.case (mark n t.place) o0 r.0, r.1) in z) (two_clauses p0 p2 p3 y2.says o2 y3.says y3.more y2.agrees y3.agrees ∙ ap (λ x. let z : m.Clauses × ℕ = (x, p3) in z) (sym (y3.made_is ∙ ap (λ x. joined x y3.more) l)))
+            agrees = ap (λ (r : m.Tree × ℕ). let z : m.Tree × ℕ = (m.case (labelled n (at t.place)) r.0 (number_clauses r.1 (lists.clauses (y2.says ∷ y3.says))).0, (number_clauses r.1 (lists.clauses (y2.says ∷ y3.says))).1) in z)
+                y0.agrees
+                ∙ ap (λ (r : m.Clauses × ℕ). let z : m.Tree × ℕ = (m.case (mark n t.place) o0 r.0, r.1) in z)
+                (two_clauses p0 p2 p3 y2.says o2 y3.says y3.more y2.agrees y3.agrees ∙ ap (λ x. let z : m.Clauses × ℕ = (x, p3) in z) (sym (y3.made_is ∙ ap (λ x. joined x y3.more) l)))
                 ∙ made_with p3 (λ k. m.case k o0 o3) n place t.place b.place_is k i e g;
             single = λ _. refl;
           }

@@ -33,7 +33,8 @@ use Rattle.core_parse_forms.proofs.PatternFormExits.{noted_key}
 -- the labels of a map's pairs, and of the map that they update
 numbered_map : (n p q : ℕ) (place : Place) (ps : List lists.PairParts) (x : Option m.Tree) (o : m.Pairs) (u : Option m.Tree) → number_pairs (n + 1) (lists.pairs ps) ≡ (o, p) → number_updated p x ≡ (u, q)
     → number n (map_tree (at place) (lists.pairs ps) x) ≡ (map_tree (mark n place) o u, q)
-numbered_map n p q place ps None o None e h = ap (λ (r : m.Pairs × ℕ). let z : m.Tree × ℕ = (m.new_map (mark n place) r.0, r.1) in z) e ∙ ap (λ (r : Option m.Tree × ℕ). let z : m.Tree × ℕ = (m.new_map (mark n place) o, r.1) in z) h
+numbered_map n p q place ps None o None e h = ap (λ (r : m.Pairs × ℕ). let z : m.Tree × ℕ = (m.new_map (mark n place) r.0, r.1) in z) e
+    ∙ ap (λ (r : Option m.Tree × ℕ). let z : m.Tree × ℕ = (m.new_map (mark n place) o, r.1) in z) h
 numbered_map n p q place ps None o (Some y) e h = absurd (some_not_none (ap (λ (r : Option m.Tree × ℕ). r.0) h))
   where
     some_not_none : None ≡ Some y → ⊥
@@ -70,10 +71,12 @@ module _ (d n : ℕ) (ts us : List Token) (t : Token) (q : Sort) (place : Place)
       no_chain None = refl
       no_chain (Some x) = refl
 
-  pub map_expression_new : (vs : List Token) (o : m.Pairs) (u : Option Expr) (p : ℕ) → ReadsMapPairs (d + 1) (n + 1) us o (updated_tree u) vs p → u ≡ None → (k : Mark) → k ≡ mark n place → (e : m.Tree) → e ≡ m.new_map k o → ReadsOtherExpression d n ts e vs p
+  pub map_expression_new : (vs : List Token) (o : m.Pairs) (u : Option Expr) (p : ℕ) → ReadsMapPairs (d + 1) (n + 1) us o (updated_tree u) vs p → u ≡ None → (k : Mark) → k ≡ mark n place → (e : m.Tree)
+      → e ≡ m.new_map k o → ReadsOtherExpression d n ts e vs p
   map_expression_new vs o u p y i k j e g = map_expression_ok vs o (updated_tree u) p y e (g ∙ ap (λ x. m.new_map x o) j ∙ ap (λ x. map_tree (mark n place) o (updated_tree x)) (sym i))
 
-  pub map_expression_updated : (vs : List Token) (o : m.Pairs) (u : Option Expr) (p : ℕ) → ReadsMapPairs (d + 1) (n + 1) us o (updated_tree u) vs p → (x : Expr) → u ≡ Some x → (k : Mark) → k ≡ mark n place → (e : m.Tree) → e ≡ m.updated_map k o (lists.tree x) → ReadsOtherExpression d n ts e vs p
+  pub map_expression_updated : (vs : List Token) (o : m.Pairs) (u : Option Expr) (p : ℕ) → ReadsMapPairs (d + 1) (n + 1) us o (updated_tree u) vs p → (x : Expr) → u ≡ Some x → (k : Mark) → k ≡ mark n place → (e : m.Tree)
+      → e ≡ m.updated_map k o (lists.tree x) → ReadsOtherExpression d n ts e vs p
   map_expression_updated vs o u p y x i k j e g = map_expression_ok vs o (updated_tree u) p y e (g ∙ ap (λ l. m.updated_map l o (lists.tree x)) j ∙ ap (λ l. map_tree (mark n place) o (updated_tree l)) (sym i))
 
 -- Behind a key.
@@ -94,7 +97,8 @@ module _ (d n : ℕ) (us : List Token) where
         go s.Assoc x = absurd cc
         go _ x = (refl, refl)
 
-    key_value_1 : (exact : Bool) → exact_sign q ≡ Some exact → (o : Nonterminal) (qs : List Part) (b : Bool → m.Tree → Action qs (Said o)) → Goes o (either o qs b) (record { parts = the (expression d) ∷ qs; build = b exact } ∷ []) us vs
+    key_value_1 : (exact : Bool) → exact_sign q ≡ Some exact → (o : Nonterminal) (qs : List Part) (b : Bool → m.Tree → Action qs (Said o))
+        → Goes o (either o qs b) (record { parts = the (expression d) ∷ qs; build = b exact } ∷ []) us vs
     key_value_1 exact x o qs b = go (sort t) refl exact (ap exact_sign (sym c.sort_is) ∙ x)
       where
         go : (q : Sort) → sort t ≡ q → (exact : Bool) → exact_sign q ≡ Some exact → Goes o (either o qs b) (record { parts = the (expression d) ∷ qs; build = b exact } ∷ []) us vs
@@ -112,18 +116,21 @@ module _ (d n : ℕ) (us : List Token) where
       key_value left v p z = record { says = z.says; goes = λ o qs b h. key_value_1 exact x o qs b >> through (expression d) o qs (b exact) vs left z.says z.passes h; agrees = z.agrees }
 
 -- The pair of a key and a value that is read.
-pub pair_valued : (d n : ℕ) (us left : List Token) (exact : Bool) (v : m.Tree) (p : ℕ) → ReadsValue d n us exact v left p → (key : m.Tree) (made : lists.PairParts) → made ≡ record { exact = exact; key = key; value = v } → ReadsValueOf d n key us made left p
+pub pair_valued : (d n : ℕ) (us left : List Token) (exact : Bool) (v : m.Tree) (p : ℕ) → ReadsValue d n us exact v left p → (key : m.Tree) (made : lists.PairParts) → made ≡ record { exact = exact; key = key; value = v }
+    → ReadsValueOf d n key us made left p
 pair_valued d n us left exact v p z key made g = record { value = subst (λ (r : lists.PairParts). ReadsValue d n us r.exact r.value left p) (sym g) z; key_is = ap (λ (r : lists.PairParts). r.key) g }
 
 -- The same of the pair that a reader answers.
-pub pair_carried : (d n : ℕ) (us left : List Token) (exact : Bool) (v : m.Tree) (p : ℕ) → ReadsValue d n us exact v left p → (key : m.Tree) (made : lists.PairParts) → made ≡ record { exact = exact; key = key; value = v } → (ws : List Token) → ws ≡ left → (q : ℕ) → q ≡ p → ReadsValueOf d n key us made ws q
+pub pair_carried : (d n : ℕ) (us left : List Token) (exact : Bool) (v : m.Tree) (p : ℕ) → ReadsValue d n us exact v left p → (key : m.Tree) (made : lists.PairParts) → made ≡ record { exact = exact; key = key; value = v }
+    → (ws : List Token) → ws ≡ left → (q : ℕ) → q ≡ p → ReadsValueOf d n key us made ws q
 pair_carried d n us left exact v p z key made g ws e q h = subst (λ l. ReadsValueOf d n key us made l q) (sym e) (subst (λ k. ReadsValueOf d n key us made left k) (sym h) (pair_valued d n us left exact v p z key made g))
 
 pub pair_parts_are : (exact o : Bool) (key k value v : Expr) → exact ≡ o → key ≡ k → value ≡ v → read_pair exact key value ≡ read_pair o k v
 pair_parts_are exact o key k value v e f g = ap (λ (x : Bool). read_pair x key value) e ∙ ap (λ (x : Expr). read_pair o x value) f ∙ ap (λ (x : Expr). read_pair o k x) g
 
 -- the numbers of a pair
-map_pair_is : (n p q : ℕ) (k k' v : m.Tree) (made : lists.PairParts) → number n k ≡ (k', p) → number p v ≡ (made.value, q) → made.key ≡ k' → number_pairs n (m.and_pair made.exact k v m.no_pair) ≡ (lists.pairs (made ∷ []), q)
+map_pair_is : (n p q : ℕ) (k k' v : m.Tree) (made : lists.PairParts) → number n k ≡ (k', p) → number p v ≡ (made.value, q) → made.key ≡ k'
+    → number_pairs n (m.and_pair made.exact k v m.no_pair) ≡ (lists.pairs (made ∷ []), q)
 map_pair_is n p q k k' v made e f g = ap (λ (r : m.Tree × ℕ). let s = number r.1 v in let z : m.Pairs × ℕ = (m.and_pair made.exact r.0 s.0 m.no_pair, s.1) in z) e
     ∙ ap (λ (s : m.Tree × ℕ). let z : m.Pairs × ℕ = (m.and_pair made.exact k' s.0 m.no_pair, s.1) in z) f ∙ ap (λ x. let z : m.Pairs × ℕ = (m.and_pair made.exact x made.value m.no_pair, q) in z) (sym g)
 
@@ -142,7 +149,10 @@ module _ (d n : ℕ) (ts : List Token) where
   bare_map_pair_key_bad f z = refused_in (expression d) (bare_pair d) bare_thens ts ts f bare_map_pair_open tt ((λ t x. refl), (λ t x. refl), ((λ t x. refl), (λ t x. refl), tt)) z
 
   module _ (us : List Token) (k : m.Tree) (p : ℕ) (y : ReadsExpression d n ts k us p) where
-    bare_map_pair_key : Goes (bare_pair d) (itself (bare_pair d)) (record { parts = a s.Assoc ∷ the (expression d) ∷ []; build = λ _ v. map_pair_of false y.says v } ∷ record { parts = a s.Exact ∷ the (expression d) ∷ []; build = λ _ v. map_pair_of true y.says v } ∷ []) ts us
+    bare_map_pair_key : Goes (bare_pair d) (itself (bare_pair d)) (record { parts = a s.Assoc ∷ the (expression d) ∷ []; build = λ _ v. map_pair_of false y.says v } ∷ record {
+      parts = a s.Exact ∷ the (expression d) ∷ [];
+      build = λ _ v. map_pair_of true y.says v;
+    } ∷ []) ts us
     bare_map_pair_key = bare_map_pair_open >> pass (expression d) (bare_pair d) bare_thens ts us y.says ((λ t x. refl), (λ t x. refl), ((λ t x. refl), (λ t x. refl), tt)) y.passes
 
     pub bare_map_pair_value_bad : (f : PartFault) → RefusesValue d us f → Refuses (bare_pair d) ts f
@@ -179,7 +189,8 @@ four_turned n b c e f ts = rearranged n (b ∷ c ∷ e ∷ f ∷ []) (e ∷ f �
 module _ (d n : ℕ) (ts us : List Token) (t : Token) (q : Sort) (place : Place) (b : Starts ts t q place us) where
   module _ (h : q ≡ s.OpenRound → ⊥) where
     map_pair_bare : Goes (pair d) (itself (pair d)) (record { parts = the (bare_pair d) ∷ []; build = λ x. x } ∷ []) ts ts
-    map_pair_bare = expand (pair d) (pair d) [] (λ x. x) [] ts >> expand (pair d) (noted_ (the (bare_pair d))) [] _ [] ts >> drop_second _ _ _ _ ts us t b.are (fits_no_other s.OpenRound (sort t) (λ z. absurd cc) (λ z. h (b.sort_is ∙ z)))
+    map_pair_bare = expand (pair d) (pair d) [] (λ x. x) [] ts >> expand (pair d) (noted_ (the (bare_pair d))) [] _ [] ts
+        >> drop_second _ _ _ _ ts us t b.are (fits_no_other s.OpenRound (sort t) (λ z. absurd cc) (λ z. h (b.sort_is ∙ z)))
 
     pub map_pair_bare_bad : (f : PartFault) → Refuses (bare_pair d) ts f → Refuses (pair d) ts f
     map_pair_bare_bad f z = refused _ _ [] (λ x. x) ts ts f map_pair_bare ((λ t x. refl), (λ t x. refl), tt) z
@@ -232,7 +243,11 @@ module _ (d n : ℕ) (ts us : List Token) (t : Token) (q : Sort) (place : Place)
           >> swapped _ _ _ _ us >> drop_unless _ s.OpenRound _ _ _ us i
 
       pub map_pair_key_bad : (f : PartFault) → Refuses (bare_expression d) us f → Refuses (pair d) ts f
-      map_pair_key_bad f z = refused_in (bare_expression d) (pair d) map_key_thens ts us f map_pair_key tt ((λ t x. refl), (λ t x. refl), ((λ t x. refl), (λ t x. refl), ((λ t x. refl), (λ t x. refl), ((λ t x. refl), (λ t x. refl), tt)))) z
+      map_pair_key_bad f z = refused_in (bare_expression d) (pair d) map_key_thens ts us f map_pair_key tt (
+        (λ t x. refl),
+        (λ t x. refl),
+        ((λ t x. refl), (λ t x. refl), ((λ t x. refl), (λ t x. refl), ((λ t x. refl), (λ t x. refl), tt))),
+      ) z
 
       module _ (ws : List Token) (x : m.Tree) (p : ℕ) (y : ReadsBareExpression d n us x ws p) where
         abbrev key_exact : Branch (pair d)
@@ -248,7 +263,11 @@ module _ (d n : ℕ) (ts us : List Token) (t : Token) (q : Sort) (place : Place)
         noted_exact = record { parts = the annotation ∷ a s.Exact ∷ the (expression d) ∷ []; build = λ k _ v. map_pair_of true (note_tree k y.says) v }
 
         map_key_read : Goes (pair d) (itself (pair d)) (key_exact ∷ key_assoc ∷ noted_assoc ∷ noted_exact ∷ []) ts ws
-        map_key_read = map_pair_key >> pass (bare_expression d) (pair d) map_key_thens us ws y.says ((λ t x. refl), (λ t x. refl), ((λ t x. refl), (λ t x. refl), ((λ t x. refl), (λ t x. refl), ((λ t x. refl), (λ t x. refl), tt)))) y.passes
+        map_key_read = map_pair_key >> pass (bare_expression d) (pair d) map_key_thens us ws y.says (
+          (λ t x. refl),
+          (λ t x. refl),
+          ((λ t x. refl), (λ t x. refl), ((λ t x. refl), (λ t x. refl), ((λ t x. refl), (λ t x. refl), tt))),
+        ) y.passes
 
         pub map_pair_key_end : (f : PartFault) → RanOut ws f → Refuses (pair d) ts f
         map_pair_key_end f z = ran_out (pair d) _ ts ws f map_key_read tt refl z
@@ -257,7 +276,10 @@ module _ (d n : ℕ) (ts us : List Token) (t : Token) (q : Sort) (place : Place)
           -- the key's bracket
           module _ (j : o ≡ s.Noted) where
             abbrev noted_thens : List (Then annotation (pair d))
-            noted_thens = record { parts = a s.Assoc ∷ the (expression d) ∷ []; build = λ k _ v. map_pair_of false (note_tree k y.says) v } ∷ record { parts = a s.Exact ∷ the (expression d) ∷ []; build = λ k _ v. map_pair_of true (note_tree k y.says) v } ∷ []
+            noted_thens = record { parts = a s.Assoc ∷ the (expression d) ∷ []; build = λ k _ v. map_pair_of false (note_tree k y.says) v } ∷ record {
+              parts = a s.Exact ∷ the (expression d) ∷ [];
+              build = λ k _ v. map_pair_of true (note_tree k y.says) v;
+            } ∷ []
 
             map_key_noted : Goes (pair d) (itself (pair d)) (opened annotation (pair d) noted_thens) ts ws
             map_key_noted = map_key_read >> pruned (pair d) _ ws xs v s.Noted c.are (sym c.sort_is ∙ j)
@@ -266,7 +288,8 @@ module _ (d n : ℕ) (ts us : List Token) (t : Token) (q : Sort) (place : Place)
             map_pair_key_note_bad f z = refused_in annotation (pair d) noted_thens ts ws f map_key_noted tt ((λ t x. refl), (λ t x. refl), ((λ t x. refl), (λ t x. refl), tt)) z
 
             module _ (zs : List Token) (k : Note) (g : ReadsAnnotation ws k zs) where
-              map_key_noted_read : Goes (pair d) (itself (pair d)) (record { parts = a s.Assoc ∷ the (expression d) ∷ []; build = λ _ v. map_pair_of false (note_tree g.says y.says) v } ∷ record { parts = a s.Exact ∷ the (expression d) ∷ []; build = λ _ v. map_pair_of true (note_tree g.says y.says) v } ∷ []) ts zs
+              map_key_noted_read : Goes (pair d) (itself (pair d)) (record { parts = a s.Assoc ∷ the (expression d) ∷ []; build = λ _ v. map_pair_of false (note_tree g.says y.says) v }
+                  ∷ record { parts = a s.Exact ∷ the (expression d) ∷ []; build = λ _ v. map_pair_of true (note_tree g.says y.says) v } ∷ []) ts zs
               map_key_noted_read = map_key_noted >> pass annotation (pair d) noted_thens ws zs g.says ((λ t x. refl), (λ t x. refl), ((λ t x. refl), (λ t x. refl), tt)) g.passes
 
               pub map_pair_noted_value_bad : (f : PartFault) → RefusesValue d zs f → Refuses (pair d) ts f

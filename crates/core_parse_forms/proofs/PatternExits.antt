@@ -34,7 +34,8 @@ pub sort_differs : (q k : Sort) → IsTrue false ↔ (q ≡ k) → q ≡ k → �
 sort_differs q k h e = let z : IsTrue false = h.1 e in absurd cc
 
 pub name_made : (x y : List ℕ) (p q : Place) (n k : Note) → x ≡ y → p ≡ q → n ≡ k → (let r : VarName = record { name = x; place = p; note = n } in r) ≡ record { name = y; place = q; note = k }
-name_made x y p q n k f g h = ap (λ w. let r : VarName = record { name = w; place = p; note = n } in r) f ∙ ap (λ w. let r : VarName = record { name = y; place = w; note = n } in r) g ∙ ap (λ w. let r : VarName = record { name = y; place = q; note = w } in r) h
+name_made x y p q n k f g h = ap (λ w. let r : VarName = record { name = w; place = p; note = n } in r) f ∙ ap (λ w. let r : VarName = record { name = y; place = w; note = n } in r) g
+    ∙ ap (λ w. let r : VarName = record { name = y; place = q; note = w } in r) h
 
 pub binds_made : (o k : Mark) (x y : List ℕ) (e : m.Pattern) → e ≡ m.binds o x → o ≡ k → x ≡ y → e ≡ m.binds k y
 binds_made o k x y e f g h = f ∙ ap (λ w. m.binds w x) g ∙ ap (λ w. m.binds k w) h
@@ -57,7 +58,8 @@ module _ (d : ℕ) (place : Place) (o : Nonterminal) where
   module _ (t : Token) where
     variable_next : (hs : Standing) → next 12 o t s.Variable (alias_in_brackets d place o hs) ≡ alias_behind d place t o hs
     variable_next [] = refl
-    variable_next (h ∷ hs) = ap (λ (bs : List (Branch o)). record { parts = the annotation ∷ a s.Equals ∷ the (pattern (d + 1)) ∷ h.parts; build = λ k _ p. h.build (m.alias (at place) (variable_name t.place t k) p) } ∷ bs) (variable_next hs)
+    variable_next (h ∷ hs) = ap (λ (bs : List (Branch o)). record { parts = the annotation ∷ a s.Equals ∷ the (pattern (d + 1)) ∷ h.parts; build = λ k _ p. h.build (m.alias (at place) (variable_name t.place t k) p) } ∷ bs)
+        (variable_next hs)
 
     variable_fine : (hs : Standing) → fine 12 o t s.Variable (alias_in_brackets d place o hs) ≡ true
     variable_fine [] = refl
@@ -95,7 +97,8 @@ module _ (d : ℕ) (place : Place) (o : Nonterminal) where
 
     alias_opened : (hs : Standing) → alias_behind d place t o hs ≡ opened annotation o (alias_then hs)
     alias_opened [] = refl
-    alias_opened (h ∷ hs) = ap (λ (bs : List (Branch o)). record { parts = the annotation ∷ a s.Equals ∷ the (pattern (d + 1)) ∷ h.parts; build = λ k _ p. h.build (m.alias (at place) (variable_name t.place t k) p) } ∷ bs) (alias_opened hs)
+    alias_opened (h ∷ hs) = ap (λ (bs : List (Branch o)). record { parts = the annotation ∷ a s.Equals ∷ the (pattern (d + 1)) ∷ h.parts; build = λ k _ p. h.build (m.alias (at place) (variable_name t.place t k) p) } ∷ bs)
+        (alias_opened hs)
 
     alias_guarded : (hs : Standing) → Guarded annotation o (alias_then hs)
     alias_guarded [] = tt
@@ -134,7 +137,8 @@ module _ (d : ℕ) (place : Place) (o : Nonterminal) where
 pub alias_is : (n p : ℕ) (k : Mark) (x : VarName) (says inner : m.Pattern) → number_pattern (n + 1) says ≡ (inner, p) → number_pattern n (m.alias k x says) ≡ (m.alias (labelled n k) x inner, p)
 alias_is n p k x says inner e = ap (λ (r : m.Pattern × ℕ). let z : m.Pattern × ℕ = (m.alias (labelled n k) x r.0, r.1) in z) e
 
-pub alias_made : (n p : ℕ) (k mk : Mark) (x y : VarName) (says inner made : m.Pattern) → mk ≡ labelled n k → y ≡ x → made ≡ m.alias mk y inner → number_pattern (n + 1) says ≡ (inner, p) → number_pattern n (m.alias k x says) ≡ (made, p)
+pub alias_made : (n p : ℕ) (k mk : Mark) (x y : VarName) (says inner made : m.Pattern) → mk ≡ labelled n k → y ≡ x → made ≡ m.alias mk y inner → number_pattern (n + 1) says ≡ (inner, p)
+    → number_pattern n (m.alias k x says) ≡ (made, p)
 alias_made n p k mk x y says inner made e f g h = alias_is n p k x says inner h ∙ ap (λ q. let w : m.Pattern × ℕ = (q, p) in w) (sym (g ∙ ap (λ q. m.alias q y inner) e ∙ ap (λ q. m.alias (labelled n k) q inner) f))
 
 pub noted_is : (n p : ℕ) (k l : Note) (says x : m.Pattern) → k ≡ l → number_pattern n says ≡ (x, p) → number_pattern n (noted_pattern k says) ≡ (noted_pattern l x, p)
@@ -153,7 +157,8 @@ module _ (d n : ℕ) (place : Place) (t : Token) (us : List Token) where
       (subst (λ bs. Goes o (itself o) bs ts us) (noted_opened o h (i ∷ hs)) r) tt ((λ t x. refl), (λ t x. refl), alias_guarded d place o t (i ∷ hs)) z
 
   module _ (vs : List Token) (k : Note) (y : ReadsAnnotation us k vs) where
-    behind_note : (o : Nonterminal) (h : Then (pattern d) o) (hs : List (Then (pattern d) o)) → Goes o (variable_noted d t o h ∷ alias_behind d place t o hs) (passed annotation o y.says (variable_then o h ∷ alias_then d place o t hs)) us vs
+    behind_note : (o : Nonterminal) (h : Then (pattern d) o) (hs : List (Then (pattern d) o))
+        → Goes o (variable_noted d t o h ∷ alias_behind d place t o hs) (passed annotation o y.says (variable_then o h ∷ alias_then d place o t hs)) us vs
     behind_note o h hs = subst (λ bs. Goes o bs (passed annotation o y.says (variable_then o h ∷ alias_then d place o t hs)) us vs) (sym (noted_opened o h hs))
         (pass annotation o (variable_then o h ∷ alias_then d place o t hs) us vs y.says ((λ t x. refl), (λ t x. refl), alias_guarded d place o t hs) y.passes)
 
@@ -161,13 +166,15 @@ module _ (d n : ℕ) (place : Place) (t : Token) (us : List Token) where
     pub noted_variable_last : opens_with s.Equals vs ≡ false → (made : m.Pattern) → made ≡ m.binds (marked k (mark n t.place)) (text t) → ReadsNotedVariable d n place t us made false vs (n + 1)
     noted_variable_last e made g = record {
       says = noted_pattern y.says (m.binds (at t.place) (text t));
-      goes = λ o h hs q. behind_note o h hs >> drop_rest o s.Equals (record { parts = h.parts; build = h.build (noted_pattern y.says (m.binds (at t.place) (text t))) }) (passed annotation o y.says (alias_then d place o t hs)) vs (then_wants d place o t y.says hs) e;
+      goes = λ o h hs q. behind_note o h hs >> drop_rest o s.Equals (record { parts = h.parts; build = h.build (noted_pattern y.says (m.binds (at t.place) (text t))) }) (passed annotation o y.says (alias_then d place o t hs)) vs
+          (then_wants d place o t y.says hs) e;
       agrees = ap (λ o. let z : m.Pattern × ℕ = (m.binds (marked o (mark n t.place)) (text t), n + 1) in z) y.agrees ∙ ap (λ x. let z : m.Pattern × ℕ = (x, n + 1) in z) (sym g);
     }
 
     -- the variable names a pattern
     module _ (ws : List Token) (e : Takes s.Equals vs ws) where
-      behind_equals : (o : Nonterminal) (h : Then (pattern d) o) (hs : List (Then (pattern d) o)) → Guarded (pattern d) o (h ∷ hs) → Goes o (variable_noted d t o h ∷ alias_behind d place t o hs) (opened (pattern (d + 1)) o (named_then d place o t y.says hs)) us ws
+      behind_equals : (o : Nonterminal) (h : Then (pattern d) o) (hs : List (Then (pattern d) o)) → Guarded (pattern d) o (h ∷ hs)
+          → Goes o (variable_noted d t o h ∷ alias_behind d place t o hs) (opened (pattern (d + 1)) o (named_then d place o t y.says hs)) us ws
       behind_equals o h hs g = behind_note o h hs
           >> drop_guarded s.Equals (pattern d) o h (noted_pattern y.says (m.binds (at t.place) (text t))) (passed annotation o y.says (alias_then d place o t hs)) vs ws e.first e.are is refl g.1
           >> subst (λ bs. Goes o (passed annotation o y.says (alias_then d place o t hs)) bs vs ws) (then_next d place o t y.says e.first hs)
@@ -179,7 +186,8 @@ module _ (d n : ℕ) (place : Place) (t : Token) (us : List Token) where
       pub noted_alias_bad : (f : PartFault) → Refuses (pattern (d + 1)) ws f → RefusesNotedVariable d place t us f
       noted_alias_bad f z = λ o h i hs g ts r. refused_in (pattern (d + 1)) o (named_then d place o t y.says (i ∷ hs)) ts ws f (r >> behind_equals o h (i ∷ hs) g) tt (named_guarded d place o t y.says (i ∷ hs) g.2) z
 
-      pub noted_alias : (left : List Token) (o : Mark) (x : VarName) (made : m.Pattern) (p : ℕ) → o ≡ mark n place → x ≡ record { name = text t; place = t.place; note = k } → ReadsNamed o x d n ws made left p → ReadsNotedVariable d n place t us made true left p
+      pub noted_alias : (left : List Token) (o : Mark) (x : VarName) (made : m.Pattern) (p : ℕ) → o ≡ mark n place → x ≡ record { name = text t; place = t.place; note = k } → ReadsNamed o x d n ws made left p
+          → ReadsNotedVariable d n place t us made true left p
       noted_alias left o x made p i j z = record {
         says = m.alias (at place) (variable_name t.place t y.says) z.says;
         goes = λ o h hs g. behind_equals o h hs g >> subst (λ bs. Goes o (opened (pattern (d + 1)) o (named_then d place o t y.says hs)) bs ws left) (named_passed d place o t y.says z.says hs)
@@ -204,7 +212,8 @@ module _ (d n : ℕ) (place : Place) (us : List Token) where
       brackets_bad f z = λ o i j hs g ts r. refused (bare_pattern d) o (the annotation ∷ i.parts) (λ x k. i.build (noted_pattern k x)) ts us f (r >> only_noted o i (j ∷ hs)) ((λ t x. refl), (λ t x. refl), tt) z
 
       module _ (ws : List Token) (x : m.Pattern) (p : ℕ) (y : ReadsBarePattern d n us x ws p) where
-        inside : (o : Nonterminal) (i : Then (pattern d) o) (hs : List (Then (pattern d) o)) → Goes o (in_brackets d place o i hs) (record { parts = the annotation ∷ i.parts; build = λ k. i.build (noted_pattern k y.says) } ∷ []) us ws
+        inside : (o : Nonterminal) (i : Then (pattern d) o) (hs : List (Then (pattern d) o))
+            → Goes o (in_brackets d place o i hs) (record { parts = the annotation ∷ i.parts; build = λ k. i.build (noted_pattern k y.says) } ∷ []) us ws
         inside o i hs = only_noted o i hs >> through (bare_pattern d) o (the annotation ∷ i.parts) (λ x k. i.build (noted_pattern k x)) us ws y.says y.passes ((λ t x. refl), (λ t x. refl), tt)
 
         pub brackets_note_bad : (f : PartFault) → Refuses annotation ws f → RefusesInBrackets d place us f
@@ -226,7 +235,8 @@ module _ (d n : ℕ) (place : Place) (us : List Token) where
       alias_then_note o i = record { parts = a s.Equals ∷ the (pattern (d + 1)) ∷ the annotation ∷ i.parts; build = λ _ x k. i.build (noted_pattern k (m.alias (at u.place) (variable_name u.place u no_note) x)) }
 
       pub brackets_deep : depth_limit < d → d ≤ deeper_limit → RefusesInBrackets d place us (TooDeep there)
-      brackets_deep w x = λ o i j hs g ts r. subst (Sinks o (itself o) ts) (sym b.place_is) (sink_at 12 o (itself o) (in_brackets d place o i (j ∷ hs)) ts vs u (subst (λ y. Goes o (itself o) (in_brackets d place o i (j ∷ hs)) ts y) b.are r) tt
+      brackets_deep w x = λ o i j hs g ts r. subst (Sinks o (itself o) ts) (sym b.place_is)
+          (sink_at 12 o (itself o) (in_brackets d place o i (j ∷ hs)) ts vs u (subst (λ y. Goes o (itself o) (in_brackets d place o i (j ∷ hs)) ts y) b.are r) tt
           (subst (λ k. Deep 12 o u k (in_brackets d place o i (j ∷ hs)) depth_limit) (sym is_variable) ((w, (w, tt)), variable_deep d place o u depth_limit w (j ∷ hs)))
           (subst (λ k. Shallow 12 o u k (in_brackets d place o i (j ∷ hs)) deeper_limit) (sym is_variable) ((x, (x, tt)), variable_shallow d place o u deeper_limit x (j ∷ hs)))
           (subst (λ k. Is_open o (next 12 o u k (in_brackets d place o i (j ∷ hs)))) (sym is_variable) tt))
@@ -243,7 +253,8 @@ module _ (d n : ℕ) (place : Place) (us : List Token) where
           -- no equals sign behind it
           module _ (e : k ≡ s.Equals → ⊥) where
             variable_alone : (o : Nonterminal) (i : Then (pattern d) o) (hs : List (Then (pattern d) o)) → Goes o (in_brackets d place o i hs) (variable_noted d u o i ∷ alias_behind d place u o hs) us vs
-            variable_alone o i hs = variable_in o i hs >> drop_second o (variable_noted d u o i) (alias_then_note o i) (alias_behind d place u o hs) vs ws t c.are (fits_no_other s.Equals (sort t) (λ z. absurd cc) (λ z. e (c.sort_is ∙ z)))
+            variable_alone o i hs = variable_in o i hs >> drop_second o (variable_noted d u o i) (alias_then_note o i) (alias_behind d place u o hs) vs ws t c.are
+                (fits_no_other s.Equals (sort t) (λ z. absurd cc) (λ z. e (c.sort_is ∙ z)))
 
             pub brackets_variable_bad : (f : PartFault) → RefusesNotedVariable d place u vs f → RefusesInBrackets d place us f
             brackets_variable_bad f z = λ o i j hs g ts r. z o i j hs g ts (r >> variable_alone o i (j ∷ hs))
@@ -255,23 +266,33 @@ module _ (d n : ℕ) (place : Place) (us : List Token) where
           module _ (e : k ≡ s.Equals) where
             alias_in : (o : Nonterminal) (i : Then (pattern d) o) (hs : List (Then (pattern d) o)) → Goes o (in_brackets d place o i hs)
                 (record { parts = the (pattern (d + 1)) ∷ the annotation ∷ i.parts; build = λ x k. i.build (noted_pattern k (m.alias (at u.place) (variable_name u.place u no_note) x)) } ∷ []) us ws
-            alias_in o i hs = variable_in o i hs >> subst (λ bs. Goes o (variable_noted d u o i ∷ alias_then_note o i ∷ alias_behind d place u o hs) (record { parts = the (pattern (d + 1)) ∷ the annotation ∷ i.parts; build = λ x k. i.build (noted_pattern k (m.alias (at u.place) (variable_name u.place u no_note) x)) } ∷ bs) vs ws) (equals_next d place o u t hs)
+            alias_in o i hs = variable_in o i hs >> subst (λ bs. Goes o (variable_noted d u o i ∷ alias_then_note o i ∷ alias_behind d place u o hs)
+                (record { parts = the (pattern (d + 1)) ∷ the annotation ∷ i.parts; build = λ x k. i.build (noted_pattern k (m.alias (at u.place) (variable_name u.place u no_note) x)) } ∷ bs) vs ws) (equals_next d place o u t hs)
                 (taken o (variable_noted d u o i ∷ alias_then_note o i ∷ alias_behind d place u o hs) vs ws t s.Equals c.are (sym c.sort_is ∙ e) (equals_fine d place o u t hs) (tt, (tt, equals_shallow d place o u t hs)))
 
             pub brackets_alias_bad : (f : PartFault) → Refuses (pattern (d + 1)) ws f → RefusesInBrackets d place us f
-            brackets_alias_bad f z = λ o i j hs g ts r. refused (pattern (d + 1)) o (the annotation ∷ i.parts) (λ x k. i.build (noted_pattern k (m.alias (at u.place) (variable_name u.place u no_note) x))) ts ws f (r >> alias_in o i (j ∷ hs)) ((λ t x. refl), (λ t x. refl), tt) z
+            brackets_alias_bad f z = λ o i j hs g ts r. refused (pattern (d + 1)) o (the annotation ∷ i.parts) (λ x k. i.build (noted_pattern k (m.alias (at u.place) (variable_name u.place u no_note) x))) ts ws f
+                (r >> alias_in o i (j ∷ hs)) ((λ t x. refl), (λ t x. refl), tt) z
 
-            module _ (xs : List Token) (mk : Mark) (x : VarName) (made : m.Pattern) (p : ℕ) (mk_is : mk ≡ mark n u.place) (x_is : x ≡ record { name = text u; place = u.place; note = no_note }) (y : ReadsNamed mk x d n ws made xs p) where
+            module _ (xs : List Token) (mk : Mark) (x : VarName) (made : m.Pattern) (p : ℕ) (mk_is : mk ≡ mark n u.place) (x_is : x ≡ record { name = text u; place = u.place; note = no_note })
+                (y : ReadsNamed mk x d n ws made xs p) where
               alias_read : (o : Nonterminal) (i : Then (pattern d) o) (hs : List (Then (pattern d) o)) → Goes o (in_brackets d place o i hs)
                   (record { parts = the annotation ∷ i.parts; build = λ k. i.build (noted_pattern k (m.alias (at u.place) (variable_name u.place u no_note) y.says)) } ∷ []) us xs
-              alias_read o i hs = alias_in o i hs >> through (pattern (d + 1)) o (the annotation ∷ i.parts) (λ x k. i.build (noted_pattern k (m.alias (at u.place) (variable_name u.place u no_note) x))) ws xs y.says y.passes ((λ t x. refl), (λ t x. refl), tt)
+              alias_read o i hs = alias_in o i hs >> through (pattern (d + 1)) o (the annotation ∷ i.parts) (λ x k. i.build (noted_pattern k (m.alias (at u.place) (variable_name u.place u no_note) x))) ws xs y.says y.passes
+                  ((λ t x. refl), (λ t x. refl), tt)
 
               pub brackets_alias_note_bad : (f : PartFault) → Refuses annotation xs f → RefusesInBrackets d place us f
-              brackets_alias_note_bad f z = λ o i j hs g ts r. refused annotation o i.parts (λ k. i.build (noted_pattern k (m.alias (at u.place) (variable_name u.place u no_note) y.says))) ts xs f (r >> alias_read o i (j ∷ hs)) ((λ t x. refl), (λ t x. refl), tt) z
+              brackets_alias_note_bad f z = λ o i j hs g ts r. refused annotation o i.parts (λ k. i.build (noted_pattern k (m.alias (at u.place) (variable_name u.place u no_note) y.says))) ts xs f (r >> alias_read o i (j ∷ hs))
+                  ((λ t x. refl), (λ t x. refl), tt) z
 
               pub brackets_alias_noted : (left : List Token) (l : Note) (noted : m.Pattern) → noted ≡ noted_pattern l made → ReadsAnnotation xs l left → ReadsInBrackets d n place us noted false left p
               brackets_alias_noted left l noted g z = record {
                 says = noted_pattern z.says (m.alias (at u.place) (variable_name u.place u no_note) y.says);
-                goes = λ o i hs g. alias_read o i hs >> through annotation o i.parts (λ k. i.build (noted_pattern k (m.alias (at u.place) (variable_name u.place u no_note) y.says))) xs left z.says z.passes ((λ t x. refl), (λ t x. refl), tt);
-                agrees = noted_is n p z.says l (m.alias (at u.place) (variable_name u.place u no_note) y.says) made z.agrees (alias_made n p (at u.place) mk (variable_name u.place u no_note) x y.says y.inner made mk_is x_is y.made_is y.agrees) ∙ ap (λ w. let r : m.Pattern × ℕ = (w, p) in r) (sym g);
+                goes = λ o i hs g. alias_read o i hs >> through annotation o i.parts (λ k. i.build (noted_pattern k (m.alias (at u.place) (variable_name u.place u no_note) y.says))) xs left z.says z.passes (
+                  (λ t x. refl),
+                  (λ t x. refl),
+                  tt,
+                );
+                agrees = noted_is n p z.says l (m.alias (at u.place) (variable_name u.place u no_note) y.says) made z.agrees
+                    (alias_made n p (at u.place) mk (variable_name u.place u no_note) x y.says y.inner made mk_is x_is y.made_is y.agrees) ∙ ap (λ w. let r : m.Pattern × ℕ = (w, p) in r) (sym g);
               }

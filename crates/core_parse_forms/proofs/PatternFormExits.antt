@@ -78,28 +78,45 @@ pattern_segment_of x xs = record { value = x; args = xs }
 
 -- #< pattern > ( expressions )
 module _ (d n : ℕ) (ts : List Token) where
-  pattern_segment_0 : Goes (pattern_segment d) (itself (pattern_segment d)) (record { parts = a s.OpenSegment ∷ the (pattern d) ∷ a s.Greater ∷ a s.OpenRound ∷ the (many s.CloseRound (the (expression d))) ∷ []; build = λ _ x _ _ xs. pattern_segment_of x (lists.trees xs) } ∷ []) ts ts
+  pattern_segment_0 : Goes (pattern_segment d) (itself (pattern_segment d)) (record {
+    parts = a s.OpenSegment ∷ the (pattern d) ∷ a s.Greater ∷ a s.OpenRound ∷ the (many s.CloseRound (the (expression d))) ∷ [];
+    build = λ _ x _ _ xs. pattern_segment_of x (lists.trees xs);
+  } ∷ []) ts ts
   pattern_segment_0 = expand (pattern_segment d) (pattern_segment d) [] (λ x. x) [] ts
 
   pub pattern_segment_0_bad : (f : PartFault) → Misses s.OpenSegment ts f → Refuses (pattern_segment d) ts f
-  pattern_segment_0_bad f z = lacking _ s.OpenSegment (the (pattern d) ∷ a s.Greater ∷ a s.OpenRound ∷ the (many s.CloseRound (the (expression d))) ∷ []) (λ _ x _ _ xs. pattern_segment_of x (lists.trees xs)) ts ts f pattern_segment_0 z
+  pattern_segment_0_bad f z = lacking _ s.OpenSegment (the (pattern d) ∷ a s.Greater ∷ a s.OpenRound ∷ the (many s.CloseRound (the (expression d))) ∷ [])
+      (λ _ x _ _ xs. pattern_segment_of x (lists.trees xs)) ts ts f pattern_segment_0 z
 
   module _ (us0 : List Token) (y0 : Takes s.OpenSegment ts us0) where
-    pattern_segment_1 : Goes (pattern_segment d) (itself (pattern_segment d)) (record { parts = the (pattern d) ∷ a s.Greater ∷ a s.OpenRound ∷ the (many s.CloseRound (the (expression d))) ∷ []; build = λ x _ _ xs. pattern_segment_of x (lists.trees xs) } ∷ []) ts us0
-    pattern_segment_1 = pattern_segment_0 >> take_class _ s.OpenSegment (the (pattern d) ∷ a s.Greater ∷ a s.OpenRound ∷ the (many s.CloseRound (the (expression d))) ∷ []) (λ _ x _ _ xs. pattern_segment_of x (lists.trees xs)) ts us0 y0
+    pattern_segment_1 : Goes (pattern_segment d) (itself (pattern_segment d)) (record {
+      parts = the (pattern d) ∷ a s.Greater ∷ a s.OpenRound ∷ the (many s.CloseRound (the (expression d))) ∷ [];
+      build = λ x _ _ xs. pattern_segment_of x (lists.trees xs);
+    } ∷ []) ts us0
+    pattern_segment_1 = pattern_segment_0 >> take_class _ s.OpenSegment (the (pattern d) ∷ a s.Greater ∷ a s.OpenRound ∷ the (many s.CloseRound (the (expression d))) ∷ [])
+        (λ _ x _ _ xs. pattern_segment_of x (lists.trees xs)) ts us0 y0
 
     pub pattern_segment_1_bad : (f : PartFault) → Refuses (pattern d) us0 f → Refuses (pattern_segment d) ts f
-    pattern_segment_1_bad f z = refused _ _ (a s.Greater ∷ a s.OpenRound ∷ the (many s.CloseRound (the (expression d))) ∷ []) (λ x _ _ xs. pattern_segment_of x (lists.trees xs)) ts us0 f pattern_segment_1 ((λ t x. refl), (λ t x. refl), tt) z
+    pattern_segment_1_bad f z = refused _ _ (a s.Greater ∷ a s.OpenRound ∷ the (many s.CloseRound (the (expression d))) ∷ []) (λ x _ _ xs. pattern_segment_of x (lists.trees xs)) ts us0 f pattern_segment_1 (
+      (λ t x. refl),
+      (λ t x. refl),
+      tt,
+    ) z
 
     module _ (us1 : List Token) (o1 : m.Pattern) (p1 : ℕ) (y1 : ReadsPattern d n us0 o1 us1 p1) where
-      pattern_segment_2 : Goes (pattern_segment d) (itself (pattern_segment d)) (record { parts = a s.Greater ∷ a s.OpenRound ∷ the (many s.CloseRound (the (expression d))) ∷ []; build = λ _ _ xs. pattern_segment_of y1.says (lists.trees xs) } ∷ []) ts us1
-      pattern_segment_2 = pattern_segment_1 >> through _ _ (a s.Greater ∷ a s.OpenRound ∷ the (many s.CloseRound (the (expression d))) ∷ []) (λ x _ _ xs. pattern_segment_of x (lists.trees xs)) us0 us1 y1.says y1.passes ((λ t x. refl), (λ t x. refl), tt)
+      pattern_segment_2 : Goes (pattern_segment d) (itself (pattern_segment d)) (record {
+        parts = a s.Greater ∷ a s.OpenRound ∷ the (many s.CloseRound (the (expression d))) ∷ [];
+        build = λ _ _ xs. pattern_segment_of y1.says (lists.trees xs);
+      } ∷ []) ts us1
+      pattern_segment_2 = pattern_segment_1 >> through _ _ (a s.Greater ∷ a s.OpenRound ∷ the (many s.CloseRound (the (expression d))) ∷ []) (λ x _ _ xs. pattern_segment_of x (lists.trees xs)) us0 us1 y1.says y1.passes
+          ((λ t x. refl), (λ t x. refl), tt)
 
       pub pattern_segment_2_bad : (f : PartFault) → Misses s.Greater us1 f → Refuses (pattern_segment d) ts f
       pattern_segment_2_bad f z = lacking _ s.Greater (a s.OpenRound ∷ the (many s.CloseRound (the (expression d))) ∷ []) (λ _ _ xs. pattern_segment_of y1.says (lists.trees xs)) ts us1 f pattern_segment_2 z
 
       module _ (us2 : List Token) (y2 : Takes s.Greater us1 us2) where
-        pattern_segment_3 : Goes (pattern_segment d) (itself (pattern_segment d)) (record { parts = a s.OpenRound ∷ the (many s.CloseRound (the (expression d))) ∷ []; build = λ _ xs. pattern_segment_of y1.says (lists.trees xs) } ∷ []) ts us2
+        pattern_segment_3 : Goes (pattern_segment d) (itself (pattern_segment d))
+            (record { parts = a s.OpenRound ∷ the (many s.CloseRound (the (expression d))) ∷ []; build = λ _ xs. pattern_segment_of y1.says (lists.trees xs) } ∷ []) ts us2
         pattern_segment_3 = pattern_segment_2 >> take_class _ s.Greater (a s.OpenRound ∷ the (many s.CloseRound (the (expression d))) ∷ []) (λ _ _ xs. pattern_segment_of y1.says (lists.trees xs)) us1 us2 y2
 
         pub pattern_segment_3_bad : (f : PartFault) → Misses s.OpenRound us2 f → Refuses (pattern_segment d) ts f
@@ -121,7 +138,8 @@ module _ (d n : ℕ) (ts : List Token) where
               says = record { value = y1.says; args = lists.trees y4.says };
               passes = pattern_segment_5;
               agrees = ap (λ (r : m.Pattern × ℕ). let v = number_all r.1 (lists.trees y4.says) in let z : m.PatSegments × ℕ = (m.and_pat_segment r.0 v.0 m.no_pat_segment, v.1) in z) y1.agrees
-                  ∙ ap (λ (v : m.Trees × ℕ). let z : m.PatSegments × ℕ = (m.and_pat_segment o1 v.0 m.no_pat_segment, v.1) in z) y4.agrees ∙ ap (λ (c : lists.PatSegmentParts). let z : m.PatSegments × ℕ = (lists.pat_segments (c ∷ []), p4) in z) (sym g);
+                  ∙ ap (λ (v : m.Trees × ℕ). let z : m.PatSegments × ℕ = (m.and_pat_segment o1 v.0 m.no_pat_segment, v.1) in z) y4.agrees
+                  ∙ ap (λ (c : lists.PatSegmentParts). let z : m.PatSegments × ℕ = (lists.pat_segments (c ∷ []), p4) in z) (sym g);
             }
 
 -- The pattern behind a key.
@@ -137,11 +155,13 @@ module _ (d n : ℕ) (ts : List Token) where
     pattern_value left x p z = record { says = z.says; goes = λ o qs f g. take_class o s.Exact (the (pattern d) ∷ qs) (λ _. f) ts us y >> through (pattern d) o qs f us left z.says z.passes g; agrees = z.agrees }
 
 -- The pair of a key and a pattern that is read.
-pub pattern_value_pair : (d n : ℕ) (ts left : List Token) (x : m.Pattern) (p : ℕ) → ReadsPatternValue d n ts x left p → (key : m.Tree) (made_at : lists.PatPairParts) → made_at ≡ record { key = key; value = x } → ReadsPatternValueOf d n key ts made_at left p
+pub pattern_value_pair : (d n : ℕ) (ts left : List Token) (x : m.Pattern) (p : ℕ) → ReadsPatternValue d n ts x left p → (key : m.Tree) (made_at : lists.PatPairParts) → made_at ≡ record { key = key; value = x }
+    → ReadsPatternValueOf d n key ts made_at left p
 pattern_value_pair d n ts left x p z key made_at g = record { value = subst (λ v. ReadsPatternValue d n ts v left p) (sym (ap (λ (r : lists.PatPairParts). r.value) g)) z; key_is = ap (λ (r : lists.PatPairParts). r.key) g }
 
 -- the numbers of a pair
-pair_is : (n p q : ℕ) (k k' : m.Tree) (v : m.Pattern) (made_at : lists.PatPairParts) → number n k ≡ (k', p) → number_pattern p v ≡ (made_at.value, q) → made_at.key ≡ k' → number_pat_pairs n (m.and_pat_pair k v m.no_pat_pair) ≡ (lists.pat_pairs (made_at ∷ []), q)
+pair_is : (n p q : ℕ) (k k' : m.Tree) (v : m.Pattern) (made_at : lists.PatPairParts) → number n k ≡ (k', p) → number_pattern p v ≡ (made_at.value, q) → made_at.key ≡ k'
+    → number_pat_pairs n (m.and_pat_pair k v m.no_pat_pair) ≡ (lists.pat_pairs (made_at ∷ []), q)
 pair_is n p q k k' v made_at e f g = ap (λ (r : m.Tree × ℕ). let s = number_pattern r.1 v in let z : m.PatPairs × ℕ = (m.and_pat_pair r.0 s.0 m.no_pat_pair, s.1) in z) e
     ∙ ap (λ (s : m.Pattern × ℕ). let z : m.PatPairs × ℕ = (m.and_pat_pair k' s.0 m.no_pat_pair, s.1) in z) f ∙ ap (λ x. let z : m.PatPairs × ℕ = (m.and_pat_pair x made_at.value m.no_pat_pair, q) in z) (sym g)
 
@@ -180,7 +200,8 @@ pattern_pair_end d ts f z = ran_out (pattern_pair d) (itself (pattern_pair d)) t
 module _ (d n : ℕ) (ts us : List Token) (t : Token) (q : Sort) (place : Place) (b : Starts ts t q place us) where
   module _ (h : q ≡ s.OpenRound → ⊥) where
     pattern_pair_bare : Goes (pattern_pair d) (itself (pattern_pair d)) (record { parts = the (bare_pattern_pair d) ∷ []; build = λ x. x } ∷ []) ts ts
-    pattern_pair_bare = expand (pattern_pair d) (pattern_pair d) [] (λ x. x) [] ts >> expand (pattern_pair d) (noted_ (the (bare_pattern_pair d))) [] _ [] ts >> drop_second _ _ _ _ ts us t b.are (fits_no_other s.OpenRound (sort t) (λ z. absurd cc) (λ z. h (b.sort_is ∙ z)))
+    pattern_pair_bare = expand (pattern_pair d) (pattern_pair d) [] (λ x. x) [] ts >> expand (pattern_pair d) (noted_ (the (bare_pattern_pair d))) [] _ [] ts
+        >> drop_second _ _ _ _ ts us t b.are (fits_no_other s.OpenRound (sort t) (λ z. absurd cc) (λ z. h (b.sort_is ∙ z)))
 
     pub pattern_pair_bare_bad : (f : PartFault) → Refuses (bare_pattern_pair d) ts f → Refuses (pattern_pair d) ts f
     pattern_pair_bare_bad f z = refused _ _ [] (λ x. x) ts ts f pattern_pair_bare ((λ t x. refl), (λ t x. refl), tt) z
@@ -189,7 +210,8 @@ module _ (d n : ℕ) (ts us : List Token) (t : Token) (q : Sort) (place : Place)
     pattern_pair_bare_ok left made_at p z = record { says = z.says; passes = pattern_pair_bare >> through _ _ [] (λ x. x) ts left z.says z.passes ((λ t x. refl), (λ t x. refl), tt); agrees = z.agrees }
 
   module _ (h : q ≡ s.OpenRound) where
-    pattern_pair_open : Goes (pattern_pair d) (itself (pattern_pair d)) (record { parts = the (bare_expression d) ∷ the annotation ∷ a s.Exact ∷ the (pattern d) ∷ []; build = λ x k _ v. pair_of (note_tree k x) v } ∷ record { parts = the (bare_pattern_pair d) ∷ the annotation ∷ []; build = λ x _. x } ∷ []) ts us
+    pattern_pair_open : Goes (pattern_pair d) (itself (pattern_pair d)) (record { parts = the (bare_expression d) ∷ the annotation ∷ a s.Exact ∷ the (pattern d) ∷ []; build = λ x k _ v. pair_of (note_tree k x) v }
+        ∷ record { parts = the (bare_pattern_pair d) ∷ the annotation ∷ []; build = λ x _. x } ∷ []) ts us
     pattern_pair_open = taken (pattern_pair d) (itself (pattern_pair d)) ts us t s.OpenRound b.are (sym b.sort_is ∙ h) refl (tt, tt)
 
     pub pattern_pair_open_end : (f : PartFault) → RanOut us f → Refuses (pattern_pair d) ts f
@@ -216,7 +238,10 @@ module _ (d n : ℕ) (ts us : List Token) (t : Token) (q : Sort) (place : Place)
     -- none: the bracket is the key's where an annotation follows the key
     module _ (i : opens_with s.OpenRound us ≡ false) where
       abbrev key_thens : List (Then (bare_expression d) (pattern_pair d))
-      key_thens = record { parts = a s.Exact ∷ the (pattern d) ∷ the annotation ∷ []; build = λ x _ v _. pair_of x v } ∷ record { parts = the annotation ∷ a s.Exact ∷ the (pattern d) ∷ []; build = λ x k _ v. pair_of (note_tree k x) v } ∷ []
+      key_thens = record { parts = a s.Exact ∷ the (pattern d) ∷ the annotation ∷ []; build = λ x _ v _. pair_of x v } ∷ record {
+        parts = the annotation ∷ a s.Exact ∷ the (pattern d) ∷ [];
+        build = λ x k _ v. pair_of (note_tree k x) v;
+      } ∷ []
 
       pattern_pair_key : Goes (pattern_pair d) (itself (pattern_pair d)) (opened (bare_expression d) (pattern_pair d) key_thens) ts us
       pattern_pair_key = pattern_pair_open >> swapped _ _ _ [] us >> expand (pattern_pair d) (bare_pattern_pair d) (the annotation ∷ []) (λ x _. x) _ us
@@ -228,7 +253,8 @@ module _ (d n : ℕ) (ts us : List Token) (t : Token) (q : Sort) (place : Place)
       pattern_pair_key_bad f z = refused_in (bare_expression d) (pattern_pair d) key_thens ts us f pattern_pair_key tt ((λ t x. refl), (λ t x. refl), ((λ t x. refl), (λ t x. refl), tt)) z
 
       module _ (ws : List Token) (x : m.Tree) (p : ℕ) (y : ReadsBareExpression d n us x ws p) where
-        key_read : Goes (pattern_pair d) (itself (pattern_pair d)) (record { parts = a s.Exact ∷ the (pattern d) ∷ the annotation ∷ []; build = λ _ v _. pair_of y.says v } ∷ record { parts = the annotation ∷ a s.Exact ∷ the (pattern d) ∷ []; build = λ k _ v. pair_of (note_tree k y.says) v } ∷ []) ts ws
+        key_read : Goes (pattern_pair d) (itself (pattern_pair d)) (record { parts = a s.Exact ∷ the (pattern d) ∷ the annotation ∷ []; build = λ _ v _. pair_of y.says v }
+            ∷ record { parts = the annotation ∷ a s.Exact ∷ the (pattern d) ∷ []; build = λ k _ v. pair_of (note_tree k y.says) v } ∷ []) ts ws
         key_read = pattern_pair_key >> pass (bare_expression d) (pattern_pair d) key_thens us ws y.says ((λ t x. refl), (λ t x. refl), ((λ t x. refl), (λ t x. refl), tt)) y.passes
 
         pub pattern_pair_key_end : (f : PartFault) → RanOut ws f → Refuses (pattern_pair d) ts f

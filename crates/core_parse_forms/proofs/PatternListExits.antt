@@ -38,7 +38,8 @@ pub record PatternElements (d n : ℕ) (place : Place) (ts left : List Token) (k
   pub agrees : number_each number_pattern (n + 1) raw ≡ (map pattern_tree items, p)
 
 -- elements that move to the front of what is left
-moved : (k : ℕ) (f : Action (closers k) m.Pattern) (place : Place) (raw more rest : List m.Pattern) (x : m.Pattern) → EndsPattern k f (m.list_of (at place) (lists.patterns (raw ++ (more ++ rest))) x) → EndsPattern k f (m.list_of (at place) (lists.patterns ((raw ++ more) ++ rest)) x)
+moved : (k : ℕ) (f : Action (closers k) m.Pattern) (place : Place) (raw more rest : List m.Pattern) (x : m.Pattern) → EndsPattern k f (m.list_of (at place) (lists.patterns (raw ++ (more ++ rest))) x)
+    → EndsPattern k f (m.list_of (at place) (lists.patterns ((raw ++ more) ++ rest)) x)
 moved k f place raw more rest x h = subst (λ z. EndsPattern k f (m.list_of (at place) (lists.patterns z) x)) (sym (append_assoc raw more rest)) h
 
 placed : (n : ℕ) (f : Mark → m.Pattern) (p q : Place) → p ≡ q → (e : m.Pattern) → e ≡ f (mark n p) → (let z : m.Pattern × ℕ = (f (mark n q), n + 1) in z) ≡ (e, n + 1)
@@ -48,22 +49,29 @@ module _ (d n : ℕ) (ts us : List Token) (t : Token) (q : Sort) (place : Place)
   -- a string
   module _ (h : q ≡ s.Text) where
     pub pattern_string_deep : d ≡ depth_limit → Sinks (bare_pattern d) (itself (bare_pattern d)) ts place
-    pattern_string_deep w = subst (Sinks (bare_pattern d) (itself (bare_pattern d)) ts) (sym b.place_is) (sink_at 12 (bare_pattern d) (itself (bare_pattern d)) (itself (bare_pattern d)) ts us t (subst (λ x. Goes (bare_pattern d) (itself (bare_pattern d)) (itself (bare_pattern d)) ts x) b.are (stay (bare_pattern d) (itself (bare_pattern d)) ts)) tt
+    pattern_string_deep w = subst (Sinks (bare_pattern d) (itself (bare_pattern d)) ts) (sym b.place_is)
+        (sink_at 12 (bare_pattern d) (itself (bare_pattern d)) (itself (bare_pattern d)) ts us t
+        (subst (λ x. Goes (bare_pattern d) (itself (bare_pattern d)) (itself (bare_pattern d)) ts x) b.are (stay (bare_pattern d) (itself (bare_pattern d)) ts)) tt
         (subst (λ k. Deep 12 (bare_pattern d) t k (itself (bare_pattern d)) depth_limit) (sym (sym b.sort_is ∙ h)) ((omega (arith, w), tt), tt))
         (subst (λ k. Shallow 12 (bare_pattern d) t k (itself (bare_pattern d)) deeper_limit) (sym (sym b.sort_is ∙ h)) ((omega (arith, w), tt), tt))
         (subst (λ k. Is_open (bare_pattern d) (next 12 (bare_pattern d) t k (itself (bare_pattern d)))) (sym (sym b.sort_is ∙ h)) tt))
 
-    pub pattern_string : d + 1 ≤ depth_limit → (none items : List Pattern) (k : Mark) (tail made : m.Pattern) (r : ℕ) → none ≡ [] → map pattern_tree items ≡ map pattern_tree none ++ labelled_byte_patterns (n + 1) t.place (text t) → r ≡ n + 1 + length (text t) → tail ≡ m.equals (mark r place) l.Nil
+    pub pattern_string : d + 1 ≤ depth_limit → (none items : List Pattern) (k : Mark) (tail made : m.Pattern) (r : ℕ) → none ≡ []
+        → map pattern_tree items ≡ map pattern_tree none ++ labelled_byte_patterns (n + 1) t.place (text t) → r ≡ n + 1 + length (text t) → tail ≡ m.equals (mark r place) l.Nil
         → k ≡ mark n place → made ≡ m.list_of k (all_patterns items) tail → ReadsBarePattern d n ts made us (r + 1)
     pattern_string w none items k tail made r o i j f e g = record {
       says = m.list_of (at t.place) (lists.patterns (byte_patterns t.place (text t))) (nil_pattern t.place);
       passes = taken (bare_pattern d) (itself (bare_pattern d)) ts us t s.Text b.are (sym b.sort_is ∙ h) refl ((w, tt), tt);
-      agrees = list_of_is n r (r + 1) (at t.place) (byte_patterns t.place (text t)) (map pattern_tree items) (nil_pattern t.place) tail (byte_patterns_are (n + 1) r t.place (text t) (map pattern_tree items) (i ∙ ap (λ z. map pattern_tree z ++ labelled_byte_patterns (n + 1) t.place (text t)) o) j) (placed r (λ k. m.equals k l.Nil) place t.place b.place_is tail f)
-          ∙ ap (λ (z : Place). let w : m.Pattern × ℕ = (m.list_of (mark n z) (all_patterns items) tail, r + 1) in w) (sym b.place_is) ∙ ap (λ z. let w : m.Pattern × ℕ = (z, r + 1) in w) (sym (g ∙ ap (λ z. m.list_of z (all_patterns items) tail) e));
+      agrees = list_of_is n r (r + 1) (at t.place) (byte_patterns t.place (text t)) (map pattern_tree items) (nil_pattern t.place) tail
+          (byte_patterns_are (n + 1) r t.place (text t) (map pattern_tree items) (i ∙ ap (λ z. map pattern_tree z ++ labelled_byte_patterns (n + 1) t.place (text t)) o) j)
+          (placed r (λ k. m.equals k l.Nil) place t.place b.place_is tail f)
+          ∙ ap (λ (z : Place). let w : m.Pattern × ℕ = (m.list_of (mark n z) (all_patterns items) tail, r + 1) in w) (sym b.place_is)
+          ∙ ap (λ z. let w : m.Pattern × ℕ = (z, r + 1) in w) (sym (g ∙ ap (λ z. m.list_of z (all_patterns items) tail) e));
     }
 
   module _ (h : q ≡ s.OpenSquare) (w : d ≤ depth_limit) where
-    list_square : Goes (bare_pattern d) (itself (bare_pattern d)) (record { parts = the (pattern (d + 1)) ∷ the (pattern_rest d) ∷ []; build = λ x r. m.list_of (at t.place) (lists.patterns (x ∷ r.items)) r.tail } ∷ record { parts = a s.CloseSquare ∷ []; build = λ _. nil_pattern t.place } ∷ []) ts us
+    list_square : Goes (bare_pattern d) (itself (bare_pattern d)) (record { parts = the (pattern (d + 1)) ∷ the (pattern_rest d) ∷ []; build = λ x r. m.list_of (at t.place) (lists.patterns (x ∷ r.items)) r.tail }
+        ∷ record { parts = a s.CloseSquare ∷ []; build = λ _. nil_pattern t.place } ∷ []) ts us
     list_square = taken (bare_pattern d) (itself (bare_pattern d)) ts us t s.OpenSquare b.are (sym b.sort_is ∙ h) refl ((w, (w, tt)), tt)
 
     pub pattern_list_open_end : (f : PartFault) → RanOut us f → Refuses (bare_pattern d) ts f
@@ -84,7 +92,8 @@ module _ (d n : ℕ) (ts us : List Token) (t : Token) (q : Sort) (place : Place)
         pub pattern_list_first_bad : (f : PartFault) → Refuses (pattern (d + 1)) us f → Refuses (bare_pattern d) ts f
         pattern_list_first_bad f y = refused _ _ (the (pattern_rest d) ∷ []) (λ x r. m.list_of (at t.place) (lists.patterns (x ∷ r.items)) r.tail) ts us f list_items ((λ t x. refl), (λ t x. refl), tt) y
 
-        pub pattern_list_first_item : (ws : List Token) (x : Pattern) (items grown : List Pattern) (p : ℕ) → items ≡ [] → grown ≡ items ++ x ∷ [] → ReadsPattern (d + 1) (n + 1) us (pattern_tree x) ws p → PatternElements d n place ts ws 0 grown p
+        pub pattern_list_first_item : (ws : List Token) (x : Pattern) (items grown : List Pattern) (p : ℕ) → items ≡ [] → grown ≡ items ++ x ∷ [] → ReadsPattern (d + 1) (n + 1) us (pattern_tree x) ws p
+            → PatternElements d n place ts ws 0 grown p
         pattern_list_first_item ws x items grown p y g v = record {
           build = λ r. m.list_of (at t.place) (lists.patterns (v.says ∷ r.items)) r.tail;
           goes = list_items >> through _ _ (the (pattern_rest d) ∷ []) (λ x r. m.list_of (at t.place) (lists.patterns (x ∷ r.items)) r.tail) us ws v.says v.passes ((λ t x. refl), (λ t x. refl), tt);
@@ -95,8 +104,10 @@ module _ (d n : ℕ) (ts us : List Token) (t : Token) (q : Sort) (place : Place)
 
 module _ (d n : ℕ) (place : Place) (ts us : List Token) (k : ℕ) (items : List Pattern) (p : ℕ) (e : PatternElements d n place ts us k items p) where
   -- the list ends in this tail
-  ended_by : (j : ℕ) (xs : List Token) (o : ℕ) (build : Action (closers j) m.Pattern) (more : List m.Pattern) (all : m.Patterns) (x tail : m.Pattern) → Goes (bare_pattern d) (itself (bare_pattern d)) (record { parts = closers j; build = build } ∷ []) ts xs
-      → EndsPattern j build (m.list_of (at place) (lists.patterns (e.raw ++ more)) x) → number_pattern n (m.list_of (at place) (lists.patterns (e.raw ++ more)) x) ≡ (m.list_of (mark n place) all tail, o) → ReadsPatternElements d n place ts j all tail xs o
+  ended_by : (j : ℕ) (xs : List Token) (o : ℕ) (build : Action (closers j) m.Pattern) (more : List m.Pattern) (all : m.Patterns) (x tail : m.Pattern)
+      → Goes (bare_pattern d) (itself (bare_pattern d)) (record { parts = closers j; build = build } ∷ []) ts xs
+      → EndsPattern j build (m.list_of (at place) (lists.patterns (e.raw ++ more)) x) → number_pattern n (m.list_of (at place) (lists.patterns (e.raw ++ more)) x) ≡ (m.list_of (mark n place) all tail, o)
+      → ReadsPatternElements d n place ts j all tail xs o
   ended_by j xs o build more all x tail g h i = record { build = build; goes = g; raw = e.raw ++ more; raw_tail = x; ends = h; agrees = i }
 
   no_more : number_each number_pattern (n + 1) (e.raw ++ []) ≡ (map pattern_tree items, p)
@@ -174,13 +185,15 @@ module _ (d n : ℕ) (place : Place) (ts us : List Token) (k : ℕ) (items : Lis
                   }
 
         -- a tail that is a string
-        pub pattern_list_string : r ≡ s.Text → d + 1 ≤ depth_limit → (grown : List Pattern) (x : Pattern) (o : ℕ) → map pattern_tree grown ≡ map pattern_tree items ++ labelled_byte_patterns p u.place (text u) → o ≡ p + length (text u)
+        pub pattern_list_string : r ≡ s.Text → d + 1 ≤ depth_limit → (grown : List Pattern) (x : Pattern) (o : ℕ) → map pattern_tree grown ≡ map pattern_tree items ++ labelled_byte_patterns p u.place (text u)
+            → o ≡ p + length (text u)
             → pattern_tree x ≡ m.equals (mark o there) l.Nil → ReadsPatternElements d n place ts (k + 1) (all_patterns grown) (pattern_tree x) ws (o + 1)
         pattern_list_string g w grown x o i j f = subst (λ z. ReadsPatternElements d n place ts z (all_patterns grown) (pattern_tree x) ws (o + 1)) (sym (add-one k))
             (ended_by (suc k) ws (o + 1) (λ _. e.build (merged (string_patterns u))) (byte_patterns u.place (text u)) (all_patterns grown) (nil_pattern u.place) (pattern_tree x)
             (list_bar >> taken (bare_pattern d) _ vs ws u s.Text c.are (sym c.sort_is ∙ g) refl ((w, tt), tt)) (λ _. e.ends (merged (string_patterns u)))
             (list_of_is n o (o + 1) (at place) (e.raw ++ byte_patterns u.place (text u)) (map pattern_tree grown) (nil_pattern u.place) (pattern_tree x)
-            (each_append number_pattern (n + 1) p o e.raw (byte_patterns u.place (text u)) (map pattern_tree items) (labelled_byte_patterns p u.place (text u)) e.agrees (byte_patterns_are p o u.place (text u) (labelled_byte_patterns p u.place (text u)) refl j)
+            (each_append number_pattern (n + 1) p o e.raw (byte_patterns u.place (text u)) (map pattern_tree items) (labelled_byte_patterns p u.place (text u)) e.agrees
+            (byte_patterns_are p o u.place (text u) (labelled_byte_patterns p u.place (text u)) refl j)
             ∙ ap (λ z. let y : List m.Pattern × ℕ = (z, o) in y) (sym i))
             (placed o (λ k. m.equals k l.Nil) there u.place c.place_is (pattern_tree x) f)))
 
@@ -226,7 +239,8 @@ module _ (d n : ℕ) (place : Place) (ts us : List Token) (k : ℕ) (items : Lis
               (λ _. e.ends (only_tail v.says)) (list_of_is n p o (at place) (e.raw ++ []) (map pattern_tree items) v.says x no_more v.agrees))
 
     pub pattern_list_stuck : (q ≡ s.CloseSquare → ⊥) → (q ≡ s.Comma → ⊥) → (q ≡ s.Bar → ⊥) → Stops (bare_pattern d) (itself (bare_pattern d)) ts here
-    pattern_list_stuck x y z = subst (Stops (bare_pattern d) (itself (bare_pattern d)) ts) (sym b.place_is) (halted (bare_pattern d) _ _ ts us vs t e.goes b.are tt (go (sort t) (λ v. x (b.sort_is ∙ v)) (λ v. y (b.sort_is ∙ v)) (λ v. z (b.sort_is ∙ v))))
+    pattern_list_stuck x y z = subst (Stops (bare_pattern d) (itself (bare_pattern d)) ts) (sym b.place_is)
+        (halted (bare_pattern d) _ _ ts us vs t e.goes b.are tt (go (sort t) (λ v. x (b.sort_is ∙ v)) (λ v. y (b.sort_is ∙ v)) (λ v. z (b.sort_is ∙ v))))
       where
         go : (q : Sort) → (q ≡ s.CloseSquare → ⊥) → (q ≡ s.Comma → ⊥) → (q ≡ s.Bar → ⊥) → Shut (bare_pattern d) t q (record { parts = the (pattern_rest d) ∷ closers k; build = e.build } ∷ [])
         go s.CloseSquare x y z = absurd (x refl)

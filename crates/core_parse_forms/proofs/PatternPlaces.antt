@@ -65,4 +65,5 @@ annotation_begins l (t ∷ ts) us k (part (later z)) = elim z [ ]
 
 -- An annotation that is read has its sign first.
 pub annotation_first : (ts left : List Token) (k : Note) → Passes annotation ts k left → opens_with s.Noted ts ≡ true
-annotation_first ts left k g = annotation_begins depth_limit ts left k (subst (λ y. Matches all depth_limit (the annotation) y k left) (sym g.split) (un_itself all depth_limit annotation (g.used ++ left) left k (g.there all depth_limit (omega arith) left k left (inl none))))
+annotation_first ts left k g = annotation_begins depth_limit ts left k (subst (λ y. Matches all depth_limit (the annotation) y k left) (sym g.split)
+    (un_itself all depth_limit annotation (g.used ++ left) left k (g.there all depth_limit (omega arith) left k left (inl none))))

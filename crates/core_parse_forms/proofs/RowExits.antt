@@ -36,7 +36,8 @@ segment_of x xs = record { value = x; args = lists.trees xs }
 
 -- #< expression > ( expressions )
 module _ (d n : ℕ) (ts : List Token) where
-  segment_0 : Goes (segment d) (itself (segment d)) (record { parts = a s.OpenSegment ∷ the (expression d) ∷ a s.Greater ∷ a s.OpenRound ∷ the (many s.CloseRound (the (expression d))) ∷ []; build = λ _ x _ _ xs. segment_of x xs } ∷ []) ts ts
+  segment_0 : Goes (segment d) (itself (segment d)) (record { parts = a s.OpenSegment ∷ the (expression d) ∷ a s.Greater ∷ a s.OpenRound ∷ the (many s.CloseRound (the (expression d))) ∷ []; build = λ _ x _ _ xs. segment_of x xs }
+      ∷ []) ts ts
   segment_0 = expand (segment d) (segment d) [] (λ x. x) [] ts
 
   pub segment_0_bad : (f : PartFault) → Misses s.OpenSegment ts f → Refuses (segment d) ts f
@@ -86,7 +87,8 @@ function_of place xs e = record { mark = at place; params = xs; body = e }
 -- The fun of a definition: fun ( variables ) -> expression
 module _ (d n : ℕ) (ts us : List Token) (t : Token) (q : Sort) (place : Place) (b : Starts ts t q place us) where
   pub function_dull : (q ≡ s.Fun → ⊥) → Stops (function d) (itself (function d)) ts place
-  function_dull h = subst (Stops (function d) (itself (function d)) ts) (sym b.place_is) (lacking _ s.Fun (a s.OpenRound ∷ the (many s.CloseRound (the variable)) ∷ a s.Arrow ∷ the (expression d) ∷ []) (λ t _ xs _ e. function_of t.place xs e) ts ts (Syntax t.place)
+  function_dull h = subst (Stops (function d) (itself (function d)) ts) (sym b.place_is)
+      (lacking _ s.Fun (a s.OpenRound ∷ the (many s.CloseRound (the variable)) ∷ a s.Arrow ∷ the (expression d) ∷ []) (λ t _ xs _ e. function_of t.place xs e) ts ts (Syntax t.place)
       (expand (function d) (function d) [] (λ x. x) [] ts) (record { first = t; left = us; are = b.are; place_is = refl; other = fits_no_other s.Fun (sort t) (λ z. absurd cc) (λ z. h (b.sort_is ∙ z)) }))
 
   module _ (h : q ≡ s.Fun) where
@@ -151,7 +153,8 @@ module _ (d n : ℕ) (ts us : List Token) (t : Token) (q : Sort) (place : Place)
     }
 
   module _ (h : q ≡ s.OpenRound) where
-    inner_fun : (f : Noted FunctionParts → FunDefOf m.Tree) → Goes (definition d) (fun_branch d f ∷ []) (record { parts = the (function d) ∷ the annotation ∷ []; build = λ x k. f (record { value = x; note = Some k }) } ∷ []) ts us
+    inner_fun : (f : Noted FunctionParts → FunDefOf m.Tree) → Goes (definition d) (fun_branch d f ∷ [])
+        (record { parts = the (function d) ∷ the annotation ∷ []; build = λ x k. f (record { value = x; note = Some k }) } ∷ []) ts us
     inner_fun f = taken (definition d) (fun_branch d f ∷ []) ts us t s.OpenRound b.are (sym b.sort_is ∙ h) refl (tt, tt)
 
     pub function_in_bad : (e : PartFault) → Refuses (function d) us e → RefusesNotedFunction d ts e
@@ -175,7 +178,10 @@ module _ (d n : ℕ) (ts us : List Token) (t : Token) (q : Sort) (place : Place)
 
 -- A definition: function_name = fun, each with or without annotation brackets
 module _ (d n : ℕ) (ts : List Token) where
-  definition_0 : Goes (definition d) (itself (definition d)) (record { parts = the (noted_ (the function_name)) ∷ a s.Equals ∷ the (noted_ (the (function d))) ∷ []; build = λ x _ f. definition_of x.value.name (with_note note_function f) } ∷ []) ts ts
+  definition_0 : Goes (definition d) (itself (definition d)) (record {
+    parts = the (noted_ (the function_name)) ∷ a s.Equals ∷ the (noted_ (the (function d))) ∷ [];
+    build = λ x _ f. definition_of x.value.name (with_note note_function f);
+  } ∷ []) ts ts
   definition_0 = expand (definition d) (definition d) [] (λ x. x) [] ts
 
   pub definition_0_bad : (f : PartFault) → Refuses (noted_ (the function_name)) ts f → Refuses (definition d) ts f
@@ -195,7 +201,8 @@ module _ (d n : ℕ) (ts : List Token) where
       pub definition_2_bad : (f : PartFault) → RefusesNotedFunction d us1 f → Refuses (definition d) ts f
       definition_2_bad f z = z (λ f. definition_of y0.says.value.name (with_note note_function f)) ts definition_2
 
-      pub definition_ok : (us2 : List Token) (k : Mark) (xs : List VarName) (o2 : m.Tree) (p : ℕ) → ReadsNotedFunction d n us1 k xs o2 us2 p → (x : FunDefOf m.Tree) → x ≡ record { name = o0; mark = k; fun = record { params = xs; body = o2 } } → ReadsDefinition d n ts x us2 p
+      pub definition_ok : (us2 : List Token) (k : Mark) (xs : List VarName) (o2 : m.Tree) (p : ℕ) → ReadsNotedFunction d n us1 k xs o2 us2 p → (x : FunDefOf m.Tree)
+          → x ≡ record { name = o0; mark = k; fun = record { params = xs; body = o2 } } → ReadsDefinition d n ts x us2 p
       definition_ok us2 k xs o2 p y2 x g = record {
         says = definition_of y0.says.value.name (with_note note_function y2.says);
         passes = definition_2 >> y2.goes (λ f. definition_of y0.says.value.name (with_note note_function f));

@@ -41,12 +41,14 @@ definition_exact s.In k e = absurd cc
 definition_exact s.End k e = absurd cc
 definition_exact _ k e = absurd cc
 
-definition_guarded : (c : Sort) (d : ℕ) → ends_definitions c ≡ true → (b : FunDefOf m.Tree → List (FunDefOf m.Tree) → List (FunDefOf m.Tree)) → Guarded (definition d) (definitions c d) (record { parts = the (definitions c d) ∷ []; build = b } ∷ [])
+definition_guarded : (c : Sort) (d : ℕ) → ends_definitions c ≡ true → (b : FunDefOf m.Tree → List (FunDefOf m.Tree) → List (FunDefOf m.Tree))
+    → Guarded (definition d) (definitions c d) (record { parts = the (definitions c d) ∷ []; build = b } ∷ [])
 definition_guarded s.In d k b = ((λ t x. refl), (λ t x. refl), tt)
 definition_guarded s.End d k b = ((λ t x. refl), (λ t x. refl), tt)
 definition_guarded _ d k b = absurd cc
 
-definition_shut : (c : Sort) (d : ℕ) → ends_definitions c ≡ true → (us vs : List Token) (t : Token) → us ≡ t ∷ vs → sort t ≡ c → (b : List (FunDefOf m.Tree) → List (FunDefOf m.Tree)) → Goes (definitions c d) (record { parts = the (definitions c d) ∷ []; build = b } ∷ []) (said (definitions c d) (b [])) us vs
+definition_shut : (c : Sort) (d : ℕ) → ends_definitions c ≡ true → (us vs : List Token) (t : Token) → us ≡ t ∷ vs → sort t ≡ c → (b : List (FunDefOf m.Tree) → List (FunDefOf m.Tree))
+    → Goes (definitions c d) (record { parts = the (definitions c d) ∷ []; build = b } ∷ []) (said (definitions c d) (b [])) us vs
 definition_shut s.In d k us vs t e h b = taken (definitions s.In d) _ us vs t s.In e h refl (tt, tt)
 definition_shut s.End d k us vs t e h b = taken (definitions s.End d) _ us vs t s.End e h refl (tt, tt)
 definition_shut _ d k us vs t e h b = absurd cc

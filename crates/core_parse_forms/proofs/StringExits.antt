@@ -37,7 +37,8 @@ pub bytes_are : (n p : ℕ) (place : Place) (bs : List ℕ) (done : List m.Tree)
 bytes_are n p place bs done e h = bytes_each n place bs ∙ ap (λ (k : ℕ). let z : List m.Tree × ℕ = (labelled_bytes n place bs, k) in z) (sym h) ∙ ap (λ k. let z : List m.Tree × ℕ = (k, p) in z) (sym e)
 
 pub byte_patterns_are : (n p : ℕ) (place : Place) (bs : List ℕ) (done : List m.Pattern) → done ≡ labelled_byte_patterns n place bs → p ≡ n + length bs → number_each number_pattern n (byte_patterns place bs) ≡ (done, p)
-byte_patterns_are n p place bs done e h = byte_patterns_each n place bs ∙ ap (λ (k : ℕ). let z : List m.Pattern × ℕ = (labelled_byte_patterns n place bs, k) in z) (sym h) ∙ ap (λ k. let z : List m.Pattern × ℕ = (k, p) in z) (sym e)
+byte_patterns_are n p place bs done e h = byte_patterns_each n place bs ∙ ap (λ (k : ℕ). let z : List m.Pattern × ℕ = (labelled_byte_patterns n place bs, k) in z) (sym h)
+    ∙ ap (λ k. let z : List m.Pattern × ℕ = (k, p) in z) (sym e)
 
 -- A string weighs its bytes and two.
 pub text_weight : (k : TokenKind) → kind_sort k ≡ s.Text → kind_weight k ≡ length (kind_text k) + 2

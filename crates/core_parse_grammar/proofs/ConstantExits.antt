@@ -33,7 +33,8 @@ module _ (d : ℕ) where
   module _ (ts us : List Token) (t : Token) (q : Sort) (place : Place) (b : Starts ts t q place us) where
     -- no constant begins so
     pub constant_dull : (y : Bool) → y ≡ begins_constant q → y ≡ false → Stops (constant d) (itself (constant d)) ts place
-    constant_dull y g p = subst (Stops (constant d) (itself (constant d)) ts) (sym b.place_is) (halted (constant d) _ _ ts ts us t (stay (constant d) (itself (constant d)) ts) b.are tt (go (sort t) (ap begins_constant (sym b.sort_is) ∙ sym g ∙ p)))
+    constant_dull y g p = subst (Stops (constant d) (itself (constant d)) ts) (sym b.place_is)
+        (halted (constant d) _ _ ts ts us t (stay (constant d) (itself (constant d)) ts) b.are tt (go (sort t) (ap begins_constant (sym b.sort_is) ∙ sym g ∙ p)))
       where
         go : (q : Sort) → begins_constant q ≡ false → Shut (constant d) t q (itself (constant d))
         go s.Small p = absurd cc
@@ -53,7 +54,8 @@ module _ (d : ℕ) where
     -- a constant too deep
     pub constant_deep : (x : Bool) → x ≡ too_deep q d → x ≡ true → d ≤ 401 → (y : Bool) → y ≡ begins_constant q → y ≡ true → Sinks (constant d) (itself (constant d)) ts place
     constant_deep x e h r y g p = subst (Sinks (constant d) (itself (constant d)) ts) (sym b.place_is)
-        (sink_at 12 (constant d) _ _ ts us t (subst (λ x. Goes (constant d) (itself (constant d)) (itself (constant d)) ts x) b.are (stay (constant d) (itself (constant d)) ts)) tt (deep (sort t) h_ p_) (shallow (sort t) p_) (on (sort t) p_))
+        (sink_at 12 (constant d) _ _ ts us t (subst (λ x. Goes (constant d) (itself (constant d)) (itself (constant d)) ts x) b.are (stay (constant d) (itself (constant d)) ts)) tt (deep (sort t) h_ p_) (shallow (sort t) p_)
+        (on (sort t) p_))
       where
         h_ : too_deep (sort t) d ≡ true
         h_ = ap (λ z. too_deep z d) (sym b.sort_is) ∙ sym e ∙ h
@@ -157,7 +159,11 @@ module _ (d : ℕ) (ts us : List Token) (t : Token) (q : Sort) (place : Place) (
     curly_bad f z = refused _ _ [] (λ cs. tuple_constant cs) ts us f curly_0 ((λ t x. refl), (λ t x. refl), tt) z
 
     pub curly_ok : (vs : List Token) (xs ys : List Constant) (v : Constant) → ReadsConstants s.CloseCurly (d + 1) us xs vs → v ≡ tuple_constant ys → ys ≡ xs → ReadsOtherConstant d ts v vs
-    curly_ok vs xs ys v z e g = record { says = tuple_constant z.says; passes = curly_0 >> through _ _ [] (λ cs. tuple_constant cs) us vs z.says z.passes ((λ t x. refl), (λ t x. refl), tt); agrees = ap tuple_constant (z.agrees ∙ sym g) ∙ sym e }
+    curly_ok vs xs ys v z e g = record {
+      says = tuple_constant z.says;
+      passes = curly_0 >> through _ _ [] (λ cs. tuple_constant cs) us vs z.says z.passes ((λ t x. refl), (λ t x. refl), tt);
+      agrees = ap tuple_constant (z.agrees ∙ sym g) ∙ sym e;
+    }
 
   module _ (h : q ≡ s.OpenBinary) where
     binary_0 : Goes (other_constant d) (itself (other_constant d)) (record { parts = the (many s.CloseBinary (the (constant_segment (d + 1)))) ∷ []; build = λ _. Another } ∷ []) ts us
@@ -201,13 +207,20 @@ module _ (d : ℕ) (ts us : List Token) (t : Token) (q : Sort) (place : Place) (
         fun_name_bad f z = refused _ _ [] (λ _. Another) ts us2 f fun_2 ((λ t x. refl), (λ t x. refl), tt) z
 
         pub fun_ok : (vs : List Token) (p : Place) (n : FunName) (v : Constant) → ReadsFunctionName us2 p n vs → v ≡ Another → (ws : List Token) → ws ≡ vs → ReadsOtherConstant d ts v ws
-        fun_ok vs p n v z e ws g = record { says = Another; passes = fun_2 >> through _ _ [] (λ _. Another) us2 ws z.says (subst (λ k. Passes function_name us2 z.says k) (sym g) z.passes) ((λ t x. refl), (λ t x. refl), tt); agrees = sym e }
+        fun_ok vs p n v z e ws g = record {
+          says = Another;
+          passes = fun_2 >> through _ _ [] (λ _. Another) us2 ws z.says (subst (λ k. Passes function_name us2 z.says k) (sym g) z.passes) ((λ t x. refl), (λ t x. refl), tt);
+          agrees = sym e;
+        }
 
-  pub other_stuck : (o : Option Constant) → o ≡ single_constant q t → o ≡ None → (q ≡ s.OpenSquare → ⊥) → (q ≡ s.OpenCurly → ⊥) → (q ≡ s.Fun → ⊥) → (q ≡ s.OpenBinary → ⊥) → (q ≡ s.OpenMap → ⊥) → Stops (other_constant d) (itself (other_constant d)) ts place
+  pub other_stuck : (o : Option Constant) → o ≡ single_constant q t → o ≡ None → (q ≡ s.OpenSquare → ⊥) → (q ≡ s.OpenCurly → ⊥) → (q ≡ s.Fun → ⊥) → (q ≡ s.OpenBinary → ⊥) → (q ≡ s.OpenMap → ⊥)
+      → Stops (other_constant d) (itself (other_constant d)) ts place
   other_stuck o e h a1 a2 a3 a4 a5 = subst (Stops (other_constant d) (itself (other_constant d)) ts) (sym b.place_is)
-      (halted (other_constant d) _ _ ts ts us t (stay (other_constant d) (itself (other_constant d)) ts) b.are tt (go (sort t) (ap (λ z. single_constant z t) (sym b.sort_is) ∙ sym e ∙ h) (λ z. a1 (b.sort_is ∙ z)) (λ z. a2 (b.sort_is ∙ z)) (λ z. a3 (b.sort_is ∙ z)) (λ z. a4 (b.sort_is ∙ z)) (λ z. a5 (b.sort_is ∙ z))))
+      (halted (other_constant d) _ _ ts ts us t (stay (other_constant d) (itself (other_constant d)) ts) b.are tt
+      (go (sort t) (ap (λ z. single_constant z t) (sym b.sort_is) ∙ sym e ∙ h) (λ z. a1 (b.sort_is ∙ z)) (λ z. a2 (b.sort_is ∙ z)) (λ z. a3 (b.sort_is ∙ z)) (λ z. a4 (b.sort_is ∙ z)) (λ z. a5 (b.sort_is ∙ z))))
     where
-      go : (q : Sort) → single_constant q t ≡ None → (q ≡ s.OpenSquare → ⊥) → (q ≡ s.OpenCurly → ⊥) → (q ≡ s.Fun → ⊥) → (q ≡ s.OpenBinary → ⊥) → (q ≡ s.OpenMap → ⊥) → Shut (other_constant d) t q (itself (other_constant d))
+      go : (q : Sort) → single_constant q t ≡ None → (q ≡ s.OpenSquare → ⊥) → (q ≡ s.OpenCurly → ⊥) → (q ≡ s.Fun → ⊥) → (q ≡ s.OpenBinary → ⊥) → (q ≡ s.OpenMap → ⊥)
+          → Shut (other_constant d) t q (itself (other_constant d))
       go s.Small e a1 a2 a3 a4 a5 = absurd cc
       go s.Integer e a1 a2 a3 a4 a5 = absurd cc
       go s.Char e a1 a2 a3 a4 a5 = absurd cc
@@ -223,12 +236,48 @@ module _ (d : ℕ) (ts us : List Token) (t : Token) (q : Sort) (place : Place) (
 
 -- lists of constants
 pub constants_closed : (d : ℕ) (c : Sort) → closing c ≡ true → Closes c (constant d)
-constants_closed d s.CloseRound k = record { empty = λ ts left t e h. taken _ (itself _) ts left t s.CloseRound e h refl (tt, tt); guarded = λ b. ((λ t x. refl), (λ t x. refl), tt); exact = λ z. absurd cc; own = refl; no_comma = λ z. absurd cc }
-constants_closed d s.CloseCurly k = record { empty = λ ts left t e h. taken _ (itself _) ts left t s.CloseCurly e h refl (tt, tt); guarded = λ b. ((λ t x. refl), (λ t x. refl), tt); exact = λ z. absurd cc; own = refl; no_comma = λ z. absurd cc }
-constants_closed d s.CloseSquare k = record { empty = λ ts left t e h. taken _ (itself _) ts left t s.CloseSquare e h refl (tt, tt); guarded = λ b. ((λ t x. refl), (λ t x. refl), tt); exact = λ z. absurd cc; own = refl; no_comma = λ z. absurd cc }
-constants_closed d s.Greater k = record { empty = λ ts left t e h. taken _ (itself _) ts left t s.Greater e h refl (tt, tt); guarded = λ b. ((λ t x. refl), (λ t x. refl), tt); exact = λ z. absurd cc; own = refl; no_comma = λ z. absurd cc }
-constants_closed d s.CloseBinary k = record { empty = λ ts left t e h. taken _ (itself _) ts left t s.CloseBinary e h refl (tt, tt); guarded = λ b. ((λ t x. refl), (λ t x. refl), tt); exact = λ z. absurd cc; own = refl; no_comma = λ z. absurd cc }
-constants_closed d s.CloseMap k = record { empty = λ ts left t e h. taken _ (itself _) ts left t s.CloseMap e h refl (tt, tt); guarded = λ b. ((λ t x. refl), (λ t x. refl), tt); exact = λ z. absurd cc; own = refl; no_comma = λ z. absurd cc }
+constants_closed d s.CloseRound k = record {
+  empty = λ ts left t e h. taken _ (itself _) ts left t s.CloseRound e h refl (tt, tt);
+  guarded = λ b. ((λ t x. refl), (λ t x. refl), tt);
+  exact = λ z. absurd cc;
+  own = refl;
+  no_comma = λ z. absurd cc;
+}
+constants_closed d s.CloseCurly k = record {
+  empty = λ ts left t e h. taken _ (itself _) ts left t s.CloseCurly e h refl (tt, tt);
+  guarded = λ b. ((λ t x. refl), (λ t x. refl), tt);
+  exact = λ z. absurd cc;
+  own = refl;
+  no_comma = λ z. absurd cc;
+}
+constants_closed d s.CloseSquare k = record {
+  empty = λ ts left t e h. taken _ (itself _) ts left t s.CloseSquare e h refl (tt, tt);
+  guarded = λ b. ((λ t x. refl), (λ t x. refl), tt);
+  exact = λ z. absurd cc;
+  own = refl;
+  no_comma = λ z. absurd cc;
+}
+constants_closed d s.Greater k = record {
+  empty = λ ts left t e h. taken _ (itself _) ts left t s.Greater e h refl (tt, tt);
+  guarded = λ b. ((λ t x. refl), (λ t x. refl), tt);
+  exact = λ z. absurd cc;
+  own = refl;
+  no_comma = λ z. absurd cc;
+}
+constants_closed d s.CloseBinary k = record {
+  empty = λ ts left t e h. taken _ (itself _) ts left t s.CloseBinary e h refl (tt, tt);
+  guarded = λ b. ((λ t x. refl), (λ t x. refl), tt);
+  exact = λ z. absurd cc;
+  own = refl;
+  no_comma = λ z. absurd cc;
+}
+constants_closed d s.CloseMap k = record {
+  empty = λ ts left t e h. taken _ (itself _) ts left t s.CloseMap e h refl (tt, tt);
+  guarded = λ b. ((λ t x. refl), (λ t x. refl), tt);
+  exact = λ z. absurd cc;
+  own = refl;
+  no_comma = λ z. absurd cc;
+}
 constants_closed d _ k = absurd cc
 
 module _ (c : Sort) (d : ℕ) (k : closing c ≡ true) where
@@ -256,7 +305,11 @@ module _ (c : Sort) (d : ℕ) (k : closing c ≡ true) where
 
         module _ (vs : List Token) (t : Token) (q : Sort) (place : Place) (b : Starts us t q place vs) (x_ : Bool) (e : x_ ≡ fits c q) where
           pub constants_close : x_ ≡ true → ReadsConstants c d ts more vs
-          constants_close h = record { says = items ++ r.says ∷ []; passes = item_close c (constant d) (constants_closed d c k) ts from items u us r.says r.passes vs t b.are (ap (fits c) (sym b.sort_is) ∙ sym e ∙ h); agrees = more_is }
+          constants_close h = record {
+            says = items ++ r.says ∷ [];
+            passes = item_close c (constant d) (constants_closed d c k) ts from items u us r.says r.passes vs t b.are (ap (fits c) (sym b.sort_is) ∙ sym e ∙ h);
+            agrees = more_is;
+          }
 
           module _ (h : x_ ≡ false) (y : Bool) (g : y ≡ fits s.Comma q) where
             pub constants_other : y ≡ false → Stops (many c (the (constant d))) (itself (many c (the (constant d)))) ts place

@@ -91,12 +91,17 @@ module _ (d : ℕ) (ts from : List Token) (k : ℕ) (e : ElementsBefore d ts fro
         pub bar_elements : (ws : List Token) (n : Tail) → ReadsConstantTail d vs n ws → n ≡ Elements → (j : ℕ) → j ≡ k + 1 → ElementsBefore d ts ws j
         bar_elements ws n y m j g = let z : OpensTail d vs ws = subst (λ x. ReadsConstantTail d vs x ws) m y in subst (λ i. ElementsBefore d ts ws i) (sym (g ∙ add-one k)) (record {
           build = λ _ _ _. e.build r.says tt;
-          goes = bar >> enter (constant_tail d) (constant d) (the (constant (d + 1)) ∷ the (constant_rest d) ∷ []) (a s.CloseSquare ∷ closers k) (λ _ _. tt) (λ _ _. e.build r.says tt) vs ws ((λ t x. refl), (λ t x. refl), tt) z.goes;
+          goes = bar >> enter (constant_tail d) (constant d) (the (constant (d + 1)) ∷ the (constant_rest d) ∷ []) (a s.CloseSquare ∷ closers k) (λ _ _. tt) (λ _ _. e.build r.says tt) vs ws (
+            (λ t x. refl),
+            (λ t x. refl),
+            tt,
+          ) z.goes;
           ends = λ _ _ _. e.ends r.says tt;
         })
 
       pub element_stuck : (x y z : Bool) → x ≡ fits s.CloseSquare q → x ≡ false → y ≡ fits s.Comma q → y ≡ false → z ≡ fits s.Bar q → z ≡ false → Stops (constant d) (itself (constant d)) ts place
-      element_stuck x y z i1 i2 j1 j2 k1 k2 = subst (Stops (constant d) (itself (constant d)) ts) (sym b.place_is) (halted (constant d) _ _ ts us vs t element b.are tt (go (sort t) (on s.CloseSquare x i1 i2) (on s.Comma y j1 j2) (on s.Bar z k1 k2)))
+      element_stuck x y z i1 i2 j1 j2 k1 k2 = subst (Stops (constant d) (itself (constant d)) ts) (sym b.place_is)
+          (halted (constant d) _ _ ts us vs t element b.are tt (go (sort t) (on s.CloseSquare x i1 i2) (on s.Comma y j1 j2) (on s.Bar z k1 k2)))
         where
           on : (c : Sort) (x : Bool) → x ≡ fits c q → x ≡ false → fits c (sort t) ≡ false
           on c x i j = ap (fits c) (sym b.sort_is) ∙ sym i ∙ j
@@ -142,7 +147,8 @@ module _ (d : ℕ) (w : d + 1 ≤ depth_limit) where
     tail_text h vs j = record { passes = subst (λ z. Passes (constant_tail d) ts tt z) (sym j) (taken (constant_tail d) (itself (constant_tail d)) ts us t s.Text b.are (sym b.sort_is ∙ h) refl ((w, tt), tt)) }
 
     module _ (h : q ≡ s.OpenSquare) where
-      tail_square : Goes (constant_tail d) (itself (constant_tail d)) (record { parts = the (constant (d + 1)) ∷ the (constant_rest d) ∷ []; build = λ _ _. tt } ∷ record { parts = a s.CloseSquare ∷ []; build = λ _. tt } ∷ []) ts us
+      tail_square : Goes (constant_tail d) (itself (constant_tail d)) (record { parts = the (constant (d + 1)) ∷ the (constant_rest d) ∷ []; build = λ _ _. tt } ∷ record { parts = a s.CloseSquare ∷ []; build = λ _. tt } ∷ []) ts
+          us
       tail_square = taken (constant_tail d) (itself (constant_tail d)) ts us t s.OpenSquare b.are (sym b.sort_is ∙ h) refl ((omega (arith, w), (w, tt)), tt)
 
       pub tail_square_end : (f : PartFault) → RanOut us f → Refuses (constant_tail d) ts f
@@ -150,7 +156,10 @@ module _ (d : ℕ) (w : d + 1 ≤ depth_limit) where
 
       module _ (vs : List Token) (u : Token) (r : Sort) (there : Place) (c : Starts us u r there vs) (x : Bool) (e : x ≡ fits s.CloseSquare r) where
         pub tail_nil : x ≡ true → (ws : List Token) → ws ≡ vs → ReadsWholeTail d ts ws
-        tail_nil g ws j = record { passes = subst (λ z. Passes (constant_tail d) ts tt z) (sym j) (tail_square >> taken (constant_tail d) _ us vs u s.CloseSquare c.are (sym c.sort_is ∙ fits_only s.CloseSquare r (λ z. absurd cc) (sym e ∙ g)) refl (tt, (tt, tt))) }
+        tail_nil g ws j = record {
+          passes = subst (λ z. Passes (constant_tail d) ts tt z) (sym j)
+              (tail_square >> taken (constant_tail d) _ us vs u s.CloseSquare c.are (sym c.sort_is ∙ fits_only s.CloseSquare r (λ z. absurd cc) (sym e ∙ g)) refl (tt, (tt, tt)));
+        }
 
         pub tail_opens : x ≡ false → OpensTail d ts us
         tail_opens g = record { goes = tail_square >> drop_second _ _ _ _ us vs u c.are (ap (fits s.CloseSquare) (sym c.sort_is) ∙ sym e ∙ g) }

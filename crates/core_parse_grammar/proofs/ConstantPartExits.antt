@@ -17,7 +17,8 @@ use Rattle.core_parse_grammar.proofs.Lists.{Closes, Before, list_nothing, list_n
 
 -- #< constant > ( constants )
 module _ (d : ℕ) (ts : List Token) where
-  segment_0 : Goes (constant_segment d) (itself (constant_segment d)) (record { parts = a s.OpenSegment ∷ the (constant d) ∷ a s.Greater ∷ a s.OpenRound ∷ the (many s.CloseRound (the (constant d))) ∷ []; build = λ _ _ _ _ _. tt } ∷ []) ts ts
+  segment_0 : Goes (constant_segment d) (itself (constant_segment d)) (record { parts = a s.OpenSegment ∷ the (constant d) ∷ a s.Greater ∷ a s.OpenRound ∷ the (many s.CloseRound (the (constant d))) ∷ []; build = λ _ _ _ _ _. tt }
+      ∷ []) ts ts
   segment_0 = expand (constant_segment d) (constant_segment d) [] (λ x. x) [] ts
 
   pub segment_0_bad : (f : PartFault) → Misses s.OpenSegment ts f → Refuses (constant_segment d) ts f
@@ -108,7 +109,11 @@ module _ (d : ℕ) where
 
       module _ (vs : List Token) (t : Token) (q : Sort) (place : Place) (b : Starts us t q place vs) (x : Bool) (e : x ≡ fits s.CloseBinary q) where
         pub segments_close : x ≡ true → ReadsConstantSegments d ts vs
-        segments_close h = record { says = u.raw ++ tt ∷ []; passes = item_close s.CloseBinary (constant_segment d) (segments_closed d) ts from u.raw u.before us tt r.passes vs t b.are (ap (fits s.CloseBinary) (sym b.sort_is) ∙ sym e ∙ h) }
+        segments_close h = record {
+          says = u.raw ++ tt ∷ [];
+          passes = item_close s.CloseBinary (constant_segment d) (segments_closed d) ts from u.raw u.before us tt r.passes vs t b.are
+              (ap (fits s.CloseBinary) (sym b.sort_is) ∙ sym e ∙ h);
+        }
 
         module _ (h : x ≡ false) (y : Bool) (g : y ≡ fits s.Comma q) where
           pub segments_other : y ≡ false → Stops (many s.CloseBinary (the (constant_segment d))) (itself (many s.CloseBinary (the (constant_segment d)))) ts place
@@ -116,7 +121,11 @@ module _ (d : ℕ) where
               (item_other s.CloseBinary (constant_segment d) (segments_closed d) ts from u.raw u.before us tt r.passes vs t b.are (ap (fits s.CloseBinary) (sym b.sort_is) ∙ sym e ∙ h) (ap (fits s.Comma) (sym b.sort_is) ∙ sym g ∙ l))
 
           pub segments_comma : y ≡ true → SegmentsBefore d ts vs
-          segments_comma l = record { raw = u.raw ++ tt ∷ []; before = item_comma s.CloseBinary (constant_segment d) (segments_closed d) ts from u.raw u.before us tt r.passes vs t b.are (ap (fits s.Comma) (sym b.sort_is) ∙ sym g ∙ l) }
+          segments_comma l = record {
+            raw = u.raw ++ tt ∷ [];
+            before = item_comma s.CloseBinary (constant_segment d) (segments_closed d) ts from u.raw u.before us tt r.passes vs t b.are
+                (ap (fits s.Comma) (sym b.sort_is) ∙ sym g ∙ l);
+          }
 
 -- pairs with commas
 pub pairs_closed : (d : ℕ) → Closes s.CloseMap (constant_pair d)

@@ -8,7 +8,8 @@ use Rattle.core_parse_grammar.proofs.Texts.{expressions, place, note, mark, note
 
 -- Literals: an integer, a float, a character, an atom, the empty string and the empty list.
 literals : expressions (codes "{ 1 , 2.5 , $c , 'a' , \"\" , [ ] }")
-    ≡ m.tuple (mark 0 0) (trees ((m.literal (mark 1 2) (l.Int (pos 1))) ∷ (m.literal (mark 2 6) (l.Float (codes "2.5"))) ∷ (m.literal (mark 3 12) (l.Int (pos 99))) ∷ (m.literal (mark 4 17) (l.Atom (codes "a"))) ∷ (m.literal (mark 5 23) l.Nil) ∷ (m.literal (mark 6 28) l.Nil) ∷ [])) ∷ []
+    ≡ m.tuple (mark 0 0) (trees ((m.literal (mark 1 2) (l.Int (pos 1))) ∷ (m.literal (mark 2 6) (l.Float (codes "2.5"))) ∷ (m.literal (mark 3 12) (l.Int (pos 99))) ∷ (m.literal (mark 4 17) (l.Atom (codes "a")))
+    ∷ (m.literal (mark 5 23) l.Nil) ∷ (m.literal (mark 6 28) l.Nil) ∷ [])) ∷ []
 literals = refl
 
 -- A variable, a function's name and an external function, in a value list.
@@ -75,7 +76,8 @@ funs : expressions (codes "fun ( ) -> fun ( X , ( Y -| [ 3 ] ) ) -> X")
 funs = refl
 
 binary : expressions (codes "#{ #< X > ( 8 , 'integer' ) , #< 'a' > ( ) }#")
-    ≡ m.binary (mark 0 0) (m.and_segment (m.variable (mark 1 6) (codes "X")) (trees ((m.literal (mark 2 12) (l.Int (pos 8))) ∷ (m.literal (mark 3 16) (l.Atom (codes "integer"))) ∷ [])) (m.and_segment (m.literal (mark 4 33) (l.Atom (codes "a"))) m.no_tree m.no_segment)) ∷ []
+    ≡ m.binary (mark 0 0) (m.and_segment (m.variable (mark 1 6) (codes "X")) (trees ((m.literal (mark 2 12) (l.Int (pos 8))) ∷ (m.literal (mark 3 16) (l.Atom (codes "integer"))) ∷ []))
+    (m.and_segment (m.literal (mark 4 33) (l.Atom (codes "a"))) m.no_tree m.no_segment)) ∷ []
 binary = refl
 
 empty_binary : expressions (codes "#{ }#")
@@ -84,7 +86,9 @@ empty_binary = refl
 
 -- Pairs of a map, the map after the bar last. The note of a pair is not kept; a key may have one.
 maps : expressions (codes "~{ 'k' => 1 , ( 'l' := X -| [ 9 ] ) , ( Y -| [ 2 ] ) := 3 | ~{ }~ }~")
-    ≡ m.updated_map (mark 0 0) (m.and_pair false (m.literal (mark 1 3) (l.Atom (codes "k"))) (m.literal (mark 2 10) (l.Int (pos 1))) (m.and_pair true (m.literal (mark 3 16) (l.Atom (codes "l"))) (m.variable (mark 4 23) (codes "X")) (m.and_pair true (m.variable (noted 5 40 (note (Some 2) false)) (codes "Y")) (m.literal (mark 6 56) (l.Int (pos 3))) m.no_pair))) (m.new_map (mark 7 60) m.no_pair) ∷ []
+    ≡ m.updated_map (mark 0 0) (m.and_pair false (m.literal (mark 1 3) (l.Atom (codes "k"))) (m.literal (mark 2 10) (l.Int (pos 1)))
+    (m.and_pair true (m.literal (mark 3 16) (l.Atom (codes "l"))) (m.variable (mark 4 23) (codes "X")) (m.and_pair true (m.variable (noted 5 40 (note (Some 2) false)) (codes "Y")) (m.literal (mark 6 56) (l.Int (pos 3))) m.no_pair)))
+    (m.new_map (mark 7 60) m.no_pair) ∷ []
 maps = refl
 
 only_updated : expressions (codes "~{ | X }~")
@@ -97,25 +101,30 @@ chain_key = refl
 
 -- A `do` in the last place of a `let` is the next step of one chain, and its note is its step's.
 chain : expressions (codes "let X = { } in ( do 'a' X -| [ { 3 , 4 } , 'compiler_generated' ] )")
-    ≡ m.chain (mark 0 0) (m.and_let (mark 1 0) ((var (codes "X") 4) ∷ []) (m.tuple (mark 2 8) m.no_tree) (m.and_do (noted 3 17 (note (Some 3) true)) (m.literal (mark 4 20) (l.Atom (codes "a"))) m.no_step)) (m.variable (mark 5 24) (codes "X")) ∷ []
+    ≡ m.chain (mark 0 0) (m.and_let (mark 1 0) ((var (codes "X") 4) ∷ []) (m.tuple (mark 2 8) m.no_tree) (m.and_do (noted 3 17 (note (Some 3) true)) (m.literal (mark 4 20) (l.Atom (codes "a"))) m.no_step))
+    (m.variable (mark 5 24) (codes "X")) ∷ []
 chain = refl
 
 -- The note of a chain is its first step's. A chain inside a step is a chain of its own.
 annotated_chain : expressions (codes "( let < X , Y > = 1 in do let Z = 2 in 3 4 -| [ 5 ] )")
-    ≡ m.chain (mark 0 2) (m.and_let (noted 1 2 (note (Some 5) false)) ((var (codes "X") 8) ∷ (var (codes "Y") 12) ∷ []) (m.literal (mark 2 18) (l.Int (pos 1))) (m.and_do (mark 3 23) (m.chain (mark 4 26) (m.and_let (mark 5 26) ((var (codes "Z") 30) ∷ []) (m.literal (mark 6 34) (l.Int (pos 2))) m.no_step) (m.literal (mark 7 39) (l.Int (pos 3)))) m.no_step)) (m.literal (mark 8 41) (l.Int (pos 4))) ∷ []
+    ≡ m.chain (mark 0 2) (m.and_let (noted 1 2 (note (Some 5) false)) ((var (codes "X") 8) ∷ (var (codes "Y") 12) ∷ []) (m.literal (mark 2 18) (l.Int (pos 1)))
+    (m.and_do (mark 3 23) (m.chain (mark 4 26) (m.and_let (mark 5 26) ((var (codes "Z") 30) ∷ []) (m.literal (mark 6 34) (l.Int (pos 2))) m.no_step) (m.literal (mark 7 39) (l.Int (pos 3)))) m.no_step))
+    (m.literal (mark 8 41) (l.Int (pos 4))) ∷ []
 annotated_chain = refl
 
 -- Clauses: in annotation brackets, with a pattern in them, and without a pattern.
 case : expressions (codes "case X of ( < ( Y -| [ ] ) = 'a' > when 'true' -> apply 'f' / 0 ( ) -| [ 9 ] ) ( Z -| [ 4 ] ) when 1 -> 2 < > when 3 -> 4 end")
     ≡ m.case (mark 0 0) (m.variable (mark 1 5) (codes "X"))
-    (m.and_clause (noted 2 12 (note (Some 9) false)) (patterns ((m.alias (mark 3 14) (var (codes "Y") 16) (m.equals (mark 4 29) (l.Atom (codes "a")))) ∷ [])) (m.literal (mark 5 40) (l.Atom (codes "true"))) (m.apply (mark 6 50) (m.local (mark 7 56) (name (codes "f") 0)) m.no_tree)
+    (m.and_clause (noted 2 12 (note (Some 9) false)) (patterns ((m.alias (mark 3 14) (var (codes "Y") 16) (m.equals (mark 4 29) (l.Atom (codes "a")))) ∷ [])) (m.literal (mark 5 40) (l.Atom (codes "true")))
+    (m.apply (mark 6 50) (m.local (mark 7 56) (name (codes "f") 0)) m.no_tree)
     (m.and_clause (mark 8 79) (patterns ((m.binds (noted 9 81 (note (Some 4) false)) (codes "Z")) ∷ [])) (m.literal (mark 10 99) (l.Int (pos 1))) (m.literal (mark 11 104) (l.Int (pos 2)))
     (m.and_clause (mark 12 106) m.no_pattern (m.literal (mark 13 115) (l.Int (pos 3))) (m.literal (mark 14 120) (l.Int (pos 4))) m.no_clause))) ∷ []
 case = refl
 
 -- A definition has the place and the note of its fun.
 letrec : expressions (codes "letrec ( 'f' / 1 -| [ 3 ] ) = ( fun ( X ) -> X -| [ 4 ] ) 'g' / 0 = fun ( ) -> 1 in 2")
-    ≡ m.letrec (mark 0 0) (m.and_def (name (codes "f") 1) (noted 1 32 (note (Some 4) false)) ((var (codes "X") 38) ∷ []) (m.variable (mark 2 45) (codes "X")) (m.and_def (name (codes "g") 0) (mark 3 68) [] (m.literal (mark 4 79) (l.Int (pos 1))) m.no_def)) (m.literal (mark 5 84) (l.Int (pos 2))) ∷ []
+    ≡ m.letrec (mark 0 0) (m.and_def (name (codes "f") 1) (noted 1 32 (note (Some 4) false)) ((var (codes "X") 38) ∷ []) (m.variable (mark 2 45) (codes "X"))
+    (m.and_def (name (codes "g") 0) (mark 3 68) [] (m.literal (mark 4 79) (l.Int (pos 1))) m.no_def)) (m.literal (mark 5 84) (l.Int (pos 2))) ∷ []
 letrec = refl
 
 no_definition : expressions (codes "letrec in 1")
@@ -139,11 +148,13 @@ catch_and_do : expressions (codes "do catch X catch Y")
 catch_and_do = refl
 
 try : expressions (codes "try X of Y -> Y catch < A , B , C > -> B")
-    ≡ m.try (mark 0 0) (m.variable (mark 1 4) (codes "X")) ((var (codes "Y") 9) ∷ []) (m.variable (mark 2 14) (codes "Y")) ((var (codes "A") 24) ∷ (var (codes "B") 28) ∷ (var (codes "C") 32) ∷ []) (m.variable (mark 3 39) (codes "B")) ∷ []
+    ≡ m.try (mark 0 0) (m.variable (mark 1 4) (codes "X")) ((var (codes "Y") 9) ∷ []) (m.variable (mark 2 14) (codes "Y")) ((var (codes "A") 24) ∷ (var (codes "B") 28) ∷ (var (codes "C") 32) ∷ [])
+    (m.variable (mark 3 39) (codes "B")) ∷ []
 try = refl
 
 receive : expressions (codes "receive 1 when 2 -> 3 after 4 -> 5")
-    ≡ m.receive (mark 0 0) (m.and_clause (mark 1 8) (patterns ((m.equals (mark 2 8) (l.Int (pos 1))) ∷ [])) (m.literal (mark 3 15) (l.Int (pos 2))) (m.literal (mark 4 20) (l.Int (pos 3))) m.no_clause) (m.literal (mark 5 28) (l.Int (pos 4))) (m.literal (mark 6 33) (l.Int (pos 5))) ∷ []
+    ≡ m.receive (mark 0 0) (m.and_clause (mark 1 8) (patterns ((m.equals (mark 2 8) (l.Int (pos 1))) ∷ [])) (m.literal (mark 3 15) (l.Int (pos 2))) (m.literal (mark 4 20) (l.Int (pos 3))) m.no_clause)
+    (m.literal (mark 5 28) (l.Int (pos 4))) (m.literal (mark 6 33) (l.Int (pos 5))) ∷ []
 receive = refl
 
 receive_without_clauses : expressions (codes "receive after X -> Y")

@@ -43,7 +43,8 @@ module _ (c : Sort) (m : Nonterminal) (k : Closes c m) where
   pub list_nothing : (ts : List Token) (e : PartFault) → RanOut ts e → Refuses (many c (the m)) ts e
   list_nothing ts e h = ran_out (many c (the m)) (itself (many c (the m))) ts ts e (stay (many c (the m)) (itself (many c (the m))) ts) tt refl h
 
-  list_open : (ts left : List Token) (t : Token) → ts ≡ t ∷ left → (sort t ≡ c → ⊥) → Goes (many c (the m)) (itself (many c (the m))) (record { parts = the m ∷ the (more c (the m)) ∷ []; build = λ x xs. x ∷ xs } ∷ []) ts ts
+  list_open : (ts left : List Token) (t : Token) → ts ≡ t ∷ left → (sort t ≡ c → ⊥)
+      → Goes (many c (the m)) (itself (many c (the m))) (record { parts = the m ∷ the (more c (the m)) ∷ []; build = λ x xs. x ∷ xs } ∷ []) ts ts
   list_open ts left t e h = expand (many c (the m)) (many c (the m)) [] (λ x. x) [] ts >> drop _ _ _ ts left t e (fits_no_other c (sort t) k.exact h)
 
   pub list_bad : (ts left : List Token) (t : Token) (e : PartFault) → ts ≡ t ∷ left → (sort t ≡ c → ⊥) → Refuses m ts e → Refuses (many c (the m)) ts e
@@ -99,7 +100,8 @@ module _ (c : Sort) (m : Nonterminal) (k : Closes c m) where
           apart z = absurd cc
 
           fine_it : (x y : Bool) → x ≡ false → y ≡ false
-              → (if look_fine (many c (the m)) false (Some (take_if x None [] (u.build []))) then (if look_fine (many c (the m)) false (Some (take_if y None (the m ∷ the (more c (the m)) ∷ []) (λ x xs. u.build (x ∷ xs)))) then true else false) else false) ≡ true
+              → (if look_fine (many c (the m)) false (Some (take_if x None [] (u.build []))) then
+              (if look_fine (many c (the m)) false (Some (take_if y None (the m ∷ the (more c (the m)) ∷ []) (λ x xs. u.build (x ∷ xs)))) then true else false) else false) ≡ true
           fine_it false false e f = refl
           fine_it true y e f = absurd cc
           fine_it false true e f = absurd cc

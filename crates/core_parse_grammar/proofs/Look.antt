@@ -60,7 +60,8 @@ module _ (s : Extent) (l : ℕ) where
   right_in n (Some xs) None t ts us v h = tt
   right_in n None ys t ts us v h = tt
 
-  take_found : (n : Nonterminal) (q : Bool) (d : Option ℕ) (ps : List Part) (f : Action ps (Said n)) (t : Token) (ts us : List Token) (v : Said n) → IsTrue q → Is_shallow n (takes d ps f) → MatchesAll s l n ps f ts v us → One_of n (take_if q d ps f) t ts v us
+  take_found : (n : Nonterminal) (q : Bool) (d : Option ℕ) (ps : List Part) (f : Action ps (Said n)) (t : Token) (ts us : List Token) (v : Said n) → IsTrue q → Is_shallow n (takes d ps f) → MatchesAll s l n ps f ts v us
+      → One_of n (take_if q d ps f) t ts v us
   take_found n true None ps f t ts us v e k r = inl r
   take_found n true (Some d) ps f t ts us v e k r = inl (k, r)
   take_found n false d ps f t ts us v e k r = absurd cc

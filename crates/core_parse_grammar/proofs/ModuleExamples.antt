@@ -13,7 +13,8 @@ small_module : modules (codes "module 'm' [ 'f' / 1 , ( 'g' / 0 -| [ 3 ] ) ] att
       exports = ((name (codes "f") 1) ∷ (name (codes "g") 0) ∷ []);
       export_places = (place 13 ∷ place 25 ∷ []);
       note = no_note;
-      defs = m.and_def (name (codes "f") 1) (mark 0 126) ((var (codes "X") 132) ∷ []) (m.variable (mark 1 139) (codes "X")) (m.and_def (name (codes "g") 0) (noted 2 164 (note (Some 12) true)) [] (m.literal (mark 3 175) (l.Atom (codes "a"))) m.no_def);
+      defs = m.and_def (name (codes "f") 1) (mark 0 126) ((var (codes "X") 132) ∷ []) (m.variable (mark 1 139) (codes "X"))
+          (m.and_def (name (codes "g") 0) (noted 2 164 (note (Some 12) true)) [] (m.literal (mark 3 175) (l.Atom (codes "a"))) m.no_def);
     } ∷ []
 small_module = refl
 

@@ -12,10 +12,14 @@ use Rattle.core_ast.specs.declared.syntax.VarName.{VarName}
 use Rattle.core_ast.specs.declared.syntax.Literal.TheVariants as lit
 use Rattle.core_parse_grammar.specs.declared.notes.Constant.TheVariants.{Another}
 use Rattle.core_parse_grammar.specs.Build.{at, nil, no_note}
-use Rattle.core_parse_grammar.specs.Grammar.{Part, a, first, the, Nonterminal, SaidBy, Said, Action, Way, ways, noted_, annotation, many, more, annotated_module, «module», attribute, function_name, definition, function, definitions, variable, variables, literal, constant, other_constant, constant_list, constant_rest, constant_tail, constant_segment, constant_pair, expression, bare_expression, other_expression, list, list_rest, list_tail, segment, pairs, more_pairs, pair, bare_pair, clauses_to, clause, bare_clause, clause_patterns, pattern, bare_pattern, other_pattern, alias_variable, pattern_list, pattern_rest, pattern_tail, pattern_segment, pattern_pair, bare_pattern_pair}
+use Rattle.core_parse_grammar.specs.Grammar.{Part, a, first, the, Nonterminal, SaidBy, Said, Action, Way, ways, noted_, annotation, many, more, annotated_module, «module», attribute, function_name, definition}
+use Rattle.core_parse_grammar.specs.Grammar.{function, definitions, variable, variables, literal, constant, other_constant, constant_list, constant_rest, constant_tail, constant_segment, constant_pair}
+use Rattle.core_parse_grammar.specs.Grammar.{expression, bare_expression, other_expression, list, list_rest, list_tail, segment, pairs, more_pairs, pair, bare_pair, clauses_to, clause, bare_clause}
+use Rattle.core_parse_grammar.specs.Grammar.{clause_patterns, pattern, bare_pattern, other_pattern, alias_variable, pattern_list, pattern_rest, pattern_tail, pattern_segment, pattern_pair, bare_pattern_pair}
 use Rattle.core_parse_grammar.specs.Matches.{Extent, all, front, Matches, unseen, part, MatchesOne, here, later, MatchesAll, none, one}
 use Rattle.core_parse_grammar.specs.Begins.{depth_limit}
-use Rattle.core_parse_grammar.specs.Track.{Branch, deeper_limit, barred, IsFree, MatchesBranch, IsSeen, Goes, itself, said, Passes, Stops, Wants, Sinks, Step, takes, done, look, after_steps, after_look, next, steps_fine, look_fine, fine, depths_in, depths_look, Shallow, compose, live_look, live, Then, opened, passed, expansions, only_ends, guards, Guarded}
+use Rattle.core_parse_grammar.specs.Track.{Branch, deeper_limit, barred, IsFree, MatchesBranch, IsSeen, Goes, itself, said, Passes, Stops, Wants, Sinks, Step, takes, done, look, after_steps, after_look}
+use Rattle.core_parse_grammar.specs.Track.{next, steps_fine, look_fine, fine, depths_in, depths_look, Shallow, compose, live_look, live, Then, opened, passed, expansions, only_ends, guards, Guarded}
 use Rattle.core_parse_grammar.proofs.Look.{joins, splits, One_of, One_in, found, Back_in, back}
 
 pub stay : (n : Nonterminal) (bs : List (Branch n)) (ts : List Token) → Goes n bs bs ts ts
@@ -54,7 +58,8 @@ module _ (s : Extent) (l : ℕ) (n : Nonterminal) where
   either_branch (b ∷ bs) cs ts us v (inl h) = inl (inl h)
   either_branch (b ∷ bs) cs ts us v (inr h) = elim (either_branch bs cs ts us v h) [ inl r ↦ inl (inr r) | inr r ↦ inr r ]
 
-  steps_after : (t : Token) (q : Bool) (xs : List (Step n)) → barred n (sort t) ≡ q → steps_fine n q xs ≡ true → (ts us : List Token) (v : Said n) → IsFree n us → One_of s l n xs t ts v us → MatchesBranch s l n (after_steps n xs) ts v us
+  steps_after : (t : Token) (q : Bool) (xs : List (Step n)) → barred n (sort t) ≡ q → steps_fine n q xs ≡ true → (ts us : List Token) (v : Said n) → IsFree n us → One_of s l n xs t ts v us
+      → MatchesBranch s l n (after_steps n xs) ts v us
   steps_after t q [] e f ts us v h r = absurd r
   steps_after t q (takes None ps b ∷ xs) e f ts us v h (inl r) = inl r
   steps_after t q (takes (Some d) ps b ∷ xs) e f ts us v h (inl r) = inl r.1
@@ -89,16 +94,20 @@ module _ (s : Extent) (l : ℕ) (n : Nonterminal) where
   if_both true q e = (refl, e)
   if_both false q e = absurd cc
 
-  next_only : (f : ℕ) (t : Token) (bs : List (Branch n)) → fine f n t (sort t) bs ≡ true → (ts us : List Token) (v : Said n) → IsFree n us → MatchesBranch s l n bs (t ∷ ts) v us → MatchesBranch s l n (next f n t (sort t) bs) ts v us
+  next_only : (f : ℕ) (t : Token) (bs : List (Branch n)) → fine f n t (sort t) bs ≡ true → (ts us : List Token) (v : Said n) → IsFree n us → MatchesBranch s l n bs (t ∷ ts) v us
+      → MatchesBranch s l n (next f n t (sort t) bs) ts v us
   next_only f t [] e ts us v h r = r
-  next_only f t (b ∷ bs) e ts us v h (inl r) = left_branch _ (next f n t (sort t) bs) ts us v (look_after t (look f n t (sort t) b.parts b.build) (if_both _ (fine f n t (sort t) bs) e).0 ts us v h (found s l f n t b.parts b.build ts us v r))
-  next_only f t (b ∷ bs) e ts us v h (inr r) = right_branch (after_look n (look f n t (sort t) b.parts b.build)) (next f n t (sort t) bs) ts us v (next_only f t bs (if_both (look_fine n (barred n (sort t)) (look f n t (sort t) b.parts b.build)) _ e).1 ts us v h r)
+  next_only f t (b ∷ bs) e ts us v h (inl r) = left_branch _ (next f n t (sort t) bs) ts us v
+      (look_after t (look f n t (sort t) b.parts b.build) (if_both _ (fine f n t (sort t) bs) e).0 ts us v h (found s l f n t b.parts b.build ts us v r))
+  next_only f t (b ∷ bs) e ts us v h (inr r) = right_branch (after_look n (look f n t (sort t) b.parts b.build)) (next f n t (sort t) bs) ts us v
+      (next_only f t bs (if_both (look_fine n (barred n (sort t)) (look f n t (sort t) b.parts b.build)) _ e).1 ts us v h r)
 
   live_there : (f : ℕ) (t : Token) (bs : List (Branch n)) (ts us : List Token) (v : Said n) → MatchesBranch s l n (live f n t (sort t) bs) ts v us → MatchesBranch s l n bs ts v us
   live_there f t [] ts us v r = r
   live_there f t (b ∷ bs) ts us v r = go (look f n t (sort t) b.parts b.build) (live_there f t bs ts us v) r
     where
-      go : (o : Option (List (Step n))) → (MatchesBranch s l n (live f n t (sort t) bs) ts v us → MatchesBranch s l n bs ts v us) → MatchesBranch s l n (live_look n o b ++ live f n t (sort t) bs) ts v us → MatchesBranch s l n (b ∷ bs) ts v us
+      go : (o : Option (List (Step n))) → (MatchesBranch s l n (live f n t (sort t) bs) ts v us → MatchesBranch s l n bs ts v us) → MatchesBranch s l n (live_look n o b ++ live f n t (sort t) bs) ts v us
+          → MatchesBranch s l n (b ∷ bs) ts v us
       go (Some []) h r = inr (h r)
       go (Some (x ∷ xs)) h (inl r) = inl r
       go (Some (x ∷ xs)) h (inr r) = inr (h r)
@@ -124,7 +133,8 @@ seen_first front t left seen (u, us, m, p, q) = (us, go)
     go = let r : t ∷ left ≡ (u ∷ us) ++ m = q ∙ ap (λ x. x ++ m) p in cc
 
 -- a token is taken
-pub advance : (f : ℕ) (n : Nonterminal) (bs : List (Branch n)) (t : Token) (left : List Token) → fine f n t (sort t) bs ≡ true → ((l : ℕ) → depth_limit ≤ l → Shallow f n t (sort t) bs l) → Goes n bs (next f n t (sort t) bs) (t ∷ left) left
+pub advance : (f : ℕ) (n : Nonterminal) (bs : List (Branch n)) (t : Token) (left : List Token) → fine f n t (sort t) bs ≡ true → ((l : ℕ) → depth_limit ≤ l → Shallow f n t (sort t) bs l)
+    → Goes n bs (next f n t (sort t) bs) (t ∷ left) left
 advance f n bs t left e d = record {
   used = t ∷ [];
   split = refl;
@@ -272,19 +282,22 @@ expand n m ps b bs ts = record {
     up : (s : Extent) (l : ℕ) (seen : List Token) (v : Said n) (us : List Token) (ws : List (Way (Said m))) → MatchesBranch s l n (expansions m n ps b (ways m)) seen v us → MatchesAll s l n (the m ∷ ps) b seen v us
     up s l seen v us ws r = let z = up_one s l seen v us (ways m) r in one (part z.2) z.3
 
-    down_one : (s : Extent) (l : ℕ) (seen mid : List Token) (x : Said m) (v : Said n) (us : List Token) (ws : List (Way (Said m))) → MatchesOne s l m ws seen x mid → MatchesAll s l n ps (b x) mid v us → MatchesBranch s l n (expansions m n ps b ws) seen v us
+    down_one : (s : Extent) (l : ℕ) (seen mid : List Token) (x : Said m) (v : Said n) (us : List Token) (ws : List (Way (Said m))) → MatchesOne s l m ws seen x mid → MatchesAll s l n ps (b x) mid v us
+        → MatchesBranch s l n (expansions m n ps b ws) seen v us
     down_one s l seen mid x v us [] h r = elim h [ ]
     down_one s l seen mid x v us (w ∷ ws) (here h) r = inl (joins s l m n w.parts ps w.says b seen mid us x v h r)
     down_one s l seen mid x v us (w ∷ ws) (later h) r = inr (down_one s l seen mid x v us ws h r)
 
-    down_part : (s : Extent) (l : ℕ) (seen mid : List Token) (x : Said m) (v : Said n) (us : List Token) → IsSeen s seen ts → Matches s l (the m) seen x mid → MatchesAll s l n ps (b x) mid v us → MatchesBranch s l n (expansions m n ps b (ways m)) seen v us
+    down_part : (s : Extent) (l : ℕ) (seen mid : List Token) (x : Said m) (v : Said n) (us : List Token) → IsSeen s seen ts → Matches s l (the m) seen x mid → MatchesAll s l n ps (b x) mid v us
+        → MatchesBranch s l n (expansions m n ps b (ways m)) seen v us
     down_part s l seen mid x v us q (part h) r = down_one s l seen mid x v us (ways m) h r
     down_part s l seen mid x v us q (unseen e) r = let z = subst (λ y. IsSeen y [] ts) e q in let w : [] ≡ z.0 ∷ z.1 = z.3 in absurd cc
 
     down_all : (s : Extent) (l : ℕ) (seen : List Token) → IsSeen s seen ts → (v : Said n) (us : List Token) → MatchesAll s l n (the m ∷ ps) b seen v us → MatchesBranch s l n (expansions m n ps b (ways m)) seen v us
     down_all s l seen q v us (one h r) = down_part s l seen _ _ v us q h r
 
-    down : (s : Extent) (l : ℕ) (seen : List Token) → IsSeen s seen ts → (v : Said n) (us : List Token) → MatchesBranch s l n (record { parts = the m ∷ ps; build = b } ∷ bs) seen v us → MatchesBranch s l n (expansions m n ps b (ways m) ++ bs) seen v us
+    down : (s : Extent) (l : ℕ) (seen : List Token) → IsSeen s seen ts → (v : Said n) (us : List Token) → MatchesBranch s l n (record { parts = the m ∷ ps; build = b } ∷ bs) seen v us
+        → MatchesBranch s l n (expansions m n ps b (ways m) ++ bs) seen v us
     down s l seen q v us (inl r) = left_branch s l n (expansions m n ps b (ways m)) bs seen us v (down_all s l seen q v us r)
     down s l seen q v us (inr r) = right_branch s l n (expansions m n ps b (ways m)) bs seen us v r
 
@@ -383,18 +396,21 @@ pass m n hs ts left x q g = record {
   only = λ s l d seen e v us f r. down s l d seen e v us f hs q r;
 }
   where
-    up : (s : Extent) (l : ℕ) → depth_limit ≤ l → (seen : List Token) (v : Said n) (us : List Token) (hs : List (Then m n)) → MatchesBranch s l n (passed m n x hs) seen v us → MatchesBranch s l n (opened m n hs) (g.used ++ seen) v us
+    up : (s : Extent) (l : ℕ) → depth_limit ≤ l → (seen : List Token) (v : Said n) (us : List Token) (hs : List (Then m n)) → MatchesBranch s l n (passed m n x hs) seen v us
+        → MatchesBranch s l n (opened m n hs) (g.used ++ seen) v us
     up s l d seen v us [] r = r
     up s l d seen v us (h ∷ hs) (inl r) = inl (one (reads m ts left x g s l d seen) r)
     up s l d seen v us (h ∷ hs) (inr r) = inr (up s l d seen v us hs r)
 
-    here_ : (s : Extent) (l : ℕ) → depth_limit ≤ l → (seen : List Token) → IsSeen s seen left → (v : Said n) (us : List Token) → IsFree n us → (h : Then m n) → ((t : Token) (x : Said m) → guards q_.Slash m n h.parts h.build t x ≡ true) → ((t : Token) (x : Said m) → guards q_.Equals m n h.parts h.build t x ≡ true)
+    here_ : (s : Extent) (l : ℕ) → depth_limit ≤ l → (seen : List Token) → IsSeen s seen left → (v : Said n) (us : List Token) → IsFree n us → (h : Then m n)
+        → ((t : Token) (x : Said m) → guards q_.Slash m n h.parts h.build t x ≡ true) → ((t : Token) (x : Said m) → guards q_.Equals m n h.parts h.build t x ≡ true)
         → MatchesAll s l n (the m ∷ h.parts) h.build (g.used ++ seen) v us → MatchesAll s l n h.parts (h.build x) seen v us
     here_ s l d seen e v us f h p q (one {x = y} {us = mid} r1 r2) =
         let z = un_said s l m x y seen mid (g.only s l d seen e y mid (free_after s l m n h y p q mid us v f r2) (to_itself s l m (g.used ++ seen) mid y r1)) in
         subst (λ w. MatchesAll s l n h.parts (h.build x) w v us) z.1 (subst (λ w. MatchesAll s l n h.parts (h.build w) mid v us) z.0 r2)
 
-    down : (s : Extent) (l : ℕ) → depth_limit ≤ l → (seen : List Token) → IsSeen s seen left → (v : Said n) (us : List Token) → IsFree n us → (hs : List (Then m n)) → Guarded m n hs → MatchesBranch s l n (opened m n hs) (g.used ++ seen) v us → MatchesBranch s l n (passed m n x hs) seen v us
+    down : (s : Extent) (l : ℕ) → depth_limit ≤ l → (seen : List Token) → IsSeen s seen left → (v : Said n) (us : List Token) → IsFree n us → (hs : List (Then m n)) → Guarded m n hs
+        → MatchesBranch s l n (opened m n hs) (g.used ++ seen) v us → MatchesBranch s l n (passed m n x hs) seen v us
     down s l d seen e v us f [] q r = r
     down s l d seen e v us f (h ∷ hs) q (inl r) = inl (here_ s l d seen e v us f h q.0 q.1 r)
     down s l d seen e v us f (h ∷ hs) q (inr r) = inr (down s l d seen e v us f hs q.2 r)
@@ -409,15 +425,18 @@ enter m n ps qs b c ts left q g = record {
   only = down;
 }
   where
-    up : (s : Extent) (l : ℕ) → depth_limit ≤ l → (seen : List Token) (v : Said n) (us : List Token) → MatchesBranch s l n (record { parts = ps ++ qs; build = compose m n ps qs b c } ∷ []) seen v us → MatchesBranch s l n (record { parts = the m ∷ qs; build = c } ∷ []) (g.used ++ seen) v us
+    up : (s : Extent) (l : ℕ) → depth_limit ≤ l → (seen : List Token) (v : Said n) (us : List Token) → MatchesBranch s l n (record { parts = ps ++ qs; build = compose m n ps qs b c } ∷ []) seen v us
+        → MatchesBranch s l n (record { parts = the m ∷ qs; build = c } ∷ []) (g.used ++ seen) v us
     up s l d seen v us (inr r) = inr r
     up s l d seen v us (inl r) = let z = splits s l m n ps qs b c seen us v r in inl (one (un_itself s l m (g.used ++ seen) z.1 z.0 (g.there s l d seen z.0 z.1 (inl z.2))) z.3)
 
-    join : (s : Extent) (l : ℕ) (seen mid us : List Token) (x : Said m) (v : Said n) → MatchesBranch s l m (record { parts = ps; build = b } ∷ []) seen x mid → MatchesAll s l n qs (c x) mid v us → MatchesAll s l n (ps ++ qs) (compose m n ps qs b c) seen v us
+    join : (s : Extent) (l : ℕ) (seen mid us : List Token) (x : Said m) (v : Said n) → MatchesBranch s l m (record { parts = ps; build = b } ∷ []) seen x mid → MatchesAll s l n qs (c x) mid v us
+        → MatchesAll s l n (ps ++ qs) (compose m n ps qs b c) seen v us
     join s l seen mid us x v (inl h) r = joins s l m n ps qs b c seen mid us x v h r
     join s l seen mid us x v (inr h) r = absurd h
 
-    down : (s : Extent) (l : ℕ) → depth_limit ≤ l → (seen : List Token) → IsSeen s seen left → (v : Said n) (us : List Token) → IsFree n us → MatchesBranch s l n (record { parts = the m ∷ qs; build = c } ∷ []) (g.used ++ seen) v us
+    down : (s : Extent) (l : ℕ) → depth_limit ≤ l → (seen : List Token) → IsSeen s seen left → (v : Said n) (us : List Token) → IsFree n us
+        → MatchesBranch s l n (record { parts = the m ∷ qs; build = c } ∷ []) (g.used ++ seen) v us
         → MatchesBranch s l n (record { parts = ps ++ qs; build = compose m n ps qs b c } ∷ []) seen v us
     down s l d seen e v us f (inr r) = inr r
     down s l d seen e v us f (inl (one {x = x} {us = mid} r1 r2)) =
@@ -516,7 +535,8 @@ begun_at : (l : ℕ) → depth_limit ≤ l → (n : Nonterminal) (bs cs : List (
 begun_at l d n bs cs ts left g o = let r = blank_branch l n cs o in (r.0, subst (λ x. MatchesBranch front l n bs x r.0 []) (append-nil g.used) (g.there front l d [] r.0 [] r.1))
 
 -- no branch goes on with the token, and none is done unless the token is barred
-pub stop_at : (f : ℕ) (n : Nonterminal) (bs cs : List (Branch n)) (ts left : List Token) (t : Token) → Goes n bs cs ts (t ∷ left) → Is_open n cs → fine f n t (sort t) cs ≡ true → next f n t (sort t) cs ≡ [] → Stops n bs ts t.place
+pub stop_at : (f : ℕ) (n : Nonterminal) (bs cs : List (Branch n)) (ts left : List Token) (t : Token) → Goes n bs cs ts (t ∷ left) → Is_open n cs → fine f n t (sort t) cs ≡ true → next f n t (sort t) cs ≡ []
+    → Stops n bs ts t.place
 stop_at f n bs cs ts left t g o e d = record {
   used = g.used;
   at = t;
@@ -542,16 +562,19 @@ begun_in : (m n : Nonterminal) (l : ℕ) (hs : List (Then m n)) (used : List Tok
 begun_in m n l [] used x o r = absurd o
 begun_in m n l (h ∷ hs) used x o r = let z = blank l n h.parts (h.build x) in (z.0, inl (one (un_itself front l m used [] x r) z.1))
 
-never_in : (m n : Nonterminal) (s : Extent) (l : ℕ) (hs : List (Then m n)) (used us : List Token) (v : Said n) → Guarded m n hs → IsFree n us → ((y : Said m) (mid : List Token) → IsFree m mid → MatchesBranch s l m (itself m) used y mid → ⊥) → MatchesBranch s l n (opened m n hs) used v us → ⊥
+never_in : (m n : Nonterminal) (s : Extent) (l : ℕ) (hs : List (Then m n)) (used us : List Token) (v : Said n) → Guarded m n hs → IsFree n us
+    → ((y : Said m) (mid : List Token) → IsFree m mid → MatchesBranch s l m (itself m) used y mid → ⊥) → MatchesBranch s l n (opened m n hs) used v us → ⊥
 never_in m n s l [] used us v q f g r = r
 never_in m n s l (h ∷ hs) used us v q f g (inr r) = never_in m n s l hs used us v q.2 f g r
 never_in m n s l (h ∷ hs) used us v q f g (inl (one {x = y} {us = mid} r1 r2)) = g y mid (free_after s l m n h y q.0 q.1 mid us v f r2) (to_itself s l m used mid y r1)
 
-open_up : (n : Nonterminal) (bs cs : List (Branch n)) (ts left used : List Token) (s : Extent) (l : ℕ) (g : Goes n bs cs ts left) → depth_limit ≤ l → (v : Said n) × MatchesBranch s l n cs used v [] → (v : Said n) × MatchesBranch s l n bs (g.used ++ used) v []
+open_up : (n : Nonterminal) (bs cs : List (Branch n)) (ts left used : List Token) (s : Extent) (l : ℕ) (g : Goes n bs cs ts left) → depth_limit ≤ l → (v : Said n) × MatchesBranch s l n cs used v []
+    → (v : Said n) × MatchesBranch s l n bs (g.used ++ used) v []
 open_up n bs cs ts left used s l g d r = (r.0, g.there s l d used r.0 [] r.1)
 
 -- a part's fault is the fault of what holds it
-pub stop_in : (m n : Nonterminal) (hs : List (Then m n)) (bs : List (Branch n)) (ts us : List Token) (place : Place) → Guarded m n hs → Some_then m n hs → Goes n bs (opened m n hs) ts us → Stops m (itself m) us place → Stops n bs ts place
+pub stop_in : (m n : Nonterminal) (hs : List (Then m n)) (bs : List (Branch n)) (ts us : List Token) (place : Place) → Guarded m n hs → Some_then m n hs → Goes n bs (opened m n hs) ts us → Stops m (itself m) us place
+    → Stops n bs ts place
 stop_in m n hs bs ts us place q o g h = record {
   used = g.used ++ h.used;
   at = h.at;
@@ -601,7 +624,8 @@ none_deep_all s l f n t (b ∷ bs) d ts us v (inl r) = none_deep_look s l n (loo
 none_deep_all s l f n t (b ∷ bs) d ts us v (inr r) = none_deep_all s l f n t bs d.1 ts us v r
 
 -- a node too deep begins at the token
-pub sink_at : (f : ℕ) (n : Nonterminal) (bs cs : List (Branch n)) (ts left : List Token) (t : Token) → Goes n bs cs ts (t ∷ left) → Is_open n cs → Deep f n t (sort t) cs depth_limit → Shallow f n t (sort t) cs (deeper_limit) → Is_open n (next f n t (sort t) cs) → Sinks n bs ts t.place
+pub sink_at : (f : ℕ) (n : Nonterminal) (bs cs : List (Branch n)) (ts left : List Token) (t : Token) → Goes n bs cs ts (t ∷ left) → Is_open n cs → Deep f n t (sort t) cs depth_limit → Shallow f n t (sort t) cs (deeper_limit)
+    → Is_open n (next f n t (sort t) cs) → Sinks n bs ts t.place
 sink_at f n bs cs ts left t g o d w p = record {
   used = g.used;
   at = t;
@@ -613,7 +637,8 @@ sink_at f n bs cs ts left t g o d w p = record {
   never = λ s seen q v us h r. none_deep_all s depth_limit f n t cs d seen us v (g.only s depth_limit (omega arith) (t ∷ seen) q v us h r);
 }
 
-pub sink_in : (m n : Nonterminal) (hs : List (Then m n)) (bs : List (Branch n)) (ts us : List Token) (place : Place) → Guarded m n hs → Some_then m n hs → Goes n bs (opened m n hs) ts us → Sinks m (itself m) us place → Sinks n bs ts place
+pub sink_in : (m n : Nonterminal) (hs : List (Then m n)) (bs : List (Branch n)) (ts us : List Token) (place : Place) → Guarded m n hs → Some_then m n hs → Goes n bs (opened m n hs) ts us → Sinks m (itself m) us place
+    → Sinks n bs ts place
 sink_in m n hs bs ts us place q o g h = record {
   used = g.used ++ h.used;
   at = h.at;
@@ -624,5 +649,6 @@ sink_in m n hs bs ts us place q o g h = record {
   deeper = let r = open_up n bs (opened m n hs) ts us (h.used ++ h.at ∷ []) front (deeper_limit) g (omega arith) (begun_in m n (deeper_limit) hs (h.used ++ h.at ∷ []) h.deeper.0 o h.deeper.1) in
       (r.0, subst (λ x. MatchesBranch front (deeper_limit) n bs x r.0 []) (sym (append_assoc g.used h.used (h.at ∷ []))) r.1);
   never = λ s seen e v ws f r. never_in m n s depth_limit hs (h.used ++ h.at ∷ seen) ws v q f (λ y mid w z. h.never s seen e y mid w z)
-      (g.only s depth_limit (omega arith) (h.used ++ h.at ∷ seen) (seen_more s h.used (h.at ∷ seen) (h.at ∷ h.left) us h.split e) v ws f (subst (λ x. MatchesBranch s depth_limit n bs x v ws) (append_assoc g.used h.used (h.at ∷ seen)) r));
+      (g.only s depth_limit (omega arith) (h.used ++ h.at ∷ seen) (seen_more s h.used (h.at ∷ seen) (h.at ∷ h.left) us h.split e) v ws f
+      (subst (λ x. MatchesBranch s depth_limit n bs x v ws) (append_assoc g.used h.used (h.at ∷ seen)) r));
 }

@@ -155,7 +155,8 @@ module _ (ts from : List Token) (names : List FunName) (places : List Place) (u 
         module _ (h : x ≡ false) (y : Bool) (g : y ≡ fits s.Comma q) where
           pub export_other : y ≡ false → Stops (many s.CloseSquare (A (the function_name))) (itself (many s.CloseSquare (A (the function_name)))) ts place
           export_other k = subst (Stops (many s.CloseSquare (A (the function_name))) (itself (many s.CloseSquare (A (the function_name)))) ts) (sym b.place_is)
-              (item_other s.CloseSquare (noted_ (the function_name)) exports_close ts from u.raw u.before us r.says r.passes vs t b.are (ap (fits s.CloseSquare) (sym b.sort_is) ∙ sym e ∙ h) (ap (fits s.Comma) (sym b.sort_is) ∙ sym g ∙ k))
+              (item_other s.CloseSquare (noted_ (the function_name)) exports_close ts from u.raw u.before us r.says r.passes vs t b.are (ap (fits s.CloseSquare) (sym b.sort_is) ∙ sym e ∙ h)
+              (ap (fits s.Comma) (sym b.sort_is) ∙ sym g ∙ k))
 
           pub export_comma : y ≡ true → ExportsBefore ts vs names_ places_
           export_comma k = record {

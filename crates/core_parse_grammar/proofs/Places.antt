@@ -27,7 +27,8 @@ shallow_more f n t q (b ∷ bs) l e h = (go (look f n t q b.parts b.build) h.0, 
     go (Some xs) h = depths_more n xs l e h
 
 -- a token of a sort is taken
-pub taken : (n : Nonterminal) (bs : List (Branch n)) (ts left : List Token) (t : Token) (q : Sort) → ts ≡ t ∷ left → sort t ≡ q → fine 12 n t q bs ≡ true → Shallow 12 n t q bs depth_limit → Goes n bs (next 12 n t q bs) ts left
+pub taken : (n : Nonterminal) (bs : List (Branch n)) (ts left : List Token) (t : Token) (q : Sort) → ts ≡ t ∷ left → sort t ≡ q → fine 12 n t q bs ≡ true → Shallow 12 n t q bs depth_limit
+    → Goes n bs (next 12 n t q bs) ts left
 taken n bs ts left t q e h f d = along e (subst (λ k. Goes n bs (next 12 n t k bs) (t ∷ left) left) h (go (sort t) h))
   where
     go : (k : Sort) → k ≡ q → Goes n bs (next 12 n t (sort t) bs) (t ∷ left) left
@@ -46,7 +47,8 @@ pub through : (m n : Nonterminal) (ps : List Part) (b : Said m → Action ps (Sa
 through m n ps b ts left x h q = pass m n (record { parts = ps; build = b } ∷ []) ts left x q h
 
 -- a part's fault
-pub refused : (m n : Nonterminal) (ps : List Part) (b : Said m → Action ps (Said n)) (ts us : List Token) (e : PartFault) → Goes n (itself n) (record { parts = the m ∷ ps; build = b } ∷ []) ts us → Guarded m n (record { parts = ps; build = b } ∷ []) → Refuses m us e → Refuses n ts e
+pub refused : (m n : Nonterminal) (ps : List Part) (b : Said m → Action ps (Said n)) (ts us : List Token) (e : PartFault) → Goes n (itself n) (record { parts = the m ∷ ps; build = b } ∷ []) ts us
+    → Guarded m n (record { parts = ps; build = b } ∷ []) → Refuses m us e → Refuses n ts e
 refused m n ps b ts us (Syntax place) g q h = stop_in m n (record { parts = ps; build = b } ∷ []) (itself n) ts us place q tt g h
 refused m n ps b ts us End g q h = want_in m n (record { parts = ps; build = b } ∷ []) (itself n) ts us q tt g h
 refused m n ps b ts us (TooDeep place) g q h = sink_in m n (record { parts = ps; build = b } ∷ []) (itself n) ts us place q tt g h
@@ -59,7 +61,8 @@ refused_in m n hs ts us (TooDeep place) g o q h = sink_in m n hs (itself n) ts u
 refused_in m n hs ts us Memory g o q h = tt
 
 -- a token's fault, where a token of one sort alone may come
-pub lacking : (n : Nonterminal) (c : Sort) (ps : List Part) (b : Token → Action ps (Said n)) (ts us : List Token) (e : PartFault) → Goes n (itself n) (record { parts = a c ∷ ps; build = b } ∷ []) ts us → Misses c us e → Refuses n ts e
+pub lacking : (n : Nonterminal) (c : Sort) (ps : List Part) (b : Token → Action ps (Said n)) (ts us : List Token) (e : PartFault) → Goes n (itself n) (record { parts = a c ∷ ps; build = b } ∷ []) ts us → Misses c us e
+    → Refuses n ts e
 lacking n c ps b ts us (Syntax place) g h =
     let r = subst (λ x. Goes n (itself n) (record { parts = a c ∷ ps; build = b } ∷ []) ts x) h.are g in
     subst (λ p. Stops n (itself n) ts p) (sym h.place_is) (stop_at zero n (itself n) _ ts h.left h.first r tt (go (fits c (sort h.first)) h.other) (gone (fits c (sort h.first)) h.other))
@@ -75,7 +78,8 @@ lacking n c ps b ts us End g h = want n (itself n) _ ts (subst (λ x. Goes n (it
 lacking n c ps b ts us (TooDeep place) g h = absurd h
 lacking n c ps b ts us Memory g h = absurd h
 
-pub lacking_first : (n : Nonterminal) (d : ℕ) (c : Sort) (ps : List Part) (b : Token → Action ps (Said n)) (ts us : List Token) (e : PartFault) → Goes n (itself n) (record { parts = first d c ∷ ps; build = b } ∷ []) ts us → Misses c us e → Refuses n ts e
+pub lacking_first : (n : Nonterminal) (d : ℕ) (c : Sort) (ps : List Part) (b : Token → Action ps (Said n)) (ts us : List Token) (e : PartFault) → Goes n (itself n) (record { parts = first d c ∷ ps; build = b } ∷ []) ts us
+    → Misses c us e → Refuses n ts e
 lacking_first n d c ps b ts us (Syntax place) g h =
     let r = subst (λ x. Goes n (itself n) (record { parts = first d c ∷ ps; build = b } ∷ []) ts x) h.are g in
     subst (λ p. Stops n (itself n) ts p) (sym h.place_is) (stop_at zero n (itself n) _ ts h.left h.first r tt (go (fits c (sort h.first)) h.other) (gone (fits c (sort h.first)) h.other))
@@ -134,8 +138,10 @@ drop_second n c b bs ts left t e f = let g = drop n b bs ts left t e f in record
 }
 
 -- a token that stands for the sort is taken
-pub take_class : (n : Nonterminal) (c : Sort) (ps : List Part) (b : Token → Action ps (Said n)) (ts left : List Token) (h : Takes c ts left) → Goes n (record { parts = a c ∷ ps; build = b } ∷ []) (record { parts = ps; build = b h.first } ∷ []) ts left
-take_class n c ps b ts left h = along h.are (go (fits c (sort h.first)) h.fits_it (advance zero n (record { parts = a c ∷ ps; build = b } ∷ []) h.first left (fine_it (fits c (sort h.first)) h.fits_it) (λ l d. (shallow_it (fits c (sort h.first)) l, tt))))
+pub take_class : (n : Nonterminal) (c : Sort) (ps : List Part) (b : Token → Action ps (Said n)) (ts left : List Token) (h : Takes c ts left)
+    → Goes n (record { parts = a c ∷ ps; build = b } ∷ []) (record { parts = ps; build = b h.first } ∷ []) ts left
+take_class n c ps b ts left h = along h.are (go (fits c (sort h.first)) h.fits_it
+    (advance zero n (record { parts = a c ∷ ps; build = b } ∷ []) h.first left (fine_it (fits c (sort h.first)) h.fits_it) (λ l d. (shallow_it (fits c (sort h.first)) l, tt))))
   where
     fine_it : (q : Bool) → q ≡ true → (if look_fine n (barred n (sort h.first)) (Some (take_if q None ps (b h.first))) then true else false) ≡ true
     fine_it true e = refl
@@ -145,13 +151,16 @@ take_class n c ps b ts left h = along h.are (go (fits c (sort h.first)) h.fits_i
     shallow_it true l = tt
     shallow_it false l = tt
 
-    go : (q : Bool) → q ≡ true → Goes n (record { parts = a c ∷ ps; build = b } ∷ []) (after_steps n (take_if q None ps (b h.first)) ++ []) (h.first ∷ left) left → Goes n (record { parts = a c ∷ ps; build = b } ∷ []) (record { parts = ps; build = b h.first } ∷ []) (h.first ∷ left) left
+    go : (q : Bool) → q ≡ true → Goes n (record { parts = a c ∷ ps; build = b } ∷ []) (after_steps n (take_if q None ps (b h.first)) ++ []) (h.first ∷ left) left
+        → Goes n (record { parts = a c ∷ ps; build = b } ∷ []) (record { parts = ps; build = b h.first } ∷ []) (h.first ∷ left) left
     go true e g = g
     go false e g = absurd cc
 
 -- the same, for a node's first token
-pub take_first : (n : Nonterminal) (d : ℕ) (c : Sort) (ps : List Part) (b : Token → Action ps (Said n)) (ts left : List Token) → d ≤ 400 → (h : Takes c ts left) → Goes n (record { parts = first d c ∷ ps; build = b } ∷ []) (record { parts = ps; build = b h.first } ∷ []) ts left
-take_first n d c ps b ts left w h = along h.are (go (fits c (sort h.first)) h.fits_it (advance zero n (record { parts = first d c ∷ ps; build = b } ∷ []) h.first left (fine_it (fits c (sort h.first)) h.fits_it) (λ l z. (shallow_it (fits c (sort h.first)) l z, tt))))
+pub take_first : (n : Nonterminal) (d : ℕ) (c : Sort) (ps : List Part) (b : Token → Action ps (Said n)) (ts left : List Token) → d ≤ 400 → (h : Takes c ts left)
+    → Goes n (record { parts = first d c ∷ ps; build = b } ∷ []) (record { parts = ps; build = b h.first } ∷ []) ts left
+take_first n d c ps b ts left w h = along h.are (go (fits c (sort h.first)) h.fits_it
+    (advance zero n (record { parts = first d c ∷ ps; build = b } ∷ []) h.first left (fine_it (fits c (sort h.first)) h.fits_it) (λ l z. (shallow_it (fits c (sort h.first)) l z, tt))))
   where
     fine_it : (q : Bool) → q ≡ true → (if look_fine n (barred n (sort h.first)) (Some (take_if q (Some d) ps (b h.first))) then true else false) ≡ true
     fine_it true e = refl
@@ -161,7 +170,8 @@ take_first n d c ps b ts left w h = along h.are (go (fits c (sort h.first)) h.fi
     shallow_it true l z = (omega arith, tt)
     shallow_it false l z = tt
 
-    go : (q : Bool) → q ≡ true → Goes n (record { parts = first d c ∷ ps; build = b } ∷ []) (after_steps n (take_if q (Some d) ps (b h.first)) ++ []) (h.first ∷ left) left → Goes n (record { parts = first d c ∷ ps; build = b } ∷ []) (record { parts = ps; build = b h.first } ∷ []) (h.first ∷ left) left
+    go : (q : Bool) → q ≡ true → Goes n (record { parts = first d c ∷ ps; build = b } ∷ []) (after_steps n (take_if q (Some d) ps (b h.first)) ++ []) (h.first ∷ left) left
+        → Goes n (record { parts = first d c ∷ ps; build = b } ∷ []) (record { parts = ps; build = b h.first } ∷ []) (h.first ∷ left) left
     go true e g = g
     go false e g = absurd cc
 

@@ -36,7 +36,8 @@ module _ (ts us : List Token) (t : Token) (q : Sort) (place : Place) (b : Starts
 
   module _ (h : x ≡ false) (y : Bool) (i : y ≡ fits s.OpenRound q) where
     pub variable_other : y ≡ false → Stops variable (itself variable) ts place
-    variable_other j = subst (Stops variable (itself variable) ts) (sym b.place_is) (halted variable _ _ ts ts us t (stay variable (itself variable) ts) b.are tt (go (sort t) (ap (fits s.Variable) (sym b.sort_is) ∙ sym e ∙ h) (ap (fits s.OpenRound) (sym b.sort_is) ∙ sym i ∙ j)))
+    variable_other j = subst (Stops variable (itself variable) ts) (sym b.place_is)
+        (halted variable _ _ ts ts us t (stay variable (itself variable) ts) b.are tt (go (sort t) (ap (fits s.Variable) (sym b.sort_is) ∙ sym e ∙ h) (ap (fits s.OpenRound) (sym b.sort_is) ∙ sym i ∙ j)))
       where
         go : (q : Sort) → fits s.Variable q ≡ false → fits s.OpenRound q ≡ false → Shut variable t q (itself variable)
         go s.Variable x y = absurd cc
@@ -70,12 +71,48 @@ module _ (ts us : List Token) (t : Token) (q : Sort) (place : Place) (b : Starts
 
 -- variables with commas
 pub variables_closed : (c : Sort) → closing c ≡ true → Closes c variable
-variables_closed s.CloseRound k = record { empty = λ ts left t e h. taken _ (itself _) ts left t s.CloseRound e h refl (tt, tt); guarded = λ b. ((λ t x. refl), (λ t x. refl), tt); exact = λ z. absurd cc; own = refl; no_comma = λ z. absurd cc }
-variables_closed s.CloseCurly k = record { empty = λ ts left t e h. taken _ (itself _) ts left t s.CloseCurly e h refl (tt, tt); guarded = λ b. ((λ t x. refl), (λ t x. refl), tt); exact = λ z. absurd cc; own = refl; no_comma = λ z. absurd cc }
-variables_closed s.CloseSquare k = record { empty = λ ts left t e h. taken _ (itself _) ts left t s.CloseSquare e h refl (tt, tt); guarded = λ b. ((λ t x. refl), (λ t x. refl), tt); exact = λ z. absurd cc; own = refl; no_comma = λ z. absurd cc }
-variables_closed s.Greater k = record { empty = λ ts left t e h. taken _ (itself _) ts left t s.Greater e h refl (tt, tt); guarded = λ b. ((λ t x. refl), (λ t x. refl), tt); exact = λ z. absurd cc; own = refl; no_comma = λ z. absurd cc }
-variables_closed s.CloseBinary k = record { empty = λ ts left t e h. taken _ (itself _) ts left t s.CloseBinary e h refl (tt, tt); guarded = λ b. ((λ t x. refl), (λ t x. refl), tt); exact = λ z. absurd cc; own = refl; no_comma = λ z. absurd cc }
-variables_closed s.CloseMap k = record { empty = λ ts left t e h. taken _ (itself _) ts left t s.CloseMap e h refl (tt, tt); guarded = λ b. ((λ t x. refl), (λ t x. refl), tt); exact = λ z. absurd cc; own = refl; no_comma = λ z. absurd cc }
+variables_closed s.CloseRound k = record {
+  empty = λ ts left t e h. taken _ (itself _) ts left t s.CloseRound e h refl (tt, tt);
+  guarded = λ b. ((λ t x. refl), (λ t x. refl), tt);
+  exact = λ z. absurd cc;
+  own = refl;
+  no_comma = λ z. absurd cc;
+}
+variables_closed s.CloseCurly k = record {
+  empty = λ ts left t e h. taken _ (itself _) ts left t s.CloseCurly e h refl (tt, tt);
+  guarded = λ b. ((λ t x. refl), (λ t x. refl), tt);
+  exact = λ z. absurd cc;
+  own = refl;
+  no_comma = λ z. absurd cc;
+}
+variables_closed s.CloseSquare k = record {
+  empty = λ ts left t e h. taken _ (itself _) ts left t s.CloseSquare e h refl (tt, tt);
+  guarded = λ b. ((λ t x. refl), (λ t x. refl), tt);
+  exact = λ z. absurd cc;
+  own = refl;
+  no_comma = λ z. absurd cc;
+}
+variables_closed s.Greater k = record {
+  empty = λ ts left t e h. taken _ (itself _) ts left t s.Greater e h refl (tt, tt);
+  guarded = λ b. ((λ t x. refl), (λ t x. refl), tt);
+  exact = λ z. absurd cc;
+  own = refl;
+  no_comma = λ z. absurd cc;
+}
+variables_closed s.CloseBinary k = record {
+  empty = λ ts left t e h. taken _ (itself _) ts left t s.CloseBinary e h refl (tt, tt);
+  guarded = λ b. ((λ t x. refl), (λ t x. refl), tt);
+  exact = λ z. absurd cc;
+  own = refl;
+  no_comma = λ z. absurd cc;
+}
+variables_closed s.CloseMap k = record {
+  empty = λ ts left t e h. taken _ (itself _) ts left t s.CloseMap e h refl (tt, tt);
+  guarded = λ b. ((λ t x. refl), (λ t x. refl), tt);
+  exact = λ z. absurd cc;
+  own = refl;
+  no_comma = λ z. absurd cc;
+}
 variables_closed _ k = absurd cc
 
 module _ (c : Sort) (k : closing c ≡ true) where
@@ -136,4 +173,8 @@ module _ (ts us : List Token) (t : Token) (q : Sort) (place : Place) (b : Starts
     alone_bad f z = refused _ _ [] (λ x. x ∷ []) ts ts f alone ((λ t x. refl), (λ t x. refl), tt) z
 
     pub alone_ok : (vs : List Token) (v : VarName) → ReadsVariable ts v vs → (none more : List VarName) → none ≡ [] → more ≡ none ++ v ∷ [] → ReadsVariables ts more vs
-    alone_ok vs v z none more i g = record { says = z.says ∷ []; passes = alone >> through _ _ [] (λ x. x ∷ []) ts vs z.says z.passes ((λ t x. refl), (λ t x. refl), tt); agrees = ap (λ y. y ∷ []) z.agrees ∙ ap (λ y. y ++ v ∷ []) (sym i) ∙ sym g }
+    alone_ok vs v z none more i g = record {
+      says = z.says ∷ [];
+      passes = alone >> through _ _ [] (λ x. x ∷ []) ts vs z.says z.passes ((λ t x. refl), (λ t x. refl), tt);
+      agrees = ap (λ y. y ∷ []) z.agrees ∙ ap (λ y. y ++ v ∷ []) (sym i) ∙ sym g;
+    }

@@ -14,7 +14,9 @@ use Rattle.core_scan.specs.declared.sort.Sort.{Sort}
 use Rattle.core_scan.specs.declared.sort.Sort.TheVariants as s
 use Rattle.core_parse_grammar.specs.declared.notes.Constant.{Constant}
 use Rattle.core_parse_grammar.specs.declared.notes.Constant.TheVariants.{Another}
-use Rattle.core_parse_grammar.specs.Build.{text, value, fun_name, no_note, at, Noted, with_note, note_or_none, literal_constant, tuple_constant, note_of, NameAt, LiteralAt, variable_name, VariableAt, variable_at, literal_at, Items, ItemsAt, before_items, next_item, only_tail, merged, nil, nil_pattern, string_items, string_patterns, let_, do_, before, MapParts, next_pair, map_at, mark_of, PatternsAt, patterns_at, FunctionParts, note_function, definition_of, module_of, note_module}
+use Rattle.core_parse_grammar.specs.Build.{text, value, fun_name, no_note, at, Noted, with_note, note_or_none, literal_constant, tuple_constant, note_of, NameAt, LiteralAt, variable_name}
+use Rattle.core_parse_grammar.specs.Build.{VariableAt, variable_at, literal_at, Items, ItemsAt, before_items, next_item, only_tail, merged, nil, nil_pattern, string_items, string_patterns, let_}
+use Rattle.core_parse_grammar.specs.Build.{do_, before, MapParts, next_pair, map_at, mark_of, PatternsAt, patterns_at, FunctionParts, note_function, definition_of, module_of, note_module}
 
 -- A part is one token of a sort, the first token of a node of some depth, or a nonterminal.
 mutual

@@ -64,7 +64,8 @@ pub record ReadsUpdated (d n : ℕ) (ts : List Token) (updated : Option m.Tree) 
   pub closes : Takes s.CloseMap behind left
 
 abbrev pub RefusesUpdated : ℕ → List Token → PartFault → Type 0
-RefusesUpdated d us e = (o : Nonterminal) (f : m.Tree → Action (a s.CloseMap ∷ []) (Said o)) (ts : List Token) → Goes o (itself o) (record { parts = the (expression d) ∷ a s.CloseMap ∷ []; build = f } ∷ []) ts us → Refuses o ts e
+RefusesUpdated d us e = (o : Nonterminal) (f : m.Tree → Action (a s.CloseMap ∷ []) (Said o)) (ts : List Token) → Goes o (itself o) (record { parts = the (expression d) ∷ a s.CloseMap ∷ []; build = f } ∷ []) ts us
+    → Refuses o ts e
 
 pub record ReadsBarePair (d n : ℕ) (ts : List Token) (made : t.PairParts) (left : List Token) (p : ℕ) : Type 0 where
   pub says : t.PairParts
@@ -80,7 +81,8 @@ pub record ReadsBarePatternPair (d n : ℕ) (ts : List Token) (made : t.PatPairP
 pub record ReadsValue (d n : ℕ) (ts : List Token) (exact : Bool) (made : m.Tree) (left : List Token) (p : ℕ) : Type 0 where
   pub says : m.Tree
   pub goes : (o : Nonterminal) (qs : List Part) (f : Bool → m.Tree → Action qs (Said o)) → Guarded (expression d) o (record { parts = qs; build = f exact } ∷ [])
-      → Goes o (record { parts = a s.Assoc ∷ the (expression d) ∷ qs; build = λ _. f false } ∷ record { parts = a s.Exact ∷ the (expression d) ∷ qs; build = λ _. f true } ∷ []) (record { parts = qs; build = f exact says } ∷ []) ts left
+      → Goes o (record { parts = a s.Assoc ∷ the (expression d) ∷ qs; build = λ _. f false } ∷ record { parts = a s.Exact ∷ the (expression d) ∷ qs; build = λ _. f true } ∷ [])
+      (record { parts = qs; build = f exact says } ∷ []) ts left
   pub agrees : number n says ≡ (made, p)
 
 abbrev pub RefusesValue : ℕ → List Token → PartFault → Type 0
@@ -89,11 +91,13 @@ RefusesValue d us e = (o : Nonterminal) (qs : List Part) (f : Bool → m.Tree �
 
 pub record ReadsPatternValue (d n : ℕ) (ts : List Token) (made : m.Pattern) (left : List Token) (p : ℕ) : Type 0 where
   pub says : m.Pattern
-  pub goes : (o : Nonterminal) (qs : List Part) (f : m.Pattern → Action qs (Said o)) → Guarded (pattern d) o (record { parts = qs; build = f } ∷ []) → Goes o (record { parts = a s.Exact ∷ the (pattern d) ∷ qs; build = λ _. f } ∷ []) (record { parts = qs; build = f says } ∷ []) ts left
+  pub goes : (o : Nonterminal) (qs : List Part) (f : m.Pattern → Action qs (Said o)) → Guarded (pattern d) o (record { parts = qs; build = f } ∷ [])
+      → Goes o (record { parts = a s.Exact ∷ the (pattern d) ∷ qs; build = λ _. f } ∷ []) (record { parts = qs; build = f says } ∷ []) ts left
   pub agrees : number_pattern n says ≡ (made, p)
 
 abbrev pub RefusesPatternValue : ℕ → List Token → PartFault → Type 0
-RefusesPatternValue d us e = (o : Nonterminal) (qs : List Part) (f : m.Pattern → Action qs (Said o)) → Guarded (pattern d) o (record { parts = qs; build = f } ∷ []) → (ts : List Token) → Goes o (itself o) (record { parts = a s.Exact ∷ the (pattern d) ∷ qs; build = λ _. f } ∷ []) ts us → Refuses o ts e
+RefusesPatternValue d us e = (o : Nonterminal) (qs : List Part) (f : m.Pattern → Action qs (Said o)) → Guarded (pattern d) o (record { parts = qs; build = f } ∷ []) → (ts : List Token)
+    → Goes o (itself o) (record { parts = a s.Exact ∷ the (pattern d) ∷ qs; build = λ _. f } ∷ []) ts us → Refuses o ts e
 
 -- The pair of this key, which is read behind the key.
 pub record ReadsValueOf (d n : ℕ) (key : m.Tree) (ts : List Token) (made : t.PairParts) (left : List Token) (p : ℕ) : Type 0 where

@@ -18,7 +18,9 @@ use Rattle.core_parse_grammar.specs.declared.notes.Constant.TheVariants.{Another
 use Rattle.core_parse_grammar.specs.declared.constants.Tail.{Tail}
 use Rattle.core_parse_grammar.specs.declared.constants.Tail.TheVariants.{Whole, Elements}
 use Rattle.core_parse_grammar.specs.Build.{at, text, no_note, is_chain, Noted, NameAt, export_names, export_places, module_of, MapParts, map_at, map_tree}
-use Rattle.core_parse_grammar.specs.Grammar.{Action, attribute, «module», annotated_module, a, the, A, noted_, many, annotation, function_name, definition, definitions, variable, variables, constant, other_constant, constant_rest, constant_tail, constant_segment, constant_pair, expression, bare_expression, other_expression, segment, pairs, pair, clauses_to, clause, bare_clause, pattern, bare_pattern, pattern_segment, pattern_pair}
+use Rattle.core_parse_grammar.specs.Grammar.{Action, attribute, «module», annotated_module, a, the, A, noted_, many, annotation, function_name, definition, definitions, variable}
+use Rattle.core_parse_grammar.specs.Grammar.{variables, constant, other_constant, constant_rest, constant_tail, constant_segment, constant_pair, expression, bare_expression}
+use Rattle.core_parse_grammar.specs.Grammar.{other_expression, segment, pairs, pair, clauses_to, clause, bare_clause, pattern, bare_pattern, pattern_segment, pattern_pair}
 use Rattle.core_parse_grammar.specs.Labels.{number, number_all, number_pattern, number_patterns, number_clauses, number_segments, number_pat_segments, number_pairs, number_pat_pairs, number_defs, numbered}
 use Rattle.core_parse_grammar.specs.Track.{Goes, Passes, itself}
 use Rattle.core_parse_grammar.specs.Faults.{closers}

@@ -5,7 +5,8 @@ use Rattle.core_scan.specs.declared.token.Token.{Token}
 use Rattle.core_scan.specs.declared.sort.Sort.{Sort}
 use Rattle.core_scan.specs.declared.sort.Sort.TheVariants as s
 use Rattle.core_scan.specs.Sorts.{sort, fits}
-use Rattle.core_parse_grammar.specs.Grammar.{Part, a, first, the, Nonterminal, Said, Action, Way, ways, definition, function, expression, bare_expression, other_expression, list, list_tail, pair, bare_pair, clause, bare_clause, clause_patterns, pattern, bare_pattern, other_pattern, pattern_list, pattern_tail, pattern_pair, bare_pattern_pair}
+use Rattle.core_parse_grammar.specs.Grammar.{Part, a, first, the, Nonterminal, Said, Action, Way, ways, definition, function, expression, bare_expression, other_expression, list, list_tail, pair}
+use Rattle.core_parse_grammar.specs.Grammar.{bare_pair, clause, bare_clause, clause_patterns, pattern, bare_pattern, other_pattern, pattern_list, pattern_tail, pattern_pair, bare_pattern_pair}
 use Rattle.core_parse_grammar.specs.Begins.{depth_limit}
 use Rattle.core_parse_grammar.specs.Matches.{Extent, all, front, MatchesAll}
 

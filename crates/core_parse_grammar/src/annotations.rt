@@ -99,7 +99,8 @@ pub fn annotated_pattern<'a>(
     pattern: Boxed<Pattern>,
     tokens: &'a [Token],
 ) -> Result<ReadAnnotatedPattern<'a>, PartFault>
-    ensures ok { IfOk result (λ r. (note : Note) × ReadsAnnotation tokens.now note r.rest.now × (pattern_tree r.pattern ≡ noted_pattern_tree note (pattern_tree pattern))) }
+    ensures ok { IfOk result (λ r. (note : Note) × ReadsAnnotation tokens.now note r.rest.now
+        × (pattern_tree r.pattern ≡ noted_pattern_tree note (pattern_tree pattern))) }
     ensures shorter { IfOk result (λ r. length r.rest.now < length tokens.now) }
     ensures lighter { IfOk result (λ r. weight r.rest.now ≤ weight tokens.now) }
     ensures err { IfErr result (λ e. Refuses annotation_part tokens.now e) }

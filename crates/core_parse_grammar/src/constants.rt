@@ -1,9 +1,11 @@
 ghost use Rattle.std.specs.Prelude.{◌≡◌, ◌+◌, ◌<◌, ◌≤◌, true, false, length, IfOk, IfErr};
 ghost use Rattle.core_scan.specs.Sorts.{fits as fits_sort};
 ghost use Rattle.core_parse_grammar.specs.Build.{atom_constant as constant_of_atom, tuple_constant as constant_of_tuple, text};
-ghost use Rattle.core_parse_grammar.specs.Grammar.{the, many, constant as constant_part, other_constant as other_constant_part, constant_tail as tail_part, constant_segment as segment_part, constant_pair as pair_part};
+ghost use Rattle.core_parse_grammar.specs.Grammar.{the, many, constant as constant_part, other_constant as other_constant_part};
+ghost use Rattle.core_parse_grammar.specs.Grammar.{constant_tail as tail_part, constant_segment as segment_part, constant_pair as pair_part};
 ghost use Rattle.core_parse_grammar.specs.Faults.{Refuses, Starts, closing, begins_constant as begins, single_constant as constant_of_token};
-ghost use Rattle.core_parse_grammar.specs.Readings.{ReadsConstant, ReadsOtherConstant, ReadsConstantElements, ReadsConstantTail, ReadsConstants, ReadsConstantSegment, ReadsConstantSegments, ReadsConstantPair, ReadsConstantPairs};
+ghost use Rattle.core_parse_grammar.specs.Readings.{ReadsConstant, ReadsOtherConstant, ReadsConstantElements, ReadsConstantTail, ReadsConstants};
+ghost use Rattle.core_parse_grammar.specs.Readings.{ReadsConstantSegment, ReadsConstantSegments, ReadsConstantPair, ReadsConstantPairs};
 
 use crate::fault::PartFault;
 use crate::leaves::{DEEPEST, First, is_too_deep, next, take, text_bytes, value_of};

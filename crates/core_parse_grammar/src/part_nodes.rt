@@ -1,6 +1,7 @@
 // Parts of nodes in boxes. Each maker drops its parts if allocation fails.
 ghost use Rattle.std.specs.Prelude.{◌≡◌, ◌++◌, [], ◌∷◌, IfOk};
-ghost use Rattle.core_ast.specs.Tree.{tree, pattern_tree, all_trees, all_patterns, clause_parts, pair_parts, pat_pair_parts, segment_parts, pat_segment_parts, step_tree};
+ghost use Rattle.core_ast.specs.Tree.{tree, pattern_tree, all_trees, all_patterns, clause_parts, pair_parts};
+ghost use Rattle.core_ast.specs.Tree.{pat_pair_parts, segment_parts, pat_segment_parts, step_tree};
 ghost use Rattle.core_ast.specs.declared.syntax.Clause.{Clause};
 ghost use Rattle.core_ast.specs.declared.syntax.MapPair.{MapPair};
 ghost use Rattle.core_ast.specs.declared.syntax.PatPair.{PatPair};
@@ -21,7 +22,9 @@ pub fn with_clause(
     guard: Boxed<Expr>,
     body: Boxed<Expr>,
 ) -> Result<List<Clause>, Memory>
-    ensures { IfOk result (λ made. (clause : Clause) × (clause_parts clause ≡ (record { mark = mark; patterns = all_patterns patterns; guard = tree guard; body = tree body })) × (made ≡ items ++ clause ∷ [])) }
+    ensures { IfOk result (λ made. (clause : Clause) ×
+        (clause_parts clause ≡ (record { mark = mark; patterns = all_patterns patterns; guard = tree guard; body = tree body }))
+        × (made ≡ items ++ clause ∷ [])) }
 {
     let clause = Clause::new(mark, patterns, guard.into_inner(), body.into_inner());
     let mut items = items;
@@ -41,7 +44,8 @@ pub fn with_pair(
     key: Boxed<Expr>,
     value: Boxed<Expr>,
 ) -> Result<List<MapPair>, Memory>
-    ensures { IfOk result (λ made. (pair : MapPair) × (pair_parts pair ≡ (record { exact = exact; key = tree key; value = tree value })) × (made ≡ items ++ pair ∷ [])) }
+    ensures { IfOk result (λ made. (pair : MapPair) × (pair_parts pair ≡ (record { exact = exact; key = tree key; value = tree value }))
+        × (made ≡ items ++ pair ∷ [])) }
 {
     let pair = MapPair::new(exact, key.into_inner(), value.into_inner());
     let mut items = items;
@@ -59,7 +63,8 @@ pub fn with_pattern_pair(
     key: Boxed<Expr>,
     value: Boxed<Pattern>,
 ) -> Result<List<PatPair>, Memory>
-    ensures { IfOk result (λ made. (pair : PatPair) × (pat_pair_parts pair ≡ (record { key = tree key; value = pattern_tree value })) × (made ≡ items ++ pair ∷ [])) }
+    ensures { IfOk result (λ made. (pair : PatPair) × (pat_pair_parts pair ≡ (record { key = tree key; value = pattern_tree value }))
+        × (made ≡ items ++ pair ∷ [])) }
 {
     let pair = PatPair::new(key.into_inner(), value.into_inner());
     let mut items = items;

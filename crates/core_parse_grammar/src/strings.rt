@@ -36,7 +36,8 @@ pub fn push_byte_patterns(
     label: u32,
 ) -> Result<u32, Memory>
     requires { label + length (text token.now) < 2 ^ 32 }
-    ensures added { IfOk result (λ next. map pattern_tree items.new ≡ map pattern_tree items.old ++ labelled_byte_patterns label token.now.place (text token.now)) }
+    ensures added { IfOk result (λ next. map pattern_tree items.new
+        ≡ map pattern_tree items.old ++ labelled_byte_patterns label token.now.place (text token.now)) }
     ensures next { IfOk result (λ next. next ≡ label + length (text token.now)) }
 {
     let mut next = label;

@@ -1,5 +1,6 @@
 -- Words with a space between each two are lexed as their tokens.
-use Rattle.std.proofs.Common.{eqb-true, Some, None, Option, ◌≡◌, ◌≢◌, ℕ, pos, negsuc, zero, suc, ◌+◌, ◌<◌, ◌≤◌, ◌⊎◌, inl, inr, List, [], ◌∷◌, ◌++◌, length, Bool, true, false, ◌&&◌, ◌||◌, not, IsTrue, refl, sym, ap, ◌∙◌, subst, arith, append_assoc, true≢false}
+use Rattle.std.proofs.Common.{eqb-true, Some, None, Option, ◌≡◌, ◌≢◌, ℕ, pos, negsuc, zero, suc, ◌+◌, ◌<◌, ◌≤◌, ◌⊎◌, inl, inr, List, [], ◌∷◌, ◌++◌}
+use Rattle.std.proofs.Common.{length, Bool, true, false, ◌&&◌, ◌||◌, not, IsTrue, refl, sym, ap, ◌∙◌, subst, arith, append_assoc, true≢false}
 use Rattle.std.specs.Prelude.{◌==◌, ◌/◌, ◌%◌, neg_ℤ}
 use Rattle.std.proofs.lemmas.Bool.Decides.{nat_tests}
 use Rattle.std.specs.List.{list_all}
@@ -167,7 +168,8 @@ free (WordKind w) p ps more after s y spells e stop clean = no_stop is_name_byte
 free (Variable x) p ps more after s y spells e stop clean = no_stop is_name_byte s refl refl stop (inside is_name_byte ps s y (subst (IsName is_variable_start) e spells.0).1)
 free (Integer n bare) p ps more after s y (sign, digits, ds, text, value, is) e stop clean =
     no_number s stop (inside number_byte (p ∷ ps) s y (subst (AllOf number_byte) (sym text ∙ e) (AllOf-append number_byte (sign_text sign) digits (sign_number sign) (some_digits digits ds))))
-free (Float f) p ps more after s y ((sign, whole, part, exponent, ws, qs, es, text), is) e stop clean = no_number s stop (inside number_byte (p ∷ ps) s y (subst (AllOf number_byte) (sym text ∙ e) (float_bytes sign whole part exponent ws qs es)))
+free (Float f) p ps more after s y ((sign, whole, part, exponent, ws, qs, es, text), is) e stop clean =
+    no_number s stop (inside number_byte (p ∷ ps) s y (subst (AllOf number_byte) (sym text ∙ e) (float_bytes sign whole part exponent ws qs es)))
 free (Char c) p ps more after s y (inl (text, low, a, b)) e stop clean = clean.1 (same_head p 36 (ps ++ s ∷ y) (c ∷ []) (sym e ∙ text))
 free (Char c) p ps more after s y (inr (escape, text, is)) e stop clean = clean.1 (same_head p 36 (ps ++ s ∷ y) (92 ∷ escape) (sym e ∙ text))
 free (Atom x) p ps more after s y (text, is, in_) e stop clean = clean.2 (same_head p 39 (ps ++ s ∷ y) (text ++ 39 ∷ []) (sym e ∙ is))
@@ -311,7 +313,8 @@ atom_inside : (xs rest : List ℕ) → Inside 39 (all_escaped xs) xs (39 ∷ res
 atom_inside [] rest = nothing refl refl
 atom_inside (b ∷ bs) rest = by (needs_backslash b) refl (is_control b) refl (atom_inside bs rest)
   where
-    by : (t : Bool) → needs_backslash b ≡ t → (u : Bool) → is_control b ≡ u → Inside 39 (all_escaped bs) bs (39 ∷ rest) → Inside 39 ((if t then 92 ∷ b ∷ [] else if u then octal_of b else b ∷ []) ++ all_escaped bs) (b ∷ bs) (39 ∷ rest)
+    by : (t : Bool) → needs_backslash b ≡ t → (u : Bool) → is_control b ≡ u → Inside 39 (all_escaped bs) bs (39 ∷ rest)
+        → Inside 39 ((if t then 92 ∷ b ∷ [] else if u then octal_of b else b ∷ []) ++ all_escaped bs) (b ∷ bs) (39 ∷ rest)
     by true n u c more = escaped (b ∷ []) (all_escaped bs) bs b (letter b refl (lettered_self b n)) refl refl more
     by false n true c more =
         let d = control_digits b c in
@@ -330,7 +333,8 @@ not_caret : (x : ℕ) → needs_backslash x ≡ true → 94 ≡ x → ⊥
 not_caret x h e = elim (which x h) [ inl f ↦ absurd (omega arith) | inr f ↦ absurd (omega arith) ]
 
 -- after a backslash, an escape of the byte itself
-one_escape : (x : ℕ) (esc more left after : List ℕ) (v : ℕ) → needs_backslash x ≡ true → Escape esc v (more ++ 39 ∷ after) → x ∷ left ≡ (esc ++ more) ++ 39 ∷ after → (esc ≡ x ∷ []) × (left ≡ more ++ 39 ∷ after)
+one_escape : (x : ℕ) (esc more left after : List ℕ) (v : ℕ) → needs_backslash x ≡ true → Escape esc v (more ++ 39 ∷ after) → x ∷ left ≡ (esc ++ more) ++ 39 ∷ after
+    → (esc ≡ x ∷ []) × (left ≡ more ++ 39 ∷ after)
 one_escape x [] more left after v n (octal some few all_ ends is small) e = absurd (some refl)
 one_escape x (o ∷ os) more left after v n (octal some few all_ ends is small) e = absurd (octal_apart o x all_.0 (sym (same_head x o left ((os ++ more) ++ 39 ∷ after) e)) (not_octal x n))
 one_escape x esc more left after v n (control b is low high val) e = absurd (not_caret x n (sym (same_head x 94 left ((b ∷ more) ++ 39 ∷ after) (e ∙ ap (λ z. (z ++ more) ++ 39 ∷ after) is))))
@@ -351,8 +355,10 @@ three_digits p q r (a ∷ b ∷ []) more left after v all_ none_ (octal some few
     let g = same_tail q b (r ∷ left) (more ++ 39 ∷ after) (same_tail p a (q ∷ r ∷ left) (b ∷ more ++ 39 ∷ after) e) in absurd (true≢false (sym all_.1.1.0 ∙ none_ahead r left (more ++ 39 ∷ after) g ends))
 three_digits p q r (a ∷ b ∷ c ∷ []) more left after v all_ none_ (octal some few os ends is small) e =
     let g = same_tail p a (q ∷ r ∷ left) (b ∷ c ∷ more ++ 39 ∷ after) e in
-    let h = same_tail q b (r ∷ left) (c ∷ more ++ 39 ∷ after) g in
-    ((λ i. same_head a p (b ∷ c ∷ more ++ 39 ∷ after) (q ∷ r ∷ left) (sym e) i ∷ same_head b q (c ∷ more ++ 39 ∷ after) (r ∷ left) (sym g) i ∷ same_head c r (more ++ 39 ∷ after) left (sym h) i ∷ []), same_tail r c left (more ++ 39 ∷ after) h)
+    let h = same_tail q b (r ∷ left) (c ∷ more ++ 39 ∷ after) g in (
+      (λ i. same_head a p (b ∷ c ∷ more ++ 39 ∷ after) (q ∷ r ∷ left) (sym e) i ∷ same_head b q (c ∷ more ++ 39 ∷ after) (r ∷ left) (sym g) i ∷ same_head c r (more ++ 39 ∷ after) left (sym h) i ∷ []),
+      same_tail r c left (more ++ 39 ∷ after) h,
+    )
 three_digits p q r (a ∷ b ∷ c ∷ d ∷ os) more left after v all_ none_ (octal some few ods ends is small) e = absurd (omega arith)
 three_digits p q r esc more left after v all_ none_ (control b is low high val) e =
     let g = e ∙ ap (λ z. (z ++ more) ++ 39 ∷ after) is in absurd (octal_apart p 94 all_.0 (same_head p 94 (q ∷ r ∷ left) (b ∷ more ++ 39 ∷ after) g) refl)
@@ -380,7 +386,8 @@ atom_once (x ∷ xs) left inside_ text after (nothing is says) e = absurd (never
 atom_once (x ∷ xs) left inside_ text after (plain b more letters quote slash is says h) e =
     by (needs_backslash x) refl (is_control x) refl (e ∙ ap (λ z. z ++ 39 ∷ after) is) (λ g. atom_once xs left more letters after h g)
   where
-    by : (t : Bool) → needs_backslash x ≡ t → (u : Bool) → is_control x ≡ u → ((if t then 92 ∷ x ∷ [] else if u then octal_of x else x ∷ []) ++ all_escaped xs) ++ 39 ∷ left ≡ b ∷ more ++ 39 ∷ after → (all_escaped xs ++ 39 ∷ left ≡ more ++ 39 ∷ after → more ≡ all_escaped xs) → inside_ ≡ (if t then 92 ∷ x ∷ [] else if u then octal_of x else x ∷ []) ++ all_escaped xs
+    by : (t : Bool) → needs_backslash x ≡ t → (u : Bool) → is_control x ≡ u → ((if t then 92 ∷ x ∷ [] else if u then octal_of x else x ∷ []) ++ all_escaped xs) ++ 39 ∷ left ≡ b ∷ more ++ 39 ∷ after
+        → (all_escaped xs ++ 39 ∷ left ≡ more ++ 39 ∷ after → more ≡ all_escaped xs) → inside_ ≡ (if t then 92 ∷ x ∷ [] else if u then octal_of x else x ∷ []) ++ all_escaped xs
     by true n u c g ih = absurd (slash (sym (same_head 92 b (x ∷ all_escaped xs ++ 39 ∷ left) (more ++ 39 ∷ after) g)))
     by false n true c g ih = absurd (slash (sym (same_head 92 b (digits x ++ all_escaped xs ++ 39 ∷ left) (more ++ 39 ∷ after) g)))
     by false n false c g ih =
@@ -389,13 +396,15 @@ atom_once (x ∷ xs) left inside_ text after (plain b more letters quote slash i
 atom_once (x ∷ xs) left inside_ text after (escaped esc more letters v E is says h) e =
     by (needs_backslash x) refl (is_control x) refl (e ∙ ap (λ z. z ++ 39 ∷ after) is) (λ g. atom_once xs left more letters after h g)
   where
-    by : (t : Bool) → needs_backslash x ≡ t → (u : Bool) → is_control x ≡ u → ((if t then 92 ∷ x ∷ [] else if u then octal_of x else x ∷ []) ++ all_escaped xs) ++ 39 ∷ left ≡ 92 ∷ (esc ++ more) ++ 39 ∷ after → (all_escaped xs ++ 39 ∷ left ≡ more ++ 39 ∷ after → more ≡ all_escaped xs) → inside_ ≡ (if t then 92 ∷ x ∷ [] else if u then octal_of x else x ∷ []) ++ all_escaped xs
+    by : (t : Bool) → needs_backslash x ≡ t → (u : Bool) → is_control x ≡ u → ((if t then 92 ∷ x ∷ [] else if u then octal_of x else x ∷ []) ++ all_escaped xs) ++ 39 ∷ left ≡ 92 ∷ (esc ++ more) ++ 39 ∷ after
+        → (all_escaped xs ++ 39 ∷ left ≡ more ++ 39 ∷ after → more ≡ all_escaped xs) → inside_ ≡ (if t then 92 ∷ x ∷ [] else if u then octal_of x else x ∷ []) ++ all_escaped xs
     by true n u c g ih =
         let r = one_escape x esc more (all_escaped xs ++ 39 ∷ left) after v n (subst (λ z. Escape esc v z) refl E) (same_tail 92 92 (x ∷ all_escaped xs ++ 39 ∷ left) ((esc ++ more) ++ 39 ∷ after) g) in
         is ∙ (λ i. 92 ∷ r.0 i ++ ih r.1 i)
     by false n true c g ih =
         let d = control_digits x c in
-        let r = three_digits (48 + x / 64) (48 + x / 8 % 8) (48 + x % 8) esc more (all_escaped xs ++ 39 ∷ left) after v d.octal_digits d.no_letter E (same_tail 92 92 (digits x ++ all_escaped xs ++ 39 ∷ left) ((esc ++ more) ++ 39 ∷ after) g) in
+        let r = three_digits (48 + x / 64) (48 + x / 8 % 8) (48 + x % 8) esc more (all_escaped xs ++ 39 ∷ left) after v d.octal_digits d.no_letter E
+        (same_tail 92 92 (digits x ++ all_escaped xs ++ 39 ∷ left) ((esc ++ more) ++ 39 ∷ after) g) in
         is ∙ (λ i. 92 ∷ r.0 i ++ ih r.1 i)
     by false n false c g ih = absurd (no_backslash x n (same_head x 92 (all_escaped xs ++ 39 ∷ left) ((esc ++ more) ++ 39 ∷ after) g))
 

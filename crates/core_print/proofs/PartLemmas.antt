@@ -21,11 +21,13 @@ use Rattle.core_ast.specs.declared.syntax.PatForm.TheVariants as p
 use Rattle.core_ast.specs.declared.syntax.Form.TheVariants as f
 use Rattle.core_ast.specs.declared.syntax.Form.TheOpen.{Form-F, PatForm-F}
 use Rattle.core_ast.specs.Model as m
-use Rattle.core_ast.specs.Tree.{Marked, MarkedPattern, ClauseParts, PairParts, PatPairParts, SegmentParts, PatSegmentParts, form_layer, pat_form_layer, tree, pattern_tree, all_trees, all_patterns, all_pairs, clause_parts, pair_parts, pat_pair_parts, segment_parts, pat_segment_parts, step_tree, all_steps}
+use Rattle.core_ast.specs.Tree.{Marked, MarkedPattern, ClauseParts, PairParts, PatPairParts, SegmentParts, PatSegmentParts, form_layer, pat_form_layer, tree, pattern_tree}
+use Rattle.core_ast.specs.Tree.{all_trees, all_patterns, all_pairs, clause_parts, pair_parts, pat_pair_parts, segment_parts, pat_segment_parts, step_tree, all_steps}
 use Rattle.core_ast.proofs.Trees.{clause-is, pair-is, pat_pair-is, segment-is, pat_segment-is, tree-is, form_tree-out, pattern_tree-is, pat_form_tree-out}
 use Rattle.core_ast.proofs.Forms.{new_map_tree, updated_map_tree, literal_tree, listed_tree, equals_pattern, list_of_pattern, opened, opened_pattern}
 use Rattle.core_print.specs.Words.{Word, reserved, symbol, atom, integer, spaced, line}
-use Rattle.core_print.specs.Canonical.{Words, function_name, is_written, steps, note_items, note_of, pattern_note_of, opened as bracket, closed, noted, annotation, literal_tail, plain, plain_pattern, tail, pattern_tail, expression, pattern, expressions, patterns, pairs, variables}
+use Rattle.core_print.specs.Canonical.{Words, function_name, is_written, steps, note_items, note_of, pattern_note_of, opened as bracket, closed, noted, annotation}
+use Rattle.core_print.specs.Canonical.{literal_tail, plain, plain_pattern, tail, pattern_tail, expression, pattern, expressions, patterns, pairs, variables}
 use Rattle.core_print.specs.steps.Writes.{Begins, Writes}
 use Rattle.core_print.specs.steps.Parts.{fronts, ends, step_front, step_end, map_end, segment_words, pair_words, clause_words, pat_pair_words, pat_segment_words}
 use Rattle.core_print.proofs.Adding.{both, fixed, one_word, written}
@@ -35,7 +37,8 @@ next_step (Let k vs e) xs rest = refl
 next_step (Do k e) xs rest = refl
 
 -- the items of an annotation
-pub line_and_flag : (line : Option ℕ) (flag : Bool) (n : ℕ) (a b c d : List ℕ) → line ≡ Some n → flag ≡ true → b ≡ a ++ 32 ∷ [] → c ≡ b ++ decimal n → d ≡ c ++ codes " , 'compiler_generated'" → Writes (note_items line flag) a d
+pub line_and_flag : (line : Option ℕ) (flag : Bool) (n : ℕ) (a b c d : List ℕ) → line ≡ Some n → flag ≡ true → b ≡ a ++ 32 ∷ [] → c ≡ b ++ decimal n → d ≡ c ++ codes " , 'compiler_generated'"
+    → Writes (note_items line flag) a d
 line_and_flag line flag n a b c d is yes_ e g h =
     written (λ rest. integer (pos n) ∷ symbol (codes ",") ∷ atom (codes "compiler_generated") ∷ rest) (note_items line flag) a d
     (λ rest i. note_items (sym is i) (sym yes_ i) rest)
@@ -83,12 +86,14 @@ as_pattern e t a b is w = subst (λ z. Writes (plain_pattern z) a b) (sym is) w
 pub literal_as_tail : (e : Expr) (x : Literal) (a b : List ℕ) → e.form ≡ f.Lit x → Writes (literal_tail e.mark.note x) a b → Writes (tail (tree e) (plain (tree e))) a b
 literal_as_tail e x a b is w = subst (λ z. Writes (tail z (plain z)) a b) (sym (literal_tree e x is)) w
 
-pub list_as_tail : (e : Expr) (xs : List Expr) (x : Expr) (a b : List ℕ) → e.form ≡ f.Listed xs x → Writes (λ rest. symbol (codes "|") ∷ symbol (codes "(") ∷ plain (tree e) (annotation e.mark.note rest)) a b → Writes (tail (tree e) (plain (tree e))) a b
+pub list_as_tail : (e : Expr) (xs : List Expr) (x : Expr) (a b : List ℕ) → e.form ≡ f.Listed xs x → Writes (λ rest. symbol (codes "|") ∷ symbol (codes "(") ∷ plain (tree e) (annotation e.mark.note rest)) a b
+    → Writes (tail (tree e) (plain (tree e))) a b
 list_as_tail e xs x a b is w =
     written (λ rest. symbol (codes "|") ∷ symbol (codes "(") ∷ plain (tree e) (annotation e.mark.note rest)) (tail (tree e) (plain (tree e))) a b
     (λ rest. ap (λ z. tail z (plain (tree e)) rest) (sym (listed_tree e xs x is))) w
 
-other_tail : (e : Expr) → ((x : Literal) → e.form ≡ f.Lit x → ⊥) → ((xs : List Expr) (x : Expr) → e.form ≡ f.Listed xs x → ⊥) → (rest : List Word) → symbol (codes "|") ∷ expression (tree e) rest ≡ tail (tree e) (plain (tree e)) rest
+other_tail : (e : Expr) → ((x : Literal) → e.form ≡ f.Lit x → ⊥) → ((xs : List Expr) (x : Expr) → e.form ≡ f.Listed xs x → ⊥) → (rest : List Word)
+    → symbol (codes "|") ∷ expression (tree e) rest ≡ tail (tree e) (plain (tree e)) rest
 other_tail e no_literal no_list rest = by (tree e) refl
   where
     by : (t : m.Tree) → tree e ≡ t → symbol (codes "|") ∷ expression t rest ≡ tail t (plain t) rest
@@ -96,18 +101,21 @@ other_tail e no_literal no_list rest = by (tree e) refl
     by (m.listed k ts t) is = let o = opened e (m.listed k ts t) is in absurd (no_list o.0 o.1 o.2)
     by t is = refl
 
-pub expression_as_tail : (e : Expr) (a b : List ℕ) → ((x : Literal) → e.form ≡ f.Lit x → ⊥) → ((xs : List Expr) (x : Expr) → e.form ≡ f.Listed xs x → ⊥) → Writes (λ rest. symbol (codes "|") ∷ expression (tree e) rest) a b → Writes (tail (tree e) (plain (tree e))) a b
+pub expression_as_tail : (e : Expr) (a b : List ℕ) → ((x : Literal) → e.form ≡ f.Lit x → ⊥) → ((xs : List Expr) (x : Expr) → e.form ≡ f.Listed xs x → ⊥)
+    → Writes (λ rest. symbol (codes "|") ∷ expression (tree e) rest) a b → Writes (tail (tree e) (plain (tree e))) a b
 expression_as_tail e a b no_literal no_list w = written (λ rest. symbol (codes "|") ∷ expression (tree e) rest) (tail (tree e) (plain (tree e))) a b (other_tail e no_literal no_list) w
 
 pub literal_as_pattern_tail : (e : Pattern) (x : Literal) (a b : List ℕ) → e.form ≡ p.Lit x → Writes (literal_tail e.mark.note x) a b → Writes (pattern_tail (pattern_tree e) (plain_pattern (pattern_tree e))) a b
 literal_as_pattern_tail e x a b is w = subst (λ z. Writes (pattern_tail z (plain_pattern z)) a b) (sym (equals_pattern e x is)) w
 
-pub list_as_pattern_tail : (e : Pattern) (xs : List Pattern) (x : Pattern) (a b : List ℕ) → e.form ≡ p.Listed xs x → Writes (λ rest. symbol (codes "|") ∷ symbol (codes "(") ∷ plain_pattern (pattern_tree e) (annotation e.mark.note rest)) a b → Writes (pattern_tail (pattern_tree e) (plain_pattern (pattern_tree e))) a b
+pub list_as_pattern_tail : (e : Pattern) (xs : List Pattern) (x : Pattern) (a b : List ℕ) → e.form ≡ p.Listed xs x
+    → Writes (λ rest. symbol (codes "|") ∷ symbol (codes "(") ∷ plain_pattern (pattern_tree e) (annotation e.mark.note rest)) a b → Writes (pattern_tail (pattern_tree e) (plain_pattern (pattern_tree e))) a b
 list_as_pattern_tail e xs x a b is w =
     written (λ rest. symbol (codes "|") ∷ symbol (codes "(") ∷ plain_pattern (pattern_tree e) (annotation e.mark.note rest)) (pattern_tail (pattern_tree e) (plain_pattern (pattern_tree e))) a b
     (λ rest. ap (λ z. pattern_tail z (plain_pattern (pattern_tree e)) rest) (sym (list_of_pattern e xs x is))) w
 
-other_pattern_tail : (e : Pattern) → ((x : Literal) → e.form ≡ p.Lit x → ⊥) → ((xs : List Pattern) (x : Pattern) → e.form ≡ p.Listed xs x → ⊥) → (rest : List Word) → symbol (codes "|") ∷ pattern (pattern_tree e) rest ≡ pattern_tail (pattern_tree e) (plain_pattern (pattern_tree e)) rest
+other_pattern_tail : (e : Pattern) → ((x : Literal) → e.form ≡ p.Lit x → ⊥) → ((xs : List Pattern) (x : Pattern) → e.form ≡ p.Listed xs x → ⊥) → (rest : List Word)
+    → symbol (codes "|") ∷ pattern (pattern_tree e) rest ≡ pattern_tail (pattern_tree e) (plain_pattern (pattern_tree e)) rest
 other_pattern_tail e no_literal no_list rest = by (pattern_tree e) refl
   where
     by : (t : m.Pattern) → pattern_tree e ≡ t → symbol (codes "|") ∷ pattern t rest ≡ pattern_tail t (plain_pattern t) rest
@@ -115,11 +123,13 @@ other_pattern_tail e no_literal no_list rest = by (pattern_tree e) refl
     by (m.list_of k ts t) is = let o = opened_pattern e (m.list_of k ts t) is in absurd (no_list o.0 o.1 o.2)
     by t is = refl
 
-pub pattern_as_tail : (e : Pattern) (a b : List ℕ) → ((x : Literal) → e.form ≡ p.Lit x → ⊥) → ((xs : List Pattern) (x : Pattern) → e.form ≡ p.Listed xs x → ⊥) → Writes (λ rest. symbol (codes "|") ∷ pattern (pattern_tree e) rest) a b → Writes (pattern_tail (pattern_tree e) (plain_pattern (pattern_tree e))) a b
+pub pattern_as_tail : (e : Pattern) (a b : List ℕ) → ((x : Literal) → e.form ≡ p.Lit x → ⊥) → ((xs : List Pattern) (x : Pattern) → e.form ≡ p.Listed xs x → ⊥)
+    → Writes (λ rest. symbol (codes "|") ∷ pattern (pattern_tree e) rest) a b → Writes (pattern_tail (pattern_tree e) (plain_pattern (pattern_tree e))) a b
 pattern_as_tail e a b no_literal no_list w = written (λ rest. symbol (codes "|") ∷ pattern (pattern_tree e) rest) (pattern_tail (pattern_tree e) (plain_pattern (pattern_tree e))) a b (other_pattern_tail e no_literal no_list) w
 
 -- a map, by whether it updates another
-pub map_written : (e : Expr) (ps qs : List MapPair) (o : Option Expr) (a b c : List ℕ) → e.form ≡ f.Map ps o → qs ≡ ps → Writes (λ rest. symbol (codes "~{") ∷ pairs true (all_pairs qs) rest) a b → Writes (map_end o) b c → Writes (plain (tree e)) a c
+pub map_written : (e : Expr) (ps qs : List MapPair) (o : Option Expr) (a b c : List ℕ) → e.form ≡ f.Map ps o → qs ≡ ps → Writes (λ rest. symbol (codes "~{") ∷ pairs true (all_pairs qs) rest) a b → Writes (map_end o) b c
+    → Writes (plain (tree e)) a c
 map_written e ps qs None a b c is same v w = as_tree e (m.new_map e.mark (all_pairs qs)) a c (new_map_tree e ps is ∙ (λ i. m.new_map e.mark (all_pairs (sym same i)))) (both v w)
 map_written e ps qs (Some x) a b c is same v w = as_tree e (m.updated_map e.mark (all_pairs qs) (tree x)) a c (updated_map_tree e ps x is ∙ (λ i. m.updated_map e.mark (all_pairs (sym same i)) (tree x))) (both v w)
 
@@ -144,10 +154,13 @@ pub at_variables : {a b : List ℕ} (xs ys : List VarName) → xs ≡ ys → Wri
 at_variables {a} {b} xs ys is w = subst (λ z. Writes (variables true z) a b) is w
 
 -- parts of lists, by their fields
-pub segment_written : {a b : List ℕ} (s : Segment) → Writes (λ rest. symbol (codes "#<") ∷ expression (tree (out-Segment s).value) (symbol (codes ">") ∷ symbol (codes "(") ∷ expressions true (all_trees (out-Segment s).args) (symbol (codes ")") ∷ rest))) a b → Writes (segment_words (segment_parts s)) a b
+pub segment_written : {a b : List ℕ} (s : Segment) → Writes (λ rest. symbol (codes "#<")
+    ∷ expression (tree (out-Segment s).value) (symbol (codes ">") ∷ symbol (codes "(") ∷ expressions true (all_trees (out-Segment s).args) (symbol (codes ")") ∷ rest))) a b → Writes (segment_words (segment_parts s)) a b
 segment_written {a} {b} s w = subst (λ z. Writes (segment_words z) a b) (sym (segment-is s)) w
 
-pub pat_segment_written : {a b : List ℕ} (s : PatSegment) → Writes (λ rest. symbol (codes "#<") ∷ pattern (pattern_tree (out-PatSegment s).value) (symbol (codes ">") ∷ symbol (codes "(") ∷ expressions true (all_trees (out-PatSegment s).args) (symbol (codes ")") ∷ rest))) a b → Writes (pat_segment_words (pat_segment_parts s)) a b
+pub pat_segment_written : {a b : List ℕ} (s : PatSegment) → Writes (λ rest. symbol (codes "#<")
+    ∷ pattern (pattern_tree (out-PatSegment s).value) (symbol (codes ">") ∷ symbol (codes "(") ∷ expressions true (all_trees (out-PatSegment s).args) (symbol (codes ")") ∷ rest))) a b
+    → Writes (pat_segment_words (pat_segment_parts s)) a b
 pat_segment_written {a} {b} s w = subst (λ z. Writes (pat_segment_words z) a b) (sym (pat_segment-is s)) w
 
 pub pair_written : {a b : List ℕ} (p : MapPair) → Writes (λ rest. expression (tree p.key) (symbol (if p.exact then codes ":=" else codes "=>") ∷ expression (tree p.value) rest)) a b → Writes (pair_words (pair_parts p)) a b
@@ -159,7 +172,8 @@ pat_pair_written {a} {b} p w = subst (λ z. Writes (pat_pair_words z) a b) (sym 
 pub clause_written :
     {a b : List ℕ} (c : Clause)
     → Writes
-    (λ rest. bracket (out-Clause c).mark.note (symbol (codes "<") ∷ patterns true (all_patterns (out-Clause c).patterns) (symbol (codes ">") ∷ reserved (codes "when") ∷ expression (tree (out-Clause c).guard) (symbol (codes "->") ∷ expression (tree (out-Clause c).body) (closed (out-Clause c).mark.note rest)))))
+    (λ rest. bracket (out-Clause c).mark.note (symbol (codes "<") ∷ patterns true (all_patterns (out-Clause c).patterns)
+    (symbol (codes ">") ∷ reserved (codes "when") ∷ expression (tree (out-Clause c).guard) (symbol (codes "->") ∷ expression (tree (out-Clause c).body) (closed (out-Clause c).mark.note rest)))))
     a b
     → Writes (clause_words (clause_parts c)) a b
 clause_written {a} {b} c w = subst (λ z. Writes (clause_words z) a b) (sym (clause-is c)) w

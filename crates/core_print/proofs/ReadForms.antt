@@ -90,7 +90,8 @@ module _ (l : ℕ) (one : 1 ≤ l) where
   made_more : Reading l (the (more s.CloseSquare (the (constant 1)))) (λ ks. ks ≡ Generated ∷ []) (λ rest. symbol (codes ",") ∷ atom (codes "compiler_generated") ∷ symbol (codes "]") ∷ rest)
   made_more = by_ways l (next_way l (this_way l (go l (word l s.Comma (symbol (codes ",")) refl) (λ t g. go l made_constant (λ j h. go l no_more (λ ks q. done l (λ i. h i ∷ q i)))))))
 
-  items : (line : Option ℕ) (flag : Bool) → LineFits line → Reading l (the (many s.CloseSquare (the (constant 1)))) (λ cs. note_of_constants cs ≡ (record { line = line; generated = flag })) (λ rest. c.note_items line flag (symbol (codes "]") ∷ rest))
+  items : (line : Option ℕ) (flag : Bool) → LineFits line → Reading l (the (many s.CloseSquare (the (constant 1)))) (λ cs. note_of_constants cs ≡ (record { line = line; generated = flag }))
+      (λ rest. c.note_items line flag (symbol (codes "]") ∷ rest))
   items None false fits_ = by_ways l (alone l (word l s.CloseSquare (symbol (codes "]")) refl) (λ t e. refl))
   items None true fits_ = by_ways l (next_way l (this_way l (go l made_constant (λ k e. go l no_more (λ ks g. done l (λ i. note_of_constants (e i ∷ g i)))))))
   items (Some n) false fits_ =
@@ -100,13 +101,15 @@ module _ (l : ℕ) (one : 1 ≤ l) where
 
   pub annotation_read : (n : Note) → NoteFits n → Reading l (the annotation) (λ v. v ≡ n) (λ rest. c.annotation n rest)
   annotation_read n fits_ =
-      by_ways l (this_way l (go l (word l s.Noted (symbol (codes "-|")) refl) (λ t e. go l (word l s.OpenSquare (symbol (codes "[")) refl) (λ u g. go l (items n.line n.generated fits_) (λ cs h. go l (word l s.CloseRound (symbol (codes ")")) refl) (λ v k. done l h))))))
+      by_ways l (this_way l (go l (word l s.Noted (symbol (codes "-|")) refl) (λ t e.
+      go l (word l s.OpenSquare (symbol (codes "[")) refl) (λ u g. go l (items n.line n.generated fits_) (λ cs h. go l (word l s.CloseRound (symbol (codes ")")) refl) (λ v k. done l h))))))
 
   -- x, or x in annotation brackets
   pub noted_read : (p : Part) (P : SaidBy p → Type 0) (n : Note) (ws : c.Words) → NoteFits n → Reading l p P ws → Reading l (the (noted_ p)) (λ x. P x.value × (note_or_none x.note ≡ n)) (λ rest. c.noted n ws rest)
   noted_read p P n ws fits_ h = by (c.is_written n.line n.generated) refl
     where
-      by : (t : Bool) → c.is_written n.line n.generated ≡ t → Reading l (the (noted_ p)) (λ x. P x.value × (note_or_none x.note ≡ n)) (λ rest. if t then symbol (codes "(") ∷ ws (if t then c.annotation n rest else rest) else ws (if t then c.annotation n rest else rest))
+      by : (t : Bool) → c.is_written n.line n.generated ≡ t → Reading l (the (noted_ p)) (λ x. P x.value × (note_or_none x.note ≡ n))
+          (λ rest. if t then symbol (codes "(") ∷ ws (if t then c.annotation n rest else rest) else ws (if t then c.annotation n rest else rest))
       by true e = by_ways l (next_way l (this_way l (go l (word l s.OpenRound (symbol (codes "(")) refl) (λ t g. go l h (λ x k. go l (annotation_read n fits_) (λ v q. done l (k, q)))))))
       by false e = by_ways l (alone l h (λ x k. (k, quiet n.line n.generated e)))
 
@@ -114,20 +117,24 @@ module _ (l : ℕ) (one : 1 ≤ l) where
 
   pub name_read : (f : FunName) → NameFits f → Reading l (the function_name) (λ x. x.name ≡ f) (λ rest. c.function_name f rest)
   name_read f fits_ =
-      by_ways l (this_way l (go l (word l s.Atom (atom f.name) refl) (λ t e. go l (word l s.Slash (symbol (codes "/")) refl) (λ u g. go l (word l s.Small (integer (pos f.arity)) (small_fits f.arity fits_)) (λ n h. done l (λ i. record { name = kind_text (e i); arity = (arity_is n f.arity fits_ h) i }))))))
+      by_ways l (this_way l (go l (word l s.Atom (atom f.name) refl) (λ t e. go l (word l s.Slash (symbol (codes "/")) refl)
+      (λ u g. go l (word l s.Small (integer (pos f.arity)) (small_fits f.arity fits_)) (λ n h. done l (λ i. record { name = kind_text (e i); arity = (arity_is n f.arity fits_ h) i }))))))
 
   pub variable_read : (x : VarName) → VariableFits x → Reading l (the variable) (λ y. bare_variable y ≡ bare_variable x) (λ rest. c.variable_in_list x rest)
   variable_read x fits_ =
       by_ways l (alone l (noted_read (a s.Variable) (λ t. t.kind ≡ kind_of (w.variable x.name)) x.note (λ rest. w.variable x.name ∷ rest) fits_.1 (word l s.Variable (w.variable x.name) refl))
       (λ y e. λ i. record { name = kind_text (e.0 i); place = nowhere; note = e.1 i }))
 
-  pub variables_read : (close : Rattle.core_scan.specs.declared.sort.Sort.Sort) (end : Word) → IsTrue (fits close (kind_sort (kind_of end))) → (xs : List VarName) → VariablesFit xs → Reading l (the (many close (the variable))) (λ ys. map bare_variable ys ≡ map bare_variable xs) (λ rest. c.variables true xs (end ∷ rest))
+  pub variables_read : (close : Rattle.core_scan.specs.declared.sort.Sort.Sort) (end : Word) → IsTrue (fits close (kind_sort (kind_of end))) → (xs : List VarName) → VariablesFit xs
+      → Reading l (the (many close (the variable))) (λ ys. map bare_variable ys ≡ map bare_variable xs) (λ rest. c.variables true xs (end ∷ rest))
   variables_read close end closes [] fits_ = by_ways l (alone l (word l close end closes) (λ t e. refl))
   variables_read close end closes (x ∷ xs) fits_ = by_ways l (next_way l (this_way l (go l (variable_read x fits_.0) (λ y e. go l (more_variables close end closes xs fits_.1) (λ ys g. done l (λ i. e i ∷ g i))))))
     where
-      more_variables : (close : Rattle.core_scan.specs.declared.sort.Sort.Sort) (end : Word) → IsTrue (fits close (kind_sort (kind_of end))) → (xs : List VarName) → VariablesFit xs → Reading l (the (more close (the variable))) (λ ys. map bare_variable ys ≡ map bare_variable xs) (λ rest. c.variables false xs (end ∷ rest))
+      more_variables : (close : Rattle.core_scan.specs.declared.sort.Sort.Sort) (end : Word) → IsTrue (fits close (kind_sort (kind_of end))) → (xs : List VarName) → VariablesFit xs
+          → Reading l (the (more close (the variable))) (λ ys. map bare_variable ys ≡ map bare_variable xs) (λ rest. c.variables false xs (end ∷ rest))
       more_variables close end closes [] fits_ = by_ways l (alone l (word l close end closes) (λ t e. refl))
-      more_variables close end closes (x ∷ xs) fits_ = by_ways l (next_way l (this_way l (go l (word l s.Comma (symbol (codes ",")) refl) (λ t q. go l (variable_read x fits_.0) (λ y e. go l (more_variables close end closes xs fits_.1) (λ ys g. done l (λ i. e i ∷ g i)))))))
+      more_variables close end closes (x ∷ xs) fits_ = by_ways l
+          (next_way l (this_way l (go l (word l s.Comma (symbol (codes ",")) refl) (λ t q. go l (variable_read x fits_.0) (λ y e. go l (more_variables close end closes xs fits_.1) (λ ys g. done l (λ i. e i ∷ g i)))))))
 
   pub in_angles : (xs : List VarName) → VariablesFit xs → Reading l (the variables) (λ ys. map bare_variable ys ≡ map bare_variable xs) (λ rest. symbol (codes "<") ∷ c.variables true xs (symbol (codes ">") ∷ rest))
   in_angles xs fits_ = by_ways l (next_way l (this_way l (go l (word l s.Less (symbol (codes "<")) refl) (λ t e. go l (variables_read s.Greater (symbol (codes ">")) refl xs fits_) (λ ys g. done l g)))))
@@ -137,4 +144,5 @@ module _ (l : ℕ) (one : 1 ≤ l) where
   literal_read d deep (lit.Float f) fits_ = by_ways l (next_way l (alone l (node l d s.Float (w.float f) deep refl) (λ t e. ap (λ k. lit.Float (kind_text k)) e)))
   literal_read d deep (lit.Atom x) fits_ = by_ways l (next_way l (next_way l (next_way l (alone l (node l d s.Atom (atom x) deep refl) (λ t e. ap (λ k. lit.Atom (kind_text k)) e)))))
   literal_read d deep lit.Nil fits_ =
-      by_ways l (next_way l (next_way l (next_way l (next_way l (next_way l (this_way l (go l (node l d s.OpenSquare (symbol (codes "[")) deep refl) (λ t e. go l (word l s.CloseSquare (symbol (codes "]")) refl) (λ u g. done l refl)))))))))
+      by_ways l (next_way l (next_way l (next_way l (next_way l
+      (next_way l (this_way l (go l (node l d s.OpenSquare (symbol (codes "[")) deep refl) (λ t e. go l (word l s.CloseSquare (symbol (codes "]")) refl) (λ u g. done l refl)))))))))

@@ -52,8 +52,14 @@ module _ (l : ℕ) (one : 1 ≤ l) where
   exports_read (f ∷ fs) h = by_ways l (next_way l (this_way l (go l (bare_name_read f h.0) (λ x e. go l (more_exports_read fs h.1) (λ es g. done l (λ i. e i ∷ g i))))))
 
   -- the module's parts behind its first word, whatever token that is
-  module_parts : (x : m.Module) → ModuleFits l x → (t : Token) → ReadingAll l «module» (the (noted_ (a s.Atom)) ∷ a s.OpenSquare ∷ the (many s.CloseSquare (the (noted_ (the function_name)))) ∷ a s.Attributes ∷ a s.OpenSquare ∷ the (many s.CloseSquare (the attribute)) ∷ the (definitions s.End 1) ∷ []) (λ y _ es _ _ _ ds. module_of y.value es (defs ds)) (ModuleIs no_note x) (λ rest. atom x.name ∷ symbol (codes "[") ∷ c.exports true x.exports (symbol (codes "]") ∷ reserved (codes "attributes") ∷ symbol (codes "[") ∷ symbol (codes "]") ∷ c.definitions x.defs (reserved (codes "end") ∷ rest)))
-  module_parts x h t = go l (bare_atom_read x.name) (λ n e. go l (word l s.OpenSquare (symbol (codes "[")) refl) (λ u1 q1. go l (exports_read x.exports h.exports) (λ es g. go l (word l s.Attributes (reserved (codes "attributes")) refl) (λ u2 q2. go l (word l s.OpenSquare (symbol (codes "[")) refl) (λ u3 q3. go l no_attribute (λ as_ q4. go l (defs_read l one s.End (reserved (codes "end")) refl x.defs 1 h.defs) (λ ds k. done l (record { name = ap kind_text e; exports = g; defs = k; note_is = refl }))))))))
+  module_parts : (x : m.Module) → ModuleFits l x → (t : Token) → ReadingAll l «module»
+      (the (noted_ (a s.Atom)) ∷ a s.OpenSquare ∷ the (many s.CloseSquare (the (noted_ (the function_name)))) ∷ a s.Attributes ∷ a s.OpenSquare ∷ the (many s.CloseSquare (the attribute)) ∷ the (definitions s.End 1) ∷ [])
+      (λ y _ es _ _ _ ds. module_of y.value es (defs ds)) (ModuleIs no_note x) (λ rest.
+      atom x.name ∷ symbol (codes "[") ∷ c.exports true x.exports (symbol (codes "]") ∷ reserved (codes "attributes") ∷ symbol (codes "[") ∷ symbol (codes "]") ∷ c.definitions x.defs (reserved (codes "end") ∷ rest)))
+  module_parts x h t = go l (bare_atom_read x.name) (λ n e. go l (word l s.OpenSquare (symbol (codes "[")) refl)
+      (λ u1 q1. go l (exports_read x.exports h.exports) (λ es g. go l (word l s.Attributes (reserved (codes "attributes")) refl)
+      (λ u2 q2. go l (word l s.OpenSquare (symbol (codes "[")) refl) (λ u3 q3. go l no_attribute
+      (λ as_ q4. go l (defs_read l one s.End (reserved (codes "end")) refl x.defs 1 h.defs) (λ ds k. done l (record { name = ap kind_text e; exports = g; defs = k; note_is = refl }))))))))
 
   module_read : (x : m.Module) → ModuleFits l x → Reading l (the «module») (ModuleIs no_note x) (λ rest. c.plain_module x rest)
   module_read x h = by_ways l (this_way l (go l (word l s.Module (reserved (codes "module")) refl) (λ t e. module_parts x h t)))
@@ -62,7 +68,9 @@ module _ (l : ℕ) (one : 1 ≤ l) where
   whole_read : (x : m.Module) → ModuleFits l x → (v : m.Module) × Reads l (the annotated_module) (tokens_of start (c.module_words x)) v [] × ModuleIs x.note x v
   whole_read x h = by (c.is_written x.note.line x.note.generated) refl
     where
-      by : (b : Bool) → c.is_written x.note.line x.note.generated ≡ b → (v : m.Module) × Reads l (the annotated_module) (tokens_of start (if b then symbol (codes "(") ∷ c.plain_module x (if b then c.annotation x.note [] else []) else c.plain_module x (if b then c.annotation x.note [] else []))) v [] × ModuleIs x.note x v
+      by : (b : Bool) → c.is_written x.note.line x.note.generated ≡ b → (v : m.Module)
+          × Reads l (the annotated_module) (tokens_of start (if b then symbol (codes "(") ∷ c.plain_module x (if b then c.annotation x.note [] else []) else c.plain_module x (if b then c.annotation x.note [] else []))) v []
+          × ModuleIs x.note x v
       by true e =
           let y = module_read x h (past start (spelled (symbol (codes "(")))) (c.annotation x.note []) in
           let n = annotation_read l one x.note h.note y.after [] in (
@@ -79,7 +87,8 @@ module _ (l : ℕ) (one : 1 ≤ l) where
 
   -- the words of a module are those of the module with its labels
   pub words_numbered : (x : m.Module) → c.module_words (numbered x) ≡ c.module_words x
-  words_numbered x i = c.noted x.note (λ rest. reserved (codes "module") ∷ atom x.name ∷ symbol (codes "[") ∷ c.exports true x.exports (symbol (codes "]") ∷ reserved (codes "attributes") ∷ symbol (codes "[") ∷ symbol (codes "]") ∷ definitions_same 0 x.defs i (reserved (codes "end") ∷ rest))) []
+  words_numbered x i = c.noted x.note (λ rest. reserved (codes "module") ∷ atom x.name ∷ symbol (codes "[")
+      ∷ c.exports true x.exports (symbol (codes "]") ∷ reserved (codes "attributes") ∷ symbol (codes "[") ∷ symbol (codes "]") ∷ definitions_same 0 x.defs i (reserved (codes "end") ∷ rest))) []
 
   pub read_back : (x : m.Module) → ModuleFits l x → (y : m.Module) × SpellsTo l (tokens_of start (c.module_words (numbered x))) y × Same y (numbered x)
   read_back x h =

@@ -49,7 +49,8 @@ module _ (l : ℕ) where
   pub done : {n : Nonterminal} {v : Said n} {Is : Said n → Type 0} → Is v → ReadingAll n [] v Is (λ rest. rest)
   done {n} {v} {Is} h place rest = record { value = v; after = place; reads = r.none; is = h }
 
-  pub go : {n : Nonterminal} {p : Part} {ps : List Part} {f : Action (p ∷ ps) (Said n)} {P : SaidBy p → Type 0} {Is : Said n → Type 0} {ws vs : Words} → Reading p P ws → ((x : SaidBy p) → P x → ReadingAll n ps (f x) Is vs) → ReadingAll n (p ∷ ps) f Is (λ rest. ws (vs rest))
+  pub go : {n : Nonterminal} {p : Part} {ps : List Part} {f : Action (p ∷ ps) (Said n)} {P : SaidBy p → Type 0} {Is : Said n → Type 0} {ws vs : Words} → Reading p P ws → ((x : SaidBy p) → P x → ReadingAll n ps (f x) Is vs)
+      → ReadingAll n (p ∷ ps) f Is (λ rest. ws (vs rest))
   go {n} {p} {ps} {f} {P} {Is} {ws} {vs} first_ more place rest =
       let x = first_ place (vs rest) in
       let y = more x.value x.is x.after rest in
@@ -69,5 +70,6 @@ module _ (l : ℕ) where
   weaker {p} {P} {Q} {ws} f h place rest = let y = h place rest in record { value = y.value; after = y.after; reads = y.reads; is = f y.value y.is }
 
   -- a way of one part
-  pub alone : {n : Nonterminal} {p : Part} {says : SaidBy p → Said n} {ws : List (Way (Said n))} {P : SaidBy p → Type 0} {Is : Said n → Type 0} {words : Words} → Reading p P words → ((x : SaidBy p) → P x → Is (says x)) → ReadingOne n (record { parts = p ∷ []; says = says } ∷ ws) Is words
+  pub alone : {n : Nonterminal} {p : Part} {says : SaidBy p → Said n} {ws : List (Way (Said n))} {P : SaidBy p → Type 0} {Is : Said n → Type 0} {words : Words} → Reading p P words → ((x : SaidBy p) → P x → Is (says x))
+      → ReadingOne n (record { parts = p ∷ []; says = says } ∷ ws) Is words
   alone {n} {p} {says} {ws} {P} {Is} {words} h f = this_way (go h (λ x is. done (f x is)))

@@ -22,14 +22,19 @@ use Rattle.core_scan.specs.Vocabulary.{words, symbols, sort_in}
 use Rattle.core_scan.specs.Spells.{IsName, IsFloat, is_variable_start}
 use Rattle.core_parse_grammar.specs.declared.notes.Constant.{Constant}
 use Rattle.core_parse_grammar.specs.declared.notes.Constant.TheVariants.{Number, Pair, Generated, Another}
-use Rattle.core_parse_grammar.specs.Build.{kind_text, kind_value, value, at, Noted, with_note, note_or_none, note_of, line_within, NameAt, byte_trees, byte_patterns, before, let_, do_, map_tree, FunctionParts, note_function, export_names, note_module}
-use Rattle.core_parse_grammar.specs.Grammar.{Part, a, first, the, Nonterminal, SaidBy, Said, ways, noted_, annotation, many, more, annotated_module, «module», attribute, function_name, definition, function, definitions, variable, variables, literal, constant, other_constant, constant_list, constant_rest, constant_tail, constant_segment, constant_pair, expression, bare_expression, other_expression, list, list_rest, list_tail, segment, pairs as pairs_part, more_pairs, pair, bare_pair, clauses_to, clause, bare_clause, clause_patterns, pattern, bare_pattern, other_pattern, alias_variable, pattern_list, pattern_rest, pattern_tail, pattern_segment, pattern_pair, bare_pattern_pair}
+use Rattle.core_parse_grammar.specs.Build.{kind_text, kind_value, value, at, Noted, with_note, note_or_none, note_of, line_within, NameAt, byte_trees}
+use Rattle.core_parse_grammar.specs.Build.{byte_patterns, before, let_, do_, map_tree, FunctionParts, note_function, export_names, note_module}
+use Rattle.core_parse_grammar.specs.Grammar.{Part, a, first, the, Nonterminal, SaidBy, Said, ways, noted_, annotation, many, more, annotated_module, «module», attribute, function_name, definition, function}
+use Rattle.core_parse_grammar.specs.Grammar.{definitions, variable, variables, literal, constant, other_constant, constant_list, constant_rest, constant_tail, constant_segment, constant_pair, expression}
+use Rattle.core_parse_grammar.specs.Grammar.{bare_expression, other_expression, list, list_rest, list_tail, segment, pairs as pairs_part, more_pairs, pair, bare_pair, clauses_to, clause, bare_clause}
+use Rattle.core_parse_grammar.specs.Grammar.{clause_patterns, pattern, bare_pattern, other_pattern, alias_variable, pattern_list, pattern_rest, pattern_tail, pattern_segment, pattern_pair, bare_pattern_pair}
 use Rattle.core_parse_grammar.specs.Labels.{numbered}
 use Rattle.core_parse_grammar.specs.Spells.{Reads, SpellsTo}
 use Rattle.core_parse_grammar.proofs.Arities.{magnitude_small}
 use Rattle.core_parse_grammar.proofs.Walks.{AllKeep, walk}
 use Rattle.core_print.specs.Tokens.{AreBytes}
-use Rattle.core_print.specs.Fits.{LineFits, NoteFits, LiteralFits, NameFits, NamesFit, VariableFits, VariablesFit, SomeTrees, SomePatterns, Fits, AllFit, PairsFit, SegmentsFit, ClausesFit, DefsFit, PatternFits, PatternsFit, PatPairsFit, PatSegmentsFit, ModuleFits}
+use Rattle.core_print.specs.Fits.{LineFits, NoteFits, LiteralFits, NameFits, NamesFit, VariableFits, VariablesFit, SomeTrees, SomePatterns, Fits}
+use Rattle.core_print.specs.Fits.{AllFit, PairsFit, SegmentsFit, ClausesFit, DefsFit, PatternFits, PatternsFit, PatPairsFit, PatSegmentsFit, ModuleFits}
 
 -- ---- tokens
 
@@ -337,7 +342,8 @@ module _ (l : ℕ) where
   bytes_fit p d [] deep h = tt
   bytes_fit p d (b ∷ bs) deep h = let small = h.0 in ((deep, tt, omega arith), bytes_fit p d bs deep h.1)
 
-  string_fits : (p : Place) (d : ℕ) (bs : List ℕ) → d + 1 ≤ l → TextGood bs → (d ≤ l) × (d + 1 ≤ l) × SomeTrees (trees (byte_trees p bs)) × AllFit l (d + 1) (trees (byte_trees p bs)) × Fits l (d + 1) (m.literal (at p) lit.Nil)
+  string_fits : (p : Place) (d : ℕ) (bs : List ℕ) → d + 1 ≤ l → TextGood bs → (d ≤ l) × (d + 1 ≤ l) × SomeTrees (trees (byte_trees p bs)) × AllFit l (d + 1) (trees (byte_trees p bs))
+      × Fits l (d + 1) (m.literal (at p) lit.Nil)
   string_fits p d [] deep h = absurd h
   string_fits p d (b ∷ bs) deep h = (omega arith, deep, tt, bytes_fit p (d + 1) (b ∷ bs) deep h, (deep, tt, tt))
 
@@ -345,7 +351,8 @@ module _ (l : ℕ) where
   byte_patterns_fit p d [] deep h = tt
   byte_patterns_fit p d (b ∷ bs) deep h = let small = h.0 in ((deep, tt, omega arith), byte_patterns_fit p d bs deep h.1)
 
-  string_patterns_fit : (p : Place) (d : ℕ) (bs : List ℕ) → d + 1 ≤ l → TextGood bs → (d ≤ l) × (d + 1 ≤ l) × SomePatterns (patterns (byte_patterns p bs)) × PatternsFit l (d + 1) (patterns (byte_patterns p bs)) × PatternFits l (d + 1) (m.equals (at p) lit.Nil)
+  string_patterns_fit : (p : Place) (d : ℕ) (bs : List ℕ) → d + 1 ≤ l → TextGood bs
+      → (d ≤ l) × (d + 1 ≤ l) × SomePatterns (patterns (byte_patterns p bs)) × PatternsFit l (d + 1) (patterns (byte_patterns p bs)) × PatternFits l (d + 1) (m.equals (at p) lit.Nil)
   string_patterns_fit p d [] deep h = absurd h
   string_patterns_fit p d (b ∷ bs) deep h = (omega arith, deep, tt, byte_patterns_fit p (d + 1) (b ∷ bs) deep h, (deep, tt, tt))
 
@@ -363,7 +370,13 @@ module _ (l : ℕ) where
   ways_good (function d) = (λ x0 h0 x1 h1 x2 h2 x3 h3 x4 h4. (tt, vars_fit x2 h2, h4), tt)
   ways_good variable = (λ x0 h0. (variable_text x0.value.kind h0.0.0 h0.0.1, h0.1), tt)
   ways_good variables = (λ x0 h0. (h0, tt), (λ x0 h0 x1 h1. vars_fit x1 h1, tt))
-  ways_good (literal d) = (λ x0 h0. (h0.0, value_good x0.kind h0.1), (λ x0 h0. (h0.0, float_text x0.kind h0.1 h0.2), (λ x0 h0. (h0.0, value_good x0.kind h0.1), (λ x0 h0. (h0.0, tt), (λ x0 h0. (h0.0, tt), (λ x0 h0 x1 h1. (h0.0, tt), tt))))))
+  ways_good (literal d) = (
+    λ x0 h0. (h0.0, value_good x0.kind h0.1),
+    (
+      λ x0 h0. (h0.0, float_text x0.kind h0.1 h0.2),
+      (λ x0 h0. (h0.0, value_good x0.kind h0.1), (λ x0 h0. (h0.0, tt), (λ x0 h0. (h0.0, tt), (λ x0 h0 x1 h1. (h0.0, tt), tt)))),
+    ),
+  )
   ways_good (constant d) = (λ x0 h0. tt, (λ x0 h0. tt, tt))
   ways_good (other_constant d) = (λ x0 h0. tt, (λ x0 h0 x1 h1. tt, (λ x0 h0 x1 h1 x2 h2 x3 h3. tt, (λ x0 h0 x1 h1. tt, (λ x0 h0 x1 h1. tt, tt)))))
   ways_good (constant_list d) = (λ x0 h0. tt, (λ x0 h0 x1 h1 x2 h2. tt, tt))
@@ -373,7 +386,58 @@ module _ (l : ℕ) where
   ways_good (constant_pair d) = (λ x0 h0 x1 h1 x2 h2. tt, tt)
   ways_good (expression d) = (λ x0 h0. tree_noted x0.value x0.note d h0.0 h0.1, tt)
   ways_good (bare_expression d) = (λ x0 h0. (h0.0, tt, h0.2, h0.3, h0.4), (λ x0 h0. h0, tt))
-  ways_good (other_expression d) = (λ x0 h0. (h0.0, tt, variable_text x0.kind h0.1 h0.2), (λ x0 h0 x1 h1 x2 h2. (h0.0, tt, magnitude_small (value x2)), (λ x0 h0. (h0.0, tt, h0.1), (λ x0 h0 x1 h1 x2 h2 x3 h3 x4 h4. (h0.0, tt, vars_fit x2 h2, h4), (λ x0 h0 x1 h1 x2 h2 x3 h3. (h0.0, tt, h3), (λ x0 h0 x1 h1. (h0.0, tt, all_fit (d + 1) x1 h1), (λ x0 h0 x1 h1. (h0.0, tt, all_fit (d + 1) x1 h1), (λ x0 h0 x1 h1. (h0.0, tt, segments_fit (d + 1) x1 h1), (λ x0 h0 x1 h1. map_fits x0.place (pairs x1.pairs) x1.updated d h0.0 h1.0 h1.1, (λ x0 h0 x1 h1 x2 h2 x3 h3 x4 h4 x5 h5. let_kept x0.place x1 x3 x5 d h0.0 h1 h3 h5, (λ x0 h0 x1 h1 x2 h2. do_kept x0.place x1 x2 d h0.0 h1 h2, (λ x0 h0 x1 h1 x2 h2 x3 h3 x4 h4. (h0.0, tt, tt, h1, (h3.0, h3.1, h3.2, h3.3, h4)), (λ x0 h0 x1 h1 x2 h2. (h0.0, tt, h1, h2), (λ x0 h0 x1 h1 x2 h2 x3 h3. (h0.0, tt, h1, all_fit (d + 1) x3 h3), (λ x0 h0 x1 h1 x2 h2 x3 h3 x4 h4 x5 h5. (h0.0, tt, h1, h3, all_fit (d + 1) x5 h5), (λ x0 h0 x1 h1 x2 h2 x3 h3. (h0.0, tt, all_fit (d + 1) x3 h3), (λ x0 h0 x1 h1 x2 h2 x3 h3 x4 h4 x5 h5 x6 h6 x7 h7 x8 h8 x9 h9. (h0.0, tt, h1, h3, h5, h7, h9), (λ x0 h0 x1 h1 x2 h2 x3 h3 x4 h4. (h0.0, tt, h1, h2, h4), (λ x0 h0 x1 h1. (h0.0, tt, h1), tt)))))))))))))))))))
+  ways_good (other_expression d) = (
+    λ x0 h0. (h0.0, tt, variable_text x0.kind h0.1 h0.2),
+    (
+      λ x0 h0 x1 h1 x2 h2. (h0.0, tt, magnitude_small (value x2)),
+      (
+        λ x0 h0. (h0.0, tt, h0.1),
+        (
+          λ x0 h0 x1 h1 x2 h2 x3 h3 x4 h4. (h0.0, tt, vars_fit x2 h2, h4),
+          (
+            λ x0 h0 x1 h1 x2 h2 x3 h3. (h0.0, tt, h3),
+            (
+              λ x0 h0 x1 h1. (h0.0, tt, all_fit (d + 1) x1 h1),
+              (
+                λ x0 h0 x1 h1. (h0.0, tt, all_fit (d + 1) x1 h1),
+                (
+                  λ x0 h0 x1 h1. (h0.0, tt, segments_fit (d + 1) x1 h1),
+                  (
+                    λ x0 h0 x1 h1. map_fits x0.place (pairs x1.pairs) x1.updated d h0.0 h1.0 h1.1,
+                    (
+                      λ x0 h0 x1 h1 x2 h2 x3 h3 x4 h4 x5 h5. let_kept x0.place x1 x3 x5 d h0.0 h1 h3 h5,
+                      (
+                        λ x0 h0 x1 h1 x2 h2. do_kept x0.place x1 x2 d h0.0 h1 h2,
+                        (
+                          λ x0 h0 x1 h1 x2 h2 x3 h3 x4 h4. (h0.0, tt, tt, h1, (h3.0, h3.1, h3.2, h3.3, h4)),
+                          (
+                            λ x0 h0 x1 h1 x2 h2. (h0.0, tt, h1, h2),
+                            (
+                              λ x0 h0 x1 h1 x2 h2 x3 h3. (h0.0, tt, h1, all_fit (d + 1) x3 h3),
+                              (
+                                λ x0 h0 x1 h1 x2 h2 x3 h3 x4 h4 x5 h5. (h0.0, tt, h1, h3, all_fit (d + 1) x5 h5),
+                                (
+                                  λ x0 h0 x1 h1 x2 h2 x3 h3. (h0.0, tt, all_fit (d + 1) x3 h3),
+                                  (
+                                    λ x0 h0 x1 h1 x2 h2 x3 h3 x4 h4 x5 h5 x6 h6 x7 h7 x8 h8 x9 h9. (h0.0, tt, h1, h3, h5, h7, h9),
+                                    (λ x0 h0 x1 h1 x2 h2 x3 h3 x4 h4. (h0.0, tt, h1, h2, h4), (λ x0 h0 x1 h1. (h0.0, tt, h1), tt)),
+                                  ),
+                                ),
+                              ),
+                            ),
+                          ),
+                        ),
+                      ),
+                    ),
+                  ),
+                ),
+              ),
+            ),
+          ),
+        ),
+      ),
+    ),
+  )
   ways_good (list d) = (λ x0 h0. string_fits x0.place d (kind_text x0.kind) h0.0 (string_text x0.kind h0.1 h0.2), (λ x0 h0 x1 h1 x2 h2. (h0.0, fits_deep x1 (d + 1) h1, tt, (h1, h2.0), h2.1 (fits_deep x1 (d + 1) h1)), tt))
   ways_good (list_rest d) = (λ x0 h0. (tt, λ deep. (deep, tt, tt)), (λ x0 h0 x1 h1 x2 h2. ((h1, h2.0), h2.1), (λ x0 h0 x1 h1 x2 h2. h1, tt)))
   ways_good (list_tail d) = (λ x0 h0. (h0.3, λ deep. h0.4), (λ x0 h0. (tt, λ deep. h0), (λ x0 h0 x1 h1 x2 h2. (tt, λ deep. note_kept x2 x1 (d + 1) h2 h1), tt)))
@@ -388,9 +452,21 @@ module _ (l : ℕ) where
   ways_good (clause_patterns d) = (λ x0 h0. (h0, tt), (λ x0 h0 x1 h1 x2 h2. (pattern_note_kept x2 x1 d h2 h1, tt), (λ x0 h0 x1 h1. patterns_fit d x1 h1, tt)))
   ways_good (pattern d) = (λ x0 h0. pattern_noted x0.value x0.note d h0.0 h0.1, tt)
   ways_good (bare_pattern d) = (λ x0 h0. (h0.0, tt, h0.2, h0.3, h0.4), (λ x0 h0. h0, tt))
-  ways_good (other_pattern d) = (λ x0 h0. (h0.0, tt, variable_text x0.kind h0.1 h0.2), (λ x0 h0. (h0.0, tt, h0.1), (λ x0 h0 x1 h1. (h0.0, tt, patterns_fit (d + 1) x1 h1), (λ x0 h0 x1 h1 x2 h2. (h0.0, tt, h0.1, h2), (λ x0 h0 x1 h1. (h0.0, tt, pat_segments_fit (d + 1) x1 h1), (λ x0 h0 x1 h1. (h0.0, tt, pat_pairs_fit (d + 1) x1 h1), tt))))))
+  ways_good (other_pattern d) = (
+    λ x0 h0. (h0.0, tt, variable_text x0.kind h0.1 h0.2),
+    (
+      λ x0 h0. (h0.0, tt, h0.1),
+      (
+        λ x0 h0 x1 h1. (h0.0, tt, patterns_fit (d + 1) x1 h1),
+        (λ x0 h0 x1 h1 x2 h2. (h0.0, tt, h0.1, h2), (λ x0 h0 x1 h1. (h0.0, tt, pat_segments_fit (d + 1) x1 h1), (λ x0 h0 x1 h1. (h0.0, tt, pat_pairs_fit (d + 1) x1 h1), tt))),
+      ),
+    ),
+  )
   ways_good (alias_variable d) = (λ x0 h0. (h0.0, (variable_text x0.kind h0.1 h0.2, tt)), (λ x0 h0 x1 h1 x2 h2. (h1.0, (variable_text x1.kind h1.1 h1.2, h2)), tt))
-  ways_good (pattern_list d) = (λ x0 h0. string_patterns_fit x0.place d (kind_text x0.kind) h0.0 (string_text x0.kind h0.1 h0.2), (λ x0 h0 x1 h1 x2 h2. (h0.0, pattern_deep x1 (d + 1) h1, tt, (h1, h2.0), h2.1 (pattern_deep x1 (d + 1) h1)), tt))
+  ways_good (pattern_list d) = (
+    λ x0 h0. string_patterns_fit x0.place d (kind_text x0.kind) h0.0 (string_text x0.kind h0.1 h0.2),
+    (λ x0 h0 x1 h1 x2 h2. (h0.0, pattern_deep x1 (d + 1) h1, tt, (h1, h2.0), h2.1 (pattern_deep x1 (d + 1) h1)), tt),
+  )
   ways_good (pattern_rest d) = (λ x0 h0. (tt, λ deep. (deep, tt, tt)), (λ x0 h0 x1 h1 x2 h2. ((h1, h2.0), h2.1), (λ x0 h0 x1 h1 x2 h2. h1, tt)))
   ways_good (pattern_tail d) = (λ x0 h0. (h0.3, λ deep. h0.4), (λ x0 h0. (tt, λ deep. h0), (λ x0 h0 x1 h1 x2 h2. (tt, λ deep. pattern_note_kept x2 x1 (d + 1) h2 h1), tt)))
   ways_good (pattern_segment d) = (λ x0 h0 x1 h1 x2 h2 x3 h3 x4 h4. (h1, all_fit d x4 h4), tt)

@@ -37,10 +37,15 @@ spelled_is_read_back text ts x bytes lexed spelled =
     subst ReadBack z.2 (fitting_is_read_back z.0 z.1)
 
 -- what scanning and parsing may answer of the canonical text
-pub one_reading : ((place : Place) (bytes : List ℕ) (ts us : List Token) → Lexed place bytes ts → Lexed place bytes us → ts ≡ us) → ((place : Place) (bytes : List ℕ) (ts : List Token) (fault : ScanFault) → Lexed place bytes ts → FirstFault place bytes fault → ⊥) → ((ts : List Token) (x : m.Module) → SpellsTo depth_limit ts x → (end : Place) (fault : ParseFault) → Refused ts end fault → fault ≡ faults.Memory) → (text : List ℕ) (ts : List Token) (x : m.Module) → AreBytes text → Lexed start text ts → SpellsTo depth_limit ts x → ((fault : ScanFault) → FirstFault start (canonical x) fault → ⊥) × ((us : List Token) → Lexed start (canonical x) us → ((y : m.Module) → IsModule us y → Same y x) × ((end : Place) (fault : ParseFault) → Refused us end fault → fault ≡ faults.Memory))
+pub one_reading : ((place : Place) (bytes : List ℕ) (ts us : List Token) → Lexed place bytes ts → Lexed place bytes us → ts ≡ us)
+    → ((place : Place) (bytes : List ℕ) (ts : List Token) (fault : ScanFault) → Lexed place bytes ts → FirstFault place bytes fault → ⊥)
+    → ((ts : List Token) (x : m.Module) → SpellsTo depth_limit ts x → (end : Place) (fault : ParseFault) → Refused ts end fault → fault ≡ faults.Memory) → (text : List ℕ) (ts : List Token) (x : m.Module) → AreBytes text
+    → Lexed start text ts → SpellsTo depth_limit ts x → ((fault : ScanFault) → FirstFault start (canonical x) fault → ⊥)
+    × ((us : List Token) → Lexed start (canonical x) us → ((y : m.Module) → IsModule us y → Same y x) × ((end : Place) (fault : ParseFault) → Refused us end fault → fault ≡ faults.Memory))
 one_reading lexed_once never_both module_is_no_fault text ts x bytes lexed spelled = by (spelled_is_read_back text ts x bytes lexed spelled)
   where
-    by : ReadBack x → ((fault : ScanFault) → FirstFault start (canonical x) fault → ⊥) × ((us : List Token) → Lexed start (canonical x) us → ((y : m.Module) → IsModule us y → Same y x) × ((end : Place) (fault : ParseFault) → Refused us end fault → fault ≡ faults.Memory))
+    by : ReadBack x → ((fault : ScanFault) → FirstFault start (canonical x) fault → ⊥)
+        × ((us : List Token) → Lexed start (canonical x) us → ((y : m.Module) → IsModule us y → Same y x) × ((end : Place) (fault : ParseFault) → Refused us end fault → fault ≡ faults.Memory))
     by (vs, z, is, says, alike) = (
       λ fault stands. never_both start (canonical x) vs fault is stands,
       λ us other.

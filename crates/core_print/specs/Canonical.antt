@@ -163,7 +163,8 @@ abbrev mutual
   -- The steps of a chain and what comes last. The annotation of a step takes in all that follows it.
   pub steps : m.Steps → Words → Words
   steps m.no_step last rest = last rest
-  steps (m.and_let k xs t ss) last rest = opened k.note (reserved (codes "let") ∷ symbol (codes "<") ∷ variables true xs (symbol (codes ">") ∷ symbol (codes "=") ∷ noted (note_of t) (plain t) (reserved (codes "in") ∷ steps ss last (closed k.note rest))))
+  steps (m.and_let k xs t ss) last rest = opened k.note (reserved (codes "let") ∷ symbol (codes "<")
+      ∷ variables true xs (symbol (codes ">") ∷ symbol (codes "=") ∷ noted (note_of t) (plain t) (reserved (codes "in") ∷ steps ss last (closed k.note rest))))
   steps (m.and_do k t ss) last rest = opened k.note (reserved (codes "do") ∷ noted (note_of t) (plain t) (steps ss last (closed k.note rest)))
 
   pub clauses : m.Clauses → Words
@@ -198,7 +199,8 @@ abbrev mutual
 
   pub pat_segments : Bool → m.PatSegments → Words
   pat_segments first m.no_pat_segment rest = rest
-  pat_segments first (m.and_pat_segment p ts ss) rest = comma first (symbol (codes "#<") ∷ noted (pattern_note_of p) (plain_pattern p) (symbol (codes ">") ∷ symbol (codes "(") ∷ expressions true ts (symbol (codes ")") ∷ pat_segments false ss rest)))
+  pat_segments first (m.and_pat_segment p ts ss) rest = comma first (symbol (codes "#<")
+      ∷ noted (pattern_note_of p) (plain_pattern p) (symbol (codes ">") ∷ symbol (codes "(") ∷ expressions true ts (symbol (codes ")") ∷ pat_segments false ss rest)))
 
 -- An expression and a pattern with their notes.
 abbrev pub expression : m.Tree → Words

@@ -64,7 +64,8 @@ fn append_plain(expr: &Expr, out: &mut Bytes) -> Result<(), Memory>
 // Appends a fun.
 #[cycle(print)]
 fn append_fun(fun: &Fun, out: &mut Bytes) -> Result<(), Memory>
-    ensures { OnOk result (Writes (λ rest. w.reserved (codes "fun") ∷ w.symbol (codes "(") ∷ c.variables true fun.now.params (w.symbol (codes ")") ∷ w.symbol (codes "->") ∷ c.expression (tree fun.now.body) rest)) out.old out.new) }
+    ensures { OnOk result (Writes (λ rest. w.reserved (codes "fun") ∷ w.symbol (codes "(")
+        ∷ c.variables true fun.now.params (w.symbol (codes ")") ∷ w.symbol (codes "->") ∷ c.expression (tree fun.now.body) rest)) out.old out.new) }
 {
     out.append(b" fun (")?;
     append_variables(fun.params.as_slice(), out)?;
@@ -75,7 +76,8 @@ fn append_fun(fun: &Fun, out: &mut Bytes) -> Result<(), Memory>
 // Appends a list and its tail.
 #[cycle(print)]
 fn append_list(elements: &[Expr], tail: &Expr, out: &mut Bytes) -> Result<(), Memory>
-    ensures { OnOk result (Writes (λ rest. w.symbol (codes "[") ∷ c.expressions true (all_trees elements.now) (c.tail (tree tail.now) (c.plain (tree tail.now)) (w.symbol (codes "]") ∷ rest))) out.old out.new) }
+    ensures { OnOk result (Writes (λ rest. w.symbol (codes "[")
+        ∷ c.expressions true (all_trees elements.now) (c.tail (tree tail.now) (c.plain (tree tail.now)) (w.symbol (codes "]") ∷ rest))) out.old out.new) }
 {
     out.append(b" [")?;
     append_expressions(elements, out)?;
@@ -101,7 +103,8 @@ fn append_tail(tail: &Expr, out: &mut Bytes) -> Result<(), Memory>
 // Appends a tail in annotation brackets.
 #[cycle(print)]
 fn append_listed_tail(tail: &Expr, out: &mut Bytes) -> Result<(), Memory>
-    ensures { OnOk result (Writes (λ rest. w.symbol (codes "|") ∷ w.symbol (codes "(") ∷ c.plain (tree tail.now) (c.annotation tail.now.mark.note rest)) out.old out.new) }
+    ensures { OnOk result (Writes (λ rest. w.symbol (codes "|") ∷ w.symbol (codes "(") ∷ c.plain (tree tail.now) (c.annotation tail.now.mark.note rest))
+        out.old out.new) }
 {
     out.append(b" | (")?;
     append_plain(tail, out)?;
@@ -111,7 +114,8 @@ fn append_listed_tail(tail: &Expr, out: &mut Bytes) -> Result<(), Memory>
 // Appends a tuple.
 #[cycle(print)]
 fn append_tuple(elements: &[Expr], out: &mut Bytes) -> Result<(), Memory>
-    ensures { OnOk result (Writes (λ rest. w.symbol (codes "{") ∷ c.expressions true (all_trees elements.now) (w.symbol (codes "}") ∷ rest)) out.old out.new) }
+    ensures { OnOk result (Writes (λ rest. w.symbol (codes "{") ∷ c.expressions true (all_trees elements.now) (w.symbol (codes "}") ∷ rest)) out.old
+        out.new) }
 {
     out.append(b" {")?;
     append_expressions(elements, out)?;
@@ -151,7 +155,8 @@ fn append_old_map(updated: &Expr, out: &mut Bytes) -> Result<(), Memory>
 // Appends a binary.
 #[cycle(print)]
 fn append_binary(segments: &[Segment], out: &mut Bytes) -> Result<(), Memory>
-    ensures { OnOk result (Writes (λ rest. w.symbol (codes "#{") ∷ c.segments true (all_segments segments.now) (w.symbol (codes "}#") ∷ rest)) out.old out.new) }
+    ensures { OnOk result (Writes (λ rest. w.symbol (codes "#{") ∷ c.segments true (all_segments segments.now) (w.symbol (codes "}#") ∷ rest)) out.old
+        out.new) }
 {
     out.append(b" #{")?;
     append_segments(segments, out)?;
@@ -161,7 +166,8 @@ fn append_binary(segments: &[Segment], out: &mut Bytes) -> Result<(), Memory>
 // Appends a value list.
 #[cycle(print)]
 fn append_values(elements: &[Expr], out: &mut Bytes) -> Result<(), Memory>
-    ensures { OnOk result (Writes (λ rest. w.symbol (codes "<") ∷ c.expressions true (all_trees elements.now) (w.symbol (codes ">") ∷ rest)) out.old out.new) }
+    ensures { OnOk result (Writes (λ rest. w.symbol (codes "<") ∷ c.expressions true (all_trees elements.now) (w.symbol (codes ">") ∷ rest)) out.old
+        out.new) }
 {
     out.append(b" <")?;
     append_expressions(elements, out)?;
@@ -182,7 +188,9 @@ fn append_chain(steps: &[Step], last: &Expr, out: &mut Bytes) -> Result<(), Memo
 // Appends a `case`.
 #[cycle(print)]
 fn append_case(arg: &Expr, clauses: &[Clause], out: &mut Bytes) -> Result<(), Memory>
-    ensures { OnOk result (Writes (λ rest. w.reserved (codes "case") ∷ c.expression (tree arg.now) (w.reserved (codes "of") ∷ c.clauses (all_clauses clauses.now) (w.reserved (codes "end") ∷ rest))) out.old out.new) }
+    ensures { OnOk result (Writes (λ rest. w.reserved (codes "case")
+        ∷ c.expression (tree arg.now) (w.reserved (codes "of") ∷ c.clauses (all_clauses clauses.now) (w.reserved (codes "end") ∷ rest))) out.old
+        out.new) }
 {
     out.append(b" case")?;
     append_expression(arg, out)?;
@@ -194,7 +202,8 @@ fn append_case(arg: &Expr, clauses: &[Clause], out: &mut Bytes) -> Result<(), Me
 // Appends a `letrec`.
 #[cycle(print)]
 fn append_letrec(functions: &[FunDef], body: &Expr, out: &mut Bytes) -> Result<(), Memory>
-    ensures { OnOk result (Writes (λ rest. w.reserved (codes "letrec") ∷ c.definitions (all_defs functions.now) (w.reserved (codes "in") ∷ c.expression (tree body.now) rest)) out.old out.new) }
+    ensures { OnOk result (Writes (λ rest. w.reserved (codes "letrec")
+        ∷ c.definitions (all_defs functions.now) (w.reserved (codes "in") ∷ c.expression (tree body.now) rest)) out.old out.new) }
 {
     out.append(b" letrec")?;
     append_functions(functions, out)?;
@@ -205,7 +214,9 @@ fn append_letrec(functions: &[FunDef], body: &Expr, out: &mut Bytes) -> Result<(
 // Appends an application.
 #[cycle(print)]
 fn append_apply(operator: &Expr, args: &[Expr], out: &mut Bytes) -> Result<(), Memory>
-    ensures { OnOk result (Writes (λ rest. w.reserved (codes "apply") ∷ c.expression (tree operator.now) (w.symbol (codes "(") ∷ c.expressions true (all_trees args.now) (w.symbol (codes ")") ∷ rest))) out.old out.new) }
+    ensures { OnOk result (Writes (λ rest. w.reserved (codes "apply")
+        ∷ c.expression (tree operator.now) (w.symbol (codes "(") ∷ c.expressions true (all_trees args.now) (w.symbol (codes ")") ∷ rest))) out.old
+        out.new) }
 {
     out.append(b" apply")?;
     append_expression(operator, out)?;
@@ -215,7 +226,9 @@ fn append_apply(operator: &Expr, args: &[Expr], out: &mut Bytes) -> Result<(), M
 // Appends a call.
 #[cycle(print)]
 fn append_call(home: &Expr, name: &Expr, args: &[Expr], out: &mut Bytes) -> Result<(), Memory>
-    ensures { OnOk result (Writes (λ rest. w.reserved (codes "call") ∷ c.expression (tree home.now) (w.symbol (codes ":") ∷ c.expression (tree name.now) (w.symbol (codes "(") ∷ c.expressions true (all_trees args.now) (w.symbol (codes ")") ∷ rest)))) out.old out.new) }
+    ensures { OnOk result (Writes (λ rest. w.reserved (codes "call")
+        ∷ c.expression (tree home.now) (w.symbol (codes ":")
+        ∷ c.expression (tree name.now) (w.symbol (codes "(") ∷ c.expressions true (all_trees args.now) (w.symbol (codes ")") ∷ rest)))) out.old out.new) }
 {
     out.append(b" call")?;
     append_expression(home, out)?;
@@ -227,7 +240,8 @@ fn append_call(home: &Expr, name: &Expr, args: &[Expr], out: &mut Bytes) -> Resu
 // Appends a primitive operation.
 #[cycle(print)]
 fn append_primop(name: &Atom, args: &[Expr], out: &mut Bytes) -> Result<(), Memory>
-    ensures { OnOk result (Writes (λ rest. w.reserved (codes "primop") ∷ w.atom name.now ∷ w.symbol (codes "(") ∷ c.expressions true (all_trees args.now) (w.symbol (codes ")") ∷ rest)) out.old out.new) }
+    ensures { OnOk result (Writes (λ rest. w.reserved (codes "primop") ∷ w.atom name.now ∷ w.symbol (codes "(")
+        ∷ c.expressions true (all_trees args.now) (w.symbol (codes ")") ∷ rest)) out.old out.new) }
 {
     out.append(b" primop")?;
     append_atom(name, out)?;
@@ -269,7 +283,9 @@ fn append_receive(
     action: &Expr,
     out: &mut Bytes,
 ) -> Result<(), Memory>
-    ensures { OnOk result (Writes (λ rest. w.reserved (codes "receive") ∷ c.clauses (all_clauses clauses.now) (w.reserved (codes "after") ∷ c.expression (tree timeout.now) (w.symbol (codes "->") ∷ c.expression (tree action.now) rest))) out.old out.new) }
+    ensures { OnOk result (Writes (λ rest. w.reserved (codes "receive")
+        ∷ c.clauses (all_clauses clauses.now) (w.reserved (codes "after")
+        ∷ c.expression (tree timeout.now) (w.symbol (codes "->") ∷ c.expression (tree action.now) rest))) out.old out.new) }
 {
     out.append(b" receive")?;
     append_clauses(clauses, out)?;

@@ -28,19 +28,24 @@ pub fn line_lexed()
 /// A module that fits within the depth limit is read back from its canonical text, with its labels: the
 /// text has tokens, and they spell a module that is the same.
 pub fn fitting_module_is_read_back()
-    ensures { (x : ModuleTree) → ModuleFits depth_limit x → (ts : List Token) × (y : ModuleTree) × Lexed start (canonical (numbered x)) ts × SpellsTo depth_limit ts y × Same y (numbered x) }
+    ensures { (x : ModuleTree) → ModuleFits depth_limit x
+        → (ts : List Token) × (y : ModuleTree) × Lexed start (canonical (numbered x)) ts × SpellsTo depth_limit ts y × Same y (numbered x) }
 {}
 
 /// The module that a text spells within the depth limit is read back from its canonical text: that text has
 /// tokens, and they spell a module that is the same.
 pub fn spelled_module_is_read_back()
-    ensures { (text : List ℕ) (ts : List Token) (x : ModuleTree) → AreBytes text → Lexed start text ts → SpellsTo depth_limit ts x → (us : List Token) × (y : ModuleTree) × Lexed start (canonical x) us × SpellsTo depth_limit us y × Same y x }
+    ensures { (text : List ℕ) (ts : List Token) (x : ModuleTree) → AreBytes text → Lexed start text ts → SpellsTo depth_limit ts x
+        → (us : List Token) × (y : ModuleTree) × Lexed start (canonical x) us × SpellsTo depth_limit us y × Same y x }
 {}
 
 /// Whatever is scanned and parsed of that canonical text, unless memory runs out, is a module that is the
 /// same: the text has no fault, and its tokens are refused only when out of memory.
 pub fn canonical_text_has_one_reading()
-    ensures { (text : List ℕ) (ts : List Token) (x : ModuleTree) → AreBytes text → Lexed start text ts → SpellsTo depth_limit ts x → ((fault : ScanFault) → FirstFault start (canonical x) fault → ⊥) × ((us : List Token) → Lexed start (canonical x) us → ((y : ModuleTree) → IsModule us y → Same y x) × ((end : Place) (fault : ParseFault) → Refused us end fault → fault ≡ faults.Memory)) }
+    ensures { (text : List ℕ) (ts : List Token) (x : ModuleTree) → AreBytes text → Lexed start text ts → SpellsTo depth_limit ts x
+        → ((fault : ScanFault) → FirstFault start (canonical x) fault → ⊥)
+        × ((us : List Token) → Lexed start (canonical x) us
+        → ((y : ModuleTree) → IsModule us y → Same y x) × ((end : Place) (fault : ParseFault) → Refused us end fault → fault ≡ faults.Memory)) }
 {
     lexed_once();
     lexed_without_fault();

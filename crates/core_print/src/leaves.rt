@@ -46,7 +46,8 @@ pub fn append_name(name: &FunName, out: &mut Bytes) -> Result<(), Memory>
 
 /// Appends the name of a function of a module.
 pub fn append_external(home: &Atom, name: &FunName, out: &mut Bytes) -> Result<(), Memory>
-    ensures { OnOk result (Writes (λ rest. w.reserved (codes "fun") ∷ w.atom home.now ∷ w.symbol (codes ":") ∷ function_name name.now rest) out.old out.new) }
+    ensures { OnOk result (Writes (λ rest. w.reserved (codes "fun") ∷ w.atom home.now ∷ w.symbol (codes ":") ∷ function_name name.now rest) out.old
+        out.new) }
 {
     out.append(b" fun")?;
     append_atom(home, out)?;

@@ -1,6 +1,7 @@
 // What stands in expressions in rows: elements, pairs, segments, steps, clauses, functions.
 ghost use Rattle.std.specs.Prelude.{◌≡◌, ◌∷◌, OnOk, codes, true, if◌then◌else◌};
-ghost use Rattle.core_ast.specs.Tree.{tree, all_trees, all_clauses, all_defs, all_pairs, all_segments, all_steps, clause_parts, def_tree, pair_parts, segment_parts, step_tree};
+ghost use Rattle.core_ast.specs.Tree.{tree, all_trees, all_clauses, all_defs, all_pairs, all_segments};
+ghost use Rattle.core_ast.specs.Tree.{all_steps, clause_parts, def_tree, pair_parts, segment_parts, step_tree};
 ghost use Rattle.core_print.specs.Words as w;
 ghost use Rattle.core_print.specs.Canonical as c;
 ghost use Rattle.core_print.specs.steps.Writes.{Writes};
@@ -114,7 +115,10 @@ fn append_step(step: &Step, out: &mut Bytes) -> Result<(), Memory>
 // Appends a `let` up to `in`.
 #[cycle(print)]
 fn append_let(note: &Note, vars: &[VarName], value: &Expr, out: &mut Bytes) -> Result<(), Memory>
-    ensures { OnOk result (Writes (λ rest. c.opened note.now (w.reserved (codes "let") ∷ w.symbol (codes "<") ∷ c.variables true vars.now (w.symbol (codes ">") ∷ w.symbol (codes "=") ∷ c.expression (tree value.now) (w.reserved (codes "in") ∷ rest)))) out.old out.new) }
+    ensures { OnOk result (Writes (λ rest. c.opened note.now
+        (w.reserved (codes "let") ∷ w.symbol (codes "<")
+        ∷ c.variables true vars.now (w.symbol (codes ">") ∷ w.symbol (codes "=") ∷ c.expression (tree value.now) (w.reserved (codes "in") ∷ rest))))
+        out.old out.new) }
 {
     append_opened(note, out)?;
     out.append(b" let <")?;

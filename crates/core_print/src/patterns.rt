@@ -46,7 +46,9 @@ fn append_plain_pattern(pattern: &Pattern, out: &mut Bytes) -> Result<(), Memory
 // Appends a list of patterns and its tail.
 #[cycle(print)]
 fn append_pattern_list(elements: &[Pattern], tail: &Pattern, out: &mut Bytes) -> Result<(), Memory>
-    ensures { OnOk result (Writes (λ rest. w.symbol (codes "[") ∷ c.patterns true (all_patterns elements.now) (c.pattern_tail (pattern_tree tail.now) (c.plain_pattern (pattern_tree tail.now)) (w.symbol (codes "]") ∷ rest))) out.old out.new) }
+    ensures { OnOk result (Writes (λ rest. w.symbol (codes "[")
+        ∷ c.patterns true (all_patterns elements.now)
+        (c.pattern_tail (pattern_tree tail.now) (c.plain_pattern (pattern_tree tail.now)) (w.symbol (codes "]") ∷ rest))) out.old out.new) }
 {
     out.append(b" [")?;
     append_patterns(elements, out)?;
@@ -76,7 +78,8 @@ fn append_pattern_tail(tail: &Pattern, out: &mut Bytes) -> Result<(), Memory>
 // Appends a tuple of patterns.
 #[cycle(print)]
 fn append_pattern_tuple(elements: &[Pattern], out: &mut Bytes) -> Result<(), Memory>
-    ensures { OnOk result (Writes (λ rest. w.symbol (codes "{") ∷ c.patterns true (all_patterns elements.now) (w.symbol (codes "}") ∷ rest)) out.old out.new) }
+    ensures { OnOk result (Writes (λ rest. w.symbol (codes "{") ∷ c.patterns true (all_patterns elements.now) (w.symbol (codes "}") ∷ rest)) out.old
+        out.new) }
 {
     out.append(b" {")?;
     append_patterns(elements, out)?;
@@ -86,7 +89,8 @@ fn append_pattern_tuple(elements: &[Pattern], out: &mut Bytes) -> Result<(), Mem
 // Appends a map pattern.
 #[cycle(print)]
 fn append_pattern_map(pairs: &[PatPair], out: &mut Bytes) -> Result<(), Memory>
-    ensures { OnOk result (Writes (λ rest. w.symbol (codes "~{") ∷ c.pat_pairs true (all_pat_pairs pairs.now) (w.symbol (codes "}~") ∷ rest)) out.old out.new) }
+    ensures { OnOk result (Writes (λ rest. w.symbol (codes "~{") ∷ c.pat_pairs true (all_pat_pairs pairs.now) (w.symbol (codes "}~") ∷ rest)) out.old
+        out.new) }
 {
     out.append(b" ~{")?;
     append_pattern_pairs(pairs, out)?;
@@ -96,7 +100,8 @@ fn append_pattern_map(pairs: &[PatPair], out: &mut Bytes) -> Result<(), Memory>
 // Appends a binary pattern.
 #[cycle(print)]
 fn append_pattern_binary(segments: &[PatSegment], out: &mut Bytes) -> Result<(), Memory>
-    ensures { OnOk result (Writes (λ rest. w.symbol (codes "#{") ∷ c.pat_segments true (all_pat_segments segments.now) (w.symbol (codes "}#") ∷ rest)) out.old out.new) }
+    ensures { OnOk result (Writes (λ rest. w.symbol (codes "#{") ∷ c.pat_segments true (all_pat_segments segments.now) (w.symbol (codes "}#") ∷ rest))
+        out.old out.new) }
 {
     out.append(b" #{")?;
     append_pattern_segments(segments, out)?;
@@ -106,7 +111,8 @@ fn append_pattern_binary(segments: &[PatSegment], out: &mut Bytes) -> Result<(),
 // Appends a pattern that a variable names.
 #[cycle(print)]
 fn append_alias(variable: &VarName, inner: &Pattern, out: &mut Bytes) -> Result<(), Memory>
-    ensures { OnOk result (Writes (λ rest. c.variable_in_list variable.now (w.symbol (codes "=") ∷ c.pattern (pattern_tree inner.now) rest)) out.old out.new) }
+    ensures { OnOk result (Writes (λ rest. c.variable_in_list variable.now (w.symbol (codes "=") ∷ c.pattern (pattern_tree inner.now) rest)) out.old
+        out.new) }
 {
     append_listed_variable(variable, out)?;
     out.append(b" =")?;

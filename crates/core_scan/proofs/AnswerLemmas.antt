@@ -1,5 +1,6 @@
 -- Bytes have tokens or a first fault.
-use Rattle.std.proofs.Common.{◌≡◌, ◌≢◌, ℕ, zero, suc, ◌+◌, ◌-◌, ◌<◌, ◌≤◌, ◌^◌, List, [], ◌∷◌, ◌++◌, length, take, drop, get_or, refl, sym, ap, ◌∙◌, subst, ◌⊎◌, inl, inr, Bool, true, false, cond, arith, ◌||◌, ◌==◌, pos, neg_ℤ, Option, Some, None, length-drop}
+use Rattle.std.proofs.Common.{◌≡◌, ◌≢◌, ℕ, zero, suc, ◌+◌, ◌-◌, ◌<◌, ◌≤◌, ◌^◌, List, [], ◌∷◌, ◌++◌, length, take, drop, get_or, refl, sym, ap}
+use Rattle.std.proofs.Common.{◌∙◌, subst, ◌⊎◌, inl, inr, Bool, true, false, cond, arith, ◌||◌, ◌==◌, pos, neg_ℤ, Option, Some, None, length-drop}
 use Rattle.std.specs.List.{prefix_len}
 use Rattle.std.proofs.lemmas.List.{take-append-drop, drop-drop}
 use Rattle.std.proofs.lemmas.List.Sums.{prefix_len-le-length}
@@ -23,7 +24,8 @@ use Rattle.core_scan.proofs.RunLemmas.{take-add, eq_from_test}
 use Rattle.core_scan.proofs.Tables.{one_or_none}
 use Rattle.core_scan.proofs.EscapeLemmas.{escape_found, IsEscapeAt}
 use Rattle.core_scan.proofs.InsideLemmas.{Inside-append, plain_step, escape_step, stuck_backslash}
-use Rattle.core_scan.proofs.ShapeLemmas.{word_found, word_unknown, variable_found, float_found, integer_found, integer_wide, no_byte, no_escaped, escaped_found, plain_found, no_plain, left_open, stuck_fault, atom_found, text_found, symbol_found, symbol_none}
+use Rattle.core_scan.proofs.ShapeLemmas.{word_found, word_unknown, variable_found, float_found, integer_found, integer_wide, no_byte, no_escaped}
+use Rattle.core_scan.proofs.ShapeLemmas.{escaped_found, plain_found, no_plain, left_open, stuck_fault, atom_found, text_found, symbol_found, symbol_none}
 use Rattle.core_scan.proofs.PassLemmas.{passes_append, blank_step, comment_step, token_step}
 
 -- what is at the front of the bytes
@@ -142,7 +144,8 @@ quote_front place q rest quote = ends (drop at.len rest) refl
         by_test (q == 39)
         (λ g. token_front place (q ∷ rest) (Atom at.text) (1 + at.len + 1) (atom_found (q ∷ rest) rest at.text q at.len refl quote at.within at.inside after closed (eq_from_test q 39 g)))
         (λ g. token_front place (q ∷ rest) (Text at.text) (1 + at.len + 1) (text_found (q ∷ rest) rest at.text q at.len refl quote at.within at.inside after closed (no_test q 39 g))))
-        (λ f. fault_front place (q ∷ rest) (cond (is_cut_off after) (OpenQuote place) (BadEscape (past place (take (1 + at.len) (q ∷ rest))))) (stuck_fault (q ∷ rest) rest at.text q at.len refl quote at.within at.inside place end after e at.stuck (no_test end q f)))
+        (λ f. fault_front place (q ∷ rest) (cond (is_cut_off after) (OpenQuote place) (BadEscape (past place (take (1 + at.len) (q ∷ rest)))))
+        (stuck_fault (q ∷ rest) rest at.text q at.len refl quote at.within at.inside place end after e at.stuck (no_test end q f)))
 
 -- ---- numbers and symbols
 
@@ -182,7 +185,8 @@ number_front place bytes some = go (cases_lt 0 (fraction_len (drop (sign + whole
 
     integer : fraction_len (drop (sign + whole) bytes) ≡ 0 → (number 10 (take whole (drop sign bytes)) < 2 ^ 127) ⊎ (2 ^ 127 ≤ number 10 (take whole (drop sign bytes))) → Front place bytes
     integer none (inl narrow) = token_front place bytes (Integer (cond (get_or bytes 0 0 == 45) (neg_ℤ (pos (number 10 (take whole (drop sign bytes))))) (pos (number 10 (take whole (drop sign bytes))))) (sign == 0)) (sign + whole)
-        (integer_found bytes sign whole refl refl some (cond (get_or bytes 0 0 == 45) (neg_ℤ (pos (number 10 (take whole (drop sign bytes))))) (pos (number 10 (take whole (drop sign bytes))))) (sign == 0) (number 10 (take whole (drop sign bytes))) none refl narrow refl refl)
+        (integer_found bytes sign whole refl refl some (cond (get_or bytes 0 0 == 45) (neg_ℤ (pos (number 10 (take whole (drop sign bytes))))) (pos (number 10 (take whole (drop sign bytes))))) (sign == 0)
+        (number 10 (take whole (drop sign bytes))) none refl narrow refl refl)
     integer none (inr far) = fault_front place bytes (WideInteger place) (integer_wide bytes sign whole refl refl some place none far)
 
     go : (0 < fraction_len (drop (sign + whole) bytes)) ⊎ (fraction_len (drop (sign + whole) bytes) ≤ 0) → Front place bytes
@@ -194,7 +198,8 @@ symbol_front : (place : Place) (b : ℕ) (bs : List ℕ) → IsOther b → prefi
 symbol_front place b bs other none = go (cases_lt 0 (symbol_len (b ∷ bs)))
   where
     go : (0 < symbol_len (b ∷ bs)) ⊎ (symbol_len (b ∷ bs) ≤ 0) → Front place (b ∷ bs)
-    go (inl some) = token_front place (b ∷ bs) (Symbol (take (symbol_len (b ∷ bs)) (b ∷ bs))) (symbol_len (b ∷ bs)) (symbol_found (b ∷ bs) other none (take (symbol_len (b ∷ bs)) (b ∷ bs)) (symbol_len (b ∷ bs)) refl some (symbol_within (b ∷ bs)) refl)
+    go (inl some) = token_front place (b ∷ bs) (Symbol (take (symbol_len (b ∷ bs)) (b ∷ bs))) (symbol_len (b ∷ bs))
+        (symbol_found (b ∷ bs) other none (take (symbol_len (b ∷ bs)) (b ∷ bs)) (symbol_len (b ∷ bs)) refl some (symbol_within (b ∷ bs)) refl)
     go (inr nil) = fault_front place (b ∷ bs) (BadByte place) (symbol_none (b ∷ bs) other none place (omega arith) (omega arith))
 
 -- ---- the front, and all
@@ -202,11 +207,13 @@ symbol_front place b bs other none = go (cases_lt 0 (symbol_len (b ∷ bs)))
 front : (place : Place) (b : ℕ) (bs : List ℕ) → is_blank b ≡ false → b ≢ 37 → Front place (b ∷ bs)
 front place b bs no_blank no_comment =
     by_test (is_lower b) (λ e. word_front place (b ∷ bs) e) (λ no_word.
-    by_test (is_variable_start b) (λ e. token_front place (b ∷ bs) (Variable (take (prefix_len is_name_byte (b ∷ bs)) (b ∷ bs))) (prefix_len is_name_byte (b ∷ bs)) (variable_found (b ∷ bs) (prefix_len is_name_byte (b ∷ bs)) refl (take (prefix_len is_name_byte (b ∷ bs)) (b ∷ bs)) e refl)) (λ no_variable.
+    by_test (is_variable_start b) (λ e. token_front place (b ∷ bs) (Variable (take (prefix_len is_name_byte (b ∷ bs)) (b ∷ bs))) (prefix_len is_name_byte (b ∷ bs))
+    (variable_found (b ∷ bs) (prefix_len is_name_byte (b ∷ bs)) refl (take (prefix_len is_name_byte (b ∷ bs)) (b ∷ bs)) e refl)) (λ no_variable.
     by_test (b == 36) (λ e. subst (λ (x : ℕ). Front place (x ∷ bs)) (sym (eq_from_test b 36 e)) (char_front place bs)) (λ no_character.
     by_test (b == 39) (λ e. quote_front place b bs (inl (eq_from_test b 39 e))) (λ no_atom.
     by_test (b == 34) (λ e. quote_front place b bs (inr (eq_from_test b 34 e))) (λ no_text.
-    numeric (cases_lt 0 (prefix_len is_digit (drop (sign_len (b ∷ bs)) (b ∷ bs)))) (record { no_word = no_word; no_variable = no_variable; no_character = no_test b 36 no_character; no_atom = no_test b 39 no_atom; no_text = no_test b 34 no_text; no_blank = no_blank; no_comment = no_comment }))))))
+    numeric (cases_lt 0 (prefix_len is_digit (drop (sign_len (b ∷ bs)) (b ∷ bs))))
+    (record { no_word = no_word; no_variable = no_variable; no_character = no_test b 36 no_character; no_atom = no_test b 39 no_atom; no_text = no_test b 34 no_text; no_blank = no_blank; no_comment = no_comment }))))))
   where
     numeric : (0 < prefix_len is_digit (drop (sign_len (b ∷ bs)) (b ∷ bs))) ⊎ (prefix_len is_digit (drop (sign_len (b ∷ bs)) (b ∷ bs)) ≤ 0) → IsOther b → Front place (b ∷ bs)
     numeric (inl some) other = number_front place (b ∷ bs) some

@@ -1,5 +1,6 @@
 -- Escapes: what `escape_of` gives is one, and each is what it gives.
-use Rattle.std.proofs.Common.{◌≡◌, ◌≢◌, ℕ, ◌+◌, ◌-◌, ◌<◌, ◌≤◌, List, [], ◌∷◌, ◌++◌, length, take, drop, min, refl, sym, ap, ◌∙◌, subst, ◌⊎◌, inl, inr, true, false, cond, arith, ◌&&◌, ◌==◌, nat_lt, nat_le, Option, Some, None, option_map}
+use Rattle.std.proofs.Common.{◌≡◌, ◌≢◌, ℕ, ◌+◌, ◌-◌, ◌<◌, ◌≤◌, List, [], ◌∷◌, ◌++◌, length, take, drop, min, refl, sym, ap, ◌∙◌, subst}
+use Rattle.std.proofs.Common.{◌⊎◌, inl, inr, true, false, cond, arith, ◌&&◌, ◌==◌, nat_lt, nat_le, Option, Some, None, option_map}
 use Rattle.std.specs.List.{prefix_len}
 use Rattle.std.proofs.lemmas.List.{take_at, length-take-le}
 use Rattle.std.proofs.lemmas.List.Sums.{prefix_len-le-length}
@@ -87,15 +88,21 @@ octal_found bytes e some h =
     let within : prefix_len is_octal bytes ≤ length bytes = prefix_len-le-length is_octal bytes in
     let positive : 0 < prefix_len is_octal bytes = grind (arith, nat_tests) in
     let len : length (take (min (prefix_len is_octal bytes) 3) bytes) ≡ min (prefix_len is_octal bytes) 3 = length-take-le (min (prefix_len is_octal bytes) 3) bytes (omega arith) in
-    cond_cases (IsEscapeAt bytes e) (nat_lt (number 8 (take (min (prefix_len is_octal bytes) 3) bytes)) 256) (Some (record { value = number 8 (take (min (prefix_len is_octal bytes) 3) bytes); len = min (prefix_len is_octal bytes) 3 })) None (Some e)
-    (λ small is. given bytes (record { value = number 8 (take (min (prefix_len is_octal bytes) 3) bytes); len = min (prefix_len is_octal bytes) 3 }) e
-    (octal (λ empty. let none : length (take (min (prefix_len is_octal bytes) 3) bytes) ≡ 0 = ap length empty in omega arith) (omega arith) (take-run is_octal (min (prefix_len is_octal bytes) 3) bytes (omega arith)) (ends (cases_lt 3 (prefix_len is_octal bytes))) refl (grind (arith, nat_tests)), omega arith, omega arith) is)
+    cond_cases (IsEscapeAt bytes e) (nat_lt (number 8 (take (min (prefix_len is_octal bytes) 3) bytes)) 256) (Some (record { value = number 8 (take (min (prefix_len is_octal bytes) 3) bytes); len = min (prefix_len is_octal bytes) 3 })) None
+    (Some e)
+    (λ small is. given bytes (record { value = number 8 (take (min (prefix_len is_octal bytes) 3) bytes); len = min (prefix_len is_octal bytes) 3 }) e (
+      octal (λ empty. let none : length (take (min (prefix_len is_octal bytes) 3) bytes) ≡ 0 = ap length empty in omega arith) (omega arith) (take-run is_octal (min (prefix_len is_octal bytes) 3) bytes (omega arith))
+          (ends (cases_lt 3 (prefix_len is_octal bytes))) refl (grind (arith, nat_tests)),
+      omega arith,
+      omega arith,
+    ) is)
     (λ _ is. cc)
     h
   where
     ends : (3 < prefix_len is_octal bytes) ⊎ (prefix_len is_octal bytes ≤ 3) → (length (take (min (prefix_len is_octal bytes) 3) bytes) ≡ 3) ⊎ NoneAhead is_octal (drop (min (prefix_len is_octal bytes) 3) bytes)
     ends (inr few) = inr (let all : min (prefix_len is_octal bytes) 3 ≡ prefix_len is_octal bytes = omega arith in rw all (run_ends is_octal bytes))
-    ends (inl many) = inl (let within : prefix_len is_octal bytes ≤ length bytes = prefix_len-le-length is_octal bytes in let l : length (take (min (prefix_len is_octal bytes) 3) bytes) ≡ min (prefix_len is_octal bytes) 3 = length-take-le (min (prefix_len is_octal bytes) 3) bytes (omega arith) in omega arith)
+    ends (inl many) = inl (let within : prefix_len is_octal bytes ≤ length bytes = prefix_len-le-length is_octal bytes in let l : length (take (min (prefix_len is_octal bytes) 3) bytes)
+        ≡ min (prefix_len is_octal bytes) 3 = length-take-le (min (prefix_len is_octal bytes) 3) bytes (omega arith) in omega arith)
 
 pub escape_found : (bytes : List ℕ) (e : Escaped) → escape_of bytes ≡ Some e → IsEscapeAt bytes e
 escape_found bytes e h =
@@ -105,7 +112,8 @@ escape_found bytes e h =
     h
 
 pub no_escape : (bytes : List ℕ) → escape_of bytes ≡ None → NoEscape bytes
-no_escape bytes h piece rest value splits is = let found : escape_of (piece ++ rest) ≡ Some (record { value = value; len = length piece }) = escape_given piece rest value is in let same : escape_of bytes ≡ escape_of (piece ++ rest) = ap escape_of splits in cc
+no_escape bytes h piece rest value splits is = let found : escape_of (piece ++ rest) ≡ Some (record { value = value; len = length piece }) = escape_given piece rest value is in let same : escape_of bytes ≡ escape_of (piece ++ rest) =
+    ap escape_of splits in cc
 
 -- bytes begin with one escape at most
 pub escape_once : (p q x y : List ℕ) (v w : ℕ) → Escape p v x → Escape q w y → p ++ x ≡ q ++ y → (v ≡ w) × (length p ≡ length q)

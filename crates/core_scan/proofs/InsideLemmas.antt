@@ -14,10 +14,12 @@ Inside-append {q} {a} {t} {z} b u r joined (nothing is says) more = rw (is, says
 Inside-append {q} {a} {t} {z} b u r joined (plain x rest letters apart no_backslash is says before) more =
     plain x (rest ++ b) (letters ++ u) apart no_backslash (ap (λ (l : List ℕ). l ++ b) is) (ap (λ (l : List ℕ). l ++ u) says) (Inside-append b u r joined before more)
 Inside-append {q} {a} {t} {z} b u r joined (escaped e rest letters v escape is says before) more =
-    escaped e (rest ++ b) (letters ++ u) v (subst (λ (l : List ℕ). Escape e v l) (ap (λ (l : List ℕ). rest ++ l) joined ∙ sym (append_assoc rest b r)) escape) (ap (λ (l : List ℕ). l ++ b) is ∙ ap (λ (l : List ℕ). 92 ∷ l) (append_assoc e rest b)) (ap (λ (l : List ℕ). l ++ u) says) (Inside-append b u r joined before more)
+    escaped e (rest ++ b) (letters ++ u) v (subst (λ (l : List ℕ). Escape e v l) (ap (λ (l : List ℕ). rest ++ l) joined ∙ sym (append_assoc rest b r)) escape)
+    (ap (λ (l : List ℕ). l ++ b) is ∙ ap (λ (l : List ℕ). 92 ∷ l) (append_assoc e rest b)) (ap (λ (l : List ℕ). l ++ u) says) (Inside-append b u r joined before more)
 
 -- after `len` bytes `more` further ones
-pub inside_further : (q : ℕ) (bytes text : List ℕ) (len more v : ℕ) → Inside q (take len bytes) text (drop len bytes) → Inside q (take more (drop len bytes)) (v ∷ []) (drop more (drop len bytes)) → Inside q (take (len + more) bytes) (text ++ v ∷ []) (drop (len + more) bytes)
+pub inside_further : (q : ℕ) (bytes text : List ℕ) (len more v : ℕ) → Inside q (take len bytes) text (drop len bytes) → Inside q (take more (drop len bytes)) (v ∷ []) (drop more (drop len bytes))
+    → Inside q (take (len + more) bytes) (text ++ v ∷ []) (drop (len + more) bytes)
 inside_further q bytes text len more v before next =
     let behind : drop more (drop len bytes) ≡ drop (len + more) bytes = drop-drop more len bytes in
     let front : take (len + more) bytes ≡ take len bytes ++ take more (drop len bytes) = take-add len more bytes in

@@ -1,5 +1,6 @@
 -- A piece spells one token only, and bytes begin with one longest spelling only.
-use Rattle.std.proofs.Common.{◌≡◌, ◌≢◌, ℕ, ◌<◌, ◌≤◌, List, [], ◌∷◌, ◌++◌, length, drop, get_or, refl, sym, ap, ◌∙◌, subst, ◌⊎◌, inl, inr, Bool, true, false, cond, not, arith, ◌||◌, ◌==◌, ℤ, append_assoc}
+use Rattle.std.proofs.Common.{◌≡◌, ◌≢◌, ℕ, ◌<◌, ◌≤◌, List, [], ◌∷◌, ◌++◌, length, drop, get_or, refl, sym, ap, ◌∙◌}
+use Rattle.std.proofs.Common.{subst, ◌⊎◌, inl, inr, Bool, true, false, cond, not, arith, ◌||◌, ◌==◌, ℤ, append_assoc}
 use Rattle.std.specs.List.{list_all}
 use Rattle.std.proofs.lemmas.List.{append_cancel_left}
 use Rattle.std.proofs.lemmas.Bool.Decides.{nat_tests}
@@ -200,7 +201,8 @@ spells_once (Char b) (Char c) piece rest h k = ap Char (same_char b c piece rest
 spells_once (Atom x) (Atom y) piece rest h k = ap Atom (quoted_once 39 x y piece rest piece rest (λ e. omega arith) h k refl).1
 spells_once (Text x) (Text y) piece rest h k = ap Text (quoted_once 34 x y piece rest piece rest (λ e. omega arith) h k refl).1
 spells_once (Symbol w) (Symbol v) piece rest h k = ap Symbol (h.1 ∙ sym k.1)
-spells_once k l piece rest h g = absurd (let one : class_tag (first_class (piece ++ rest)) piece ≡ tag k = tagged k piece rest h in let two : class_tag (first_class (piece ++ rest)) piece ≡ tag l = tagged l piece rest g in let same : tag k ≡ tag l = sym one ∙ two in omega arith)
+spells_once k l piece rest h g = absurd (let one : class_tag (first_class (piece ++ rest)) piece ≡ tag k = tagged k piece rest h in let two : class_tag (first_class (piece ++ rest)) piece
+    ≡ tag l = tagged l piece rest g in let same : tag k ≡ tag l = sym one ∙ two in omega arith)
 
 -- ---- one longest spelling
 

@@ -1,5 +1,6 @@
 -- From a place on, by blanks, comments and tokens.
-use Rattle.std.proofs.Common.{zero, ◌≡◌, ◌≢◌, ℕ, suc, ◌+◌, ◌-◌, ◌<◌, ◌≤◌, List, [], ◌∷◌, ◌++◌, length, take, drop, get_or, refl, sym, ap, ◌∙◌, subst, ◌⊎◌, inl, inr, Bool, true, false, arith, ◌==◌, ℤ, append_assoc, length-append, length-drop}
+use Rattle.std.proofs.Common.{zero, ◌≡◌, ◌≢◌, ℕ, suc, ◌+◌, ◌-◌, ◌<◌, ◌≤◌, List, [], ◌∷◌, ◌++◌, length, take, drop, get_or, refl, sym, ap}
+use Rattle.std.proofs.Common.{◌∙◌, subst, ◌⊎◌, inl, inr, Bool, true, false, arith, ◌==◌, ℤ, append_assoc, length-append, length-drop}
 use Rattle.std.specs.List.{count_by}
 use Rattle.std.specs.List.{prefix_len}
 use Rattle.std.proofs.lemmas.List.{take-append-drop, append_cancel_left, append-nil, length-take-le}
@@ -30,14 +31,16 @@ pub passes_append : {mid end : Place} {rest left : List ℕ} {place : Place} {by
 passes_append {mid} {end} {rest} {left} {place} {bytes} {ts} {us} (here is js none) more = rw (is, js, none) more
 passes_append (blank b behind whole is before) more = blank b behind whole is (passes_append before more)
 passes_append (comment line behind whole is ends before) more = comment line behind whole is ends (passes_append before more)
-passes_append {mid} {end} {rest} {left} {place} {bytes} {ts} {us} (token kind piece behind others longest is adds before) more = token kind piece behind (others ++ us) longest is (ap (λ (l : List Token). l ++ us) adds) (passes_append before more)
+passes_append {mid} {end} {rest} {left} {place} {bytes} {ts} {us} (token kind piece behind others longest is adds before) more =
+    token kind piece behind (others ++ us) longest is (ap (λ (l : List Token). l ++ us) adds) (passes_append before more)
 
 -- the steps of the scanner
 pub blank_step : (place : Place) (bytes : List ℕ) (tokens : List Token) → 0 < length bytes → is_blank (get_or bytes 0 0) ≡ true → GoesOn place bytes tokens tokens 1
 blank_step place [] tokens some is = absurd (omega arith)
 blank_step place (b ∷ bs) tokens some is = record { some = omega arith; within = omega arith; more = []; adds = sym (append-nil tokens); few = omega arith; passes = blank b bs refl is (here refl refl refl) }
 
-pub comment_step : (place : Place) (bytes : List ℕ) (tokens : List Token) (len : ℕ) → 0 < length bytes → get_or bytes 0 0 ≡ 37 → len ≡ prefix_len is_no_line_feed (drop 1 bytes) → len ≤ length (drop 1 bytes) → GoesOn place bytes tokens tokens (1 + len)
+pub comment_step : (place : Place) (bytes : List ℕ) (tokens : List Token) (len : ℕ) → 0 < length bytes → get_or bytes 0 0 ≡ 37 → len ≡ prefix_len is_no_line_feed (drop 1 bytes) → len ≤ length (drop 1 bytes)
+    → GoesOn place bytes tokens tokens (1 + len)
 comment_step place [] tokens len some is run within = absurd (omega arith)
 comment_step place (b ∷ bs) tokens len some is run within =
     let next : 1 + len ≡ suc len = omega arith in
@@ -47,7 +50,14 @@ comment_step place (b ∷ bs) tokens len some is run within =
     rw next (record { some = omega arith; within = omega arith; more = []; adds = sym (append-nil tokens); few = omega arith; passes = rw is passes })
 
 pub token_step : (place : Place) (bytes : List ℕ) (old new : List Token) (kind : TokenKind) (len : ℕ) → Begins bytes kind len → new ≡ old ++ record { kind = kind; place = place } ∷ [] → GoesOn place bytes old new len
-token_step place bytes old new kind len begins adds = record { some = begins.some; within = begins.within; more = record { kind = kind; place = place } ∷ []; adds = adds; few = omega arith; passes = token kind (take len bytes) (drop len bytes) [] begins.longest begins.token refl (here refl refl refl) }
+token_step place bytes old new kind len begins adds = record {
+  some = begins.some;
+  within = begins.within;
+  more = record { kind = kind; place = place } ∷ [];
+  adds = adds;
+  few = omega arith;
+  passes = token kind (take len bytes) (drop len bytes) [] begins.longest begins.token refl (here refl refl refl);
+}
 
 -- the loop of the scanner: so far these tokens lead from the start to a place and the rest there
 pub record OnTheWay (text : List ℕ) (place : Place) (rest : List ℕ) (tokens : List Token) : Type 0 where
@@ -59,7 +69,8 @@ pub record OnTheWay (text : List ℕ) (place : Place) (rest : List ℕ) (tokens 
 pub setting_out : (text : List ℕ) (tokens : List Token) → tokens ≡ [] → OnTheWay text start text tokens
 setting_out text tokens none = record { passes = here refl refl none; bytes = omega arith; lines = omega arith; few = rw none (omega arith) }
 
-pub further : (text : List ℕ) (place next : Place) (rest after : List ℕ) (old new : List Token) (len : ℕ) → OnTheWay text place rest old → GoesOn place rest old new len → next ≡ past place (take len rest) → after ≡ drop len rest → OnTheWay text next after new
+pub further : (text : List ℕ) (place next : Place) (rest after : List ℕ) (old new : List Token) (len : ℕ) → OnTheWay text place rest old → GoesOn place rest old new len → next ≡ past place (take len rest)
+    → after ≡ drop len rest → OnTheWay text next after new
 further text place next rest after old new len so_far step at behind =
     let adds : new ≡ old ++ step.more = step.adds in
     let size : length (take len rest) ≡ len = length-take-le len rest step.within in
@@ -108,7 +119,8 @@ integer_no_quote q n bare bytes piece rest cs quote whole longest = go (longest_
 abbrev IsPassed : Class → Type 0
 IsPassed k = (k ≡ at_blank) ⊎ (k ≡ at_percent)
 
-fault_class : (place : Place) (bytes : List ℕ) (fault : ScanFault) → IsPassed (first_class bytes) → ((b : ℕ) (rest : List ℕ) → bytes ≡ b ∷ rest → is_blank b ≡ false → b ≢ 37 → ⊥) → FaultAt place bytes fault → ⊥
+fault_class : (place : Place) (bytes : List ℕ) (fault : ScanFault) → IsPassed (first_class bytes) → ((b : ℕ) (rest : List ℕ) → bytes ≡ b ∷ rest → is_blank b ≡ false → b ≢ 37 → ⊥) → FaultAt place bytes fault
+    → ⊥
 fault_class place bytes fault passed other (unknown_word w piece rest longest _ _) = go passed (longest_class bytes (Word w) piece rest longest)
   where
     go : IsPassed (first_class bytes) → first_class bytes ≡ at_lower → ⊥
@@ -139,7 +151,8 @@ fault_class place bytes fault passed other (no_token b rest whole no_blank no_co
 
 stops_blank : {A : Type 0} (place : Place) (bytes : List ℕ) (b : ℕ) (rest : List ℕ) → Stops place bytes → bytes ≡ b ∷ rest → is_blank b ≡ true → A
 stops_blank place bytes b rest (inl none) whole is = cc
-stops_blank place bytes b rest (inr (fault, at)) whole is = absurd (fault_class place bytes fault (inl (ap first_class whole ∙ class_blank b is)) (λ d ds other no_blank _. let same : d ≡ b = cc in false≢true (sym no_blank ∙ ap is_blank same ∙ is)) at)
+stops_blank place bytes b rest (inr (fault, at)) whole is = absurd (fault_class place bytes fault (inl (ap first_class whole ∙ class_blank b is))
+    (λ d ds other no_blank _. let same : d ≡ b = cc in false≢true (sym no_blank ∙ ap is_blank same ∙ is)) at)
 
 stops_comment : {A : Type 0} (place : Place) (bytes rest : List ℕ) → Stops place bytes → bytes ≡ 37 ∷ rest → A
 stops_comment place bytes rest (inl none) whole = cc
@@ -151,7 +164,8 @@ cut_off_stuck q left (inr (inl is)) = rw is (inr (refl, no_escape [] refl))
 cut_off_stuck q left (inr (inr is)) = rw is (inr (refl, no_escape (94 ∷ []) refl))
 
 -- what has no end is no token
-unclosed : (q : ℕ) (bytes inside text left : List ℕ) (kind : TokenKind) (piece rest : List ℕ) → IsQuote q → bytes ≡ q ∷ (inside ++ left) → Inside q inside text left → IsStuck q left → Longest bytes kind piece rest → left ≡ q ∷ rest
+unclosed : (q : ℕ) (bytes inside text left : List ℕ) (kind : TokenKind) (piece rest : List ℕ) → IsQuote q → bytes ≡ q ∷ (inside ++ left) → Inside q inside text left → IsStuck q left → Longest bytes kind piece rest
+    → left ≡ q ∷ rest
 unclosed q bytes inside text left kind piece rest quote whole spelled stuck longest = go (quoted_only q (inside ++ left) kind piece rest quote (sym longest.splits ∙ whole) longest.spells)
   where
     go : (x : List ℕ) × Quoted q x piece rest → left ≡ q ∷ rest
@@ -169,8 +183,10 @@ no_cut_off q left rest apart (inr (inr is)) e = let same : q ≡ 92 = cc in apar
 fault_token : (place : Place) (bytes : List ℕ) (fault : ScanFault) (kind : TokenKind) (piece rest : List ℕ) → FaultAt place bytes fault → Longest bytes kind piece rest → IsToken kind → ⊥
 fault_token place bytes fault kind piece rest (unknown_word w p r longest unknown _) other is = unknown (subst IsToken (longest_once bytes kind (Word w) piece rest p r other longest).0 is)
 fault_token place bytes fault kind piece rest (wide n bare p r longest far _) other is = let narrow : IsToken (Integer n bare) = subst IsToken (longest_once bytes kind (Integer n bare) piece rest p r other longest).0 is in omega arith
-fault_token place bytes fault kind piece rest (open_quote q inside text left quote whole spelled cut _) other is = no_cut_off q left rest (quote_apart q quote) cut (unclosed q bytes inside text left kind piece rest quote whole spelled (cut_off_stuck q left cut) other)
-fault_token place bytes fault kind piece rest (bad_escape q inside text more quote whole spelled none _ _) other is = let e : 92 ∷ more ≡ q ∷ rest = unclosed q bytes inside text (92 ∷ more) kind piece rest quote whole spelled (inr (refl, none)) other in let same : q ≡ 92 = cc in quote_apart q quote same
+fault_token place bytes fault kind piece rest (open_quote q inside text left quote whole spelled cut _) other is =
+    no_cut_off q left rest (quote_apart q quote) cut (unclosed q bytes inside text left kind piece rest quote whole spelled (cut_off_stuck q left cut) other)
+fault_token place bytes fault kind piece rest (bad_escape q inside text more quote whole spelled none _ _) other is = let e : 92 ∷ more ≡ q ∷ rest =
+    unclosed q bytes inside text (92 ∷ more) kind piece rest quote whole spelled (inr (refl, none)) other in let same : q ≡ 92 = cc in quote_apart q quote same
 fault_token place bytes fault kind piece rest (no_token b r whole _ _ _ _ none _) other is = none kind piece rest other.splits other.spells
 
 token_some : (bytes : List ℕ) (kind : TokenKind) (piece rest : List ℕ) → Longest bytes kind piece rest → bytes ≢ []
@@ -231,14 +247,17 @@ token_no_comment : {A : Type 0} (bytes behind : List ℕ) (kind : TokenKind) (pi
 token_no_comment bytes behind kind piece rest whole longest = passed_class kind (first_class bytes) (inr (ap first_class whole ∙ class_percent)) (longest_class bytes kind piece rest longest)
 
 -- two ways over the same bytes that stop are the same way
-pub passes_once : {end other : Place} {left rest : List ℕ} {place : Place} {bytes : List ℕ} {ts us : List Token} → Passes end left place bytes ts → Passes other rest place bytes us → Stops end left → Stops other rest → Once ts us end other left rest
+pub passes_once : {end other : Place} {left rest : List ℕ} {place : Place} {bytes : List ℕ} {ts us : List Token} → Passes end left place bytes ts → Passes other rest place bytes us → Stops end left → Stops other rest
+    → Once ts us end other left rest
 passes_once (here is js none) (here ks ls nothing) stop halt = (none ∙ sym nothing, sym is ∙ ks, sym js ∙ ls)
 passes_once {end} {other} {left} {rest} {place} {bytes} (here is js none) (blank b behind whole blank_is more) stop halt = stops_blank end left b behind stop (sym js ∙ whole) blank_is
 passes_once {end} {other} {left} {rest} {place} {bytes} (here is js none) (comment line behind whole all ends more) stop halt = stops_comment end left (line ++ behind) stop (sym js ∙ whole)
-passes_once {end} {other} {left} {rest} {place} {bytes} (here is js none) (token kind piece behind others longest is_token adds more) stop halt = stops_token end left kind piece behind stop (subst (λ (l : List ℕ). Longest l kind piece behind) js longest) is_token
+passes_once {end} {other} {left} {rest} {place} {bytes} (here is js none) (token kind piece behind others longest is_token adds more) stop halt =
+    stops_token end left kind piece behind stop (subst (λ (l : List ℕ). Longest l kind piece behind) js longest) is_token
 passes_once {end} {other} {left} {rest} {place} {bytes} (blank b behind whole blank_is more) (here is js none) stop halt = stops_blank other rest b behind halt (sym js ∙ whole) blank_is
 passes_once {end} {other} {left} {rest} {place} {bytes} (comment line behind whole all ends more) (here is js none) stop halt = stops_comment other rest (line ++ behind) halt (sym js ∙ whole)
-passes_once {end} {other} {left} {rest} {place} {bytes} (token kind piece behind others longest is_token adds more) (here is js none) stop halt = stops_token other rest kind piece behind halt (subst (λ (l : List ℕ). Longest l kind piece behind) js longest) is_token
+passes_once {end} {other} {left} {rest} {place} {bytes} (token kind piece behind others longest is_token adds more) (here is js none) stop halt =
+    stops_token other rest kind piece behind halt (subst (λ (l : List ℕ). Longest l kind piece behind) js longest) is_token
 passes_once {end} {other} {left} {rest} {place} {bytes} {ts} {us} (blank b behind whole is more) (blank d further same js less) stop halt =
     let both : b ∷ behind ≡ d ∷ further = sym whole ∙ same in
     let first : d ≡ b = cc in let tail : further ≡ behind = cc in
@@ -253,12 +272,15 @@ passes_once {end} {other} {left} {rest} {place} {bytes} {ts} {us} (comment line 
     let tails : line ++ behind ≡ row ++ further = cc in
     let parts : (line ≡ row) × (behind ≡ further) = same_line line row behind further all every ends stops tails in
     passes_once more (subst (λ (l : List ℕ). Passes other rest (past place (37 ∷ l)) behind us) (sym parts.0) (subst (λ (l : List ℕ). Passes other rest (past place (37 ∷ row)) l us) (sym parts.1) less)) stop halt
-passes_once {end} {other} {left} {rest} {place} {bytes} {ts} {us} (comment line behind whole all ends more) (token kind piece further others longest token_is adds less) stop halt = token_no_comment bytes (line ++ behind) kind piece further whole longest
+passes_once {end} {other} {left} {rest} {place} {bytes} {ts} {us} (comment line behind whole all ends more) (token kind piece further others longest token_is adds less) stop halt =
+    token_no_comment bytes (line ++ behind) kind piece further whole longest
 passes_once {end} {other} {left} {rest} {place} {bytes} {ts} {us} (token kind piece further others longest token_is adds more) (blank b behind whole is less) stop halt = token_no_blank bytes b behind kind piece further whole is longest
-passes_once {end} {other} {left} {rest} {place} {bytes} {ts} {us} (token kind piece further others longest token_is adds more) (comment line behind whole all ends less) stop halt = token_no_comment bytes (line ++ behind) kind piece further whole longest
+passes_once {end} {other} {left} {rest} {place} {bytes} {ts} {us} (token kind piece further others longest token_is adds more) (comment line behind whole all ends less) stop halt =
+    token_no_comment bytes (line ++ behind) kind piece further whole longest
 passes_once {end} {other} {left} {rest} {place} {bytes} {ts} {us} (token kind piece behind others longest is adds more) (token sort part further rests far js gives less) stop halt =
     let parts : (kind ≡ sort) × (piece ≡ part) × (behind ≡ further) = longest_once bytes kind sort piece behind part further longest far in
-    let once : Once others rests end other left rest = passes_once more (subst (λ (l : List ℕ). Passes other rest (past place l) behind rests) (sym parts.1) (subst (λ (l : List ℕ). Passes other rest (past place part) l rests) (sym parts.2) less)) stop halt in
+    let once : Once others rests end other left rest = passes_once more (subst (λ (l : List ℕ). Passes other rest (past place l) behind rests) (sym parts.1)
+    (subst (λ (l : List ℕ). Passes other rest (past place part) l rests) (sym parts.2) less)) stop halt in
     (adds ∙ ap (λ (k : TokenKind). record { kind = k; place = place } ∷ others) parts.0 ∙ ap (λ (l : List Token). record { kind = sort; place = place } ∷ l) once.0 ∙ sym gives, once.1, once.2)
 
 -- ---- one fault
@@ -274,14 +296,16 @@ word_no_integer : {A : Type 0} (w bytes p r s t : List ℕ) (n : ℤ) (bare : Bo
 word_no_integer w bytes p r s t n bare one two = let e : Word w ≡ Integer n bare = (longest_once bytes (Word w) (Integer n bare) p r s t one two).0 in cc
 
 -- quotes that the text ends in have no bad escape
-open_no_bad : (q c : ℕ) (bytes inside text left other letters more : List ℕ) → IsQuote q → bytes ≡ q ∷ inside ++ left → Inside q inside text left → IsCutOff left → bytes ≡ c ∷ other ++ 92 ∷ more → Inside c other letters (92 ∷ more) → NoEscape more → (IsCutOff (92 ∷ more) → ⊥) → ⊥
+open_no_bad : (q c : ℕ) (bytes inside text left other letters more : List ℕ) → IsQuote q → bytes ≡ q ∷ inside ++ left → Inside q inside text left → IsCutOff left → bytes ≡ c ∷ other ++ 92 ∷ more
+    → Inside c other letters (92 ∷ more) → NoEscape more → (IsCutOff (92 ∷ more) → ⊥) → ⊥
 open_no_bad q c bytes inside text left other letters more quote whole spelled cut same spells none uncut =
     let both : q ∷ (inside ++ left) ≡ c ∷ (other ++ (92 ∷ more)) = sym whole ∙ same in
     let first : c ≡ q = cc in let behind : inside ++ left ≡ other ++ (92 ∷ more) = cc in
     let moved : Inside q other letters (92 ∷ more) = subst (λ (x : ℕ). Inside x other letters (92 ∷ more)) first spells in
     uncut (subst IsCutOff (inside_once (quote_apart q quote) spelled moved (cut_off_stuck q left cut) (inr (refl, none)) behind).2 cut)
 
-bad_once : (place : Place) (q c : ℕ) (bytes inside text more other letters left : List ℕ) → IsQuote q → bytes ≡ q ∷ inside ++ 92 ∷ more → Inside q inside text (92 ∷ more) → NoEscape more → bytes ≡ c ∷ other ++ 92 ∷ left → Inside c other letters (92 ∷ left) → NoEscape left → BadEscape (past place (q ∷ inside)) ≡ BadEscape (past place (c ∷ other))
+bad_once : (place : Place) (q c : ℕ) (bytes inside text more other letters left : List ℕ) → IsQuote q → bytes ≡ q ∷ inside ++ 92 ∷ more → Inside q inside text (92 ∷ more) → NoEscape more
+    → bytes ≡ c ∷ other ++ 92 ∷ left → Inside c other letters (92 ∷ left) → NoEscape left → BadEscape (past place (q ∷ inside)) ≡ BadEscape (past place (c ∷ other))
 bad_once place q c bytes inside text more other letters left quote whole spelled none same spells never =
     let both : q ∷ (inside ++ (92 ∷ more)) ≡ c ∷ (other ++ (92 ∷ left)) = sym whole ∙ same in
     let first : c ≡ q = cc in let behind : inside ++ (92 ∷ more) ≡ other ++ (92 ∷ left) = cc in
@@ -307,12 +331,15 @@ fault_once place bytes f g (wide n bare p r one _ is) (no_token b rest whole _ _
 fault_once place bytes f g (open_quote q inside text left quote whole _ _ js) (unknown_word w p r one _ is) = word_no_quote q w bytes p r (inside ++ left) quote whole one
 fault_once place bytes f g (open_quote q inside text left quote whole _ _ js) (wide n bare p r one _ is) = integer_no_quote q n bare bytes p r (inside ++ left) quote whole one
 fault_once place bytes f g (open_quote q inside text left quote whole _ _ is) (open_quote c other letters rest mark same _ _ js) = is ∙ sym js
-fault_once place bytes f g (open_quote q inside text left quote whole spelled cut is) (bad_escape c other letters more mark same spells none uncut js) = absurd (open_no_bad q c bytes inside text left other letters more quote whole spelled cut same spells none uncut)
+fault_once place bytes f g (open_quote q inside text left quote whole spelled cut is) (bad_escape c other letters more mark same spells none uncut js) =
+    absurd (open_no_bad q c bytes inside text left other letters more quote whole spelled cut same spells none uncut)
 fault_once place bytes f g (open_quote q inside text left quote whole _ _ is) (no_token b rest same _ _ no_atom no_text _ js) = quote_no_other q b bytes (inside ++ left) rest quote whole same no_atom no_text
 fault_once place bytes f g (bad_escape q inside text more quote whole _ _ _ js) (unknown_word w p r one _ is) = word_no_quote q w bytes p r (inside ++ 92 ∷ more) quote whole one
 fault_once place bytes f g (bad_escape q inside text more quote whole _ _ _ js) (wide n bare p r one _ is) = integer_no_quote q n bare bytes p r (inside ++ 92 ∷ more) quote whole one
-fault_once place bytes f g (bad_escape c other letters more mark same spells none uncut js) (open_quote q inside text left quote whole spelled cut is) = absurd (open_no_bad q c bytes inside text left other letters more quote whole spelled cut same spells none uncut)
-fault_once place bytes f g (bad_escape q inside text more quote whole spelled none uncut is) (bad_escape c other letters left mark same spells never cut js) = is ∙ bad_once place q c bytes inside text more other letters left quote whole spelled none same spells never ∙ sym js
+fault_once place bytes f g (bad_escape c other letters more mark same spells none uncut js) (open_quote q inside text left quote whole spelled cut is) =
+    absurd (open_no_bad q c bytes inside text left other letters more quote whole spelled cut same spells none uncut)
+fault_once place bytes f g (bad_escape q inside text more quote whole spelled none uncut is) (bad_escape c other letters left mark same spells never cut js) =
+    is ∙ bad_once place q c bytes inside text more other letters left quote whole spelled none same spells never ∙ sym js
 fault_once place bytes f g (bad_escape q inside text more quote whole _ _ _ is) (no_token b rest same _ _ no_atom no_text _ js) = quote_no_other q b bytes (inside ++ 92 ∷ more) rest quote whole same no_atom no_text
 fault_once place bytes f g (no_token b rest whole _ _ _ _ none js) (unknown_word w p r one _ is) = js ∙ sym is
 fault_once place bytes f g (no_token b rest whole _ _ _ _ none js) (wide n bare p r one _ is) = absurd (none (Integer n bare) p r one.splits one.spells)
@@ -350,7 +377,8 @@ module _ (P : TokenKind → Type 0) (each : (kind : TokenKind) (piece rest : Lis
   each_token {end} {left} {place} {bytes} {ts} (here is js none) k d within = absurd (let size : length ts ≡ 0 = ap length none in omega arith)
   each_token (blank b rest whole is more) k d within = each_token more k d within
   each_token (comment line rest whole all ends more) k d within = each_token more k d within
-  each_token {end} {left} {place} {bytes} {ts} (token kind piece rest others longest is adds more) k d within = subst (λ (l : List Token). P (get_or l k d).kind) (sym adds) (at k (let size : length ts ≡ suc (length others) = ap length adds in omega arith) (λ i. each_token more i d))
+  each_token {end} {left} {place} {bytes} {ts} (token kind piece rest others longest is adds more) k d within =
+      subst (λ (l : List Token). P (get_or l k d).kind) (sym adds) (at k (let size : length ts ≡ suc (length others) = ap length adds in omega arith) (λ i. each_token more i d))
     where
       at : (i : ℕ) → i < suc (length others) → ((j : ℕ) → j < length others → P (get_or others j d).kind) → P (get_or (record { kind = kind; place = place } ∷ others) i d).kind
       at zero below rest_are = each kind piece rest longest.spells is

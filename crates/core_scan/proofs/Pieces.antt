@@ -1,5 +1,6 @@
 -- Pieces of which none runs into the next have their tokens.
-use Rattle.std.proofs.Common.{◌≡◌, ◌≢◌, ℕ, ◌+◌, ◌<◌, ◌≤◌, List, [], ◌∷◌, ◌++◌, length, drop, refl, sym, ap, ◌∙◌, ◌⊎◌, inl, inr, Bool, true, false, arith, ◌||◌, ◌&&◌, ◌==◌, not, nat_lt, pos}
+use Rattle.std.proofs.Common.{◌≡◌, ◌≢◌, ℕ, ◌+◌, ◌<◌, ◌≤◌, List, [], ◌∷◌, ◌++◌, length, drop, refl, sym, ap}
+use Rattle.std.proofs.Common.{◌∙◌, ◌⊎◌, inl, inr, Bool, true, false, arith, ◌||◌, ◌&&◌, ◌==◌, not, nat_lt, pos}
 use Rattle.std.specs.List.{list_all, prefix_len}
 use Rattle.std.proofs.lemmas.List.{drop_at}
 use Rattle.std.proofs.lemmas.Bool.{and_parts}
@@ -45,7 +46,8 @@ no_fraction : (rest : List ℕ) → ends_digits rest ≡ true → fraction_len r
 no_fraction [] h = refl
 no_fraction (b ∷ bs) h = let no_point : (b == 46) ≡ false = not_true (b == 46) (and_parts (not (is_digit b)) (not (b == 46)) h).1 in rw no_point refl
 
-name_run : (first : ℕ → Bool) (w rest : List ℕ) → ((b : ℕ) → first b ≡ true → is_name_byte b ≡ true) → is_run first is_name_byte w ≡ true → ends_name rest ≡ true → IsName first w × (prefix_len is_name_byte (w ++ rest) ≡ length w)
+name_run : (first : ℕ → Bool) (w rest : List ℕ) → ((b : ℕ) → first b ≡ true → is_name_byte b ≡ true) → is_run first is_name_byte w ≡ true → ends_name rest ≡ true
+    → IsName first w × (prefix_len is_name_byte (w ++ rest) ≡ length w)
 name_run first [] rest names h ends = cc
 name_run first (b ∷ bs) rest names h ends =
     let r = and_parts (first b) (list_all is_name_byte bs) h in

@@ -1,5 +1,6 @@
 -- How long a spelling can be at most, by the first byte.
-use Rattle.std.proofs.Common.{◌≡◌, ◌≢◌, ℕ, suc, ◌+◌, ◌<◌, ◌≤◌, List, [], ◌∷◌, ◌++◌, length, drop, get_or, max, refl, ap, ◌∙◌, ◌⊎◌, inl, inr, Bool, true, false, cond, arith, IsTrue, ◌||◌, ◌&&◌, ◌==◌, nat_lt, Option, Some, None, append_assoc, length-append}
+use Rattle.std.proofs.Common.{◌≡◌, ◌≢◌, ℕ, suc, ◌+◌, ◌<◌, ◌≤◌, List, [], ◌∷◌, ◌++◌, length, drop, get_or, max, refl, ap, ◌∙◌, ◌⊎◌, inl, inr}
+use Rattle.std.proofs.Common.{Bool, true, false, cond, arith, IsTrue, ◌||◌, ◌&&◌, ◌==◌, nat_lt, Option, Some, None, append_assoc, length-append}
 use Rattle.std.specs.List.{prefix_len, list_all}
 use Rattle.std.proofs.lemmas.Bool.Decides.{nat_tests}
 use Rattle.std.proofs.lemmas.List.{drop-drop, drop_at}
@@ -93,12 +94,15 @@ unsigned_some : (bytes : List ℕ) → 0 < prefix_len is_digit bytes → unsigne
 unfolding unsigned_len
 unsigned_some bytes some = let no_zero : (prefix_len is_digit bytes == 0) ≡ false = grind (arith, nat_tests) in rw no_zero refl
 
-pub number_some : (bytes : List ℕ) → 0 < prefix_len is_digit (drop (sign_len bytes) bytes) → number_len bytes ≡ sign_len bytes + prefix_len is_digit (drop (sign_len bytes) bytes) + fraction_len (drop (sign_len bytes + prefix_len is_digit (drop (sign_len bytes) bytes)) bytes)
+pub number_some : (bytes : List ℕ) → 0 < prefix_len is_digit (drop (sign_len bytes) bytes)
+    → number_len bytes ≡ sign_len bytes + prefix_len is_digit (drop (sign_len bytes) bytes) + fraction_len (drop (sign_len bytes + prefix_len is_digit (drop (sign_len bytes) bytes)) bytes)
 unfolding number_len
 number_some bytes some =
-    let whole : unsigned_len (drop (sign_len bytes) bytes) ≡ prefix_len is_digit (drop (sign_len bytes) bytes) + fraction_len (drop (prefix_len is_digit (drop (sign_len bytes) bytes)) (drop (sign_len bytes) bytes)) = unsigned_some (drop (sign_len bytes) bytes) some in
+    let whole : unsigned_len (drop (sign_len bytes) bytes) ≡ prefix_len is_digit (drop (sign_len bytes) bytes) + fraction_len (drop (prefix_len is_digit (drop (sign_len bytes) bytes)) (drop (sign_len bytes) bytes)) =
+    unsigned_some (drop (sign_len bytes) bytes) some in
     let no_zero : (unsigned_len (drop (sign_len bytes) bytes) == 0) ≡ false = grind (arith, nat_tests) in
-    let behind : drop (prefix_len is_digit (drop (sign_len bytes) bytes)) (drop (sign_len bytes) bytes) ≡ drop (sign_len bytes + prefix_len is_digit (drop (sign_len bytes) bytes)) bytes = drop-drop (prefix_len is_digit (drop (sign_len bytes) bytes)) (sign_len bytes) bytes in
+    let behind : drop (prefix_len is_digit (drop (sign_len bytes) bytes)) (drop (sign_len bytes) bytes) ≡ drop (sign_len bytes + prefix_len is_digit (drop (sign_len bytes) bytes)) bytes =
+    drop-drop (prefix_len is_digit (drop (sign_len bytes) bytes)) (sign_len bytes) bytes in
     rw (no_zero, whole, behind) (omega arith)
 
 pub number_none : (bytes : List ℕ) → prefix_len is_digit (drop (sign_len bytes) bytes) ≡ 0 → number_len bytes ≡ 0
@@ -114,7 +118,8 @@ digits_some [] h = absurd h
 digits_some (d ∷ ds) h = omega arith
 
 -- how long a number is whose sign is known
-number_at_sign : (s : Sign) (digits rest : List ℕ) → IsDigits digits → (sign_len (sign_text s ++ (digits ++ rest)) ≡ length (sign_text s)) × (drop (sign_len (sign_text s ++ (digits ++ rest))) (sign_text s ++ (digits ++ rest)) ≡ digits ++ rest)
+number_at_sign : (s : Sign) (digits rest : List ℕ) → IsDigits digits → (sign_len (sign_text s ++ (digits ++ rest)) ≡ length (sign_text s))
+    × (drop (sign_len (sign_text s ++ (digits ++ rest))) (sign_text s ++ (digits ++ rest)) ≡ digits ++ rest)
 number_at_sign s [] rest h = absurd h
 number_at_sign unsigned (d ∷ ds) rest h = let no_sign : (d == 43 || d == 45) ≡ false = (let is : is_digit d ≡ true = h.0 in grind (arith, nat_tests)) in (rw no_sign refl, rw no_sign refl)
 number_at_sign plus (d ∷ ds) rest h = (refl, refl)
@@ -180,7 +185,8 @@ float_unsigned : (whole part exponent rest : List ℕ) → IsDigits whole → Is
 float_unsigned whole part exponent rest h k l =
     let run : prefix_len is_digit (whole ++ (46 ∷ (part ++ (exponent ++ rest)))) ≡ length whole = prefix_len-run is_digit whole (46 ∷ (part ++ (exponent ++ rest))) (digits_all whole h) refl in
     let some : 0 < length whole = digits_some whole h in
-    let size : unsigned_len (whole ++ (46 ∷ (part ++ (exponent ++ rest)))) ≡ prefix_len is_digit (whole ++ (46 ∷ (part ++ (exponent ++ rest)))) + fraction_len (drop (prefix_len is_digit (whole ++ (46 ∷ (part ++ (exponent ++ rest))))) (whole ++ (46 ∷ (part ++ (exponent ++ rest))))) = unsigned_some (whole ++ (46 ∷ (part ++ (exponent ++ rest)))) (omega arith) in
+    let size : unsigned_len (whole ++ (46 ∷ (part ++ (exponent ++ rest)))) ≡ prefix_len is_digit (whole ++ (46 ∷ (part ++ (exponent ++ rest))))
+    + fraction_len (drop (prefix_len is_digit (whole ++ (46 ∷ (part ++ (exponent ++ rest))))) (whole ++ (46 ∷ (part ++ (exponent ++ rest))))) = unsigned_some (whole ++ (46 ∷ (part ++ (exponent ++ rest)))) (omega arith) in
     let behind : drop (length whole) (whole ++ (46 ∷ (part ++ (exponent ++ rest)))) ≡ 46 ∷ (part ++ (exponent ++ rest)) = drop_at whole (46 ∷ (part ++ (exponent ++ rest))) (length whole) refl in
     let more : 1 + length part + length exponent ≤ fraction_len (46 ∷ (part ++ (exponent ++ rest))) = fraction_bound part exponent rest k l in
     rw (size, run, behind) (omega arith)
@@ -295,7 +301,8 @@ first_class bytes = class (get_or bytes 0 0)
 abbrev pub Bounded : TokenKind → List ℕ → List ℕ → Type 0
 Bounded kind piece rest = Starts kind (first_class (piece ++ rest)) × (0 < length piece) × (length piece ≤ reach (first_class (piece ++ rest)) (piece ++ rest))
 
-name_bound : (first : ℕ → Bool) (piece rest : List ℕ) → ((b : ℕ) → first b ≡ true → is_name_byte b ≡ true) → IsName first piece → (IsTrue (first (get_or (piece ++ rest) 0 0))) × (0 < length piece) × (length piece ≤ prefix_len is_name_byte (piece ++ rest))
+name_bound : (first : ℕ → Bool) (piece rest : List ℕ) → ((b : ℕ) → first b ≡ true → is_name_byte b ≡ true) → IsName first piece
+    → (IsTrue (first (get_or (piece ++ rest) 0 0))) × (0 < length piece) × (length piece ≤ prefix_len is_name_byte (piece ++ rest))
 name_bound first [] rest names h = absurd h
 name_bound first (b ∷ bs) rest names h =
     let run : prefix_len is_name_byte ((b ∷ bs) ++ rest) ≡ length (b ∷ bs) + prefix_len is_name_byte rest = prefix_len-append is_name_byte (b ∷ bs) rest (names b h.0, h.1) in (h.0, omega arith, omega arith)
@@ -348,7 +355,8 @@ bounded (Float x) piece rest (h, _) =
     (starts, some, number_reach (first_class (piece ++ rest)) (piece ++ rest) (length piece) starts (float_bound piece rest h))
   where
     float_class : IsFloat piece → (first_class (piece ++ rest) ≡ at_digit) ⊎ (first_class (piece ++ rest) ≡ at_sign)
-    float_class (s, whole, part, exponent, h, k, l, is) = let grouped : (sign_text s ++ whole ++ 46 ∷ part ++ exponent) ++ rest ≡ sign_text s ++ whole ++ (46 ∷ (part ++ (exponent ++ rest))) = simp append_assoc in rw (is, grouped) (sign_class s whole (46 ∷ (part ++ (exponent ++ rest))) h)
+    float_class (s, whole, part, exponent, h, k, l, is) = let grouped : (sign_text s ++ whole ++ 46 ∷ part ++ exponent) ++ rest ≡ sign_text s ++ whole ++ (46 ∷ (part ++ (exponent ++ rest))) =
+        simp append_assoc in rw (is, grouped) (sign_class s whole (46 ∷ (part ++ (exponent ++ rest))) h)
 
     float_some : IsFloat piece → 0 < length piece
     float_some (s, whole, part, exponent, h, k, l, is) = let size : length piece ≡ length (sign_text s) + (length whole + (1 + length part + length exponent)) = ap length is ∙ float_size (sign_text s) whole part exponent in omega arith
@@ -369,5 +377,6 @@ bounded (Text x) piece rest (inside, is, _) =
     (e, rw is (omega arith), class_reach at_double (first_class (piece ++ rest)) (piece ++ rest) (length piece) e (omega arith))
 bounded (Symbol s) piece rest (h, _) =
     let bound : (length piece ≤ symbol_len (piece ++ rest)) × (0 < length piece) × (is_symbol_class (first_class (piece ++ rest)) ≡ true) = symbol_bound piece rest (one_of_all symbol_test symbols piece symbols_pass h) in
-    let both : ((first_class (piece ++ rest) ≡ at_mark) ⊎ (first_class (piece ++ rest) ≡ at_sign)) × (length piece ≤ reach (first_class (piece ++ rest)) (piece ++ rest)) = symbol_reach (first_class (piece ++ rest)) (piece ++ rest) (length piece) bound.2 bound.0 in
+    let both : ((first_class (piece ++ rest) ≡ at_mark) ⊎ (first_class (piece ++ rest) ≡ at_sign)) × (length piece ≤ reach (first_class (piece ++ rest)) (piece ++ rest)) =
+    symbol_reach (first_class (piece ++ rest)) (piece ++ rest) (length piece) bound.2 bound.0 in
     (both.0, bound.1, both.1)

@@ -1,5 +1,6 @@
 -- What the scanner finds at the front of the bytes, kind by kind.
-use Rattle.std.proofs.Common.{◌≡◌, ◌≢◌, ℕ, zero, suc, ◌+◌, ◌-◌, ◌<◌, ◌≤◌, ◌^◌, List, [], ◌∷◌, ◌++◌, length, take, drop, get_or, refl, sym, ap, ◌∙◌, subst, ◌⊎◌, inl, inr, Bool, true, false, cond, arith, ◌||◌, ◌==◌, nat_lt, ℤ, pos, neg_ℤ, unsigned_abs, Some, None, append_assoc, length-drop}
+use Rattle.std.proofs.Common.{◌≡◌, ◌≢◌, ℕ, zero, suc, ◌+◌, ◌-◌, ◌<◌, ◌≤◌, ◌^◌, List, [], ◌∷◌, ◌++◌, length, take, drop, get_or, refl, sym, ap, ◌∙◌, subst, ◌⊎◌}
+use Rattle.std.proofs.Common.{inl, inr, Bool, true, false, cond, arith, ◌||◌, ◌==◌, nat_lt, ℤ, pos, neg_ℤ, unsigned_abs, Some, None, append_assoc, length-drop}
 use Rattle.std.specs.List.{prefix_len}
 use Rattle.std.proofs.lemmas.List.{take-append-drop, length-take-le, drop-drop}
 use Rattle.std.proofs.lemmas.List.Sums.{prefix_len-le-length}
@@ -21,7 +22,8 @@ use Rattle.core_scan.specs.steps.Found.{Begins, IsOther}
 use Rattle.core_scan.proofs.RunLemmas.{take-run, take-add, or_cases, eq_from_test}
 use Rattle.core_scan.proofs.Tables.{one_of_known}
 use Rattle.core_scan.proofs.EscapeLemmas.{escape_found, IsEscapeAt}
-use Rattle.core_scan.proofs.Reach.{at_lower, at_upper, at_digit, at_sign, at_quote, at_double, at_mark, class, class_lower, class_upper, class_digit, class_plus, class_minus, class_dollar, class_quote, class_double, Starts, first_class, bounded, reach, number_len, number_some, number_none, symbol_len-two, char_len, behind_dollar, escape_size, lower_names, start_names}
+use Rattle.core_scan.proofs.Reach.{at_lower, at_upper, at_digit, at_sign, at_quote, at_double, at_mark, class, class_lower, class_upper, class_digit, class_plus, class_minus, class_dollar, class_quote}
+use Rattle.core_scan.proofs.Reach.{class_double, Starts, first_class, bounded, reach, number_len, number_some, number_none, symbol_len-two, char_len, behind_dollar, escape_size, lower_names, start_names}
 use Rattle.core_scan.proofs.OnceLemmas.{longest_by, none_by, quoted_once}
 
 begins_by : (bytes : List ℕ) (kind : TokenKind) (len : ℕ) → 0 < len → len ≤ length bytes → Spells kind (take len bytes) (drop len bytes) → reach (first_class bytes) bytes ≤ len → IsToken kind → Begins bytes kind len
@@ -31,7 +33,8 @@ begins_by bytes kind len some within spells far token =
 
 -- ---- words and variables
 
-name_spelled : (first : ℕ → Bool) (bytes : List ℕ) → first 0 ≡ false → ((b : ℕ) → first b ≡ true → is_name_byte b ≡ true) → first (get_or bytes 0 0) ≡ true → IsName first (take (prefix_len is_name_byte bytes) bytes) × (0 < prefix_len is_name_byte bytes)
+name_spelled : (first : ℕ → Bool) (bytes : List ℕ) → first 0 ≡ false → ((b : ℕ) → first b ≡ true → is_name_byte b ≡ true) → first (get_or bytes 0 0) ≡ true
+    → IsName first (take (prefix_len is_name_byte bytes) bytes) × (0 < prefix_len is_name_byte bytes)
 name_spelled first [] zero_no names h = cc
 name_spelled first (b ∷ bs) zero_no names h =
     let is : is_name_byte b ≡ true = names b h in
@@ -116,7 +119,8 @@ exponent_found (e ∷ es) = go (e == 101 || e == 69) refl (prefix_len is_digit (
     go : (p : Bool) → (e == 101 || e == 69) ≡ p → (q : Bool) → (prefix_len is_digit (drop (sign_len es) es) == 0) ≡ q → IsExponent (take (exponent_len (e ∷ es)) (e ∷ es))
     go false is q js = rw is tt
     go true is true js = rw (is, js) tt
-    go true is false js = rw (is, js) (exponent_front e es (prefix_len is_digit (drop (sign_len es) es)) refl (λ z. let k : (prefix_len is_digit (drop (sign_len es) es) == 0) ≡ true = rw z refl in false≢true (sym js ∙ k)) (or_cases ((e ≡ 101) ⊎ (e ≡ 69)) (e == 101) (e == 69) (λ z. inl (eq_from_test e 101 z)) (λ z. inr (eq_from_test e 69 z)) is))
+    go true is false js = rw (is, js) (exponent_front e es (prefix_len is_digit (drop (sign_len es) es)) refl (λ z. let k : (prefix_len is_digit (drop (sign_len es) es) == 0) ≡ true = rw z refl in false≢true (sym js ∙ k))
+        (or_cases ((e ≡ 101) ⊎ (e ≡ 69)) (e == 101) (e == 69) (λ z. inl (eq_from_test e 101 z)) (λ z. inr (eq_from_test e 69 z)) is))
 
 -- a point, digits and an exponent
 record FractionAt (bytes : List ℕ) : Type 0 where
@@ -142,7 +146,8 @@ fraction_at (b ∷ bs) some = go (b == 46) refl (prefix_len is_digit bs == 0) re
           exponent = take (exponent_len (drop (prefix_len is_digit bs) bs)) (drop (prefix_len is_digit bs) bs);
           digits = run_digits bs positive;
           ends = exponent_found (drop (prefix_len is_digit bs) bs);
-          text = ap (λ n. take n (b ∷ bs)) size ∙ ap (λ (l : List ℕ). b ∷ l) (take-add (prefix_len is_digit bs) (exponent_len (drop (prefix_len is_digit bs) bs)) bs) ∙ ap (λ n. n ∷ (take (prefix_len is_digit bs) bs ++ take (exponent_len (drop (prefix_len is_digit bs) bs)) (drop (prefix_len is_digit bs) bs))) (eq_from_test b 46 is);
+          text = ap (λ n. take n (b ∷ bs)) size ∙ ap (λ (l : List ℕ). b ∷ l) (take-add (prefix_len is_digit bs) (exponent_len (drop (prefix_len is_digit bs) bs)) bs)
+              ∙ ap (λ n. n ∷ (take (prefix_len is_digit bs) bs ++ take (exponent_len (drop (prefix_len is_digit bs) bs)) (drop (prefix_len is_digit bs) bs))) (eq_from_test b 46 is);
         }
 
 abs_signed : (s : Sign) (m : ℕ) → unsigned_abs (signed s m) ≡ m
@@ -185,14 +190,16 @@ module _ (bytes : List ℕ) (sign whole : ℕ) (signs : sign ≡ sign_len bytes)
   whole_digits : IsDigits (take whole (drop sign bytes))
   whole_digits = let h : IsDigits (take (prefix_len is_digit (drop sign bytes)) (drop sign bytes)) = run_digits (drop sign bytes) (omega arith) in rw run h
 
-  integer_longest : (n : ℤ) (bare : Bool) → fraction_len (drop (sign + whole) bytes) ≡ 0 → n ≡ signed (sign_at bytes).sign (number 10 (take whole (drop sign bytes))) → bare ≡ (sign == 0) → Longest bytes (Integer n bare) (take (sign + whole) bytes) (drop (sign + whole) bytes)
+  integer_longest : (n : ℤ) (bare : Bool) → fraction_len (drop (sign + whole) bytes) ≡ 0 → n ≡ signed (sign_at bytes).sign (number 10 (take whole (drop sign bytes))) → bare ≡ (sign == 0)
+      → Longest bytes (Integer n bare) (take (sign + whole) bytes) (drop (sign + whole) bytes)
   integer_longest n bare none value is =
       let size : length (take (sign + whole) bytes) ≡ sign + whole = length-take-le (sign + whole) bytes number_within.0 in
       let far : reach (first_class bytes) bytes ≤ length (take (sign + whole) bytes) = rw size (number_far (sign + whole) (omega arith)) in
       longest_by bytes (Integer n bare) (take (sign + whole) bytes) (drop (sign + whole) bytes) (sym (take-append-drop (sign + whole) bytes))
       ((sign_at bytes).sign, take whole (drop sign bytes), whole_digits, front_text, value, is ∙ ap (λ n. n == 0) signs ∙ sym (sign_at bytes).bare) far
 
-  pub integer_found : (n : ℤ) (bare : Bool) (m : ℕ) → fraction_len (drop (sign + whole) bytes) ≡ 0 → m ≡ number 10 (take whole (drop sign bytes)) → m < 2 ^ 127 → n ≡ cond (get_or bytes 0 0 == 45) (neg_ℤ (pos m)) (pos m) → bare ≡ (sign == 0) → Begins bytes (Integer n bare) (sign + whole)
+  pub integer_found : (n : ℤ) (bare : Bool) (m : ℕ) → fraction_len (drop (sign + whole) bytes) ≡ 0 → m ≡ number 10 (take whole (drop sign bytes)) → m < 2 ^ 127 → n ≡ cond (get_or bytes 0 0 == 45) (neg_ℤ (pos m)) (pos m)
+      → bare ≡ (sign == 0) → Begins bytes (Integer n bare) (sign + whole)
   integer_found n bare m none is narrow value flag =
       let worth : n ≡ signed (sign_at bytes).sign m = value ∙ sym ((sign_at bytes).value m) in
       let size : unsigned_abs n ≡ m = ap unsigned_abs worth ∙ abs_signed (sign_at bytes).sign m in
@@ -202,15 +209,19 @@ module _ (bytes : List ℕ) (sign whole : ℕ) (signs : sign ≡ sign_len bytes)
   integer_wide place none far =
       let n : ℤ = signed (sign_at bytes).sign (number 10 (take whole (drop sign bytes))) in
       let size : unsigned_abs (signed (sign_at bytes).sign (number 10 (take whole (drop sign bytes)))) ≡ number 10 (take whole (drop sign bytes)) = abs_signed (sign_at bytes).sign (number 10 (take whole (drop sign bytes))) in
-      wide (signed (sign_at bytes).sign (number 10 (take whole (drop sign bytes)))) (sign == 0) (take (sign + whole) bytes) (drop (sign + whole) bytes) (integer_longest (signed (sign_at bytes).sign (number 10 (take whole (drop sign bytes)))) (sign == 0) none refl refl) (rw size far) refl
+      wide (signed (sign_at bytes).sign (number 10 (take whole (drop sign bytes)))) (sign == 0) (take (sign + whole) bytes) (drop (sign + whole) bytes)
+      (integer_longest (signed (sign_at bytes).sign (number 10 (take whole (drop sign bytes)))) (sign == 0) none refl refl) (rw size far) refl
 
-  pub float_found : (s : List ℕ) (fraction : ℕ) → fraction ≡ fraction_len (drop (sign + whole) bytes) → 0 < fraction → fraction ≤ length (drop (sign + whole) bytes) → s ≡ take (sign + whole + fraction) bytes → Begins bytes (Float s) (sign + whole + fraction)
+  pub float_found : (s : List ℕ) (fraction : ℕ) → fraction ≡ fraction_len (drop (sign + whole) bytes) → 0 < fraction → fraction ≤ length (drop (sign + whole) bytes) → s ≡ take (sign + whole + fraction) bytes
+      → Begins bytes (Float s) (sign + whole + fraction)
   float_found s fraction is more within text =
       let at : FractionAt (drop (sign + whole) bytes) = fraction_at (drop (sign + whole) bytes) (omega arith) in
       let size : length (drop (sign + whole) bytes) ≡ length bytes - (sign + whole) = length-drop (sign + whole) bytes in
       let front : take (sign + whole + fraction) bytes ≡ (sign_text (sign_at bytes).sign ++ take whole (drop sign bytes)) ++ (46 ∷ (at.part ++ at.exponent)) =
-      take-add (sign + whole) fraction bytes ∙ ap (λ (l : List ℕ). l ++ take fraction (drop (sign + whole) bytes)) front_text ∙ ap (λ (l : List ℕ). (sign_text (sign_at bytes).sign ++ take whole (drop sign bytes)) ++ l) (ap (λ n. take n (drop (sign + whole) bytes)) is ∙ at.text) in
-      let grouped : (sign_text (sign_at bytes).sign ++ take whole (drop sign bytes)) ++ (46 ∷ (at.part ++ at.exponent)) ≡ sign_text (sign_at bytes).sign ++ take whole (drop sign bytes) ++ 46 ∷ at.part ++ at.exponent = sym (append_assoc (sign_text (sign_at bytes).sign ++ take whole (drop sign bytes)) (46 ∷ at.part) at.exponent) in
+      take-add (sign + whole) fraction bytes ∙ ap (λ (l : List ℕ). l ++ take fraction (drop (sign + whole) bytes)) front_text
+      ∙ ap (λ (l : List ℕ). (sign_text (sign_at bytes).sign ++ take whole (drop sign bytes)) ++ l) (ap (λ n. take n (drop (sign + whole) bytes)) is ∙ at.text) in
+      let grouped : (sign_text (sign_at bytes).sign ++ take whole (drop sign bytes)) ++ (46 ∷ (at.part ++ at.exponent)) ≡ sign_text (sign_at bytes).sign ++ take whole (drop sign bytes) ++ 46 ∷ at.part ++ at.exponent =
+      sym (append_assoc (sign_text (sign_at bytes).sign ++ take whole (drop sign bytes)) (46 ∷ at.part) at.exponent) in
       begins_by bytes (Float s) (sign + whole + fraction) (omega arith) (omega arith)
       (((sign_at bytes).sign, take whole (drop sign bytes), at.part, at.exponent, whole_digits, at.digits, at.ends, front ∙ grouped), text)
       (number_far (sign + whole + fraction) (omega arith)) tt
@@ -344,7 +355,8 @@ module _ (bytes rest text : List ℕ) (q n : ℕ) (whole : bytes ≡ q ∷ rest)
       spells = spells;
       longest = λ other more behind is spelled. (
           let found : (x : List ℕ) × Quoted q x more behind = quoted_only q rest other more behind quote (sym is ∙ whole) spelled in
-          let same : (take (1 + n + 1) bytes ≡ more) × (text ≡ found.0) = quoted_once q text found.0 (take (1 + n + 1) bytes) (drop (1 + n + 1) bytes) more behind (quote_apart q quote) closed_quoted found.1 (take-append-drop (1 + n + 1) bytes ∙ is) in
+          let same : (take (1 + n + 1) bytes ≡ more) × (text ≡ found.0) = quoted_once q text found.0 (take (1 + n + 1) bytes) (drop (1 + n + 1) bytes) more behind (quote_apart q quote) closed_quoted found.1
+          (take-append-drop (1 + n + 1) bytes ∙ is) in
           let size : length (take (1 + n + 1) bytes) ≡ length more = ap length same.0 in omega arith);
     }
 
@@ -371,7 +383,8 @@ module _ (bytes rest text : List ℕ) (q n : ℕ) (whole : bytes ≡ q ∷ rest)
   left_open place ends = open_quote q (take n rest) text [] quote (opened_at ∙ ap (λ (l : List ℕ). q ∷ take n rest ++ l) ends) (rw ends at inside) (inl refl) refl
 
   -- a backslash that begins no escape
-  pub stuck_fault : (place : Place) (end : ℕ) (after : List ℕ) → drop n rest ≡ end ∷ after → IsStuck q (drop n rest) → end ≢ q → FaultAt place bytes (cond (is_cut_off after) (OpenQuote place) (BadEscape (past place (take (1 + n) bytes))))
+  pub stuck_fault : (place : Place) (end : ℕ) (after : List ℕ) → drop n rest ≡ end ∷ after → IsStuck q (drop n rest) → end ≢ q
+      → FaultAt place bytes (cond (is_cut_off after) (OpenQuote place) (BadEscape (past place (take (1 + n) bytes))))
   stuck_fault place end after ends stuck no_quote = go (is_cut_off after) refl (backslash (rw ends at stuck))
     where
       backslash : (end ≡ q) ⊎ ((end ≡ 92) × NoEscape after) → (end ≡ 92) × NoEscape after
@@ -393,7 +406,8 @@ module _ (bytes rest text : List ℕ) (q n : ℕ) (whole : bytes ≡ q ∷ rest)
 
       go : (b : Bool) → is_cut_off after ≡ b → (end ≡ 92) × NoEscape after → FaultAt place bytes (cond b (OpenQuote place) (BadEscape (past place (take (1 + n) bytes))))
       go true e (is, none) = open_quote q (take n rest) text (92 ∷ after) quote (opened_at ∙ ap (λ (l : List ℕ). q ∷ take n rest ++ l) (ends ∙ ap (λ x. x ∷ after) is)) (rw (ends, is) at inside) (cut_off after e) refl
-      go false e (is, none) = bad_escape q (take n rest) text after quote (opened_at ∙ ap (λ (l : List ℕ). q ∷ take n rest ++ l) (ends ∙ ap (λ x. x ∷ after) is)) (rw (ends, is) at inside) none (whole_off after e) (ap (λ (l : List ℕ). BadEscape (past place l)) front)
+      go false e (is, none) = bad_escape q (take n rest) text after quote (opened_at ∙ ap (λ (l : List ℕ). q ∷ take n rest ++ l) (ends ∙ ap (λ x. x ∷ after) is)) (rw (ends, is) at inside) none (whole_off after e)
+          (ap (λ (l : List ℕ). BadEscape (past place l)) front)
 
 -- ---- symbols
 

@@ -8,7 +8,9 @@ use Rattle.core_scan.specs.Sorts.{code, fits}
 
 -- every sort, at its number
 sorts : List Sort
-sorts = s.After ∷ s.Apply ∷ s.Attributes ∷ s.Call ∷ s.Case ∷ s.Catch ∷ s.Do ∷ s.End ∷ s.Fun ∷ s.In ∷ s.Let ∷ s.Letrec ∷ s.Module ∷ s.Of ∷ s.Primop ∷ s.Receive ∷ s.Try ∷ s.When ∷ s.OpenRound ∷ s.CloseRound ∷ s.OpenCurly ∷ s.CloseCurly ∷ s.OpenSquare ∷ s.CloseSquare ∷ s.Less ∷ s.Greater ∷ s.Bar ∷ s.Comma ∷ s.Colon ∷ s.Slash ∷ s.Equals ∷ s.Arrow ∷ s.Noted ∷ s.OpenBinary ∷ s.CloseBinary ∷ s.OpenSegment ∷ s.OpenMap ∷ s.CloseMap ∷ s.Assoc ∷ s.Exact ∷ s.Variable ∷ s.Small ∷ s.Integer ∷ s.Float ∷ s.Char ∷ s.Atom ∷ s.EmptyText ∷ s.Text ∷ s.Other ∷ []
+sorts = s.After ∷ s.Apply ∷ s.Attributes ∷ s.Call ∷ s.Case ∷ s.Catch ∷ s.Do ∷ s.End ∷ s.Fun ∷ s.In ∷ s.Let ∷ s.Letrec ∷ s.Module ∷ s.Of ∷ s.Primop ∷ s.Receive ∷ s.Try ∷ s.When ∷ s.OpenRound
+    ∷ s.CloseRound ∷ s.OpenCurly ∷ s.CloseCurly ∷ s.OpenSquare ∷ s.CloseSquare ∷ s.Less ∷ s.Greater ∷ s.Bar ∷ s.Comma ∷ s.Colon ∷ s.Slash ∷ s.Equals ∷ s.Arrow ∷ s.Noted ∷ s.OpenBinary ∷ s.CloseBinary
+    ∷ s.OpenSegment ∷ s.OpenMap ∷ s.CloseMap ∷ s.Assoc ∷ s.Exact ∷ s.Variable ∷ s.Small ∷ s.Integer ∷ s.Float ∷ s.Char ∷ s.Atom ∷ s.EmptyText ∷ s.Text ∷ s.Other ∷ []
 
 at_code : (p : Sort) → get_or sorts (code p) s.Other ≡ p
 unfolding sorts

@@ -13,7 +13,8 @@ pub one_of_all : (test : List ℕ → Bool) (table : List (List ℕ × Sort)) (x
 one_of_all test [] x h o = absurd o
 one_of_all test (entry ∷ table) x h o = go (test entry.0) refl h o (one_of_all test table x)
   where
-    go : (b : Bool) → test entry.0 ≡ b → (test entry.0 && list_all (λ e. test e.0) table) ≡ true → (x ≡ entry.0) ⊎ IsOneOf table x → (list_all (λ e. test e.0) table ≡ true → IsOneOf table x → test x ≡ true) → test x ≡ true
+    go : (b : Bool) → test entry.0 ≡ b → (test entry.0 && list_all (λ e. test e.0) table) ≡ true → (x ≡ entry.0) ⊎ IsOneOf table x → (list_all (λ e. test e.0) table ≡ true → IsOneOf table x → test x ≡ true)
+        → test x ≡ true
     go true e k (inl q) more = rw q e
     go true e k (inr q) more = more (rw e at k) q
     go false e k o more = let w : false ≡ true = rw e at k in cc
@@ -35,7 +36,8 @@ pub known_of_one : (table : List (List ℕ × Sort)) (x : List ℕ) → knows ta
 known_of_one [] x h o = absurd o
 known_of_one (entry ∷ table) x h o = go (bytes_eq x entry.0) refl (is_known entry.1) refl h o (known_of_one table x)
   where
-    go : (b : Bool) → bytes_eq x entry.0 ≡ b → (k : Bool) → is_known entry.1 ≡ k → (is_known entry.1 && knows table) ≡ true → (x ≡ entry.0) ⊎ IsOneOf table x → (knows table ≡ true → IsOneOf table x → is_known (sort_in table x) ≡ true) → is_known (sort_in (entry ∷ table) x) ≡ true
+    go : (b : Bool) → bytes_eq x entry.0 ≡ b → (k : Bool) → is_known entry.1 ≡ k → (is_known entry.1 && knows table) ≡ true → (x ≡ entry.0) ⊎ IsOneOf table x
+        → (knows table ≡ true → IsOneOf table x → is_known (sort_in table x) ≡ true) → is_known (sort_in (entry ∷ table) x) ≡ true
     go b e false f all among more = let w : false ≡ true = rw f at all in cc
     go true e true f all among more = rw e f
     go false e true f all (inl is) more = absurd (false≢true (sym e ∙ (bytes_eq-Decides x entry.0).1 is))

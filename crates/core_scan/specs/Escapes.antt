@@ -39,7 +39,8 @@ NoEscape bytes = (piece rest : List ℕ) (value : ℕ) → bytes ≡ piece ++ re
 pub data Inside (q : ℕ) : (piece text rest : List ℕ) → Type 0 where
   nothing : {piece text rest : List ℕ} → piece ≡ [] → text ≡ [] → Inside q piece text rest
   plain : {piece text rest : List ℕ} (b : ℕ) (more letters : List ℕ) → b ≢ q → b ≢ 92 → piece ≡ b ∷ more → text ≡ b ∷ letters → Inside q more letters rest → Inside q piece text rest
-  escaped : {piece text rest : List ℕ} (escape more letters : List ℕ) (value : ℕ) → Escape escape value (more ++ rest) → piece ≡ 92 ∷ escape ++ more → text ≡ value ∷ letters → Inside q more letters rest → Inside q piece text rest
+  escaped : {piece text rest : List ℕ} (escape more letters : List ℕ) (value : ℕ) → Escape escape value (more ++ rest) → piece ≡ 92 ∷ escape ++ more → text ≡ value ∷ letters → Inside q more letters rest
+      → Inside q piece text rest
 
 -- `piece` is a text between quotes `q`
 abbrev pub Quoted : ℕ → List ℕ → List ℕ → List ℕ → Type 0

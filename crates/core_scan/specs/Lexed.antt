@@ -16,8 +16,10 @@ use Rattle.core_scan.specs.Spells.{Spells, Longest, IsToken}
 pub data Passes (end : Place) (left : List ℕ) : Place → List ℕ → List Token → Type 0 where
   here : {place : Place} {bytes : List ℕ} {tokens : List Token} → place ≡ end → bytes ≡ left → tokens ≡ [] → Passes end left place bytes tokens
   blank : {place : Place} {bytes : List ℕ} {tokens : List Token} (b : ℕ) (rest : List ℕ) → bytes ≡ b ∷ rest → IsTrue (is_blank b) → Passes end left (past place (b ∷ [])) rest tokens → Passes end left place bytes tokens
-  comment : {place : Place} {bytes : List ℕ} {tokens : List Token} (line rest : List ℕ) → bytes ≡ 37 ∷ line ++ rest → AllOf is_no_line_feed line → NoneAhead is_no_line_feed rest → Passes end left (past place (37 ∷ line)) rest tokens → Passes end left place bytes tokens
-  token : {place : Place} {bytes : List ℕ} {tokens : List Token} (kind : TokenKind) (piece rest : List ℕ) (others : List Token) → Longest bytes kind piece rest → IsToken kind → tokens ≡ record { kind = kind; place = place } ∷ others → Passes end left (past place piece) rest others → Passes end left place bytes tokens
+  comment : {place : Place} {bytes : List ℕ} {tokens : List Token} (line rest : List ℕ) → bytes ≡ 37 ∷ line ++ rest → AllOf is_no_line_feed line → NoneAhead is_no_line_feed rest
+      → Passes end left (past place (37 ∷ line)) rest tokens → Passes end left place bytes tokens
+  token : {place : Place} {bytes : List ℕ} {tokens : List Token} (kind : TokenKind) (piece rest : List ℕ) (others : List Token) → Longest bytes kind piece rest → IsToken kind
+      → tokens ≡ record { kind = kind; place = place } ∷ others → Passes end left (past place piece) rest others → Passes end left place bytes tokens
 
 -- These are the tokens of the bytes, which begin at a place.
 abbrev pub Lexed : Place → List ℕ → List Token → Type 0
@@ -44,7 +46,8 @@ pub data FaultAt (place : Place) (bytes : List ℕ) (fault : ScanFault) : Type 0
   -- quotes that aren't closed before the text ends
   open_quote : (q : ℕ) (inside text left : List ℕ) → IsQuote q → bytes ≡ q ∷ inside ++ left → Inside q inside text left → IsCutOff left → fault ≡ OpenQuote place → FaultAt place bytes fault
   -- a backslash between quotes that begins no escape, and isn't cut off
-  bad_escape : (q : ℕ) (inside text more : List ℕ) → IsQuote q → bytes ≡ q ∷ inside ++ 92 ∷ more → Inside q inside text (92 ∷ more) → NoEscape more → (IsCutOff (92 ∷ more) → ⊥) → fault ≡ BadEscape (past place (q ∷ inside)) → FaultAt place bytes fault
+  bad_escape : (q : ℕ) (inside text more : List ℕ) → IsQuote q → bytes ≡ q ∷ inside ++ 92 ∷ more → Inside q inside text (92 ∷ more) → NoEscape more → (IsCutOff (92 ∷ more) → ⊥)
+      → fault ≡ BadEscape (past place (q ∷ inside)) → FaultAt place bytes fault
   -- a byte at which nothing begins
   no_token : (b : ℕ) (rest : List ℕ) → bytes ≡ b ∷ rest → IsFalse (is_blank b) → b ≢ 37 → b ≢ 39 → b ≢ 34 → NoToken bytes → fault ≡ BadByte place → FaultAt place bytes fault
 

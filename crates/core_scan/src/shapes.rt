@@ -1,5 +1,6 @@
 // The one token that bytes begin with.
-ghost use Rattle.std.specs.Prelude.{◌≡◌, ◌≢◌, ◌+◌, ◌<◌, ◌≤◌, length, drop, slice_index, if◌then◌else◌, IsTrue, IsFalse, IfOk, IfErr};
+ghost use Rattle.std.specs.Prelude.{◌≡◌, ◌≢◌, ◌+◌, ◌<◌, ◌≤◌, length, drop, slice_index};
+ghost use Rattle.std.specs.Prelude.{if◌then◌else◌, IsTrue, IsFalse, IfOk, IfErr};
 ghost use Rattle.std.specs.List.{prefix_len};
 ghost use Rattle.type_kinds.specs.Digits.{is_digit};
 ghost use Rattle.core_scan.specs.Bytes.{is_lower, is_blank, past};

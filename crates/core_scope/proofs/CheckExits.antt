@@ -21,7 +21,8 @@ use Rattle.core_scope.specs.steps.State.{first_of, scope_of, noting, defining}
 use Rattle.core_scope.proofs.States.{first_of-append, noted_twice}
 use Rattle.core_scope.proofs.ExpressionExits.{Answer}
 
-pub exports_round : (w w1 goal : Walk) (fs : List FunName) (i : ℕ) (f : FunName) (left rest : List Place) (place : Place) (holds : Bool) → i < length fs → f ≡ get_or fs i f → holds ≡ has_function w.functions f → place ≡ next_place left → rest ≡ other_places left
+pub exports_round : (w w1 goal : Walk) (fs : List FunName) (i : ℕ) (f : FunName) (left rest : List Place) (place : Place) (holds : Bool) → i < length fs → f ≡ get_or fs i f → holds ≡ has_function w.functions f
+    → place ≡ next_place left → rest ≡ other_places left
     → w1 ≡ noting w (unless holds DefinedExports place) → noting w (export_breaks w.functions (drop i fs) left) ≡ goal → noting w1 (export_breaks w1.functions (drop (i + 1) fs) rest) ≡ goal
 exports_round w w1 goal fs i f left rest place holds within is test at others step before =
     ap (λ v. noting v (export_breaks v.functions (drop (i + 1) fs) rest)) step
@@ -32,7 +33,8 @@ exports_round w w1 goal fs i f left rest place holds within is test at others st
     ∙ ap (λ l. noting w (export_breaks w.functions l left)) (sym (drop_next fs i f within is)) ∙ before
 
 -- What the three parts of a module come to.
-pub module_exit : (w0 w1 w2 w3 : Walk) (x : Module) → w0.variables ≡ [] → w0.functions ≡ [] → w0.first ≡ None → w1 ≡ defining w0 (defined_names (all_defs x.defs)) (new_functions [] (all_defs x.defs)) → w2 ≡ noting w1 (export_breaks w1.functions x.exports x.export_places)
+pub module_exit : (w0 w1 w2 w3 : Walk) (x : Module) → w0.variables ≡ [] → w0.functions ≡ [] → w0.first ≡ None → w1 ≡ defining w0 (defined_names (all_defs x.defs)) (new_functions [] (all_defs x.defs))
+    → w2 ≡ noting w1 (export_breaks w1.functions x.exports x.export_places)
     → w3 ≡ noting w2 (def_breaks (scope_of w2) (all_defs x.defs)) → w3.first ≡ first_of None (module_breaks (module_tree x))
 module_exit w0 w1 w2 w3 x no_variable no_function no_break one two three =
     let ds : m.Defs = all_defs x.defs in
@@ -44,10 +46,13 @@ module_exit w0 w1 w2 w3 x no_variable no_function no_break one two three =
     let three1 : w3 ≡ noting start (export_breaks fs x.exports x.export_places ++ def_breaks (scope_of start) ds) =
     three ∙ ap (λ w. noting w (def_breaks (scope_of w) ds)) two1 ∙ noted_twice start (export_breaks fs x.exports x.export_places) (def_breaks (scope_of start) ds) in
     ap (λ w. w.first) three1 ∙ sym (first_of-append (first_of None new) (export_breaks fs x.exports x.export_places) (def_breaks (scope_of start) ds))
-    ∙ ap (λ o. first_of o (def_breaks (scope_of start) ds)) (first_of-append None new (export_breaks fs x.exports x.export_places)) ∙ first_of-append None (new ++ export_breaks fs x.exports x.export_places) (def_breaks (scope_of start) ds)
+    ∙ ap (λ o. first_of o (def_breaks (scope_of start) ds)) (first_of-append None new (export_breaks fs x.exports x.export_places))
+    ∙ first_of-append None (new ++ export_breaks fs x.exports x.export_places) (def_breaks (scope_of start) ds)
 
-pub module_walked : (r : Answer) (w0 w1 w2 w3 : Walk) (x : Module) (ds : List (FunDefOf Expr)) (fs : List FunName) (ps : List Place) → ds ≡ x.defs → fs ≡ x.exports → ps ≡ x.export_places → w0.variables ≡ [] → w0.functions ≡ [] → w0.first ≡ None
-    → w1 ≡ defining w0 (defined_names (all_defs ds)) (new_functions [] (all_defs ds)) → w2 ≡ noting w1 (export_breaks w1.functions fs ps) → OnOk r (w3 ≡ noting w2 (def_breaks (scope_of w2) (all_defs ds))) → OnOk r (w3.first ≡ first_of None (module_breaks (module_tree x)))
+pub module_walked : (r : Answer) (w0 w1 w2 w3 : Walk) (x : Module) (ds : List (FunDefOf Expr)) (fs : List FunName) (ps : List Place) → ds ≡ x.defs → fs ≡ x.exports → ps ≡ x.export_places → w0.variables ≡ []
+    → w0.functions ≡ [] → w0.first ≡ None
+    → w1 ≡ defining w0 (defined_names (all_defs ds)) (new_functions [] (all_defs ds)) → w2 ≡ noting w1 (export_breaks w1.functions fs ps) → OnOk r (w3 ≡ noting w2 (def_breaks (scope_of w2) (all_defs ds)))
+    → OnOk r (w3.first ≡ first_of None (module_breaks (module_tree x)))
 module_walked r w0 w1 w2 w3 x ds fs ps defs_are exports_are places_are no_variable no_function no_break one two =
     on_ok_weaker r (λ three. module_exit w0 w1 w2 w3 x no_variable no_function no_break
     (one ∙ ap (λ z. defining w0 (defined_names (all_defs z)) (new_functions [] (all_defs z))) defs_are)
@@ -56,7 +61,8 @@ module_walked r w0 w1 w2 w3 x ds fs ps defs_are exports_are places_are no_variab
 
 -- ---- names of modules
 
-pub still_none : (names : List Atom) (first second : ℕ) → first ≤ second → second ≤ first → ((i : ℕ) → i < first → slice_get names i ≡ slice_get names second → ⊥) → ((j : ℕ) → j < second → StandsEarlier names j → ⊥) → (j : ℕ) → j < second + 1 → StandsEarlier names j → ⊥
+pub still_none : (names : List Atom) (first second : ℕ) → first ≤ second → second ≤ first → ((i : ℕ) → i < first → slice_get names i ≡ slice_get names second → ⊥)
+    → ((j : ℕ) → j < second → StandsEarlier names j → ⊥) → (j : ℕ) → j < second + 1 → StandsEarlier names j → ⊥
 still_none names first second low high earliest none j within (i, before, same) = by (ltb j second) refl
   where
     by : (t : Bool) → ltb j second ≡ t → ⊥

@@ -175,7 +175,8 @@ functions_of_a_letrec = refl
 
 -- The guard of a clause and the arguments of its patterns count too.
 functions_of_a_clause :
-    functions_of_clauses (one_clause (one_pattern (m.binary_of (at 11) (m.and_pat_segment (m.binds (at 14) x) (only (m.function (labelled 5 (at 17)) [] (atom 25 y))) m.no_pat_segment))) (m.function (labelled 6 (at 40)) [] (atom 45 y)) (var 50 x))
+    functions_of_clauses (one_clause (one_pattern (m.binary_of (at 11) (m.and_pat_segment (m.binds (at 14) x) (only (m.function (labelled 5 (at 17)) [] (atom 25 y))) m.no_pat_segment))) (m.function (labelled 6 (at 40)) [] (atom 45 y))
+    (var 50 x))
     ≡ labelled_function (labelled 5 (at 17)) None [] (atom 25 y) ∷ labelled_function (labelled 6 (at 40)) None [] (atom 45 y) ∷ []
 functions_of_a_clause = refl
 
@@ -188,8 +189,10 @@ argument_stands_in_clause :
 argument_stands_in_clause = deeper (deeper (deeper (deeper (deeper itself clause_patterns) first_pattern) binary_patterns) pattern_arguments) first_expression
 
 -- letrec 'f'/0 = fun () -> 'f'/0 in 'f'/0: both uses of 'f'/0 stand in it and see it.
-body_stands_in_letrec : StandsIn (expression nowhere one_value (m.letrec (at 0) (m.and_def (function_name (codes "f") 0) (at 15) [] (f 25) m.no_def) (f 35))) (expression (record { variables = []; functions = function_name (codes "f") 0 ∷ [] }) one_value (f 35))
+body_stands_in_letrec : StandsIn (expression nowhere one_value (m.letrec (at 0) (m.and_def (function_name (codes "f") 0) (at 15) [] (f 25) m.no_def) (f 35)))
+    (expression (record { variables = []; functions = function_name (codes "f") 0 ∷ [] }) one_value (f 35))
 body_stands_in_letrec = deeper itself letrec_body
 
-fun_stands_in_letrec : StandsIn (expression nowhere one_value (m.letrec (at 0) (m.and_def (function_name (codes "f") 0) (at 15) [] (f 25) m.no_def) (f 35))) (expression (record { variables = []; functions = function_name (codes "f") 0 ∷ [] }) one_value (f 25))
+fun_stands_in_letrec : StandsIn (expression nowhere one_value (m.letrec (at 0) (m.and_def (function_name (codes "f") 0) (at 15) [] (f 25) m.no_def) (f 35)))
+    (expression (record { variables = []; functions = function_name (codes "f") 0 ∷ [] }) one_value (f 25))
 fun_stands_in_letrec = deeper (deeper itself letrec_definitions) definition_body

@@ -4,8 +4,10 @@ use Rattle.type_kinds.proofs.Lists.{contains_none, contains_later, contains_case
 use Rattle.core_ast.specs.Model as m
 use Rattle.core_scope.specs.declared.checked.Checked.{Checked}
 use Rattle.core_scope.specs.Checked.{tree_of}
-use Rattle.core_scope.specs.Labels.{labels, labels_of_all, labels_of_segments, labels_of_pairs, labels_of_steps, labels_of_clauses, labels_of_defs, labels_of_pattern, labels_of_patterns, labels_of_pat_segments, labels_of_pat_pairs, labels_of}
-use Rattle.core_scope.specs.Functions.{LabelledFunction, functions, functions_of_all, functions_of_segments, functions_of_pairs, functions_of_steps, functions_of_clauses, functions_of_defs, functions_of_pattern, functions_of_patterns, functions_of_pat_segments, functions_of_pat_pairs, functions_of, function_labels}
+use Rattle.core_scope.specs.Labels.{labels, labels_of_all, labels_of_segments, labels_of_pairs, labels_of_steps, labels_of_clauses}
+use Rattle.core_scope.specs.Labels.{labels_of_defs, labels_of_pattern, labels_of_patterns, labels_of_pat_segments, labels_of_pat_pairs, labels_of}
+use Rattle.core_scope.specs.Functions.{LabelledFunction, functions, functions_of_all, functions_of_segments, functions_of_pairs, functions_of_steps, functions_of_clauses}
+use Rattle.core_scope.specs.Functions.{functions_of_defs, functions_of_pattern, functions_of_patterns, functions_of_pat_segments, functions_of_pat_pairs, functions_of, function_labels}
 use Rattle.core_scope.specs.Names.{Distinct}
 use Rattle.core_scope.specs.steps.Picked.{Picked}
 use Rattle.core_scope.specs.steps.Picked.Picked.{none, takes, passes}

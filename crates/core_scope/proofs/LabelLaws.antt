@@ -8,7 +8,8 @@ use Rattle.core_parse_grammar.specs.Labels.{numbered, number, number_all, number
 use Rattle.core_scope.specs.declared.checked.Checked.{Checked}
 use Rattle.core_scope.specs.Accepted.{IsSpelled}
 use Rattle.core_scope.specs.Checked.{tree_of}
-use Rattle.core_scope.specs.Labels.{labels, labels_of_all, labels_of_segments, labels_of_pairs, labels_of_steps, labels_of_clauses, labels_of_defs, labels_of_pattern, labels_of_patterns, labels_of_pat_segments, labels_of_pat_pairs, labels_of, CountFromZero}
+use Rattle.core_scope.specs.Labels.{labels, labels_of_all, labels_of_segments, labels_of_pairs, labels_of_steps, labels_of_clauses, labels_of_defs}
+use Rattle.core_scope.specs.Labels.{labels_of_pattern, labels_of_patterns, labels_of_pat_segments, labels_of_pat_pairs, labels_of, CountFromZero}
 use Rattle.core_scope.specs.Names.{Distinct}
 use Rattle.core_scope.specs.steps.Run.{Run}
 use Rattle.core_scope.specs.steps.Run.Run.{no_more, and_then}

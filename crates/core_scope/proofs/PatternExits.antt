@@ -36,7 +36,8 @@ pub patterns_within : (from : ℕ) (w w1 : Walk) (xs : List Atom) (here : List B
 patterns_within from w w1 xs here within is = let e = ap (λ v. length v.variables) is in omega (arith, e, length-append w.variables xs)
 
 -- What is met behind a pattern that binds these.
-pub bound_next : (from : ℕ) (w w1 : Walk) (xs ys : List Atom) (here : List Break) (rest : Seen) → from ≤ length w.variables → w1 ≡ binding w xs here → binding w1 ys (seen from w1 rest) ≡ binding w (xs ++ ys) (here ++ rest (scope_around from w) (drop from w.variables ++ xs))
+pub bound_next : (from : ℕ) (w w1 : Walk) (xs ys : List Atom) (here : List Break) (rest : Seen) → from ≤ length w.variables → w1 ≡ binding w xs here
+    → binding w1 ys (seen from w1 rest) ≡ binding w (xs ++ ys) (here ++ rest (scope_around from w) (drop from w.variables ++ xs))
 bound_next from w w1 xs ys here rest within is =
     ap (λ v. binding v ys (seen from v rest)) is
     ∙ ap (λ z. binding (binding w xs here) ys (rest (record { variables = z; functions = w.functions }) (drop from (w.variables ++ xs)))) (take-append-le from w.variables xs within)
@@ -61,27 +62,34 @@ module _ (from : ℕ) (w : Walk) (e : Pattern) where
   pattern_literal x is = sym (λ i. record { variables = append-nil w.variables i; functions = w.functions; first = w.first }) ∙ ap result (sym (equals_pattern e x is))
 
   module _ (r : Answer) (w1 : Walk) where
-    pub pattern_variable : (x : Atom) → e.form ≡ p.Var x → OnOk r (w1 ≡ binding w (bound x) (new_variable (drop from w.variables) x e.mark.place)) → OnOk r (w1 ≡ binding w (pattern_bound (pattern_tree e)) (pattern_breaks (scope_around from w) (drop from w.variables) (pattern_tree e)))
+    pub pattern_variable : (x : Atom) → e.form ≡ p.Var x → OnOk r (w1 ≡ binding w (bound x) (new_variable (drop from w.variables) x e.mark.place))
+        → OnOk r (w1 ≡ binding w (pattern_bound (pattern_tree e)) (pattern_breaks (scope_around from w) (drop from w.variables) (pattern_tree e)))
     pattern_variable x is = on_ok_weaker r (λ one. one ∙ ap result (sym (binds_pattern e x is)))
 
     pub pattern_tuple : (ps qs : List Pattern) → e.form ≡ p.Tuple ps → qs ≡ ps → OnOk r (w1 ≡ binding w (patterns_bound (all_patterns qs)) (patterns_breaks (scope_around from w) (drop from w.variables) (all_patterns qs)))
         → OnOk r (w1 ≡ binding w (pattern_bound (pattern_tree e)) (pattern_breaks (scope_around from w) (drop from w.variables) (pattern_tree e)))
-    pattern_tuple ps qs is same = on_ok_weaker r (λ one. one ∙ ap (λ z. binding w (patterns_bound (all_patterns z)) (patterns_breaks (scope_around from w) (drop from w.variables) (all_patterns z))) same ∙ ap result (sym (tuple_of_pattern e ps is)))
+    pattern_tuple ps qs is same = on_ok_weaker r (λ one. one ∙ ap (λ z. binding w (patterns_bound (all_patterns z)) (patterns_breaks (scope_around from w) (drop from w.variables) (all_patterns z))) same
+        ∙ ap result (sym (tuple_of_pattern e ps is)))
 
     pub pattern_map : (ps qs : List PatPair) → e.form ≡ p.Map ps → qs ≡ ps → OnOk r (w1 ≡ binding w (pairs_bound (all_pat_pairs qs)) (pat_pair_breaks (scope_around from w) (drop from w.variables) (all_pat_pairs qs)))
         → OnOk r (w1 ≡ binding w (pattern_bound (pattern_tree e)) (pattern_breaks (scope_around from w) (drop from w.variables) (pattern_tree e)))
-    pattern_map ps qs is same = on_ok_weaker r (λ one. one ∙ ap (λ z. binding w (pairs_bound (all_pat_pairs z)) (pat_pair_breaks (scope_around from w) (drop from w.variables) (all_pat_pairs z))) same ∙ ap result (sym (map_of_pattern e ps is)))
+    pattern_map ps qs is same = on_ok_weaker r (λ one. one ∙ ap (λ z. binding w (pairs_bound (all_pat_pairs z)) (pat_pair_breaks (scope_around from w) (drop from w.variables) (all_pat_pairs z))) same
+        ∙ ap result (sym (map_of_pattern e ps is)))
 
-    pub pattern_binary : (ps qs : List PatSegment) → e.form ≡ p.Binary ps → qs ≡ ps → OnOk r (w1 ≡ binding w (segments_bound (all_pat_segments qs)) (pat_segment_breaks (scope_around from w) (drop from w.variables) (all_pat_segments qs)))
+    pub pattern_binary : (ps qs : List PatSegment) → e.form ≡ p.Binary ps → qs ≡ ps
+        → OnOk r (w1 ≡ binding w (segments_bound (all_pat_segments qs)) (pat_segment_breaks (scope_around from w) (drop from w.variables) (all_pat_segments qs)))
         → OnOk r (w1 ≡ binding w (pattern_bound (pattern_tree e)) (pattern_breaks (scope_around from w) (drop from w.variables) (pattern_tree e)))
-    pattern_binary ps qs is same = on_ok_weaker r (λ one. one ∙ ap (λ z. binding w (segments_bound (all_pat_segments z)) (pat_segment_breaks (scope_around from w) (drop from w.variables) (all_pat_segments z))) same ∙ ap result (sym (binary_of_pattern e ps is)))
+    pattern_binary ps qs is same = on_ok_weaker r (λ one. one ∙ ap (λ z. binding w (segments_bound (all_pat_segments z)) (pat_segment_breaks (scope_around from w) (drop from w.variables) (all_pat_segments z))) same
+        ∙ ap result (sym (binary_of_pattern e ps is)))
 
     module _ (w2 : Walk) (within : from ≤ length w.variables) where
-      pub pattern_listed : (ps qs : List Pattern) (x y : Pattern) → e.form ≡ p.Listed ps x → qs ≡ ps → w1 ≡ binding w (patterns_bound (all_patterns qs)) (patterns_breaks (scope_around from w) (drop from w.variables) (all_patterns qs)) → y ≡ x
+      pub pattern_listed : (ps qs : List Pattern) (x y : Pattern) → e.form ≡ p.Listed ps x → qs ≡ ps
+          → w1 ≡ binding w (patterns_bound (all_patterns qs)) (patterns_breaks (scope_around from w) (drop from w.variables) (all_patterns qs)) → y ≡ x
           → OnOk r (w2 ≡ binding w1 (pattern_bound (pattern_tree y)) (pattern_breaks (scope_around from w1) (drop from w1.variables) (pattern_tree y)))
           → OnOk r (w2 ≡ binding w (pattern_bound (pattern_tree e)) (pattern_breaks (scope_around from w) (drop from w.variables) (pattern_tree e)))
       pattern_listed ps qs x y is same one last = on_ok_weaker r (λ two. two
-          ∙ bound_next from w w1 (patterns_bound (all_patterns qs)) (pattern_bound (pattern_tree y)) (patterns_breaks (scope_around from w) (drop from w.variables) (all_patterns qs)) (λ s before. pattern_breaks s before (pattern_tree y)) within one
+          ∙ bound_next from w w1 (patterns_bound (all_patterns qs)) (pattern_bound (pattern_tree y)) (patterns_breaks (scope_around from w) (drop from w.variables) (all_patterns qs))
+          (λ s before. pattern_breaks s before (pattern_tree y)) within one
           ∙ ap (λ z. result (m.list_of e.mark (all_patterns z) (pattern_tree y))) same ∙ ap (λ z. result (m.list_of e.mark (all_patterns ps) (pattern_tree z))) last ∙ ap result (sym (list_of_pattern e ps x is)))
 
       pub pattern_alias : (v : VarName) (x y : Pattern) → e.form ≡ p.Alias v x → w1 ≡ binding w (bound v.name) (new_variable (drop from w.variables) v.name v.place) → y ≡ x
@@ -101,8 +109,10 @@ pub patterns_round : (w w1 goal : Walk) (from : ℕ) (ps : List Pattern) (i : �
     → record { so_far : binding w1 (patterns_bound (all_patterns (drop (i + 1) ps))) (patterns_breaks (scope_around from w1) (drop from w1.variables) (all_patterns (drop (i + 1) ps))) ≡ goal; within : from ≤ length w1.variables }
 patterns_round w w1 goal from ps i x inside is within step before = record {
   so_far =
-      bound_next from w w1 (pattern_bound (pattern_tree x)) (patterns_bound (all_patterns (drop (i + 1) ps))) (pattern_breaks (scope_around from w) (drop from w.variables) (pattern_tree x)) (λ s b. patterns_breaks s b (all_patterns (drop (i + 1) ps))) within step
-      ∙ ap (λ q. binding w (patterns_bound q) (patterns_breaks (scope_around from w) (drop from w.variables) q)) (sym (all_patterns-next ps i x inside ∙ ap (λ z. m.and_pattern (pattern_tree z) (all_patterns (drop (i + 1) ps))) (sym is)))
+      bound_next from w w1 (pattern_bound (pattern_tree x)) (patterns_bound (all_patterns (drop (i + 1) ps))) (pattern_breaks (scope_around from w) (drop from w.variables) (pattern_tree x))
+      (λ s b. patterns_breaks s b (all_patterns (drop (i + 1) ps))) within step
+      ∙ ap (λ q. binding w (patterns_bound q) (patterns_breaks (scope_around from w) (drop from w.variables) q))
+      (sym (all_patterns-next ps i x inside ∙ ap (λ z. m.and_pattern (pattern_tree z) (all_patterns (drop (i + 1) ps))) (sym is)))
       ∙ before;
   within = patterns_within from w w1 (pattern_bound (pattern_tree x)) (pattern_breaks (scope_around from w) (drop from w.variables) (pattern_tree x)) within step;
 }
@@ -126,7 +136,8 @@ pat_pairs_round w w1 w2 goal from ps i x inside is within one two before =
           bound_next from w1 w2 xs (pairs_bound rest) (pattern_breaks (scope_around from w1) (drop from w1.variables) q) (λ s b. pat_pair_breaks s b rest) within1 two
           ∙ noted_next from w w1 (xs ++ pairs_bound rest) here (λ s b. pattern_breaks s b q ++ pat_pair_breaks s (b ++ xs) rest) one1
           ∙ ap (binding w (xs ++ pairs_bound rest)) (sym (append_assoc here (pattern_breaks s b q) (pat_pair_breaks s (b ++ xs) rest)))
-          ∙ ap (λ l. binding w (pairs_bound l) (pat_pair_breaks s b l)) (sym (all_pat_pairs-next ps i x inside ∙ ap (λ z. let y = pat_pair_parts z in m.and_pat_pair y.key y.value rest) (sym is) ∙ ap (λ y. m.and_pat_pair y.key y.value rest) (pat_pair-is x)))
+          ∙ ap (λ l. binding w (pairs_bound l) (pat_pair_breaks s b l))
+          (sym (all_pat_pairs-next ps i x inside ∙ ap (λ z. let y = pat_pair_parts z in m.and_pat_pair y.key y.value rest) (sym is) ∙ ap (λ y. m.and_pat_pair y.key y.value rest) (pat_pair-is x)))
           ∙ before;
       within = patterns_within from w1 w2 xs (pattern_breaks (scope_around from w1) (drop from w1.variables) q) within1 two;
     }
@@ -135,7 +146,10 @@ pub pat_segments_round : (w w1 w2 goal : Walk) (from : ℕ) (ss : List PatSegmen
     → w1 ≡ binding w (pattern_bound (pattern_tree (out-PatSegment x).value)) (pattern_breaks (scope_around from w) (drop from w.variables) (pattern_tree (out-PatSegment x).value)) → args ≡ (out-PatSegment x).args
     → w2 ≡ noting w1 (all_breaks (scope_of w1) (all_trees args))
     → binding w (segments_bound (all_pat_segments (drop i ss))) (pat_segment_breaks (scope_around from w) (drop from w.variables) (all_pat_segments (drop i ss))) ≡ goal
-    → record { so_far : binding w2 (segments_bound (all_pat_segments (drop (i + 1) ss))) (pat_segment_breaks (scope_around from w2) (drop from w2.variables) (all_pat_segments (drop (i + 1) ss))) ≡ goal; within : from ≤ length w2.variables }
+    → record {
+      so_far : binding w2 (segments_bound (all_pat_segments (drop (i + 1) ss))) (pat_segment_breaks (scope_around from w2) (drop from w2.variables) (all_pat_segments (drop (i + 1) ss))) ≡ goal;
+      within : from ≤ length w2.variables;
+    }
 pat_segments_round w w1 w2 goal from ss i x args inside is within one args_are two before =
     let rest : m.PatSegments = all_pat_segments (drop (i + 1) ss) in
     let q : m.Pattern = pattern_tree (out-PatSegment x).value in
@@ -151,7 +165,8 @@ pat_segments_round w w1 w2 goal from ss i x args inside is within one args_are t
           noted_next from w1 w2 (segments_bound rest) here (λ s b. pat_segment_breaks s b rest) two1
           ∙ bound_next from w w1 xs (segments_bound rest) (pattern_breaks s b q) (λ s b. all_breaks (with_variables s b) ts ++ pat_segment_breaks s b rest) within one
           ∙ ap (binding w (xs ++ segments_bound rest)) (sym (append_assoc (pattern_breaks s b q) (all_breaks (with_variables s (b ++ xs)) ts) (pat_segment_breaks s (b ++ xs) rest)))
-          ∙ ap (λ l. binding w (segments_bound l) (pat_segment_breaks s b l)) (sym (all_pat_segments-next ss i x inside ∙ ap (λ z. let y = pat_segment_parts z in m.and_pat_segment y.value y.args rest) (sym is) ∙ ap (λ y. m.and_pat_segment y.value y.args rest) (pat_segment-is x)))
+          ∙ ap (λ l. binding w (segments_bound l) (pat_segment_breaks s b l)) (sym
+          (all_pat_segments-next ss i x inside ∙ ap (λ z. let y = pat_segment_parts z in m.and_pat_segment y.value y.args rest) (sym is) ∙ ap (λ y. m.and_pat_segment y.value y.args rest) (pat_segment-is x)))
           ∙ before;
       within = (let P : Walk → Type 0 = λ v. from ≤ length v.variables in subst P (sym two1) within1);
     }

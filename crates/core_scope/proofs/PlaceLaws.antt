@@ -10,11 +10,16 @@ use Rattle.core_scope.specs.declared.ask.Ask.TheVariants.{AnyNumber, Exactly}
 use Rattle.core_scope.specs.declared.checked.Checked.{Checked}
 use Rattle.core_scope.specs.Names.{has_variable, has_function, bound, bound_by, pattern_bound, patterns_bound, steps_bound, defined_names, Scope, with_variables, with_functions, module_scope}
 use Rattle.core_scope.specs.Asks.{one_value, gives, suffices, width}
-use Rattle.core_scope.specs.Breaks.{degree, use_of_variable, use_of_function, new_variable, new_variables, new_functions, arity_of, width_of, catches, breaks, all_breaks, pair_breaks, segment_breaks, step_breaks, clause_breaks, def_breaks, pattern_breaks, patterns_breaks, pat_pair_breaks, pat_segment_breaks, export_breaks, module_breaks}
+use Rattle.core_scope.specs.Breaks.{degree, use_of_variable, use_of_function, new_variable, new_variables, new_functions, arity_of, width_of, catches, breaks, all_breaks, pair_breaks}
+use Rattle.core_scope.specs.Breaks.{segment_breaks, step_breaks, clause_breaks, def_breaks, pattern_breaks, patterns_breaks, pat_pair_breaks, pat_segment_breaks, export_breaks, module_breaks}
 use Rattle.core_scope.specs.Checked.{tree_of, is_accepted}
 use Rattle.core_scope.specs.Places.{Piece, HasPart, StandsIn, StandsInModule, piece_breaks, HaveWidth, HaveArity}
 use Rattle.core_scope.specs.Places.Piece.{expression, clauses, definitions}
-use Rattle.core_scope.specs.Places.HasPart.{function_body, listed_items, listed_rest, tuple_items, new_map_pairs, updated_map_pairs, updated_map_itself, binary_segments, values_items, chain_steps, chain_end, case_argument, case_clauses, letrec_definitions, letrec_body, apply_function, apply_arguments, call_module, call_name, call_arguments, primop_arguments, try_argument, try_body, try_handler, receive_clauses, receive_timeout, receive_action, catch_argument, first_expression, other_expressions, first_key, first_value, other_pairs, first_segment, segment_arguments, other_segments, let_argument, after_let, do_argument, after_do, clause_patterns, clause_guard, clause_body, other_clauses, definition_body, other_definitions, list_patterns, rest_pattern, tuple_patterns, map_pairs, binary_patterns, alias_pattern, first_pattern, other_patterns, pattern_key, pattern_value, other_pattern_pairs, segment_pattern, pattern_arguments, other_pattern_segments}
+use Rattle.core_scope.specs.Places.HasPart.{function_body, listed_items, listed_rest, tuple_items, new_map_pairs, updated_map_pairs, updated_map_itself, binary_segments, values_items, chain_steps, chain_end, case_argument}
+use Rattle.core_scope.specs.Places.HasPart.{case_clauses, letrec_definitions, letrec_body, apply_function, apply_arguments, call_module, call_name, call_arguments, primop_arguments, try_argument, try_body, try_handler, receive_clauses}
+use Rattle.core_scope.specs.Places.HasPart.{receive_timeout, receive_action, catch_argument, first_expression, other_expressions, first_key, first_value, other_pairs, first_segment, segment_arguments, other_segments}
+use Rattle.core_scope.specs.Places.HasPart.{let_argument, after_let, do_argument, after_do, clause_patterns, clause_guard, clause_body, other_clauses, definition_body, other_definitions, list_patterns, rest_pattern, tuple_patterns}
+use Rattle.core_scope.specs.Places.HasPart.{map_pairs, binary_patterns, alias_pattern, first_pattern, other_patterns, pattern_key, pattern_value, other_pattern_pairs, segment_pattern, pattern_arguments, other_pattern_segments}
 use Rattle.core_scope.specs.Places.StandsIn.{itself, deeper}
 use Rattle.core_scope.proofs.Unbroken.{open_two, open_three, open_four, open_five, open_seven, holds, place_is_satisfied, arity_is, width_is, catches_are}
 
@@ -43,9 +48,15 @@ part_is_unbroken (call_module {s} {k} {i} {t} {u} {ts}) e = (open_four (degree k
 part_is_unbroken (call_name {s} {k} {i} {t} {u} {ts}) e = (open_four (degree k i (m.call i t u ts)) (breaks s one_value t) (breaks s one_value u) (all_breaks s ts) e).2
 part_is_unbroken (call_arguments {s} {k} {i} {t} {u} {ts}) e = (open_four (degree k i (m.call i t u ts)) (breaks s one_value t) (breaks s one_value u) (all_breaks s ts) e).3
 part_is_unbroken (primop_arguments {s} {k} {i} {x} {ts}) e = (open_two (degree k i (m.primop i x ts)) (all_breaks s ts) e).1
-part_is_unbroken (try_argument {s} {k} {i} {t} {xs} {u} {ys} {w}) e = (open_seven (degree k i (m.try i t xs u ys w)) (catches i ys) (breaks s (Exactly (length xs)) t) (new_variables [] xs) (breaks (with_variables s (bound_by xs)) k u) (new_variables [] ys) (breaks (with_variables s (bound_by ys)) k w) e).2
-part_is_unbroken (try_body {s} {k} {i} {t} {xs} {u} {ys} {w}) e = (open_seven (degree k i (m.try i t xs u ys w)) (catches i ys) (breaks s (Exactly (length xs)) t) (new_variables [] xs) (breaks (with_variables s (bound_by xs)) k u) (new_variables [] ys) (breaks (with_variables s (bound_by ys)) k w) e).4
-part_is_unbroken (try_handler {s} {k} {i} {t} {xs} {u} {ys} {w}) e = (open_seven (degree k i (m.try i t xs u ys w)) (catches i ys) (breaks s (Exactly (length xs)) t) (new_variables [] xs) (breaks (with_variables s (bound_by xs)) k u) (new_variables [] ys) (breaks (with_variables s (bound_by ys)) k w) e).6
+part_is_unbroken (try_argument {s} {k} {i} {t} {xs} {u} {ys} {w}) e =
+    (open_seven (degree k i (m.try i t xs u ys w)) (catches i ys) (breaks s (Exactly (length xs)) t) (new_variables [] xs) (breaks (with_variables s (bound_by xs)) k u) (new_variables [] ys)
+    (breaks (with_variables s (bound_by ys)) k w) e).2
+part_is_unbroken (try_body {s} {k} {i} {t} {xs} {u} {ys} {w}) e =
+    (open_seven (degree k i (m.try i t xs u ys w)) (catches i ys) (breaks s (Exactly (length xs)) t) (new_variables [] xs) (breaks (with_variables s (bound_by xs)) k u) (new_variables [] ys)
+    (breaks (with_variables s (bound_by ys)) k w) e).4
+part_is_unbroken (try_handler {s} {k} {i} {t} {xs} {u} {ys} {w}) e =
+    (open_seven (degree k i (m.try i t xs u ys w)) (catches i ys) (breaks s (Exactly (length xs)) t) (new_variables [] xs) (breaks (with_variables s (bound_by xs)) k u) (new_variables [] ys)
+    (breaks (with_variables s (bound_by ys)) k w) e).6
 part_is_unbroken (receive_clauses {s} {k} {i} {cs} {t} {u}) e = (open_four (degree k i (m.receive i cs t u)) (clause_breaks s k 1 cs) (breaks s one_value t) (breaks s k u) e).1
 part_is_unbroken (receive_timeout {s} {k} {i} {cs} {t} {u}) e = (open_four (degree k i (m.receive i cs t u)) (clause_breaks s k 1 cs) (breaks s one_value t) (breaks s k u) e).2
 part_is_unbroken (receive_action {s} {k} {i} {cs} {t} {u}) e = (open_four (degree k i (m.receive i cs t u)) (clause_breaks s k 1 cs) (breaks s one_value t) (breaks s k u) e).3
@@ -62,10 +73,14 @@ part_is_unbroken (let_argument {s} {i} {xs} {t} {ss}) e = (open_three (breaks s 
 part_is_unbroken (after_let {s} {i} {xs} {t} {ss}) e = (open_three (breaks s (Exactly (length xs)) t) (new_variables [] xs) (step_breaks (with_variables s (bound_by xs)) ss) e).2
 part_is_unbroken (do_argument {s} {i} {t} {ss}) e = (open_two (breaks s AnyNumber t) (step_breaks s ss) e).0
 part_is_unbroken (after_do {s} {i} {t} {ss}) e = (open_two (breaks s AnyNumber t) (step_breaks s ss) e).1
-part_is_unbroken (clause_patterns {s} {k} {n} {i} {ps} {t} {u} {cs}) e = (open_five (width_of n i ps) (patterns_breaks s [] ps) (breaks (with_variables s (patterns_bound ps)) one_value t) (breaks (with_variables s (patterns_bound ps)) k u) (clause_breaks s k n cs) e).1
-part_is_unbroken (clause_guard {s} {k} {n} {i} {ps} {t} {u} {cs}) e = (open_five (width_of n i ps) (patterns_breaks s [] ps) (breaks (with_variables s (patterns_bound ps)) one_value t) (breaks (with_variables s (patterns_bound ps)) k u) (clause_breaks s k n cs) e).2
-part_is_unbroken (clause_body {s} {k} {n} {i} {ps} {t} {u} {cs}) e = (open_five (width_of n i ps) (patterns_breaks s [] ps) (breaks (with_variables s (patterns_bound ps)) one_value t) (breaks (with_variables s (patterns_bound ps)) k u) (clause_breaks s k n cs) e).3
-part_is_unbroken (other_clauses {s} {k} {n} {i} {ps} {t} {u} {cs}) e = (open_five (width_of n i ps) (patterns_breaks s [] ps) (breaks (with_variables s (patterns_bound ps)) one_value t) (breaks (with_variables s (patterns_bound ps)) k u) (clause_breaks s k n cs) e).4
+part_is_unbroken (clause_patterns {s} {k} {n} {i} {ps} {t} {u} {cs}) e =
+    (open_five (width_of n i ps) (patterns_breaks s [] ps) (breaks (with_variables s (patterns_bound ps)) one_value t) (breaks (with_variables s (patterns_bound ps)) k u) (clause_breaks s k n cs) e).1
+part_is_unbroken (clause_guard {s} {k} {n} {i} {ps} {t} {u} {cs}) e =
+    (open_five (width_of n i ps) (patterns_breaks s [] ps) (breaks (with_variables s (patterns_bound ps)) one_value t) (breaks (with_variables s (patterns_bound ps)) k u) (clause_breaks s k n cs) e).2
+part_is_unbroken (clause_body {s} {k} {n} {i} {ps} {t} {u} {cs}) e =
+    (open_five (width_of n i ps) (patterns_breaks s [] ps) (breaks (with_variables s (patterns_bound ps)) one_value t) (breaks (with_variables s (patterns_bound ps)) k u) (clause_breaks s k n cs) e).3
+part_is_unbroken (other_clauses {s} {k} {n} {i} {ps} {t} {u} {cs}) e =
+    (open_five (width_of n i ps) (patterns_breaks s [] ps) (breaks (with_variables s (patterns_bound ps)) one_value t) (breaks (with_variables s (patterns_bound ps)) k u) (clause_breaks s k n cs) e).4
 part_is_unbroken (definition_body {s} {f} {i} {xs} {t} {ds}) e = (open_four (arity_of f i xs) (new_variables [] xs) (breaks (with_variables s (bound_by xs)) one_value t) (def_breaks s ds) e).2
 part_is_unbroken (other_definitions {s} {f} {i} {xs} {t} {ds}) e = (open_four (arity_of f i xs) (new_variables [] xs) (breaks (with_variables s (bound_by xs)) one_value t) (def_breaks s ds) e).3
 part_is_unbroken (list_patterns {s} {before} {i} {ps} {p}) e = (open_two (patterns_breaks s before ps) (pattern_breaks s (before ++ patterns_bound ps) p) e).0
@@ -109,18 +124,22 @@ satisfied s k (m.binary i ss) e = place_is_satisfied k i (m.binary i ss) (open_t
 satisfied s k (m.values i ts) e = place_is_satisfied k i (m.values i ts) (open_two (degree k i (m.values i ts)) (all_breaks s ts) e).0
 satisfied s k (m.chain i ss t) e = place_is_satisfied k i (m.chain i ss t) (open_three (degree k i (m.chain i ss t)) (step_breaks s ss) (breaks (with_variables s (steps_bound ss)) k t) e).0
 satisfied s k (m.case i t cs) e = place_is_satisfied k i (m.case i t cs) (open_three (degree k i (m.case i t cs)) (breaks s (Exactly (width cs)) t) (clause_breaks s k (width cs) cs) e).0
-satisfied s k (m.letrec i ds t) e = place_is_satisfied k i (m.letrec i ds t) (open_four (degree k i (m.letrec i ds t)) (new_functions [] ds) (def_breaks (with_functions s (defined_names ds)) ds) (breaks (with_functions s (defined_names ds)) k t) e).0
+satisfied s k (m.letrec i ds t) e = place_is_satisfied k i (m.letrec i ds t) (open_four (degree k i (m.letrec i ds t)) (new_functions [] ds) (def_breaks (with_functions s (defined_names ds)) ds)
+    (breaks (with_functions s (defined_names ds)) k t) e).0
 satisfied s k (m.apply i t ts) e = place_is_satisfied k i (m.apply i t ts) (open_three (degree k i (m.apply i t ts)) (breaks s one_value t) (all_breaks s ts) e).0
 satisfied s k (m.call i t u ts) e = place_is_satisfied k i (m.call i t u ts) (open_four (degree k i (m.call i t u ts)) (breaks s one_value t) (breaks s one_value u) (all_breaks s ts) e).0
 satisfied s k (m.primop i x ts) e = place_is_satisfied k i (m.primop i x ts) (open_two (degree k i (m.primop i x ts)) (all_breaks s ts) e).0
-satisfied s k (m.try i t xs u ys w) e = place_is_satisfied k i (m.try i t xs u ys w) (open_seven (degree k i (m.try i t xs u ys w)) (catches i ys) (breaks s (Exactly (length xs)) t) (new_variables [] xs) (breaks (with_variables s (bound_by xs)) k u) (new_variables [] ys) (breaks (with_variables s (bound_by ys)) k w) e).0
+satisfied s k (m.try i t xs u ys w) e = place_is_satisfied k i (m.try i t xs u ys w)
+    (open_seven (degree k i (m.try i t xs u ys w)) (catches i ys) (breaks s (Exactly (length xs)) t) (new_variables [] xs) (breaks (with_variables s (bound_by xs)) k u) (new_variables [] ys)
+    (breaks (with_variables s (bound_by ys)) k w) e).0
 satisfied s k (m.receive i cs t u) e = place_is_satisfied k i (m.receive i cs t u) (open_four (degree k i (m.receive i cs t u)) (clause_breaks s k 1 cs) (breaks s one_value t) (breaks s k u) e).0
 satisfied s k (m.catch i t) e = place_is_satisfied k i (m.catch i t) (open_two (degree k i (m.catch i t)) (breaks s one_value t) e).0
 
 -- Each clause is as wide as its place wants.
 pub widths_are : (s : Scope) (k : Ask) (n : ℕ) (cs : m.Clauses) → clause_breaks s k n cs ≡ [] → HaveWidth n cs
 widths_are s k n m.no_clause e = tt
-widths_are s k n (m.and_clause i ps guard t cs) e = let r = open_five (width_of n i ps) (patterns_breaks s [] ps) (breaks (with_variables s (patterns_bound ps)) one_value guard) (breaks (with_variables s (patterns_bound ps)) k t) (clause_breaks s k n cs) e in (width_is n i ps r.0, widths_are s k n cs r.4)
+widths_are s k n (m.and_clause i ps guard t cs) e = let r = open_five (width_of n i ps) (patterns_breaks s [] ps) (breaks (with_variables s (patterns_bound ps)) one_value guard) (breaks (with_variables s (patterns_bound ps)) k t)
+    (clause_breaks s k n cs) e in (width_is n i ps r.0, widths_are s k n cs r.4)
 
 -- Each definition has its name's arity.
 pub arities_are : (s : Scope) (ds : m.Defs) → def_breaks s ds ≡ [] → HaveArity ds
@@ -159,7 +178,9 @@ checked_letrecs c s k i ds t there = checked_arities c _ ds (deeper there letrec
 pub checked_defs : (c : Checked) → HaveArity (tree_of c).defs
 checked_defs c = checked_arities c _ (tree_of c).defs itself
 
-pub checked_catches : (c : Checked) (s : Scope) (k : Ask) (i : Mark) (t : m.Tree) (xs : List VarName) (u : m.Tree) (ys : List VarName) (w : m.Tree) → StandsInModule (tree_of c) (expression s k (m.try i t xs u ys w)) → (length ys ≡ 2) ⊎ (length ys ≡ 3)
-checked_catches c s k i t xs u ys w there = catches_are i ys (open_seven (degree k i (m.try i t xs u ys w)) (catches i ys) (breaks s (Exactly (length xs)) t) (new_variables [] xs) (breaks (with_variables s (bound_by xs)) k u) (new_variables [] ys) (breaks (with_variables s (bound_by ys)) k w) (checked_unbroken c _ there)).1
+pub checked_catches : (c : Checked) (s : Scope) (k : Ask) (i : Mark) (t : m.Tree) (xs : List VarName) (u : m.Tree) (ys : List VarName) (w : m.Tree) → StandsInModule (tree_of c) (expression s k (m.try i t xs u ys w))
+    → (length ys ≡ 2) ⊎ (length ys ≡ 3)
+checked_catches c s k i t xs u ys w there = catches_are i ys (open_seven (degree k i (m.try i t xs u ys w)) (catches i ys) (breaks s (Exactly (length xs)) t) (new_variables [] xs) (breaks (with_variables s (bound_by xs)) k u)
+    (new_variables [] ys) (breaks (with_variables s (bound_by ys)) k w) (checked_unbroken c _ there)).1
 
 pub ruleset place_laws = (checked_unbroken, checked_variable, checked_function, checked_degree, checked_cases, checked_receives, checked_letrecs, checked_defs, checked_catches)

@@ -1,5 +1,6 @@
 -- The table of bound names: what each of its steps keeps.
-use Rattle.std.proofs.Common.{◌≡◌, ℕ, zero, suc, ◌+◌, ◌-◌, ◌<◌, ◌≤◌, ◌⊎◌, inl, inr, ◌||◌, List, [], ◌∷◌, ◌++◌, take, drop, refl, sym, ap, ◌∙◌, subst, Bool, true, false, cond, length, get_or, Option, Some, None, slice_get, slice_index_or, slice_set, position, Result, Ok, Err, OnErr, eqb, eqb-true, eq-eqb, ltb, arith, length-append}
+use Rattle.std.proofs.Common.{◌≡◌, ℕ, zero, suc, ◌+◌, ◌-◌, ◌<◌, ◌≤◌, ◌⊎◌, inl, inr, ◌||◌, List, [], ◌∷◌, ◌++◌, take, drop, refl, sym, ap, ◌∙◌, subst, Bool, true, false, cond, length}
+use Rattle.std.proofs.Common.{get_or, Option, Some, None, slice_get, slice_index_or, slice_set, position, Result, Ok, Err, OnErr, eqb, eqb-true, eq-eqb, ltb, arith, length-append}
 use Rattle.std.specs.List.{list_any}
 use Rattle.std.specs.Cmp.{IsEquivalence}
 use Rattle.std.proofs.lemmas.Bool.{lt-ltb, le-ltb, ltb-true, ltb-false, or_parts}
@@ -147,7 +148,8 @@ module _ {T : Type 0} (eq : T → T → Bool) (q : IsEquivalence eq) where
 
 module _ {T : Type 0} (eq : T → T → Bool) (q : IsEquivalence eq) where
   -- a look-up
-  pub found_tells : (keys : List T) (last : List ℕ) (bound : List Binding) (names : List T) (name : T) (number from : ℕ) → bound_names keys bound ≡ names → IsTable eq keys last bound → position (eq name) keys ≡ Some number → ltb from (slice_index_or last number 0) ≡ list_any (eq name) (drop from names)
+  pub found_tells : (keys : List T) (last : List ℕ) (bound : List Binding) (names : List T) (name : T) (number from : ℕ) → bound_names keys bound ≡ names → IsTable eq keys last bound → position (eq name) keys ≡ Some number
+      → ltb from (slice_index_or last number 0) ≡ list_any (eq name) (drop from names)
   found_tells keys last bound names name number from view table at =
       let found = position-Some (eq name) keys number name at in
       let key : T = get_or keys number name in
@@ -171,7 +173,8 @@ module _ {T : Type 0} (eq : T → T → Bool) (q : IsEquivalence eq) where
   table_length keys last bound table = as_many eq q keys (length last) [] bound table.trail
 
   -- room for a number more
-  pub roomier : (keys : List T) (last more : List ℕ) (bound : List Binding) → IsTable eq keys last bound → length last ≤ length more → length more ≤ length keys → ((i : ℕ) → slice_index_or more i 0 ≡ slice_index_or last i 0) → IsTable eq keys more bound
+  pub roomier : (keys : List T) (last more : List ℕ) (bound : List Binding) → IsTable eq keys last bound → length last ≤ length more → length more ≤ length keys
+      → ((i : ℕ) → slice_index_or more i 0 ≡ slice_index_or last i 0) → IsTable eq keys more bound
   roomier keys last more bound table up short same = record {
     short = short;
     unique = table.unique;
@@ -212,7 +215,8 @@ module _ {T : Type 0} (eq : T → T → Bool) (q : IsEquivalence eq) where
     short = let s = table.short in omega (arith, length-set last number count);
     unique = table.unique;
     now = λ i x a. tells i x a (eqb i number) refl;
-    trail = let P : ℕ → Type 0 = λ n. Trail eq keys n [] (bound ++ b ∷ []) in subst P (sym (length-set last number count)) (longer eq q keys (length last) [] bound b table.trail (record { key = k; found = found; within = within; before = table.now number k found }));
+    trail = let P : ℕ → Type 0 = λ n. Trail eq keys n [] (bound ++ b ∷ []) in subst P (sym (length-set last number count))
+        (longer eq q keys (length last) [] bound b table.trail (record { key = k; found = found; within = within; before = table.now number k found }));
   }
     where
       b : Binding
@@ -291,7 +295,8 @@ module _ {T : Type 0} (eq : T → T → Bool) (q : IsEquivalence eq) where
   pub last_within : (keys : List T) (last : List ℕ) (bound : List Binding) (b : Binding) → IsTable eq keys last (bound ++ b ∷ []) → b.number < length last
   last_within keys last bound b table = let parts = shorter eq q keys (length last) [] bound b table.trail in let kept = parts.1 in kept.within
 
-  pub names_without : (keys : List T) (last : List ℕ) (bound : List Binding) (b : Binding) (names : List T) → IsTable eq keys last (bound ++ b ∷ []) → bound_names keys (bound ++ b ∷ []) ≡ names → bound_names keys bound ≡ take (length names - 1) names
+  pub names_without : (keys : List T) (last : List ℕ) (bound : List Binding) (b : Binding) (names : List T) → IsTable eq keys last (bound ++ b ∷ []) → bound_names keys (bound ++ b ∷ []) ≡ names
+      → bound_names keys bound ≡ take (length names - 1) names
   names_without keys last bound b names table view =
       let parts = shorter eq q keys (length last) [] bound b table.trail in
       let kept = parts.1 in
@@ -308,7 +313,8 @@ module _ {T : Type 0} (eq : T → T → Bool) (q : IsEquivalence eq) where
   still_names keys more last bound table (inl is) = ap (λ ks. bound_names ks bound) is
   still_names keys more last bound table (inr (k, none, is)) = ap (λ ks. bound_names ks bound) is ∙ same_names eq q keys k (length last) [] bound table.trail
 
-  pub names_with : (keys more : List T) (last : List ℕ) (bound : List Binding) (names : List T) (b : Binding) (k : T) → IsTable eq keys last bound → MaybeNewKey eq keys more → bound_names keys bound ≡ names → slice_get more b.number ≡ Some k → bound_names more (bound ++ b ∷ []) ≡ names ++ k ∷ []
+  pub names_with : (keys more : List T) (last : List ℕ) (bound : List Binding) (names : List T) (b : Binding) (k : T) → IsTable eq keys last bound → MaybeNewKey eq keys more → bound_names keys bound ≡ names
+      → slice_get more b.number ≡ Some k → bound_names more (bound ++ b ∷ []) ≡ names ++ k ∷ []
   names_with keys more last bound names b k table maybe view found = one_more eq q more (length last) [] bound b k found ∙ ap (λ ns. ns ++ k ∷ []) (still_names keys more last bound table maybe ∙ view)
 
   -- the number of a name that is a key, where names that are equal are the same
@@ -330,7 +336,8 @@ module _ {T : Type 0} (eq : T → T → Bool) (q : IsEquivalence eq) where
       let still = still_table keys more last bound table maybe in
       roomier more last room bound still up (short (length more) still.short (slice_get_within more number k found)) same
 
-  pub bound_more : (keys : List T) (last after : List ℕ) (bound more : List Binding) (number before count : ℕ) (k : T) → IsTable eq keys last bound → number < length last → slice_get last number ≡ Some before → slice_get keys number ≡ Some k
+  pub bound_more : (keys : List T) (last after : List ℕ) (bound more : List Binding) (number before count : ℕ) (k : T) → IsTable eq keys last bound → number < length last → slice_get last number ≡ Some before
+      → slice_get keys number ≡ Some k
       → more ≡ bound ++ record { number = number; before = before } ∷ [] → count ≡ length more → after ≡ slice_set last number count → IsTable eq keys after more
   bound_more keys last after bound more number before count k table within was found is counted set_to =
       let before_is : before ≡ slice_index_or last number 0 = sym (get_or_from_slice_get last number before 0 was) in

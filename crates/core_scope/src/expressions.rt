@@ -4,7 +4,8 @@ ghost use Rattle.core_ast.specs.Tree.{tree, all_trees, all_pairs, all_segments, 
 ghost use Rattle.core_scope.specs.declared.ask.Ask.TheVariants.{Exactly};
 ghost use Rattle.core_scope.specs.Names.{bound_by, steps_bound, defined_names, with_variables, with_functions};
 ghost use Rattle.core_scope.specs.Asks.{one_value, width};
-ghost use Rattle.core_scope.specs.Breaks.{new_variables, new_functions, catches, breaks, all_breaks, pair_breaks, segment_breaks, step_breaks, clause_breaks, def_breaks};
+ghost use Rattle.core_scope.specs.Breaks.{new_variables, new_functions, catches, breaks, all_breaks};
+ghost use Rattle.core_scope.specs.Breaks.{pair_breaks, segment_breaks, step_breaks, clause_breaks, def_breaks};
 ghost use Rattle.core_scope.specs.steps.State.{scope_of, noting, binding};
 
 use crate::ask::Ask;
@@ -102,7 +103,8 @@ pub fn walk_all(walk: &mut Walk, exprs: &[Expr]) -> Result<(), Memory>
 /// An expression that also sees these variables, in a place that asks for `ask` values.
 #[cycle(scope)]
 pub fn walk_under(walk: &mut Walk, ask: Ask, vars: &[VarName], body: &Expr) -> Result<(), Memory>
-    ensures { OnOk result (walk.new ≡ noting walk.old (new_variables [] vars.now ++ breaks (with_variables (scope_of walk.old) (bound_by vars.now)) ask (tree body.now))) }
+    ensures { OnOk result (walk.new ≡ noting walk.old
+        (new_variables [] vars.now ++ breaks (with_variables (scope_of walk.old) (bound_by vars.now)) ask (tree body.now))) }
 {
     let around = walk.variables.len();
     walk.bind_all(vars)?;
@@ -215,7 +217,10 @@ fn catches_fit(vars: &[VarName]) -> bool
 // The parts of a `try` with this mark.
 #[cycle(scope)]
 fn walk_try(walk: &mut Walk, ask: Ask, mark: Mark, parts: &TryParts) -> Result<(), Memory>
-    ensures { OnOk result (walk.new ≡ noting walk.old (catches mark parts.now.catch_vars ++ breaks (scope_of walk.old) (Exactly (length parts.now.vars)) (tree parts.now.arg) ++ new_variables [] parts.now.vars ++ breaks (with_variables (scope_of walk.old) (bound_by parts.now.vars)) ask (tree parts.now.body) ++ new_variables [] parts.now.catch_vars ++ breaks (with_variables (scope_of walk.old) (bound_by parts.now.catch_vars)) ask (tree parts.now.handler))) }
+    ensures { OnOk result (walk.new ≡ noting walk.old
+        (catches mark parts.now.catch_vars ++ breaks (scope_of walk.old) (Exactly (length parts.now.vars)) (tree parts.now.arg)
+        ++ new_variables [] parts.now.vars ++ breaks (with_variables (scope_of walk.old) (bound_by parts.now.vars)) ask (tree parts.now.body)
+        ++ new_variables [] parts.now.catch_vars ++ breaks (with_variables (scope_of walk.old) (bound_by parts.now.catch_vars)) ask (tree parts.now.handler))) }
 {
     let holds = catches_fit(parts.catch_vars.as_slice());
     walk.test(holds, ScopeRule::Degrees, mark.place);

@@ -39,7 +39,8 @@ pub fn labels_are_distinct()
 /// A label names one function of a `Checked`: its functions, each fun and each definition of a `letrec` and of the
 /// module, have distinct labels, which are among those of its nodes.
 pub fn functions_by_label()
-    ensures once { (c : Checked) (f g : LabelledFunction) → Contains (functions_of (tree_of c)) f → Contains (functions_of (tree_of c)) g → f.label ≡ g.label → f ≡ g }
+    ensures once { (c : Checked) (f g : LabelledFunction) → Contains (functions_of (tree_of c)) f → Contains (functions_of (tree_of c)) g
+        → f.label ≡ g.label → f ≡ g }
     ensures distinct { (c : Checked) → Distinct (function_labels (functions_of (tree_of c))) }
     ensures among { (c : Checked) (f : LabelledFunction) → Contains (functions_of (tree_of c)) f → Contains (labels_of (tree_of c)) f.label }
 {}
@@ -52,12 +53,18 @@ pub fn functions_by_label()
 #[tactic(auto, using(crate::proofs::PlaceLaws::place_laws))]
 pub fn places_are_sound()
     ensures unbroken { (c : Checked) (p : Piece) → StandsInModule (tree_of c) p → piece_breaks p ≡ [] }
-    ensures variables { (c : Checked) (s : Scope) (k : Ask) (i : Mark) (x : Atom) → StandsInModule (tree_of c) (expression s k (m.variable i x)) → has_variable s.variables x ≡ true }
-    ensures functions { (c : Checked) (s : Scope) (k : Ask) (i : Mark) (f : FunName) → StandsInModule (tree_of c) (expression s k (m.local i f)) → has_function s.functions f ≡ true }
+    ensures variables { (c : Checked) (s : Scope) (k : Ask) (i : Mark) (x : Atom) → StandsInModule (tree_of c) (expression s k (m.variable i x))
+        → has_variable s.variables x ≡ true }
+    ensures functions { (c : Checked) (s : Scope) (k : Ask) (i : Mark) (f : FunName) → StandsInModule (tree_of c) (expression s k (m.local i f))
+        → has_function s.functions f ≡ true }
     ensures degrees { (c : Checked) (s : Scope) (k : Ask) (t : m.Tree) → StandsInModule (tree_of c) (expression s k t) → suffices k (gives t) ≡ true }
-    ensures cases { (c : Checked) (s : Scope) (k : Ask) (i : Mark) (t : m.Tree) (cs : m.Clauses) → StandsInModule (tree_of c) (expression s k (m.case i t cs)) → HaveWidth (width cs) cs }
-    ensures receives { (c : Checked) (s : Scope) (k : Ask) (i : Mark) (cs : m.Clauses) (t u : m.Tree) → StandsInModule (tree_of c) (expression s k (m.receive i cs t u)) → HaveWidth 1 cs }
-    ensures letrecs { (c : Checked) (s : Scope) (k : Ask) (i : Mark) (ds : m.Defs) (t : m.Tree) → StandsInModule (tree_of c) (expression s k (m.letrec i ds t)) → HaveArity ds }
+    ensures cases { (c : Checked) (s : Scope) (k : Ask) (i : Mark) (t : m.Tree) (cs : m.Clauses) → StandsInModule (tree_of c) (expression s k (m.case i t cs))
+        → HaveWidth (width cs) cs }
+    ensures receives { (c : Checked) (s : Scope) (k : Ask) (i : Mark) (cs : m.Clauses) (t u : m.Tree)
+        → StandsInModule (tree_of c) (expression s k (m.receive i cs t u)) → HaveWidth 1 cs }
+    ensures letrecs { (c : Checked) (s : Scope) (k : Ask) (i : Mark) (ds : m.Defs) (t : m.Tree)
+        → StandsInModule (tree_of c) (expression s k (m.letrec i ds t)) → HaveArity ds }
     ensures definitions { (c : Checked) → HaveArity (tree_of c).defs }
-    ensures catches { (c : Checked) (s : Scope) (k : Ask) (i : Mark) (t : m.Tree) (xs : List VarName) (u : m.Tree) (ys : List VarName) (w : m.Tree) → StandsInModule (tree_of c) (expression s k (m.try i t xs u ys w)) → (length ys ≡ 2) ⊎ (length ys ≡ 3) }
+    ensures catches { (c : Checked) (s : Scope) (k : Ask) (i : Mark) (t : m.Tree) (xs : List VarName) (u : m.Tree) (ys : List VarName) (w : m.Tree)
+        → StandsInModule (tree_of c) (expression s k (m.try i t xs u ys w)) → (length ys ≡ 2) ⊎ (length ys ≡ 3) }
 {}

@@ -16,7 +16,8 @@ use type_kinds::Memory;
 #[tactic(auto, using(crate::proofs::PatternExits::pattern_exits))]
 fn walk_pattern(walk: &mut Walk, from: usize, pattern: &Pattern) -> Result<(), Memory>
     requires { from ≤ length walk.old.variables }
-    ensures { OnOk result (walk.new ≡ binding walk.old (pattern_bound (pattern_tree pattern.now)) (pattern_breaks (scope_around from walk.old) (drop from walk.old.variables) (pattern_tree pattern.now))) }
+    ensures { OnOk result (walk.new ≡ binding walk.old (pattern_bound (pattern_tree pattern.now))
+        (pattern_breaks (scope_around from walk.old) (drop from walk.old.variables) (pattern_tree pattern.now))) }
 {
     match &pattern.form {
         PatForm::Var(name) => walk.bind(from, name, pattern.mark.place),
@@ -39,7 +40,8 @@ fn walk_pattern(walk: &mut Walk, from: usize, pattern: &Pattern) -> Result<(), M
 #[cycle(scope)]
 pub fn walk_patterns(walk: &mut Walk, from: usize, patterns: &[Pattern]) -> Result<(), Memory>
     requires { from ≤ length walk.old.variables }
-    ensures { OnOk result (walk.new ≡ binding walk.old (patterns_bound (all_patterns patterns.now)) (patterns_breaks (scope_around from walk.old) (drop from walk.old.variables) (all_patterns patterns.now))) }
+    ensures { OnOk result (walk.new ≡ binding walk.old (patterns_bound (all_patterns patterns.now))
+        (patterns_breaks (scope_around from walk.old) (drop from walk.old.variables) (all_patterns patterns.now))) }
 {
     for pattern in patterns {
         walk_pattern(walk, from, pattern)?;
@@ -51,7 +53,8 @@ pub fn walk_patterns(walk: &mut Walk, from: usize, patterns: &[Pattern]) -> Resu
 #[cycle(scope)]
 fn walk_pattern_pairs(walk: &mut Walk, from: usize, pairs: &[PatPair]) -> Result<(), Memory>
     requires { from ≤ length walk.old.variables }
-    ensures { OnOk result (walk.new ≡ binding walk.old (pairs_bound (all_pat_pairs pairs.now)) (pat_pair_breaks (scope_around from walk.old) (drop from walk.old.variables) (all_pat_pairs pairs.now))) }
+    ensures { OnOk result (walk.new ≡ binding walk.old (pairs_bound (all_pat_pairs pairs.now))
+        (pat_pair_breaks (scope_around from walk.old) (drop from walk.old.variables) (all_pat_pairs pairs.now))) }
 {
     for pair in pairs {
         walk_expression(walk, Ask::Exactly(1), &pair.key)?;
@@ -68,7 +71,8 @@ fn walk_pattern_segments(
     segments: &[PatSegment],
 ) -> Result<(), Memory>
     requires { from ≤ length walk.old.variables }
-    ensures { OnOk result (walk.new ≡ binding walk.old (segments_bound (all_pat_segments segments.now)) (pat_segment_breaks (scope_around from walk.old) (drop from walk.old.variables) (all_pat_segments segments.now))) }
+    ensures { OnOk result (walk.new ≡ binding walk.old (segments_bound (all_pat_segments segments.now))
+        (pat_segment_breaks (scope_around from walk.old) (drop from walk.old.variables) (all_pat_segments segments.now))) }
 {
     for segment in segments {
         walk_pattern(walk, from, &segment.value)?;

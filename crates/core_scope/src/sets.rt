@@ -12,8 +12,10 @@ use type_kinds::Atom;
 /// stands earlier, and the earliest position of that name. Takes no memory.
 pub fn check_set<S: AsChecked>(sources: &[S]) -> Result<(), SetFault>
     requires few { length sources.now < 2 ^ 32 }
-    ensures distinct { OnOk result ((j : ℕ) → j < length sources.now → StandsEarlier (map (λ s. (module_of (S.stands_for s)).name) sources.now) j → ⊥) }
-    ensures duplicate { IfErr result (λ fault. (first : ℕ) × (second : ℕ) × (fault ≡ DuplicateModule first second) × FirstDuplicate (map (λ s. (module_of (S.stands_for s)).name) sources.now) first second) }
+    ensures distinct { OnOk result ((j : ℕ) → j < length sources.now → StandsEarlier (map (λ s. (module_of (S.stands_for s)).name) sources.now) j
+        → ⊥) }
+    ensures duplicate { IfErr result (λ fault. (first : ℕ) × (second : ℕ) × (fault ≡ DuplicateModule first second)
+        × FirstDuplicate (map (λ s. (module_of (S.stands_for s)).name) sources.now) first second) }
 {
     let mut second = 0;
     while second < sources.len() {
@@ -41,9 +43,11 @@ fn name_at<S: AsChecked>(sources: &[S], at: usize) -> &Atom
 // The earliest position of the name that stands at a position, or that position.
 fn first_of_name<S: AsChecked>(sources: &[S], second: usize) -> usize
     requires { second < length sources.now }
-    ensures same { slice_get (map (λ s. (module_of (S.stands_for s)).name) sources.now) result ≡ slice_get (map (λ s. (module_of (S.stands_for s)).name) sources.now) second }
+    ensures same { slice_get (map (λ s. (module_of (S.stands_for s)).name) sources.now) result
+        ≡ slice_get (map (λ s. (module_of (S.stands_for s)).name) sources.now) second }
     ensures within { result ≤ second }
-    ensures earliest { (i : ℕ) → i < result → slice_get (map (λ s. (module_of (S.stands_for s)).name) sources.now) i ≡ slice_get (map (λ s. (module_of (S.stands_for s)).name) sources.now) second → ⊥ }
+    ensures earliest { (i : ℕ) → i < result → slice_get (map (λ s. (module_of (S.stands_for s)).name) sources.now) i
+        ≡ slice_get (map (λ s. (module_of (S.stands_for s)).name) sources.now) second → ⊥ }
 {
     let name = name_at(sources, second);
     let mut at = 0;

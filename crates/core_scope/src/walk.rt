@@ -140,7 +140,8 @@ impl Walk {
 
     /// Defines a function, and tests that it wasn't defined since there were `from` functions.
     pub fn define(&mut self, from: usize, def: &FunDef) -> Result<(), Memory>
-        ensures { OnOk result (self.new ≡ defining self.old (def.now.name ∷ []) (unless (not (has_function (drop from self.old.functions) def.now.name)) DistinctFunctions def.now.mark.place)) }
+        ensures { OnOk result (self.new ≡ defining self.old (def.now.name ∷ [])
+            (unless (not (has_function (drop from self.old.functions) def.now.name)) DistinctFunctions def.now.mark.place)) }
     {
         let holds = !self.functions.has_since(from, &def.name);
         self.test(holds, ScopeRule::DistinctFunctions, def.mark.place);

@@ -5,7 +5,8 @@ use Rattle.std.specs.Cmp.Lexicographic.{slice_cmp}
 use Rattle.std.specs.FinMap.{find}
 use Rattle.std.proofs.lemmas.Map.Text.{is_eq-slice_cmp}
 
-find-test : (name : List ℕ) (entry : List ℕ × List ℕ) (later : List (List ℕ × List ℕ)) (same : Bool) → bytes_eq name entry.0 ≡ same → find (slice_cmp nat_cmp) name (entry ∷ later) ≡ cond same (Some entry.1) (find (slice_cmp nat_cmp) name later)
+find-test : (name : List ℕ) (entry : List ℕ × List ℕ) (later : List (List ℕ × List ℕ)) (same : Bool) → bytes_eq name entry.0 ≡ same
+    → find (slice_cmp nat_cmp) name (entry ∷ later) ≡ cond same (Some entry.1) (find (slice_cmp nat_cmp) name later)
 find-test name entry later same h =
     ap (λ b. cond b (Some entry.1) (find (slice_cmp nat_cmp) name later)) (is_eq-slice_cmp name entry.0 ∙ h)
 

@@ -23,7 +23,8 @@ rest-is : (bytes : List ℕ) (done : ℕ) → take (length bytes - done) (drop d
 rest-is bytes done = take_all (length bytes - done) (drop done bytes) (omega (arith, length-drop done bytes))
 
 -- A sink has taken a prefix, and takes some of what is left.
-pub written_further : (before was now : Option (List ℕ)) (bytes : List ℕ) (done n : ℕ) → was ≡ appended before (take done bytes) → now ≡ appended was (take n (take (length bytes - done) (drop done bytes))) → now ≡ appended before (take (done + n) bytes)
+pub written_further : (before was now : Option (List ℕ)) (bytes : List ℕ) (done n : ℕ) → was ≡ appended before (take done bytes) → now ≡ appended was (take n (take (length bytes - done) (drop done bytes)))
+    → now ≡ appended before (take (done + n) bytes)
 written_further before was now bytes done n so_far more =
     more
     ∙ ap (λ left. appended was (take n left)) (rest-is bytes done)

@@ -25,7 +25,8 @@ pub record ShelfState : Type 0 where
 -- equality of two states is that of their parts
 abbrev pub shelf_code : Coded ShelfState
 shelf_code =
-    code_by (Files × (ℕ × (ℕ × (ℕ × (ℕ × (List ℕ × List ℕ)))))) (coded× (code (coded_list coded_ℕ) (coded_list coded_ℕ)) (coded× coded_ℕ (coded× coded_ℕ (coded× coded_ℕ (coded× coded_ℕ (coded× (coded_list coded_ℕ) (coded_list coded_ℕ)))))))
+    code_by (Files × (ℕ × (ℕ × (ℕ × (ℕ × (List ℕ × List ℕ)))))) (coded× (code (coded_list coded_ℕ) (coded_list coded_ℕ))
+    (coded× coded_ℕ (coded× coded_ℕ (coded× coded_ℕ (coded× coded_ℕ (coded× (coded_list coded_ℕ) (coded_list coded_ℕ)))))))
     (λ s. (s.held, (s.reads, (s.read_faults, (s.replaces, (s.replace_faults, (s.fail_reads, s.fail_replaces)))))))
     (λ p. record { held = p.0; reads = p.1.0; read_faults = p.1.1.0; replaces = p.1.1.1.0; replace_faults = p.1.1.1.1.0; fail_reads = p.1.1.1.1.1.0; fail_replaces = p.1.1.1.1.1.1 })
     (λ _. refl)

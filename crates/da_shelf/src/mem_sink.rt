@@ -1,4 +1,5 @@
-ghost use Rattle.std.specs.Prelude.{◌≡◌, ◌+◌, ◌++◌, ◌<◌, ◌≤◌, ◌↔◌, length, IfOk, OnErr, IsErr, IsTrue, Some, vec_len, vec_capacity};
+ghost use Rattle.std.specs.Prelude.{◌≡◌, ◌+◌, ◌++◌, ◌<◌, ◌≤◌, ◌↔◌, length, IfOk};
+ghost use Rattle.std.specs.Prelude.{OnErr, IsErr, IsTrue, Some, vec_len, vec_capacity};
 ghost use Rattle.da_shelf.specs.SinkState.{empty_sink, write_fails, bytes_taken, after_taking, after_fault};
 
 use crate::listed::is_listed;

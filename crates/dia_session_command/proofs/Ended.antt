@@ -103,7 +103,8 @@ module _ (words : List (List ℕ)) (told : Option Files) (reads now first last :
   abbrev Fails : ℕ → Type 0
   Fails number = FailsToRead words told number reads now before after
 
-  said_read : (number : ℕ) (answer : RunStatus) (output : List ℕ) → IsSaid answer output first last before after status → status ≡ DeviceFault (Read number) → (answer ≡ DeviceFault (Read number)) × (after ≡ appended before output)
+  said_read : (number : ℕ) (answer : RunStatus) (output : List ℕ) → IsSaid answer output first last before after status → status ≡ DeviceFault (Read number)
+      → (answer ≡ DeviceFault (Read number)) × (after ≡ appended before output)
   said_read number answer output (whole e w) is = (sym e ∙ is, w)
   said_read number answer output (broken e rose p) is = let k = sym e ∙ is in absurd cc
 
@@ -136,7 +137,8 @@ module _ (words : List (List ℕ)) (told : Option Files) (reads now first last :
   abbrev Breaks : Type 0
   Breaks = FailsToWrite words told reads now first last before after
 
-  said_write : (answer : RunStatus) (output : List ℕ) → IsSaid answer output first last before after status → status ≡ DeviceFault Write → (answer ≡ DeviceFault Write → ⊥) → Rose first last × IsPrefixAppended before after output
+  said_write : (answer : RunStatus) (output : List ℕ) → IsSaid answer output first last before after status → status ≡ DeviceFault Write → (answer ≡ DeviceFault Write → ⊥)
+      → Rose first last × IsPrefixAppended before after output
   said_write answer output (whole e w) is never = absurd (never (sym e ∙ is))
   said_write answer output (broken e rose p) is never = (rose, p)
 

@@ -125,7 +125,8 @@ module _ (before : List (List ℕ × HandedIn)) where
     pub second_within : (second : ℕ) → ((i j : ℕ) → fault ≡ DuplicateModule i j → second ≡ j) → second < length after
     second_within second is = let e = is set.0 set.1 set.2 in let l = longer in omega (arith, set.3.within)
 
-  pub is_reported : (after : List (List ℕ × HandedIn)) (reports shown : List (List ℕ)) (r : Result (List ℕ) Memory) → after ≡ before → HoldsOwnNames (held_by before) → AreReportsOn (held_by before) reports → shown ≡ reports
+  pub is_reported : (after : List (List ℕ × HandedIn)) (reports shown : List (List ℕ)) (r : Result (List ℕ) Memory) → after ≡ before → HoldsOwnNames (held_by before) → AreReportsOn (held_by before) reports
+      → shown ≡ reports
       → IfOk r (λ found. found ≡ concat shown ++ asked_line) → IfOk r (λ output. Asks (held_by before) output (held_by after))
   is_reported after reports shown (Ok output) e own are same o = reported reports own are (o ∙ ap (λ ls. concat ls ++ asked_line) same) (ap held_by e)
   is_reported after reports shown (Err fault) e own are same o = tt

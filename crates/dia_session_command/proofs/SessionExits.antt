@@ -66,7 +66,8 @@ script_is_read told mid script items bytes m e h = subst (λ t. ReadsScript t sc
 
 -- ---- its lines
 
-pub lines_carried : (told : Option Files) (script bytes : List ℕ) (word reads now first last : ℕ) (written after : Option (List ℕ)) (status : RunStatus) (lines shown : List ScriptLine) → shown ≡ lines → ReadsScript told script bytes
+pub lines_carried : (told : Option Files) (script bytes : List ℕ) (word reads now first last : ℕ) (written after : Option (List ℕ)) (status : RunStatus) (lines shown : List ScriptLine) → shown ≡ lines
+    → ReadsScript told script bytes
     → IsScript bytes (map request_so lines) → IsCarried told (map request_so shown) reads now first last written after status → EndsScript told script word reads now first last written after status
 lines_carried told script bytes word reads now first last written after status lines shown e r i c =
     carries bytes (map request_so shown) r (subst (λ (ls : List ScriptLine). IsScript bytes (map request_so ls)) (sym e) i) c

@@ -1,5 +1,6 @@
 //! Scripts, line by line.
-ghost use Rattle.std.specs.Prelude.{◌≡◌, ◌++◌, ℕ, ◌-◌, ◌<◌, ◌^◌, List as ListOf, Contains, IsUtf8, length, map, IfOk, IfErr, MatchOption};
+ghost use Rattle.std.specs.Prelude.{◌≡◌, ◌++◌, ℕ, ◌-◌, ◌<◌, ◌^◌, List as ListOf, Contains};
+ghost use Rattle.std.specs.Prelude.{IsUtf8, length, map, IfOk, IfErr, MatchOption};
 ghost use Rattle.analysis_answers.specs.Words.{IsFile};
 ghost use Rattle.dia_session_command.specs.Script.{request_line, request_so, request_text, IsGood, IsScript, IsScriptFault, Request};
 ghost use Rattle.dia_session_command.specs.steps.Lines.{IsEnd};

@@ -68,7 +68,8 @@ pub fn dia_session<R: Threads + Wait + Sync, F: Shelf, K: Sink, G: Gate + Sync>(
         (λ held. (word number : ℕ) → (result ≡ bad_line word number) ↔ HasBadLine (texts words.now) held word number) }
     ensures done { IsAnswer result → IfSome (F.held shelf.old) (λ held. (result ≡ RunStatus.Done) ↔ HasGoodScript (texts words.now) held) }
     ensures read { (number : ℕ) → result ≡ RunStatus.DeviceFault (Device.Read number)
-        → FailsToRead (texts words.now) (F.held shelf.old) number (F.read_faults shelf.old) (F.read_faults shelf.new) (K.written out.old) (K.written out.new) }
+        → FailsToRead (texts words.now) (F.held shelf.old) number (F.read_faults shelf.old) (F.read_faults shelf.new) (K.written out.old)
+        (K.written out.new) }
     ensures write { result ≡ RunStatus.DeviceFault Device.Write
         → FailsToWrite (texts words.now) (F.held shelf.old) (F.read_faults shelf.old) (F.read_faults shelf.new)
         (K.faults out.old) (K.faults out.new) (K.written out.old) (K.written out.new) }

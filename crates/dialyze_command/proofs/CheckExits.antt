@@ -39,7 +39,8 @@ answers (long_table command reports new at name a b c d names long) = subst IsAn
 answers (passed command reports new says c d f) = says_answer says
 answers (made count asks is c) = summary_answer is
 
-pub outcome_of : {words : List (List ℕ)} {told after : Option Files} {rb rn n k : ℕ} {status : Status} {output : List ℕ} → IsAnswer status → Intended words told rb rn n k status output after → Outcome words told status output after
+pub outcome_of : {words : List (List ℕ)} {told after : Option Files} {rb rn n k : ℕ} {status : Status} {output : List ℕ} → IsAnswer status → Intended words told rb rn n k status output after
+    → Outcome words told status output after
 outcome_of h (answered o) = o
 outcome_of h (unread word name a b c d rose) = absurd (subst IsAnswer a h)
 outcome_of h (unreplaced word name a b d rose) = absurd (subst IsAnswer a h)
@@ -126,7 +127,8 @@ usage_from (long_table command reports new at name a b c d names long) none = ab
 usage_from (passed command reports new says c d f) none = absurd (no_command none d.begins.checks)
 usage_from (made count asks is c) none = absurd (none (inr (count, asks)))
 
-pub usage_it : (words : List (List ℕ)) (told after : Option Files) (rb rn n k : ℕ) (status : Status) (output : List ℕ) → Intended words told rb rn n k status output after → IsAnswer status → (status ≡ Usage) ↔ IsNoCommand words
+pub usage_it : (words : List (List ℕ)) (told after : Option Files) (rb rn n k : ℕ) (status : Status) (output : List ℕ) → Intended words told rb rn n k status output after → IsAnswer status
+    → (status ≡ Usage) ↔ IsNoCommand words
 usage_it words told after rb rn n k status output h answer = (usage_to (outcome_of answer h), usage_from (outcome_of answer h))
 
 many_to : {words : List (List ℕ)} {told after : Option Files} {status : Status} {output : List ℕ} → Outcome words told status output after → status ≡ too_many → ChecksTooMany words
@@ -152,7 +154,8 @@ many_from (long_table command reports new at name a b c d names long) h = absurd
 many_from (passed command reports new says c d f) h = absurd (few_files h d.begins.checks)
 many_from (made count asks is c) h = absurd (one_command h.check asks)
 
-pub too_many_it : (words : List (List ℕ)) (told after : Option Files) (rb rn n k : ℕ) (status : Status) (output : List ℕ) → Intended words told rb rn n k status output after → IsAnswer status → (status ≡ too_many) ↔ ChecksTooMany words
+pub too_many_it : (words : List (List ℕ)) (told after : Option Files) (rb rn n k : ℕ) (status : Status) (output : List ℕ) → Intended words told rb rn n k status output after → IsAnswer status
+    → (status ≡ too_many) ↔ ChecksTooMany words
 too_many_it words told after rb rn n k status output h answer = (many_to (outcome_of answer h), many_from (outcome_of answer h))
 
 -- ---- the faults of devices
@@ -199,7 +202,8 @@ no_memory (answered o) e = absurd (subst IsAnswer e (answers o))
 no_memory (unread word name a b c d rose) e = let k = sym a ∙ e in absurd cc
 no_memory (unreplaced word name a b d rose) e = let k = sym a ∙ e in absurd cc
 
-pub memory_it : (words : List (List ℕ)) (told after : Option Files) (rb rn n k : ℕ) (status : Status) (output : List ℕ) (before now : Option (List ℕ)) → Intended words told rb rn n k status output after → status ≡ Memory → now ≡ before
+pub memory_it : (words : List (List ℕ)) (told after : Option Files) (rb rn n k : ℕ) (status : Status) (output : List ℕ) (before now : Option (List ℕ)) → Intended words told rb rn n k status output after → status ≡ Memory
+    → now ≡ before
 memory_it words told after rb rn n k status output before now h e = absurd (no_memory h e)
 
 -- ---- no other status
@@ -283,7 +287,8 @@ stays (answered o) none h = stays_outcome o none h
 stays (unread word name a b c d rose) none h = c
 stays (unreplaced word name a b d rose) none h = absurd (subst StoresNothing a h)
 
-pub stays_it : (words : List (List ℕ)) (told after : Option Files) (rb rn n k : ℕ) (status : Status) (output : List ℕ) → Intended words told rb rn n k status output after → IsNoMake words → StoresNothing status → after ≡ told
+pub stays_it : (words : List (List ℕ)) (told after : Option Files) (rb rn n k : ℕ) (status : Status) (output : List ℕ) → Intended words told rb rn n k status output after → IsNoMake words → StoresNothing status
+    → after ≡ told
 stays_it words told after rb rn n k status output h none is = stays h none is
 
 -- ---- a make without memory left

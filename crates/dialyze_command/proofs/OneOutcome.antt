@@ -224,7 +224,8 @@ module _ (one_list : OneList) (one_refusal : OneRefusal) (none_refused : NoneRef
       → Begins words (Some held) command files → ⊥
   begins_not = causes.faulty_begins one_list one_refusal none_refused fault_once no_fault
 
-  only_faulty : {words : List (List ℕ)} {held : Files} {status : Status} {output : List ℕ} {after : Option Files} (word : ℕ) (name bytes : List ℕ) (fault : FaultOfTable) → NamesTable words word name → Holds (Some held) name bytes
+  only_faulty : {words : List (List ℕ)} {held : Files} {status : Status} {output : List ℕ} {after : Option Files} (word : ℕ) (name bytes : List ℕ) (fault : FaultOfTable) → NamesTable words word name
+      → Holds (Some held) name bytes
       → IsFaultOf bytes fault → Outcome words (Some held) status output after → IsOne status (faulty_table fault) output (table_fault_line name fault) after (Some held)
   only_faulty word name bytes fault h holds is (usage a b c d) = absurd (no_command_checks h.checks d)
   only_faulty word name bytes fault h holds is (many a b c d) = absurd (not_many h.checks d)
@@ -239,7 +240,8 @@ module _ (one_list : OneList) (one_refusal : OneRefusal) (none_refused : NoneRef
   only_faulty word name bytes fault h holds is (passed command reports new says c d f) = absurd (begins_not h holds is d.begins)
   only_faulty word name bytes fault h holds is (made count asks said c) = absurd (no_make h.checks asks)
 
-  only_made : {words : List (List ℕ)} {held : Files} {status other : Status} {output that : List ℕ} {after : Option Files} (count : ℕ) → IsMake words count → IsSummary count other that → Outcome words (Some held) status output after
+  only_made : {words : List (List ℕ)} {held : Files} {status other : Status} {output that : List ℕ} {after : Option Files} (count : ℕ) → IsMake words count → IsSummary count other that
+      → Outcome words (Some held) status output after
       → IsOne status other output that after (with_first count count (Some held))
   only_made count asks is (usage a b c d) = absurd (d (inr (count, asks)))
   only_made count asks is (many a b c d) = absurd (one_command d.check asks)
@@ -258,7 +260,8 @@ module _ (one_list : OneList) (one_refusal : OneRefusal) (none_refused : NoneRef
   turned h = (sym h.0, sym h.1, sym h.2)
 
   -- the first is this, and so is the second
-  after_this : {status other is : Status} {output that line : List ℕ} {after then held : Option Files} → status ≡ is → output ≡ line → after ≡ held → IsOne other is that line then held → IsOne status other output that after then
+  after_this : {status other is : Status} {output that line : List ℕ} {after then held : Option Files} → status ≡ is → output ≡ line → after ≡ held → IsOne other is that line then held
+      → IsOne status other output that after then
   after_this a b c h = both a b c h.0 h.1 h.2
 
   pub one_outcome : OneOutcomeLaw

@@ -145,7 +145,8 @@ module _ (words : List (Bor (List ℕ))) (command : Command) (checks : Checks (t
   module _ (told : Option Files) (rb rn : ℕ) where
     module _ (table : Table) (begun : IsBegun (texts words) told command.plt table) where
       -- the word and the fault as the code names them
-      pub refused_words : (word : ℕ) (fault : SourceFault) (v : ℕ) (f : SourceFault) (d : Bor (List ℕ)) (status : Status) (output : List ℕ) → Fails told files command.start rb rn (read.Refused word fault) → v ≡ word → f ≡ fault
+      pub refused_words : (word : ℕ) (fault : SourceFault) (v : ℕ) (f : SourceFault) (d : Bor (List ℕ)) (status : Status) (output : List ℕ) → Fails told files command.start rb rn (read.Refused word fault) → v ≡ word
+          → f ≡ fault
           → status ≡ refused v f → output ≡ refusal_line (get_or words v d).now f → p.IsPlan (texts words) told rb rn status output None
       refused_words word fault v f d status output fails is same s o =
           let file = refused_name fails.2 in
@@ -217,7 +218,8 @@ twins_output words start first second d e output h k o file other x y =
 
 -- ---- the table that is to be written
 
-pub made_named : (words : List (Bor (List ℕ))) (out : Option ℕ) (word : ℕ) (d : Bor (List ℕ)) (reports : List (List ℕ)) (new : Table) (answer : Answer) (r : Result CheckPlan Memory) → out ≡ Some word → IfSome out (λ w. w < length words)
+pub made_named : (words : List (Bor (List ℕ))) (out : Option ℕ) (word : ℕ) (d : Bor (List ℕ)) (reports : List (List ℕ)) (new : Table) (answer : Answer) (r : Result CheckPlan Memory) → out ≡ Some word
+    → IfSome out (λ w. w < length words)
     → SaysWhether answer.status answer.output → answer.output ≡ concat reports → IfOk r (λ q. p.IsNewAs (get_or words word d).now word answer new q.answer.status q.answer.output q.table)
     → IfOk r (λ q. p.IsMade (texts words) out reports new q.answer.status q.answer.output q.table)
 made_named words out word d reports new answer (Err e) given h says o is = tt
@@ -257,7 +259,8 @@ reads_plan ws told mid early rb rn (Ok q) same h is = plan_since h (subst (λ t.
 pub begun_table : (ws : List (List ℕ)) (told mid : Option Files) (plt : Option ℕ) (rb rn : ℕ) (b : Begun) (table : Table) → mid ≡ told → b ≡ Reads table → p.IsBegunAs ws told plt rb rn b → IsBegun ws mid plt table
 begun_table ws told mid plt rb rn b table same is h = subst (λ t. IsBegun ws t plt table) (sym same) (subst (p.IsBegunAs ws told plt rb rn) is h)
 
-pub says_plan : (ws : List (List ℕ)) (told : Option Files) (rb rn : ℕ) (command : Command) (files : List (List ℕ)) (b : Begun) (answer : Answer) → Checks ws command files → b ≡ Says answer → p.IsBegunAs ws told command.plt rb rn b
+pub says_plan : (ws : List (List ℕ)) (told : Option Files) (rb rn : ℕ) (command : Command) (files : List (List ℕ)) (b : Begun) (answer : Answer) → Checks ws command files → b ≡ Says answer
+    → p.IsBegunAs ws told command.plt rb rn b
     → p.IsPlan ws told rb rn answer.status answer.output None
 says_plan ws told rb rn command files b answer checks is h =
     let k = subst (p.IsBegunAs ws told command.plt rb rn) is h in

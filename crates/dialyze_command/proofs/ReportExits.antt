@@ -31,7 +31,8 @@ said_so {after = after} {output = output} (passed command reports new says c d f
 said_so (made count asks is c) h k = summed count asks is.status_so
 
 -- what is reported, where something else is known of the same lines
-re_reported : {words : List (List ℕ)} {held : Files} {output : List ℕ} {Are : List ℕ → Type 0} → Reports words held (λ lines. lines ≡ output) → ((lines : List ℕ) → lines ≡ output → Are lines) → Reports words held Are
+re_reported : {words : List (List ℕ)} {held : Files} {output : List ℕ} {Are : List ℕ → Type 0} → Reports words held (λ lines. lines ≡ output) → ((lines : List ℕ) → lines ≡ output → Are lines)
+    → Reports words held Are
 re_reported r f = record { command = r.command; reports = r.reports; new = r.new; after = r.after; analyses = r.analyses; stored = r.stored; are = f (concat r.reports) r.are }
 
 clean_said : {words : List (List ℕ)} {held : Files} {status : Status} → Said words held status → status ≡ Clean → Reports words held (λ lines. lines ≡ [])

@@ -15,11 +15,13 @@ use Rattle.dialyze_command.specs.Outcome.{Intended, answered, unreplaced, passed
 use Rattle.dialyze_command.specs.steps.Plans as p
 use Rattle.analysis_answers.proofs.Texts.{texts_at}
 
-pub stored_put : (ws : List (Bor (List ℕ))) (told after : Option Files) (n k : ℕ) (plan : Answer) (made : Option NewTable) (table : NewTable) (d : Bor (List ℕ)) (r : Result Answer Memory) → made ≡ Some table → IfSome made (λ t. t.word < length ws)
+pub stored_put : (ws : List (Bor (List ℕ))) (told after : Option Files) (n k : ℕ) (plan : Answer) (made : Option NewTable) (table : NewTable) (d : Bor (List ℕ)) (r : Result Answer Memory) → made ≡ Some table
+    → IfSome made (λ t. t.word < length ws)
     → IfOk r (λ a. p.IsPutAs (get_or ws table.word d).now told after n k plan table a) → IfOk r (λ a. p.IsStored (texts ws) told after n k plan made a)
 stored_put ws told after n k plan made table d (Err e) some h put = tt
 stored_put ws told after n k plan made table d (Ok a) some h (p.taken same is) = p.put table (get_or ws table.word d).now some (texts_at ws table.word d (subst (λ o. IfSome o (λ t. t.word < length ws)) some h)) same is
-stored_put ws told after n k plan made table d (Ok a) some h (p.refused_so s o rose whole) = p.failed table (get_or ws table.word d).now some (texts_at ws table.word d (subst (λ o. IfSome o (λ t. t.word < length ws)) some h)) s o rose whole
+stored_put ws told after n k plan made table d (Ok a) some h (p.refused_so s o rose whole) =
+    p.failed table (get_or ws table.word d).now some (texts_at ws table.word d (subst (λ o. IfSome o (λ t. t.word < length ws)) some h)) s o rose whole
 
 one_name : (words : List (List ℕ)) (word : ℕ) (name other : List ℕ) → slice_get words word ≡ Some name → slice_get words word ≡ Some other → name ≡ other
 one_name words word name other e f = let k = sym e ∙ f in cc
@@ -59,7 +61,8 @@ carried words told after rb rn n k plan made a (p.stores command reports new tab
     }))
     rose
 
-pub answered_so : (words : List (List ℕ)) (told mid after : Option Files) (rb rm rn n m k : ℕ) (plan : CheckPlan) (r : Result Answer Memory) → p.IsPlan words told rb rm plan.answer.status plan.answer.output plan.table → mid ≡ told → m ≡ n → rn ≡ rm
+pub answered_so : (words : List (List ℕ)) (told mid after : Option Files) (rb rm rn n m k : ℕ) (plan : CheckPlan) (r : Result Answer Memory) → p.IsPlan words told rb rm plan.answer.status plan.answer.output plan.table → mid ≡ told
+    → m ≡ n → rn ≡ rm
     → IfOk r (λ a. p.IsStored words mid after m k plan.answer plan.table a) → IfOk r (λ a. Intended words told rb rn n k a.status a.output after)
 answered_so words told mid after rb rm rn n m k plan (Err e) is same also reads stored = tt
 answered_so words told mid after rb rm rn n m k plan (Ok a) is same also reads stored =

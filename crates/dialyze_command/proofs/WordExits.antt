@@ -1,5 +1,6 @@
 -- Which words are a command.
-use Rattle.std.proofs.Common.{◌≡◌, ◌≢◌, ◌↔◌, ℕ, nat_eq, zero, suc, ◌+◌, ◌-◌, ◌<◌, ◌≤◌, Bool, false, true, List, [], ◌∷◌, ◌++◌, length, drop, take, get_or, refl, sym, ap, ap₂, ◌∙◌, subst, arith, true≢false}
+use Rattle.std.proofs.Common.{◌≡◌, ◌≢◌, ◌↔◌, ℕ, nat_eq, zero, suc, ◌+◌, ◌-◌, ◌<◌, ◌≤◌, Bool, false, true, List, []}
+use Rattle.std.proofs.Common.{◌∷◌, ◌++◌, length, drop, take, get_or, refl, sym, ap, ap₂, ◌∙◌, subst, arith, true≢false}
 use Rattle.std.specs.Prelude.{IsTrue, codes, not, Option, Some, None, MatchOption}
 use Rattle.std.specs.Fmt.{decimal}
 use Rattle.std.proofs.lemmas.Bool.{not-false}
@@ -154,7 +155,8 @@ ends_more ws more rest w v o before next found e f g adds h =
     by None k = first_none o v.now (texts rest) before next adds k
     by (Some now) k = first_more o v.now (texts rest) before next now adds k
 
-pub none_bad : (ws more rest : List (Bor (List ℕ))) (w v : Bor (List ℕ)) (o : OptionName) (before : Command) → ws ≡ w ∷ more → more ≡ v ∷ rest → w.now ≡ option_word o → AddsNothing o v.now before → HasNoOptions (texts ws) before
+pub none_bad : (ws more rest : List (Bor (List ℕ))) (w v : Bor (List ℕ)) (o : OptionName) (before : Command) → ws ≡ w ∷ more → more ≡ v ∷ rest → w.now ≡ option_word o → AddsNothing o v.now before
+    → HasNoOptions (texts ws) before
 none_bad ws more rest w v o before e f g bad =
     subst (λ ts. HasNoOptions ts before) (sym (two_words ws more rest w v o e f g)) (first_bad o v.now (texts rest) before bad)
 

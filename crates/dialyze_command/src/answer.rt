@@ -2,7 +2,8 @@
 ghost use Rattle.std.specs.Prelude.{◌≡◌, ◌≢◌, IfOk};
 ghost use Rattle.std.specs.List.{concat};
 ghost use Rattle.analysis_sources.specs.Refusals.{refusal_line};
-ghost use Rattle.dialyze_command.specs.Lines.{usage_line, refused, too_many, too_many_line, duplicate, duplicate_line, read_fault_line, faulty_table, table_fault_line};
+ghost use Rattle.dialyze_command.specs.Lines.{usage_line, refused, too_many, too_many_line, duplicate};
+ghost use Rattle.dialyze_command.specs.Lines.{duplicate_line, read_fault_line, faulty_table, table_fault_line};
 ghost use Rattle.dialyze_command.specs.Outcome.{SaysWhether};
 
 use crate::status::Status;

@@ -14,7 +14,9 @@ use Rattle.core_scope.specs.declared.ask.Ask.TheVariants.{AnyNumber, Exactly}
 use Rattle.type_lattice_model.specs.Values.{Local}
 use Rattle.core_meaning.specs.Programs.{Program, Found, built_in, exported, hidden, outside, found, function_named, locals_of}
 use Rattle.fun_flow_sets.specs.Items.{Item, anything, closure_at, external_function, Place, anywhere, part, Rule, holds, flows, applies}
-use Rattle.fun_flow_sets.specs.Rules.{IsAmong, kept, places, places_of_all, places_of_pairs, after_steps, all_into, application_rules, argument_rules, call_rules, export_rules, found_rules, handing_on, in_function, into_parameters, into_parts, module_rules, name_rules, opens, opens_definition, passed_to, rules, rules_of_all, rules_of_clauses, rules_of_definitions, rules_of_heads, rules_of_modules, rules_of_pairs, rules_of_pat_pairs, rules_of_pat_segments, rules_of_pattern, rules_of_patterns, rules_of_segments, rules_of_steps}
+use Rattle.fun_flow_sets.specs.Rules.{IsAmong, kept, places, places_of_all, places_of_pairs, after_steps, all_into, application_rules, argument_rules, call_rules, export_rules, found_rules, handing_on}
+use Rattle.fun_flow_sets.specs.Rules.{in_function, into_parameters, into_parts, module_rules, name_rules, opens, opens_definition, passed_to, rules, rules_of_all, rules_of_clauses, rules_of_definitions}
+use Rattle.fun_flow_sets.specs.Rules.{rules_of_heads, rules_of_modules, rules_of_pairs, rules_of_pat_pairs, rules_of_pat_segments, rules_of_pattern, rules_of_patterns, rules_of_segments, rules_of_steps}
 use Rattle.fun_flow_sets.specs.Sets.{Holds, may_any, may_hold, may_flow, may_enter, may_give}
 use Rattle.fun_flow_sets.specs.Scopes.{Scope, definition_of, first, fit, in_frame, no_place, rest, with_heads, with_pattern, with_patterns, with_place, with_places}
 
@@ -196,11 +198,13 @@ among_cases (x ∷ rs) qs r (inr h) = by (among_cases rs qs r h)
     by (inr i) = inr i
 
 -- an application of a program stands in the rules of a module that has its name
-pub module_of_application : (U ps : Program) (home : Atom) (p : Place) (n l : ℕ) → IsAmong (rules_of_modules U ps) (applies p n home l) → (x : m.Module) × Contains ps x × (x.name ≡ home) × IsAmong (module_rules U x) (applies p n home l)
+pub module_of_application : (U ps : Program) (home : Atom) (p : Place) (n l : ℕ) → IsAmong (rules_of_modules U ps) (applies p n home l)
+    → (x : m.Module) × Contains ps x × (x.name ≡ home) × IsAmong (module_rules U x) (applies p n home l)
 module_of_application U [] home p n l h = absurd h
 module_of_application U (x ∷ ps) home p n l h = by (among_cases (module_rules U x) (rules_of_modules U ps) (applies p n home l) h) (λ i. module_of_application U ps home p n l i)
   where
-    by : IsAmong (module_rules U x) (applies p n home l) ⊎ IsAmong (rules_of_modules U ps) (applies p n home l) → (IsAmong (rules_of_modules U ps) (applies p n home l) → (y : m.Module) × Contains ps y × (y.name ≡ home) × IsAmong (module_rules U y) (applies p n home l))
+    by : IsAmong (module_rules U x) (applies p n home l) ⊎ IsAmong (rules_of_modules U ps) (applies p n home l)
+        → (IsAmong (rules_of_modules U ps) (applies p n home l) → (y : m.Module) × Contains ps y × (y.name ≡ home) × IsAmong (module_rules U y) (applies p n home l))
         → (y : m.Module) × Contains (x ∷ ps) y × (y.name ≡ home) × IsAmong (module_rules U y) (applies p n home l)
     by (inl i) more = (x, contains_first x ps, sym (home_is x.name home (module_rules U x) p n l (module_at U x) i), i)
     by (inr i) more = let k = more i in (k.0, contains_later x k.0 ps k.1, k.2, k.3)

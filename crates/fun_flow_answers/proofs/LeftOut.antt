@@ -68,7 +68,8 @@ said_at once mods distinct cs label x i y p n c at rule held among here labelled
     let held_there : Holds U f.operator x = subst (λ q. Holds U q x) same.0 held in
     record { call = c; among = among; module_so = y; at = there; named = refl; labelled = labelled; says = said U f.operator c c.targets x refl f.targets held_there }
 
-pub left_out : AreOnce → (mods : List Checked) → Distinct (names_of (map tree_of mods)) → (cs : List AppliedCall) → AreCalls (map tree_of mods) cs → (home : Atom) (label : ℕ) (x : Item) → MayEnter (map tree_of mods) home label x → IsSaid (map tree_of mods) cs home label x
+pub left_out : AreOnce → (mods : List Checked) → Distinct (names_of (map tree_of mods)) → (cs : List AppliedCall) → AreCalls (map tree_of mods) cs → (home : Atom) (label : ℕ) (x : Item)
+    → MayEnter (map tree_of mods) home label x → IsSaid (map tree_of mods) cs home label x
 left_out once mods distinct cs are home label x (p, (n, (stands, held))) =
     let k = module_of_application (map tree_of mods) (map tree_of mods) home p n label stands in
     by k.0 k.1 k.2

@@ -81,7 +81,8 @@ one_rule once mods distinct i x p q n k l at f g =
     one_application (module_rules U x) p q n k x.name x.name l labels (in_own_rules U i x p n l distinct at f) (in_own_rules U i x q k l distinct at g)
 
 -- what is said of the application at a label
-one_call : AreOnce → (mods : List Checked) → Distinct (names_of (map tree_of mods)) → (c d : AppliedCall) → IsCall (map tree_of mods) c → IsCall (map tree_of mods) d → c.«module» ≡ d.«module» → c.label ≡ d.label → c ≡ d
+one_call : AreOnce → (mods : List Checked) → Distinct (names_of (map tree_of mods)) → (c d : AppliedCall) → IsCall (map tree_of mods) c → IsCall (map tree_of mods) d → c.«module» ≡ d.«module» → c.label ≡ d.label
+    → c ≡ d
 one_call once mods distinct c d f g at label =
     let U : Program = map tree_of mods in
     let home : f.home ≡ g.home = same_Some f.home g.home (sym f.at ∙ ap (slice_get U) at ∙ g.at) in
@@ -94,7 +95,8 @@ one_call once mods distinct c d f g at label =
     λ i. record { «module» = at i; label = label i; line = line i; arity = same.1 i; targets = targets i }
 
 -- what one list has another has
-part_of : AreOnce → (mods : List Checked) → Distinct (names_of (map tree_of mods)) → (cs ds : List AppliedCall) → AreCalls (map tree_of mods) cs → AreCalls (map tree_of mods) ds → (c : AppliedCall) → Contains cs c → Contains ds c
+part_of : AreOnce → (mods : List Checked) → Distinct (names_of (map tree_of mods)) → (cs ds : List AppliedCall) → AreCalls (map tree_of mods) cs → AreCalls (map tree_of mods) ds → (c : AppliedCall) → Contains cs c
+    → Contains ds c
 part_of once mods distinct cs ds a b c h =
     let f = a.each c h in
     let d = b.all c.«module» f.home f.operator c.arity c.label f.at f.stands in

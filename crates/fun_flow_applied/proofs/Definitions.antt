@@ -27,7 +27,8 @@ defined_first f label l ds o b e h = by (nat_eq label l)
     by false = h
 
 pub definition_round : (old new : BTreeMap ℕ (Bor FunName)) (ds : List (FunDefOf Expr)) (i : ℕ) (d : FunDefOf Expr) (b : Bor FunName) → i < length ds → d ≡ get_or ds i d → b.now ≡ d.name
-    → ((l : ℕ) → get nat_cmp new l ≡ cond (is_at (nat_cmp d.mark.label) l) (Some b) (get nat_cmp old l)) → ((l : ℕ) → name_at old l ≡ name_with (all_defs (drop (i + 1) ds)) l) → (l : ℕ) → name_at new l ≡ name_with (all_defs (drop i ds)) l
+    → ((l : ℕ) → get nat_cmp new l ≡ cond (is_at (nat_cmp d.mark.label) l) (Some b) (get nat_cmp old l)) → ((l : ℕ) → name_at old l ≡ name_with (all_defs (drop (i + 1) ds)) l) → (l : ℕ)
+    → name_at new l ≡ name_with (all_defs (drop i ds)) l
 definition_round old new ds i d b within is named updates before l =
     let rest : m.Defs = all_defs (drop (i + 1) ds) in
     ap (option_map (λ (x : Bor FunName). x.now)) (updates l ∙ ap (λ c. cond c (Some b) (get nat_cmp old l)) (same_label d.mark.label l))

@@ -37,7 +37,8 @@ pub entered_anything : (ts : List ModuleText) (held : HeldNumbers) (p : FlowPlac
 entered_anything ts held p n numbers i x got anything are within is item says so =
     any_function (x, (are x).0 (subst (Contains numbers) (sym is) (Contains-get_or numbers i x within)), found_anything (item_at held x) (ap anything_in (sym item) ∙ sym says ∙ so))
 
-pub is_none : (held : HeldNumbers) (x : ℕ) (got : Option (Bor Item)) (anything : Bool) → option_copied got ≡ item_at held x → anything ≡ anything_in (option_copied got) → anything ≡ false → item_at held x ≡ Some Anything → ⊥
+pub is_none : (held : HeldNumbers) (x : ℕ) (got : Option (Bor Item)) (anything : Bool) → option_copied got ≡ item_at held x → anything ≡ anything_in (option_copied got) → anything ≡ false → item_at held x ≡ Some Anything
+    → ⊥
 is_none held x got anything item says so e = true≢false (sym (ap anything_in e) ∙ ap anything_in (sym item) ∙ sym says ∙ so)
 
 -- one more number is passed
@@ -57,7 +58,8 @@ module _ (ts : List ModuleText) (held : HeldNumbers) (p : FlowPlace) (n : ℕ) (
   is_listed : (t : Target) → IsListedAt ts held p n t → Contains (filter_map (number_in ts held n) numbers) t
   is_listed t h = is_kept (number_in ts held n) numbers h.0 t ((are h.0).1 h.2) (ap (item_in ts n) h.3 ∙ h.4)
 
-  pub entered_only : (found us : List Target) → found ≡ filter_map (number_in ts held n) numbers → All (λ x. item_at held x ≡ Some Anything → ⊥) numbers → IsStrictlySortedBy target_cmp us → ((t : Target) → Contains us t ↔ Contains found t)
+  pub entered_only : (found us : List Target) → found ≡ filter_map (number_in ts held n) numbers → All (λ x. item_at held x ≡ Some Anything → ⊥) numbers → IsStrictlySortedBy target_cmp us
+      → ((t : Target) → Contains us t ↔ Contains found t)
       → AreEntered ts held p n (l.Only us)
   entered_only found us is none up same =
       only_these us (λ h. All-contains (λ x. item_at held x ≡ Some Anything → ⊥) numbers h.0 none ((are h.0).1 h.1) h.2) up

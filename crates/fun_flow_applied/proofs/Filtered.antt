@@ -15,7 +15,8 @@ module _ {X Y : Type 0} (h : X → Option Y) where
       ∙ ap (λ y. filter_map h (take i xs ++ y ∷ [])) is ∙ ap (filter_map h) (sym (take-suc xs i x within))
       ∙ ap (λ n. filter_map h (take n xs)) {x = suc i} {y = i + 1} (omega arith)
 
-  kept_here : (x : X) (xs : List X) (y : Y) (o : Option Y) → h x ≡ o → Contains (cons_option o (filter_map h xs)) y → (Contains (filter_map h xs) y → (z : X) × Contains xs z × (h z ≡ Some y)) → (z : X) × Contains (x ∷ xs) z × (h z ≡ Some y)
+  kept_here : (x : X) (xs : List X) (y : Y) (o : Option Y) → h x ≡ o → Contains (cons_option o (filter_map h xs)) y → (Contains (filter_map h xs) y → (z : X) × Contains xs z × (h z ≡ Some y))
+      → (z : X) × Contains (x ∷ xs) z × (h z ≡ Some y)
   kept_here x xs y None e c more = let k = more c in (k.0, contains_later x k.0 xs k.1, k.2)
   kept_here x xs y (Some z) e c more = elim (contains_cases z y (filter_map h xs) c) [
     | inl same ↦ (x, contains_first x xs, e ∙ ap Some same)

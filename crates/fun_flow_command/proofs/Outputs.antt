@@ -24,7 +24,8 @@ lists_so ss calls output are o = record {
   lines = o ∙ ap (λ ns. call_lines ns calls) (names_so ss);
 }
 
-pub lists_ok : (ss : List HandedIn) (calls got : List AppliedCall) (r : Result (List ℕ) Memory) → AreCalls (map (λ (s : HandedIn). tree_of s.checked) ss) calls → got ≡ calls → IfOk r (λ output. output ≡ call_lines (names ss) got)
+pub lists_ok : (ss : List HandedIn) (calls got : List AppliedCall) (r : Result (List ℕ) Memory) → AreCalls (map (λ (s : HandedIn). tree_of s.checked) ss) calls → got ≡ calls
+    → IfOk r (λ output. output ≡ call_lines (names ss) got)
     → IfOk r (λ output. Lists (sources_so ss) output)
 lists_ok ss calls got (Err e) are same h = tt
 lists_ok ss calls got (Ok output) are same h = lists_so ss calls output are (h ∙ ap (call_lines (names ss)) same)

@@ -44,7 +44,8 @@ pub fn fun_flow<F: Shelf, K: Sink, G: Gate + Sync>(
         (λ held. Answers usage_line Lists (texts words.now) held result (K.written out.old) (K.written out.new)) }
 
     // No run enters what isn't listed.
-    ensures sound { result ≡ RunStatus.Done → IfSome (F.held shelf.old) (λ held. WritesTruth (texts words.now) held (K.written out.old) (K.written out.new)) }
+    ensures sound { result ≡ RunStatus.Done → IfSome (F.held shelf.old)
+        (λ held. WritesTruth (texts words.now) held (K.written out.old) (K.written out.new)) }
 
     // When each answer comes.
     ensures usage { IsAnswer result → (result ≡ RunStatus.Usage) ↔ IsNoCommand (texts words.now) }

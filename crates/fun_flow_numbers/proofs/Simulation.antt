@@ -81,7 +81,8 @@ module _ (U : Program) (apart : Distinct (module_names U)) (table : ModuleTable)
   application_stated p count h l c = elim (contains_cases first_rule (Applies p count h l) rules c) [ inl first ↦ absurd cc | inr later ↦ stated (Applies p count h l) later ]
 
   -- the item of a number enters, and is unknown, as over numbers
-  body_enters : (x count r : ℕ) (y : Item) (q : FlowPlace) → slice_get n.items x ≡ Some y → entered_of n.problem.items.items x count ≡ Body r → slice_get n.places r ≡ Some q → s.entered U count (item_named U y) ≡ Some (place_named U q)
+  body_enters : (x count r : ℕ) (y : Item) (q : FlowPlace) → slice_get n.items x ≡ Some y → entered_of n.problem.items.items x count ≡ Body r → slice_get n.places r ≡ Some q
+      → s.entered U count (item_named U y) ≡ Some (place_named U q)
   body_enters x count r y q has e at =
       let b : IsBody U n.places r (s.entered U count (item_named U y)) (s.is_unknown U count (item_named U y)) =
       subst (λ g. Agrees U n.places g (s.entered U count (item_named U y)) (s.is_unknown U count (item_named U y))) e (agrees U apart table of (first_rule ∷ rules) n is items_once x y count has) in
@@ -218,12 +219,14 @@ module _ (U : Program) (apart : Distinct (module_names U)) (table : ModuleTable)
       record { body = b; gives = e; place = record { place = i.place; at = i.there; named = named } }
   entered_by x count Q result unknown Unknown e a r = let none : None ≡ Some Q = sym a.0 ∙ r in absurd cc
 
-  unknown_by : (x count : ℕ) (result : Option s.Place) (unknown : Bool) (g : Gives) → entered_of n.problem.items.items x count ≡ g → Agrees U n.places g result unknown → unknown ≡ true → entered_of n.problem.items.items x count ≡ Unknown
+  unknown_by : (x count : ℕ) (result : Option s.Place) (unknown : Bool) (g : Gives) → entered_of n.problem.items.items x count ≡ g → Agrees U n.places g result unknown → unknown ≡ true
+      → entered_of n.problem.items.items x count ≡ Unknown
   unknown_by x count result unknown Nothing e a u = absurd (true≢false (sym u ∙ a.1))
   unknown_by x count result unknown (Body b) e a u = let i : IsBody U n.places b result unknown = a in absurd (true≢false (sym u ∙ i.is_known))
   unknown_by x count result unknown Unknown e a u = e
 
-  enter_complete : (P Q : s.Place) (count : ℕ) (home : Atom) (label : ℕ) (X Y : s.Item) → IsRule U (s.applies P count home label) → IsComplete P X → s.entered U count X ≡ Some Q → IsComplete Q Y → IsComplete (s.part home label 0) Y
+  enter_complete : (P Q : s.Place) (count : ℕ) (home : Atom) (label : ℕ) (X Y : s.Item) → IsRule U (s.applies P count home label) → IsComplete P X → s.entered U count X ≡ Some Q → IsComplete Q Y
+      → IsComplete (s.part home label 0) Y
   enter_complete P Q count home label X Y r f e h =
       let c = applied_by P count home label r in
       let i = entered_by f.held count Q (s.entered U count X) (s.is_unknown U count X) (entered_of n.problem.items.items f.held count) refl (agrees_named f.held count f.item X f.has f.named) e in

@@ -1,5 +1,6 @@
 //! Values with numbers.
-ghost use Rattle.std.specs.Prelude.{◌≡◌, ℕ, true, [], ◌∷◌, ◌++◌, length, Contains, Some, slice_get, option_copied, IfSome, IfNone, IfOk, OnOk};
+ghost use Rattle.std.specs.Prelude.{◌≡◌, ℕ, true, [], ◌∷◌, ◌++◌, length, Contains, Some};
+ghost use Rattle.std.specs.Prelude.{slice_get, option_copied, IfSome, IfNone, IfOk, OnOk};
 ghost use Rattle.fun_flow_numbers.specs.steps.Numbers.{AreApart, KeepsNumbers};
 
 use fun_flow_places::{FlowPlace, Item};

@@ -80,7 +80,8 @@ module _ (w0 w1 : RuleWalk) (i j : Mark) (f : FunName) (ts : m.Trees) where
     given home (Some d) e = let is : label ≡ d.label = cc in ap (s.returned home) is
 
     pub named_place : (U : Program) (home : Atom) (sc : Scope) → Sees U home sc w0 → s.returned home label ∷ [] ≡ places U home sc one_value (m.apply i (m.local j f) ts)
-    named_place U home sc h = ap (λ q. q ∷ []) (given home (definition_of U home sc f) (some U home sc h)) ∙ ap (λ b. (if b then given_by home (definition_of U home sc f) else s.nowhere) ∷ []) (sym (eq-eqb f.arity (how_many ts) same))
+    named_place U home sc h = ap (λ q. q ∷ []) (given home (definition_of U home sc f) (some U home sc h))
+        ∙ ap (λ b. (if b then given_by home (definition_of U home sc f) else s.nowhere) ∷ []) (sym (eq-eqb f.arity (how_many ts) same))
 
 -- ---- applications of values
 
@@ -139,7 +140,8 @@ module _ (w0 : RuleWalk) (label : ℕ) (x : Atom) (f : FunName) (ps : List FlowP
     λ U home sc k. ap (λ b. if b then s.part home label 0 else s.anywhere) (sym other) ∙ ap (λ z. found_place U home label z x f) (sym (h U home sc k)),
   )
 
-  pub handed_on : (w1 : RuleWalk) (place : FlowPlace) → has_function handing_on f ≡ true → HasFound hit.BuiltIn → place ≡ p.Part w0.home label 0 → Makes w0 w1 (λ U home sc. all_into (map (place_named U) ps) (place_named U place))
+  pub handed_on : (w1 : RuleWalk) (place : FlowPlace) → has_function handing_on f ≡ true → HasFound hit.BuiltIn → place ≡ p.Part w0.home label 0
+      → Makes w0 w1 (λ U home sc. all_into (map (place_named U) ps) (place_named U place))
       → FoundRules w1 × FoundPlace place
   handed_on w1 place on h at one = (
     makes_as w0 w1 (λ U home sc. all_into (map (place_named U) ps) (place_named U place)) (λ U home sc. found_rules home label (found U x f) f (map (place_named U) ps)) one

@@ -44,7 +44,8 @@ joined_step w0 w1 w2 label k t ps one given two =
     (λ U home sc h. ap (passed_to U home label k) (given U home sc (sees_back U home sc w0 w1 one.rest h))))
 
 -- it sees variables of its own
-pub under_step : (w0 w1 w2 w3 : RuleWalk) (around label : ℕ) (k : Ask) (xs : List VarName) (ps : List FlowPlace) (t : m.Tree) → around ≡ length w0.variables → Binds w0 w1 no_rules (λ U home sc. with_places xs (map (place_named U) ps) sc)
+pub under_step : (w0 w1 w2 w3 : RuleWalk) (around label : ℕ) (k : Ask) (xs : List VarName) (ps : List FlowPlace) (t : m.Tree) → around ≡ length w0.variables
+    → Binds w0 w1 no_rules (λ U home sc. with_places xs (map (place_named U) ps) sc)
     → Makes w1 w2 (λ U home sc. joined_rules U home sc label k t)
     → w3 ≡ with_variables w2 (take around w2.variables) → Makes w0 w3 (λ U home sc. joined_rules U home (with_places xs (map (place_named U) ps) sc) label k t)
 under_step w0 w1 w2 w3 around label k xs ps t at bound one left =
@@ -197,7 +198,8 @@ pub definitions_round : (old now new : RuleWalk) (ds : List (FunDefOf Expr)) (i 
     → Going old now (λ U home sc. rules_of_definitions U home sc (all_defs (drop i ds))) all → Going old new (λ U home sc. rules_of_definitions U home sc (all_defs (drop (i + 1) ds))) all
 definitions_round old now new ds i d all within is step before =
     let rest : m.Defs = all_defs (drop (i + 1) ds) in
-    going_on old now new (λ U home sc. rules_of_definitions U home sc (all_defs (drop i ds))) (λ U home sc. body_rules U home sc d.mark.label d.fun.params (tree d.fun.body)) (λ U home sc. rules_of_definitions U home sc rest) all before step
+    going_on old now new (λ U home sc. rules_of_definitions U home sc (all_defs (drop i ds))) (λ U home sc. body_rules U home sc d.mark.label d.fun.params (tree d.fun.body))
+    (λ U home sc. rules_of_definitions U home sc rest) all before step
     (λ U home sc. ap (rules_of_definitions U home sc) (all_defs-next ds i d within ∙ ap (λ x. m.and_def x.name x.mark x.fun.params (tree x.fun.body) rest) (sym is)))
 
 abbrev pub with_functions : RuleWalk → List (FunName × ℕ) → RuleWalk

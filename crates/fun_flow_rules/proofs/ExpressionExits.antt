@@ -88,7 +88,8 @@ module _ (r : Result (List FlowPlace) Memory) (w0 w1 : RuleWalk) (k : Ask) (e : 
   pub catch_exit : (x : Expr) → e.form ≡ f.Catch x → ((i : Mark) → Walks w0 w1 one_value (m.catch i (tree x)) r) → Walks w0 w1 k (tree e) r
   catch_exit x is h = as_tree (m.catch e.mark (tree x)) (catch_tree e x is) (h e.mark)
 
-  pub values_exit : (xs : List Expr) → e.form ≡ f.Values xs → IfOk r (λ ps. Makes w0 w1 (λ U home sc. rules_of_all U home sc (all_trees xs)) × Gives w0 ps (λ U home sc. places_of_all U home sc (all_trees xs))) → Walks w0 w1 k (tree e) r
+  pub values_exit : (xs : List Expr) → e.form ≡ f.Values xs → IfOk r (λ ps. Makes w0 w1 (λ U home sc. rules_of_all U home sc (all_trees xs)) × Gives w0 ps (λ U home sc. places_of_all U home sc (all_trees xs)))
+      → Walks w0 w1 k (tree e) r
   values_exit xs is h = as_tree (m.values e.mark (all_trees xs)) (values_tree e xs is) h
 
 pub literal_exit : (r : Result (List FlowPlace) Memory) (w : RuleWalk) (k : Ask) (e : Expr) (x : Literal) → e.form ≡ f.Lit x → IfOk r (λ ps. ps ≡ p.Nowhere ∷ []) → Walks w w k (tree e) r

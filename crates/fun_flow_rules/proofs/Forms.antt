@@ -47,7 +47,8 @@ pub flow_makes : (old new : RuleWalk) (from place : FlowPlace) (q to : OnePlace)
 flow_makes old new from place q to e f g = makes_one old new (Flows from place) (λ U home sc. s.flows (q U home sc) (to U home sc)) e
     (λ U home sc h. ap (λ z. s.flows z (place_named U place)) (f U home sc h) ∙ ap (s.flows (q U home sc)) (g U home sc h))
 
-pub all_makes : (old new : RuleWalk) (ps : List FlowPlace) (place : FlowPlace) (f : PlacesOf) (to : OnePlace) → Makes old new (λ U home sc. all_into (map (place_named U) ps) (place_named U place)) → Gives old ps f → GivesOne old place to
+pub all_makes : (old new : RuleWalk) (ps : List FlowPlace) (place : FlowPlace) (f : PlacesOf) (to : OnePlace) → Makes old new (λ U home sc. all_into (map (place_named U) ps) (place_named U place)) → Gives old ps f
+    → GivesOne old place to
     → Makes old new (λ U home sc. all_into (f U home sc) (to U home sc))
 all_makes old new ps place f to h g k = makes_as old new (λ U home sc. all_into (map (place_named U) ps) (place_named U place)) (λ U home sc. all_into (f U home sc) (to U home sc)) h
     (λ U home sc e. ap (λ l. all_into l (place_named U place)) (g U home sc e) ∙ ap (all_into (f U home sc)) (k U home sc e))
@@ -56,7 +57,8 @@ all_makes old new ps place f to h g k = makes_as old new (λ U home sc. all_into
 
 module _ (r : Result (List FlowPlace) Memory) (w0 w1 : RuleWalk) (k : Ask) (t : m.Tree) where
   -- the rules of the expression were made, and one place is given
-  pub one_exit : (place : FlowPlace) (to : OnePlace) → Makes w0 w1 (λ U home sc. rules U home sc k t) → GivesOne w0 place to → ((U : Program) (home : Atom) (sc : Scope) → Sees U home sc w0 → to U home sc ∷ [] ≡ places U home sc k t)
+  pub one_exit : (place : FlowPlace) (to : OnePlace) → Makes w0 w1 (λ U home sc. rules U home sc k t) → GivesOne w0 place to
+      → ((U : Program) (home : Atom) (sc : Scope) → Sees U home sc w0 → to U home sc ∷ [] ≡ places U home sc k t)
       → IfOk r (λ ps. ps ≡ place ∷ []) → Walks w0 w1 k t r
   one_exit place to h g same = IfOk-weaker r _ _ (λ ps e. (h, λ U home sc s. ap (map (place_named U)) e ∙ ap (λ q. q ∷ []) (g U home sc s) ∙ same U home sc s))
 
@@ -92,10 +94,12 @@ pub none_found : (o : Option Local) → None ≡ label_of o → o ≡ None
 none_found None e = refl
 none_found (Some d) e = absurd cc
 
-pub name_none : (w : RuleWalk) (i : Mark) (f : FunName) → ((U : Program) (home : Atom) (sc : Scope) → Sees U home sc w → None ≡ label_of (definition_of U home sc f)) → Makes w w (λ U home sc. rules U home sc one_value (m.local i f))
+pub name_none : (w : RuleWalk) (i : Mark) (f : FunName) → ((U : Program) (home : Atom) (sc : Scope) → Sees U home sc w → None ≡ label_of (definition_of U home sc f))
+    → Makes w w (λ U home sc. rules U home sc one_value (m.local i f))
 name_none w i f e = makes_as w w no_rules (λ U home sc. rules U home sc one_value (m.local i f)) (makes_none w) (λ U home sc h. sym (ap (name_rules home i.label) (none_found (definition_of U home sc f) (e U home sc h))))
 
-found_rules : (home : Atom) (at label : ℕ) (f : FunName) (o : Option Local) → HaveArity f o → Some label ≡ label_of o → (s.holds (s.part home at 0) (s.closure_at home label f.arity) ∷ []) ++ opens home label 0 f.arity ≡ name_rules home at o
+found_rules : (home : Atom) (at label : ℕ) (f : FunName) (o : Option Local) → HaveArity f o → Some label ≡ label_of o
+    → (s.holds (s.part home at 0) (s.closure_at home label f.arity) ∷ []) ++ opens home label 0 f.arity ≡ name_rules home at o
 found_rules home at label f None h e = absurd cc
 found_rules home at label f (Some d) h e =
     let same : label ≡ d.label = cc in
@@ -109,7 +113,8 @@ name_some w0 w1 w2 i f label arity place at count e one two =
     (makes_then w0 w1 w2 (λ U home sc. s.holds (s.part home i.label 0) (s.closure_at home label arity) ∷ []) (λ U home sc. opens home label 0 arity)
     (hold_makes w0 w1 place (Closure w0.home label arity) (λ U home sc. s.part home i.label 0) (λ U home sc. s.closure_at home label arity) one (part_named w0 i.label place at)
     (λ U home sc h. ap (λ x. s.closure_at x label arity) h.at_home)) two)
-    (λ U home sc h. ap (λ n. (s.holds (s.part home i.label 0) (s.closure_at home label n) ∷ []) ++ opens home label 0 n) count ∙ found_rules home i.label label f (definition_of U home sc f) (definition_arity U home sc f) (e U home sc h))
+    (λ U home sc h. ap (λ n. (s.holds (s.part home i.label 0) (s.closure_at home label n) ∷ []) ++ opens home label 0 n) count
+    ∙ found_rules home i.label label f (definition_of U home sc f) (definition_arity U home sc f) (e U home sc h))
 
 pub external_makes : (w0 w1 : RuleWalk) (i : Mark) (x : Atom) (f : FunName) (place : FlowPlace) → place ≡ p.Part w0.home i.label 0 → w1 ≡ with_rules w0 (w0.rules ++ Holds place (External x f) ∷ [])
     → Makes w0 w1 (λ U home sc. rules U home sc one_value (m.external i x f))

@@ -56,7 +56,8 @@ pairs_round old now mid new ps i x all within is one two before =
     (λ U home sc. ap (rules_of_pairs U home sc) (all_pairs-next ps i x within ∙ ap (λ z. let y = pair_parts z in m.and_pair y.exact y.key y.value rest) (sym is) ∙ ap (λ y. m.and_pair y.exact y.key y.value rest) (pair-is x))
     ∙ sym (append_assoc (rules U home sc one_value (tree x.key)) (rules U home sc one_value (tree x.value)) (rules_of_pairs U home sc rest)))
 
-pub pair_places_round : (old now mid : RuleWalk) (es : List MapPair) (i : ℕ) (x : MapPair) (ps qs rs : List FlowPlace) (p q : FlowPlace) → i < length es → x ≡ get_or es i x → now ≡ with_rules old now.rules → mid ≡ with_rules now mid.rules
+pub pair_places_round : (old now mid : RuleWalk) (es : List MapPair) (i : ℕ) (x : MapPair) (ps qs rs : List FlowPlace) (p q : FlowPlace) → i < length es → x ≡ get_or es i x → now ≡ with_rules old now.rules
+    → mid ≡ with_rules now mid.rules
     → GivesOne now p (λ U home sc. first (places U home sc one_value (tree x.key)))
     → GivesOne mid q (λ U home sc. first (places U home sc one_value (tree x.value))) → qs ≡ ps ++ p ∷ [] → rs ≡ qs ++ q ∷ []
     → ((U : Program) (home : Atom) (sc : Scope) → Sees U home sc old → map (place_named U) ps ++ places_of_pairs U home sc (all_pairs (drop i es)) ≡ places_of_pairs U home sc (all_pairs es))
@@ -146,7 +147,8 @@ heads_round old now new qs place ps i x all whole within is at step before =
     let next : all_patterns (drop i ps) ≡ m.and_pattern t left = all_patterns-next ps i x within ∙ ap (λ z. m.and_pattern (pattern_tree z) left) (sym is) in
     entering_on old now new (λ U home sc. rules_of_heads U home sc (map (place_named U) (drop i qs)) (all_patterns (drop i ps))) (λ U home sc. rules_of_pattern U home sc (place_named U place) t)
     (λ U home sc. rules_of_heads U home sc (map (place_named U) (drop (i + 1) qs)) left) all
-    (λ U home sc. with_heads (map (place_named U) (drop i qs)) (all_patterns (drop i ps)) sc) (λ U home sc. with_pattern (place_named U place) t sc) (λ U home sc. with_heads (map (place_named U) (drop (i + 1) qs)) left sc) whole before step
+    (λ U home sc. with_heads (map (place_named U) (drop i qs)) (all_patterns (drop i ps)) sc) (λ U home sc. with_pattern (place_named U place) t sc)
+    (λ U home sc. with_heads (map (place_named U) (drop (i + 1) qs)) left sc) whole before step
     (λ U home sc. ap (rules_of_heads U home sc (map (place_named U) (drop i qs))) next
     ∙ ap (λ q. rules_of_pattern U home sc q t ++ rules_of_heads U home (with_pattern q t sc) (rest (map (place_named U) (drop i qs))) left) (sym (at U))
     ∙ ap (λ l. rules_of_pattern U home sc (place_named U place) t ++ rules_of_heads U home (with_pattern (place_named U place) t sc) l left) (rest_drop U qs i))
@@ -158,14 +160,16 @@ heads_round old now new qs place ps i x all whole within is at step before =
 pub trees_end : (old now : RuleWalk) (es : List Expr) (i : ℕ) (all : Part) → length es ≤ i → Going old now (λ U home sc. rules_of_all U home sc (all_trees (drop i es))) all → Makes old now all
 trees_end old now es i all past h = going_ends old now (λ U home sc. rules_of_all U home sc (all_trees (drop i es))) all h (λ U home sc. ap (λ l. rules_of_all U home sc (all_trees l)) (drop_of_length-le es past))
 
-pub places_end : (old : RuleWalk) (es : List Expr) (i : ℕ) (ps : List FlowPlace) → length es ≤ i → ((U : Program) (home : Atom) (sc : Scope) → Sees U home sc old → map (place_named U) ps ++ places_of_all U home sc (all_trees (drop i es))
+pub places_end : (old : RuleWalk) (es : List Expr) (i : ℕ) (ps : List FlowPlace) → length es ≤ i
+    → ((U : Program) (home : Atom) (sc : Scope) → Sees U home sc old → map (place_named U) ps ++ places_of_all U home sc (all_trees (drop i es))
     ≡ places_of_all U home sc (all_trees es)) → Gives old ps (λ U home sc. places_of_all U home sc (all_trees es))
 places_end old es i ps past before U home sc h = sym (append-nil (map (place_named U) ps)) ∙ ap (λ l. map (place_named U) ps ++ places_of_all U home sc (all_trees l)) (sym (drop_of_length-le es past)) ∙ before U home sc h
 
 pub pairs_end : (old now : RuleWalk) (ps : List MapPair) (i : ℕ) (all : Part) → length ps ≤ i → Going old now (λ U home sc. rules_of_pairs U home sc (all_pairs (drop i ps))) all → Makes old now all
 pairs_end old now ps i all past h = going_ends old now (λ U home sc. rules_of_pairs U home sc (all_pairs (drop i ps))) all h (λ U home sc. ap (λ l. rules_of_pairs U home sc (all_pairs l)) (drop_of_length-le ps past))
 
-pub pair_places_end : (old : RuleWalk) (es : List MapPair) (i : ℕ) (ps : List FlowPlace) → length es ≤ i → ((U : Program) (home : Atom) (sc : Scope) → Sees U home sc old → map (place_named U) ps ++ places_of_pairs U home sc (all_pairs
+pub pair_places_end : (old : RuleWalk) (es : List MapPair) (i : ℕ) (ps : List FlowPlace) → length es ≤ i
+    → ((U : Program) (home : Atom) (sc : Scope) → Sees U home sc old → map (place_named U) ps ++ places_of_pairs U home sc (all_pairs
     (drop i es)) ≡ places_of_pairs U home sc (all_pairs es)) → Gives old ps (λ U home sc. places_of_pairs U home sc (all_pairs es))
 pair_places_end old es i ps past before U home sc h = sym (append-nil (map (place_named U) ps)) ∙ ap (λ l. map (place_named U) ps ++ places_of_pairs U home sc (all_pairs l)) (sym (drop_of_length-le es past)) ∙ before U home sc h
 
@@ -179,7 +183,8 @@ patterns_end old now place ps i all whole past h =
     (λ U home sc. ap (λ l. rules_of_patterns U home sc (place_named U place) (all_patterns l)) (drop_of_length-le ps past)) (λ U home sc. ap (λ l. with_patterns (place_named U place) (all_patterns l) sc) (drop_of_length-le ps past))
 
 pub pat_pairs_end : (old now : RuleWalk) (place : FlowPlace) (ps : List PatPair) (i : ℕ) (all : Part) (whole : Binding) → length ps ≤ i
-    → Entering old now (λ U home sc. rules_of_pat_pairs U home sc (place_named U place) (all_pat_pairs (drop i ps))) all (λ U home sc. with_pat_pairs (place_named U place) (all_pat_pairs (drop i ps)) sc) whole → Binds old now all whole
+    → Entering old now (λ U home sc. rules_of_pat_pairs U home sc (place_named U place) (all_pat_pairs (drop i ps))) all (λ U home sc. with_pat_pairs (place_named U place) (all_pat_pairs (drop i ps)) sc) whole
+    → Binds old now all whole
 pat_pairs_end old now place ps i all whole past h =
     entering_ends old now (λ U home sc. rules_of_pat_pairs U home sc (place_named U place) (all_pat_pairs (drop i ps))) all (λ U home sc. with_pat_pairs (place_named U place) (all_pat_pairs (drop i ps)) sc) whole h
     (λ U home sc. ap (λ l. rules_of_pat_pairs U home sc (place_named U place) (all_pat_pairs l)) (drop_of_length-le ps past)) (λ U home sc. ap (λ l. with_pat_pairs (place_named U place) (all_pat_pairs l) sc) (drop_of_length-le ps past))

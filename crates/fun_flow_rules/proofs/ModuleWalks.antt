@@ -111,7 +111,8 @@ pub record Passing (U : Program) (now : RuleWalk) (left : Program) : Type 0 wher
 pub passing_begins : (U : Program) (w : RuleWalk) → IsTableOf U w.table → w.variables ≡ [] → w.functions ≡ [] → w.rules ≡ [] → Passing U w U
 passing_begins U w table variables functions none = record { table = table; variables = variables; functions = functions; then = λ rs h. subst (λ l. Adds U l rs (rules_of_modules U U)) none h }
 
-pub passing_on : (U : Program) (now new : RuleWalk) (at : ℕ) (x : m.Module) (left : Program) → Distinct (module_names U) → name_of U at ≡ x.name → module_named U x.name ≡ Some x → WalksModule now new at x → Passing U now (x ∷ left)
+pub passing_on : (U : Program) (now new : RuleWalk) (at : ℕ) (x : m.Module) (left : Program) → Distinct (module_names U) → name_of U at ≡ x.name → module_named U x.name ≡ Some x → WalksModule now new at x
+    → Passing U now (x ∷ left)
     → Passing U new left
 passing_on U now new at x left apart named e step h =
     record {

@@ -29,11 +29,13 @@ module _ (w0 : RuleWalk) (e : Pattern) (q : FlowPlace) where
     pub binds_exit : (x : Atom) → e.form ≡ p.Var x → OnOk r (Binds w0 w1 no_rules (λ U home sc. with_place x (place_named U q) sc)) → OnOk r (PatternBinds w0 w1 q (pattern_tree e))
     binds_exit x is = on_ok_weaker r (λ h. subst (PatternBinds w0 w1 q) (sym (binds_pattern e x is)) h)
 
-    pub tuple_of_exit : (ps : List Pattern) → e.form ≡ p.Tuple ps → OnOk r (Binds w0 w1 (λ U home sc. rules_of_patterns U home sc (place_named U q) (all_patterns ps)) (λ U home sc. with_patterns (place_named U q) (all_patterns ps) sc))
+    pub tuple_of_exit : (ps : List Pattern) → e.form ≡ p.Tuple ps
+        → OnOk r (Binds w0 w1 (λ U home sc. rules_of_patterns U home sc (place_named U q) (all_patterns ps)) (λ U home sc. with_patterns (place_named U q) (all_patterns ps) sc))
         → OnOk r (PatternBinds w0 w1 q (pattern_tree e))
     tuple_of_exit ps is = on_ok_weaker r (λ h. subst (PatternBinds w0 w1 q) (sym (tuple_of_pattern e ps is)) h)
 
-    pub map_of_exit : (ps : List PatPair) → e.form ≡ p.Map ps → OnOk r (Binds w0 w1 (λ U home sc. rules_of_pat_pairs U home sc (place_named U q) (all_pat_pairs ps)) (λ U home sc. with_pat_pairs (place_named U q) (all_pat_pairs ps) sc))
+    pub map_of_exit : (ps : List PatPair) → e.form ≡ p.Map ps
+        → OnOk r (Binds w0 w1 (λ U home sc. rules_of_pat_pairs U home sc (place_named U q) (all_pat_pairs ps)) (λ U home sc. with_pat_pairs (place_named U q) (all_pat_pairs ps) sc))
         → OnOk r (PatternBinds w0 w1 q (pattern_tree e))
     map_of_exit ps is = on_ok_weaker r (λ h. subst (PatternBinds w0 w1 q) (sym (map_of_pattern e ps is)) h)
 

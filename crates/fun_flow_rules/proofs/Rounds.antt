@@ -44,7 +44,8 @@ into_round old now new ps i p to all within is step before =
     before (makes_one now new (Flows p to) (λ U home sc. s.flows (place_named U p) (place_named U to)) step (λ U home sc h. refl))
     (λ U home sc. ap (λ l. all_into (map (place_named U) l) (place_named U to)) (next_place ps i p within is))
 
-pub parameters_round : (old now new : RuleWalk) (ps : List FlowPlace) (i label : ℕ) (p : FlowPlace) (all : w.Part) → i < length ps → p ≡ get_or ps i p → new ≡ with_rules now (now.rules ++ Flows p (Parameter now.home label i) ∷ [])
+pub parameters_round : (old now new : RuleWalk) (ps : List FlowPlace) (i label : ℕ) (p : FlowPlace) (all : w.Part) → i < length ps → p ≡ get_or ps i p
+    → new ≡ with_rules now (now.rules ++ Flows p (Parameter now.home label i) ∷ [])
     → Going old now (λ U home sc. into_parameters home label i (map (place_named U) (drop i ps))) all
     → Going old new (λ U home sc. into_parameters home label (i + 1) (map (place_named U) (drop (i + 1) ps))) all
 parameters_round old now new ps i label p all within is step before =
@@ -55,17 +56,20 @@ parameters_round old now new ps i label p all within is step before =
 
 pub parts_round : (old now new : RuleWalk) (ps : List FlowPlace) (n i label : ℕ) (p : FlowPlace) (all : w.Part) → i < n → ((U : Program) → place_named U p ≡ first (map (place_named U) (drop i ps))) → new
     ≡ with_rules now (now.rules ++ Flows p (Part now.home label i) ∷ [])
-    → Going old now (λ U home sc. into_parts home label i (fit (n - i) (map (place_named U) (drop i ps)))) all → Going old new (λ U home sc. into_parts home label (i + 1) (fit (n - (i + 1)) (map (place_named U) (drop (i + 1) ps)))) all
+    → Going old now (λ U home sc. into_parts home label i (fit (n - i) (map (place_named U) (drop i ps)))) all
+    → Going old new (λ U home sc. into_parts home label (i + 1) (fit (n - (i + 1)) (map (place_named U) (drop (i + 1) ps)))) all
 parts_round old now new ps n i label p all within is step before =
     let left : ℕ = n - (i + 1) in
     let count : n - i ≡ suc left = omega arith in
     going_on old now new (λ U home sc. into_parts home label i (fit (n - i) (map (place_named U) (drop i ps)))) (λ U home sc. s.flows (place_named U p) (s.part home label i) ∷ [])
     (λ U home sc. into_parts home label (i + 1) (fit left (map (place_named U) (drop (i + 1) ps)))) all
     before (makes_one now new (Flows p (Part now.home label i)) (λ U home sc. s.flows (place_named U p) (s.part home label i)) step (λ U home sc h. ap (λ x. s.flows (place_named U p) (s.part x label i)) h.at_home))
-    (λ U home sc. ap (λ k. into_parts home label i (fit k (map (place_named U) (drop i ps)))) count ∙ ap (λ x. s.flows x (s.part home label i) ∷ into_parts home label (i + 1) (fit left (rest (map (place_named U) (drop i ps))))) (sym (is U))
+    (λ U home sc. ap (λ k. into_parts home label i (fit k (map (place_named U) (drop i ps)))) count
+    ∙ ap (λ x. s.flows x (s.part home label i) ∷ into_parts home label (i + 1) (fit left (rest (map (place_named U) (drop i ps))))) (sym (is U))
     ∙ ap (λ l. s.flows (place_named U p) (s.part home label i) ∷ into_parts home label (i + 1) (fit left l)) (rest_drop U ps i))
 
-pub opens_round : (old now new : RuleWalk) (n i label : ℕ) (all : w.Part) → i < n → new ≡ with_rules now (now.rules ++ Holds (Parameter now.home label i) Anything ∷ []) → Going old now (λ U home sc. opens home label i (n - i)) all
+pub opens_round : (old now new : RuleWalk) (n i label : ℕ) (all : w.Part) → i < n → new ≡ with_rules now (now.rules ++ Holds (Parameter now.home label i) Anything ∷ [])
+    → Going old now (λ U home sc. opens home label i (n - i)) all
     → Going old new (λ U home sc. opens home label (i + 1) (n - (i + 1))) all
 opens_round old now new n i label all within step before =
     let left : ℕ = n - (i + 1) in
@@ -150,11 +154,13 @@ function_round old now new xs i label x all within is step before =
     (λ U home sc. with_places (drop (i + 1) xs) (parameters home label (i + 1) left) sc) all
     before (binds_as now new no_rules no_rules (λ U home sc. with_place x.name (place_named U (Parameter now.home label i)) sc) (λ U home sc. with_place x.name (s.parameter home label i) sc) step (λ U home sc h. refl)
     (λ U home sc h. ap (λ y. with_place x.name (s.parameter y label i) sc) h.at_home)) (λ U home sc. refl)
-    (λ U home sc. ap (λ l. with_places l (parameters home label i (length xs - i)) sc) (drop_more xs i x within ∙ ap (λ y. y ∷ drop (i + 1) xs) (sym is)) ∙ ap (λ k. with_places (x ∷ drop (i + 1) xs) (parameters home label i k) sc) count)
+    (λ U home sc. ap (λ l. with_places l (parameters home label i (length xs - i)) sc) (drop_more xs i x within ∙ ap (λ y. y ∷ drop (i + 1) xs) (sym is))
+    ∙ ap (λ k. with_places (x ∷ drop (i + 1) xs) (parameters home label i k) sc) count)
 
 -- ---- the ends of these loops
 
-pub into_ends : (old now : RuleWalk) (ps : List FlowPlace) (i : ℕ) (to : FlowPlace) (all : w.Part) → length ps ≤ i → Going old now (λ U home sc. all_into (map (place_named U) (drop i ps)) (place_named U to)) all → Makes old now all
+pub into_ends : (old now : RuleWalk) (ps : List FlowPlace) (i : ℕ) (to : FlowPlace) (all : w.Part) → length ps ≤ i → Going old now (λ U home sc. all_into (map (place_named U) (drop i ps)) (place_named U to)) all
+    → Makes old now all
 into_ends old now ps i to all past h = going_ends old now (λ U home sc. all_into (map (place_named U) (drop i ps)) (place_named U to)) all h
     (λ U home sc. ap (λ l. all_into (map (place_named U) l) (place_named U to)) (drop_of_length-le ps past))
 
@@ -170,7 +176,8 @@ parts_end old now ps n i label all past h =
 pub opens_end : (old now : RuleWalk) (n i label : ℕ) (all : w.Part) → n ≤ i → Going old now (λ U home sc. opens home label i (n - i)) all → Makes old now all
 opens_end old now n i label all past h = going_ends old now (λ U home sc. opens home label i (n - i)) all h (λ U home sc. ap (opens home label i) (let e : n - i ≡ 0 = omega arith in e))
 
-pub places_end : (old now : RuleWalk) (xs : List VarName) (ps : List FlowPlace) (i : ℕ) (all : Binding) → length xs ≤ i → Entering old now no_rules no_rules (λ U home sc. with_places (drop i xs) (map (place_named U) (drop i ps)) sc) all
+pub places_end : (old now : RuleWalk) (xs : List VarName) (ps : List FlowPlace) (i : ℕ) (all : Binding) → length xs ≤ i
+    → Entering old now no_rules no_rules (λ U home sc. with_places (drop i xs) (map (place_named U) (drop i ps)) sc) all
     → Binds old now no_rules all
 places_end old now xs ps i all past h =
     entering_ends old now no_rules no_rules (λ U home sc. with_places (drop i xs) (map (place_named U) (drop i ps)) sc) all h (λ U home sc. refl)
@@ -187,7 +194,8 @@ function_ends old now xs i label all past h =
 pub opens_begin : (w : RuleWalk) (n label : ℕ) → Going w w (λ U home sc. opens home label 0 (n - 0)) (λ U home sc. opens home label 0 n)
 opens_begin w n label = subst (λ k. Going w w (λ U home sc. opens home label 0 k) (λ U home sc. opens home label 0 n)) (let e : n ≡ n - 0 = omega arith in e) (going_begins w (λ U home sc. opens home label 0 n))
 
-pub parts_begin : (w : RuleWalk) (ps : List FlowPlace) (n label : ℕ) → Going w w (λ U home sc. into_parts home label 0 (fit (n - 0) (map (place_named U) (drop 0 ps)))) (λ U home sc. into_parts home label 0 (fit n (map (place_named U) ps)))
+pub parts_begin : (w : RuleWalk) (ps : List FlowPlace) (n label : ℕ) → Going w w (λ U home sc. into_parts home label 0 (fit (n - 0) (map (place_named U) (drop 0 ps))))
+    (λ U home sc. into_parts home label 0 (fit n (map (place_named U) ps)))
 parts_begin w ps n label =
     subst (λ k. Going w w (λ U home sc. into_parts home label 0 (fit k (map (place_named U) (drop 0 ps)))) (λ U home sc. into_parts home label 0 (fit n (map (place_named U) ps)))) (let e : n ≡ n - 0 = omega arith in e)
     (going_begins w (λ U home sc. into_parts home label 0 (fit n (map (place_named U) ps))))

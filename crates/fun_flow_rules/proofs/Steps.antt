@@ -59,7 +59,8 @@ sees_back U home sc old new e h = sees_with U home sc (with_rules old new.rules)
 pub makes_none : (w : RuleWalk) → Makes w w no_rules
 makes_none w = record { rest = refl; adds = λ U home sc h. adds_none U w.rules }
 
-pub makes_one : (old new : RuleWalk) (r : FlowRule) (to : Program → Atom → Scope → s.Rule) → new ≡ with_rules old (old.rules ++ r ∷ []) → ((U : Program) (home : Atom) (sc : Scope) → Sees U home sc old → rule_named U r ≡ to U home sc)
+pub makes_one : (old new : RuleWalk) (r : FlowRule) (to : Program → Atom → Scope → s.Rule) → new ≡ with_rules old (old.rules ++ r ∷ [])
+    → ((U : Program) (home : Atom) (sc : Scope) → Sees U home sc old → rule_named U r ≡ to U home sc)
     → Makes old new (λ U home sc. to U home sc ∷ [])
 makes_one old new r to e f =
     let rules_are : new.rules ≡ old.rules ++ r ∷ [] = ap (λ w. w.rules) e in
@@ -143,7 +144,8 @@ binds_leave old new left f x n h at e =
 pub going_begins : (w : RuleWalk) (all : Part) → Going w w all all
 going_begins w all = record { rest = refl; then = λ U home sc s rs h. h }
 
-pub going_on : (old now new : RuleWalk) (left part left' all : Part) → Going old now left all → Makes now new part → ((U : Program) (home : Atom) (sc : Scope) → left U home sc ≡ part U home sc ++ left' U home sc) → Going old new left' all
+pub going_on : (old now new : RuleWalk) (left part left' all : Part) → Going old now left all → Makes now new part → ((U : Program) (home : Atom) (sc : Scope) → left U home sc ≡ part U home sc ++ left' U home sc)
+    → Going old new left' all
 going_on old now new left part left' all h k e =
     record {
       rest = rest_then old now new h.rest k.rest;

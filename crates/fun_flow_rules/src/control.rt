@@ -149,7 +149,8 @@ fn walk_clause(
     values: &[FlowPlace],
     clause: &Clause,
 ) -> Result<(), Memory>
-    ensures { OnOk result (Makes walk.old walk.new (λ U home sc. clause_rules U home sc ask label (map (place_named U) values.now) (clause_parts clause.now))) }
+    ensures { OnOk result (Makes walk.old walk.new (λ U home sc.
+        clause_rules U home sc ask label (map (place_named U) values.now) (clause_parts clause.now))) }
 {
     let around = walk.variables.len();
     walk_heads(walk, values, clause.patterns.as_slice())?;

@@ -12,7 +12,9 @@ use Rattle.core_scope.specs.declared.ask.Ask.TheVariants.{AnyNumber, Exactly}
 use Rattle.type_lattice_model.specs.Values.{Local}
 use Rattle.core_meaning.specs.Programs.{Program, Found, built_in, exported, hidden, outside, found, function_named, locals_of}
 use Rattle.fun_flow_sets.specs.Items.{Item, anything, closure_at, external_function, Place, nowhere, anywhere, part, parameter, returned, Rule, holds, flows, applies}
-use Rattle.fun_flow_sets.specs.Rules.{kept, places, places_of_all, places_of_pairs, after_steps, all_into, application_rules, argument_rules, call_rules, export_rules, found_rules, handing_on, in_function, into_parameters, into_parts, module_rules, name_rules, opens, opens_definition, passed_to, rules, rules_of, rules_of_all, rules_of_clauses, rules_of_definitions, rules_of_heads, rules_of_modules, rules_of_pairs, rules_of_pat_pairs, rules_of_pat_segments, rules_of_pattern, rules_of_patterns, rules_of_segments, rules_of_steps}
+use Rattle.fun_flow_sets.specs.Rules.{kept, places, places_of_all, places_of_pairs, after_steps, all_into, application_rules, argument_rules, call_rules, export_rules, found_rules, handing_on, in_function}
+use Rattle.fun_flow_sets.specs.Rules.{into_parameters, into_parts, module_rules, name_rules, opens, opens_definition, passed_to, rules, rules_of, rules_of_all, rules_of_clauses, rules_of_definitions}
+use Rattle.fun_flow_sets.specs.Rules.{rules_of_heads, rules_of_modules, rules_of_pairs, rules_of_pat_pairs, rules_of_pat_segments, rules_of_pattern, rules_of_patterns, rules_of_segments, rules_of_steps}
 use Rattle.fun_flow_sets.specs.Scopes.{Scope, definition_of, first, fit, in_frame, no_place, rest, with_heads, with_pattern, with_patterns, with_place, with_places}
 use Rattle.fun_flow_sets.specs.Sets.{Holds, IsMet, Meets}
 use Rattle.fun_flow_sets.proofs.Each.{Each, of_each, each_both}
@@ -98,29 +100,45 @@ module _ (U : Program) (home : Atom) where
     leads sc k (m.external i x f) = (refl, tt)
     leads sc k (m.literal i l) = tt
     leads sc k (m.function i xs t) =
-        let inner = in_function U home i.label xs sc in
-        (refl, lead_both (opens home i.label 0 (length xs)) (flows (first (places U home inner one_value t)) (returned home i.label) ∷ rules U home inner one_value t) (opens_lead home i.label 0 (length xs)) (refl, leads inner one_value t))
+        let inner = in_function U home i.label xs sc in (
+          refl,
+          lead_both (opens home i.label 0 (length xs)) (flows (first (places U home inner one_value t)) (returned home i.label) ∷ rules U home inner one_value t) (opens_lead home i.label 0 (length xs)) (
+            refl,
+            leads inner one_value t,
+          ),
+        )
     leads sc k (m.listed i ts t) =
         let q = part home i.label 0 in
-        lead_both (all_into (places_of_all U home sc ts) q) (flows (first (places U home sc one_value t)) q ∷ (rules_of_all U home sc ts ++ rules U home sc one_value t)) (all_lead (places_of_all U home sc ts) q refl) (refl, lead_both (rules_of_all U home sc ts) (rules U home sc one_value t) (all_leads sc ts) (leads sc one_value t))
+        lead_both (all_into (places_of_all U home sc ts) q) (flows (first (places U home sc one_value t)) q ∷ (rules_of_all U home sc ts ++ rules U home sc one_value t)) (all_lead (places_of_all U home sc ts) q refl) (
+          refl,
+          lead_both (rules_of_all U home sc ts) (rules U home sc one_value t) (all_leads sc ts) (leads sc one_value t),
+        )
     leads sc k (m.tuple i ts) = lead_both (all_into (places_of_all U home sc ts) (part home i.label 0)) (rules_of_all U home sc ts) (all_lead (places_of_all U home sc ts) (part home i.label 0) refl) (all_leads sc ts)
     leads sc k (m.new_map i ps) = lead_both (all_into (places_of_pairs U home sc ps) (part home i.label 0)) (rules_of_pairs U home sc ps) (all_lead (places_of_pairs U home sc ps) (part home i.label 0) refl) (pairs_lead sc ps)
     leads sc k (m.updated_map i ps t) =
         let q = part home i.label 0 in
-        lead_both (all_into (places_of_pairs U home sc ps) q) (flows (first (places U home sc one_value t)) q ∷ (rules_of_pairs U home sc ps ++ rules U home sc one_value t)) (all_lead (places_of_pairs U home sc ps) q refl) (refl, lead_both (rules_of_pairs U home sc ps) (rules U home sc one_value t) (pairs_lead sc ps) (leads sc one_value t))
+        lead_both (all_into (places_of_pairs U home sc ps) q) (flows (first (places U home sc one_value t)) q ∷ (rules_of_pairs U home sc ps ++ rules U home sc one_value t)) (all_lead (places_of_pairs U home sc ps) q refl) (
+          refl,
+          lead_both (rules_of_pairs U home sc ps) (rules U home sc one_value t) (pairs_lead sc ps) (leads sc one_value t),
+        )
     leads sc k (m.binary i ss) = segments_lead sc ss
     leads sc k (m.values i ts) = all_leads sc ts
     leads sc k (m.chain i ss t) = lead_both (rules_of_steps U home sc ss) (rules U home (after_steps U home sc ss) k t) (steps_lead sc ss) (leads (after_steps U home sc ss) k t)
-    leads sc k (m.case i t cs) = lead_both (rules U home sc (Exactly (width cs)) t) (rules_of_clauses U home sc k i.label (places U home sc (Exactly (width cs)) t) cs) (leads sc (Exactly (width cs)) t) (clauses_lead sc k i.label (places U home sc (Exactly (width cs)) t) cs)
-    leads sc k (m.letrec i ds t) = lead_both (rules_of_definitions U home (in_frame (locals_of ds) sc) ds) (rules U home (in_frame (locals_of ds) sc) k t) (definitions_lead (in_frame (locals_of ds) sc) ds) (leads (in_frame (locals_of ds) sc) k t)
+    leads sc k (m.case i t cs) = lead_both (rules U home sc (Exactly (width cs)) t) (rules_of_clauses U home sc k i.label (places U home sc (Exactly (width cs)) t) cs) (leads sc (Exactly (width cs)) t)
+        (clauses_lead sc k i.label (places U home sc (Exactly (width cs)) t) cs)
+    leads sc k (m.letrec i ds t) = lead_both (rules_of_definitions U home (in_frame (locals_of ds) sc) ds) (rules U home (in_frame (locals_of ds) sc) k t) (definitions_lead (in_frame (locals_of ds) sc) ds)
+        (leads (in_frame (locals_of ds) sc) k t)
     leads sc k (m.apply i t ts) =
         let os = places U home sc one_value t in
         let ps = places_of_all U home sc ts in
-        lead_both (application_rules U home sc i.label (local_name t) os (rules U home sc one_value t) (how_many ts) ps) (rules_of_all U home sc ts) (application_leads U home sc i.label (local_name t) os (rules U home sc one_value t) (how_many ts) ps (leads sc one_value t)) (all_leads sc ts)
+        lead_both (application_rules U home sc i.label (local_name t) os (rules U home sc one_value t) (how_many ts) ps) (rules_of_all U home sc ts)
+        (application_leads U home sc i.label (local_name t) os (rules U home sc one_value t) (how_many ts) ps (leads sc one_value t)) (all_leads sc ts)
     leads sc k (m.call i t u ts) =
         let ps = places_of_all U home sc ts in
-        lead_both (call_rules U home i.label (literal_atom t) (literal_atom u) (how_many ts) ps) (rules U home sc one_value t ++ (rules U home sc one_value u ++ rules_of_all U home sc ts)) (call_leads U home i.label (literal_atom t) (literal_atom u) (how_many ts) ps)
-        (lead_both (rules U home sc one_value t) (rules U home sc one_value u ++ rules_of_all U home sc ts) (leads sc one_value t) (lead_both (rules U home sc one_value u) (rules_of_all U home sc ts) (leads sc one_value u) (all_leads sc ts)))
+        lead_both (call_rules U home i.label (literal_atom t) (literal_atom u) (how_many ts) ps) (rules U home sc one_value t ++ (rules U home sc one_value u ++ rules_of_all U home sc ts))
+        (call_leads U home i.label (literal_atom t) (literal_atom u) (how_many ts) ps)
+        (lead_both (rules U home sc one_value t) (rules U home sc one_value u ++ rules_of_all U home sc ts) (leads sc one_value t)
+        (lead_both (rules U home sc one_value u) (rules_of_all U home sc ts) (leads sc one_value u) (all_leads sc ts)))
     leads sc k (m.primop i x ts) = all_leads sc ts
     leads sc k (m.try i t xs u ys w) =
         let q = Exactly (length xs) in
@@ -144,11 +162,13 @@ module _ (U : Program) (home : Atom) where
 
     pairs_lead : (sc : Scope) (ps : m.Pairs) → Lead (rules_of_pairs U home sc ps)
     pairs_lead sc m.no_pair = tt
-    pairs_lead sc (m.and_pair e t u ps) = lead_both (rules U home sc one_value t) (rules U home sc one_value u ++ rules_of_pairs U home sc ps) (leads sc one_value t) (lead_both (rules U home sc one_value u) (rules_of_pairs U home sc ps) (leads sc one_value u) (pairs_lead sc ps))
+    pairs_lead sc (m.and_pair e t u ps) = lead_both (rules U home sc one_value t) (rules U home sc one_value u ++ rules_of_pairs U home sc ps) (leads sc one_value t)
+        (lead_both (rules U home sc one_value u) (rules_of_pairs U home sc ps) (leads sc one_value u) (pairs_lead sc ps))
 
     segments_lead : (sc : Scope) (ss : m.Segments) → Lead (rules_of_segments U home sc ss)
     segments_lead sc m.no_segment = tt
-    segments_lead sc (m.and_segment t ts ss) = lead_both (rules U home sc one_value t) (rules_of_all U home sc ts ++ rules_of_segments U home sc ss) (leads sc one_value t) (lead_both (rules_of_all U home sc ts) (rules_of_segments U home sc ss) (all_leads sc ts) (segments_lead sc ss))
+    segments_lead sc (m.and_segment t ts ss) = lead_both (rules U home sc one_value t) (rules_of_all U home sc ts ++ rules_of_segments U home sc ss) (leads sc one_value t)
+        (lead_both (rules_of_all U home sc ts) (rules_of_segments U home sc ss) (all_leads sc ts) (segments_lead sc ss))
 
     steps_lead : (sc : Scope) (ss : m.Steps) → Lead (rules_of_steps U home sc ss)
     steps_lead sc m.no_step = tt
@@ -201,7 +221,8 @@ module _ (U : Program) (home : Atom) where
 
     heads_lead : (sc : Scope) (qs : List Place) (ps : m.Patterns) → Lead (rules_of_heads U home sc qs ps)
     heads_lead sc qs m.no_pattern = tt
-    heads_lead sc qs (m.and_pattern p ps) = lead_both (rules_of_pattern U home sc (first qs) p) (rules_of_heads U home (with_pattern (first qs) p sc) (rest qs) ps) (pattern_leads sc (first qs) p) (heads_lead (with_pattern (first qs) p sc) (rest qs) ps)
+    heads_lead sc qs (m.and_pattern p ps) = lead_both (rules_of_pattern U home sc (first qs) p) (rules_of_heads U home (with_pattern (first qs) p sc) (rest qs) ps) (pattern_leads sc (first qs) p)
+        (heads_lead (with_pattern (first qs) p sc) (rest qs) ps)
 
 exports_lead : (home : Atom) (ds : m.Defs) (fs : List FunName) → Lead (export_rules home ds fs)
 exports_lead home ds [] = tt

@@ -8,7 +8,8 @@ use Rattle.core_ast.specs.Model as m
 use Rattle.core_ast.specs.Named.{literal_atom, local_name}
 use Rattle.core_ast.specs.declared.syntax.FunName.{FunName}
 use Rattle.core_scope.specs.Asks.{function_name, one_value, width}
-use Rattle.core_scope.specs.Labels.{labels, labels_of, labels_of_all, labels_of_pairs, labels_of_segments, labels_of_steps, labels_of_clauses, labels_of_defs, labels_of_pattern, labels_of_patterns, labels_of_pat_pairs, labels_of_pat_segments}
+use Rattle.core_scope.specs.Labels.{labels, labels_of, labels_of_all, labels_of_pairs, labels_of_segments, labels_of_steps, labels_of_clauses}
+use Rattle.core_scope.specs.Labels.{labels_of_defs, labels_of_pattern, labels_of_patterns, labels_of_pat_pairs, labels_of_pat_segments}
 use Rattle.core_scope.specs.Names.{Distinct, has_function}
 use Rattle.core_scope.specs.declared.ask.Ask.{Ask}
 use Rattle.core_scope.specs.declared.ask.Ask.TheVariants.{AnyNumber, Exactly}
@@ -16,7 +17,9 @@ use Rattle.type_lattice_model.specs.Values.{Local}
 use Rattle.core_meaning.specs.Programs.{Program, Found, built_in, exported, hidden, outside, found, function_named, locals_of}
 use Rattle.fun_flow_sets.specs.Applications.{application_labels, IsLeftOf, left_none, left_here, left_out}
 use Rattle.fun_flow_sets.specs.Items.{Place, anywhere, part, returned, Rule, holds, flows, applies}
-use Rattle.fun_flow_sets.specs.Rules.{kept, places, places_of_all, places_of_pairs, after_steps, all_into, application_rules, argument_rules, call_rules, export_rules, found_rules, handing_on, in_function, into_parameters, into_parts, module_rules, name_rules, opens, opens_definition, passed_to, rules, rules_of_all, rules_of_clauses, rules_of_definitions, rules_of_heads, rules_of_pairs, rules_of_pat_pairs, rules_of_pat_segments, rules_of_pattern, rules_of_patterns, rules_of_segments, rules_of_steps}
+use Rattle.fun_flow_sets.specs.Rules.{kept, places, places_of_all, places_of_pairs, after_steps, all_into, application_rules, argument_rules, call_rules, export_rules, found_rules, handing_on}
+use Rattle.fun_flow_sets.specs.Rules.{in_function, into_parameters, into_parts, module_rules, name_rules, opens, opens_definition, passed_to, rules, rules_of_all, rules_of_clauses, rules_of_definitions}
+use Rattle.fun_flow_sets.specs.Rules.{rules_of_heads, rules_of_pairs, rules_of_pat_pairs, rules_of_pat_segments, rules_of_pattern, rules_of_patterns, rules_of_segments, rules_of_steps}
 use Rattle.fun_flow_sets.specs.Scopes.{Scope, definition_of, first, fit, in_frame, no_place, rest, with_heads, with_pattern, with_patterns, with_place, with_places}
 
 -- ---- what is left of lists
@@ -112,7 +115,8 @@ call_quiet U home label (Some x) None n ps = left_none
 call_quiet U home label (Some x) (Some y) n ps = found_quiet home label (found U x (function_name y n)) (function_name y n) ps
 
 -- the application itself stands before what is in its operator and its arguments
-application_in_order : (U : Program) (home : Atom) (sc : Scope) (label : ℕ) (o : Option FunName) (os : List Place) (rs : List Rule) (n : ℕ) (ps : List Place) (qs : List Rule) (ys zs : List ℕ) → InOrder rs ys → InOrder qs zs → InOrder (application_rules U home sc label o os rs n ps ++ qs) (label ∷ (ys ++ zs))
+application_in_order : (U : Program) (home : Atom) (sc : Scope) (label : ℕ) (o : Option FunName) (os : List Place) (rs : List Rule) (n : ℕ) (ps : List Place) (qs : List Rule) (ys zs : List ℕ) → InOrder rs ys → InOrder qs zs
+    → InOrder (application_rules U home sc label o os rs n ps ++ qs) (label ∷ (ys ++ zs))
 application_in_order U home sc label None os rs n ps qs ys zs h k = left_here (both_in_order rs qs ys zs h k)
 application_in_order U home sc label (Some f) os rs n ps qs ys zs h k =
     let own = argument_rules home (definition_of U home sc f) f.arity n ps in
@@ -133,26 +137,35 @@ module _ (U : Program) (home : Atom) where
     in_order sc k (m.literal i l) = left_out left_none
     in_order sc k (m.function i xs t) =
         let inner = in_function U home i.label xs sc in
-        left_out (both_in_order (opens home i.label 0 (length xs)) (flows (first (places U home inner one_value t)) (returned home i.label) ∷ rules U home inner one_value t) [] (labels t) (opens_quiet home i.label 0 (length xs)) (in_order inner one_value t))
+        left_out (both_in_order (opens home i.label 0 (length xs)) (flows (first (places U home inner one_value t)) (returned home i.label) ∷ rules U home inner one_value t) [] (labels t) (opens_quiet home i.label 0 (length xs))
+        (in_order inner one_value t))
     in_order sc k (m.listed i ts t) =
         let q = part home i.label 0 in
-        left_out (both_in_order (all_into (places_of_all U home sc ts) q) (flows (first (places U home sc one_value t)) q ∷ (rules_of_all U home sc ts ++ rules U home sc one_value t)) [] (labels_of_all ts ++ labels t) (all_quiet (places_of_all U home sc ts) q)
+        left_out (both_in_order (all_into (places_of_all U home sc ts) q) (flows (first (places U home sc one_value t)) q ∷ (rules_of_all U home sc ts ++ rules U home sc one_value t)) [] (labels_of_all ts ++ labels t)
+        (all_quiet (places_of_all U home sc ts) q)
         (both_in_order (rules_of_all U home sc ts) (rules U home sc one_value t) (labels_of_all ts) (labels t) (all_in_order sc ts) (in_order sc one_value t)))
-    in_order sc k (m.tuple i ts) = left_out (both_in_order (all_into (places_of_all U home sc ts) (part home i.label 0)) (rules_of_all U home sc ts) [] (labels_of_all ts) (all_quiet (places_of_all U home sc ts) (part home i.label 0)) (all_in_order sc ts))
-    in_order sc k (m.new_map i ps) = left_out (both_in_order (all_into (places_of_pairs U home sc ps) (part home i.label 0)) (rules_of_pairs U home sc ps) [] (labels_of_pairs ps) (all_quiet (places_of_pairs U home sc ps) (part home i.label 0)) (pairs_in_order sc ps))
+    in_order sc k (m.tuple i ts) = left_out (both_in_order (all_into (places_of_all U home sc ts) (part home i.label 0)) (rules_of_all U home sc ts) [] (labels_of_all ts) (all_quiet (places_of_all U home sc ts) (part home i.label 0))
+        (all_in_order sc ts))
+    in_order sc k (m.new_map i ps) = left_out (both_in_order (all_into (places_of_pairs U home sc ps) (part home i.label 0)) (rules_of_pairs U home sc ps) [] (labels_of_pairs ps)
+        (all_quiet (places_of_pairs U home sc ps) (part home i.label 0)) (pairs_in_order sc ps))
     in_order sc k (m.updated_map i ps t) =
         let q = part home i.label 0 in
-        left_out (both_in_order (all_into (places_of_pairs U home sc ps) q) (flows (first (places U home sc one_value t)) q ∷ (rules_of_pairs U home sc ps ++ rules U home sc one_value t)) [] (labels_of_pairs ps ++ labels t) (all_quiet (places_of_pairs U home sc ps) q)
+        left_out (both_in_order (all_into (places_of_pairs U home sc ps) q) (flows (first (places U home sc one_value t)) q ∷ (rules_of_pairs U home sc ps ++ rules U home sc one_value t)) [] (labels_of_pairs ps ++ labels t)
+        (all_quiet (places_of_pairs U home sc ps) q)
         (both_in_order (rules_of_pairs U home sc ps) (rules U home sc one_value t) (labels_of_pairs ps) (labels t) (pairs_in_order sc ps) (in_order sc one_value t)))
     in_order sc k (m.binary i ss) = left_out (segments_in_order sc ss)
     in_order sc k (m.values i ts) = left_out (all_in_order sc ts)
     in_order sc k (m.chain i ss t) = left_out (both_in_order (rules_of_steps U home sc ss) (rules U home (after_steps U home sc ss) k t) (labels_of_steps ss) (labels t) (steps_in_order sc ss) (in_order (after_steps U home sc ss) k t))
-    in_order sc k (m.case i t cs) = left_out (both_in_order (rules U home sc (Exactly (width cs)) t) (rules_of_clauses U home sc k i.label (places U home sc (Exactly (width cs)) t) cs) (labels t) (labels_of_clauses cs) (in_order sc (Exactly (width cs)) t) (clauses_in_order sc k i.label (places U home sc (Exactly (width cs)) t) cs))
-    in_order sc k (m.letrec i ds t) = left_out (both_in_order (rules_of_definitions U home (in_frame (locals_of ds) sc) ds) (rules U home (in_frame (locals_of ds) sc) k t) (labels_of_defs ds) (labels t) (definitions_in_order (in_frame (locals_of ds) sc) ds) (in_order (in_frame (locals_of ds) sc) k t))
-    in_order sc k (m.apply i t ts) = application_in_order U home sc i.label (local_name t) (places U home sc one_value t) (rules U home sc one_value t) (how_many ts) (places_of_all U home sc ts) (rules_of_all U home sc ts) (labels t) (labels_of_all ts) (in_order sc one_value t) (all_in_order sc ts)
+    in_order sc k (m.case i t cs) = left_out (both_in_order (rules U home sc (Exactly (width cs)) t) (rules_of_clauses U home sc k i.label (places U home sc (Exactly (width cs)) t) cs) (labels t) (labels_of_clauses cs)
+        (in_order sc (Exactly (width cs)) t) (clauses_in_order sc k i.label (places U home sc (Exactly (width cs)) t) cs))
+    in_order sc k (m.letrec i ds t) = left_out (both_in_order (rules_of_definitions U home (in_frame (locals_of ds) sc) ds) (rules U home (in_frame (locals_of ds) sc) k t) (labels_of_defs ds) (labels t)
+        (definitions_in_order (in_frame (locals_of ds) sc) ds) (in_order (in_frame (locals_of ds) sc) k t))
+    in_order sc k (m.apply i t ts) = application_in_order U home sc i.label (local_name t) (places U home sc one_value t) (rules U home sc one_value t) (how_many ts) (places_of_all U home sc ts) (rules_of_all U home sc ts) (labels t)
+        (labels_of_all ts) (in_order sc one_value t) (all_in_order sc ts)
     in_order sc k (m.call i t u ts) =
         let ps = places_of_all U home sc ts in
-        left_out (of_three (labels t) (labels u) (labels_of_all ts) (both_in_order (call_rules U home i.label (literal_atom t) (literal_atom u) (how_many ts) ps) (rules U home sc one_value t ++ (rules U home sc one_value u ++ rules_of_all U home sc ts)) [] (labels t ++ (labels u ++ labels_of_all ts)) (call_quiet U home i.label (literal_atom t) (literal_atom u) (how_many ts) ps)
+        left_out (of_three (labels t) (labels u) (labels_of_all ts) (both_in_order (call_rules U home i.label (literal_atom t) (literal_atom u) (how_many ts) ps)
+        (rules U home sc one_value t ++ (rules U home sc one_value u ++ rules_of_all U home sc ts)) [] (labels t ++ (labels u ++ labels_of_all ts)) (call_quiet U home i.label (literal_atom t) (literal_atom u) (how_many ts) ps)
         (both_in_order (rules U home sc one_value t) (rules U home sc one_value u ++ rules_of_all U home sc ts) (labels t) (labels u ++ labels_of_all ts) (in_order sc one_value t)
         (both_in_order (rules U home sc one_value u) (rules_of_all U home sc ts) (labels u) (labels_of_all ts) (in_order sc one_value u) (all_in_order sc ts)))))
     in_order sc k (m.primop i x ts) = left_out (all_in_order sc ts)
@@ -168,7 +181,8 @@ module _ (U : Program) (home : Atom) where
         (passed_in_order i.label k (places U home handler k w) (rules U home handler k w) (labels w) (in_order handler k w)))))
     in_order sc k (m.receive i cs t u) =
         let passing = passed_to U home i.label k (places U home sc k u) in
-        left_out (of_three (labels_of_clauses cs) (labels t) (labels u) (both_in_order (rules_of_clauses U home sc k i.label [] cs) (rules U home sc one_value t ++ (passing ++ rules U home sc k u)) (labels_of_clauses cs) (labels t ++ labels u) (clauses_in_order sc k i.label [] cs)
+        left_out (of_three (labels_of_clauses cs) (labels t) (labels u) (both_in_order (rules_of_clauses U home sc k i.label [] cs) (rules U home sc one_value t ++ (passing ++ rules U home sc k u)) (labels_of_clauses cs)
+        (labels t ++ labels u) (clauses_in_order sc k i.label [] cs)
         (both_in_order (rules U home sc one_value t) (passing ++ rules U home sc k u) (labels t) (labels u) (in_order sc one_value t) (passed_in_order i.label k (places U home sc k u) (rules U home sc k u) (labels u) (in_order sc k u)))))
     in_order sc k (m.catch i t) = left_out (in_order sc one_value t)
 
@@ -178,11 +192,15 @@ module _ (U : Program) (home : Atom) where
 
     pairs_in_order : (sc : Scope) (ps : m.Pairs) → InOrder (rules_of_pairs U home sc ps) (labels_of_pairs ps)
     pairs_in_order sc m.no_pair = left_none
-    pairs_in_order sc (m.and_pair e t u ps) = of_three (labels t) (labels u) (labels_of_pairs ps) (both_in_order (rules U home sc one_value t) (rules U home sc one_value u ++ rules_of_pairs U home sc ps) (labels t) (labels u ++ labels_of_pairs ps) (in_order sc one_value t) (both_in_order (rules U home sc one_value u) (rules_of_pairs U home sc ps) (labels u) (labels_of_pairs ps) (in_order sc one_value u) (pairs_in_order sc ps)))
+    pairs_in_order sc (m.and_pair e t u ps) = of_three (labels t) (labels u) (labels_of_pairs ps)
+        (both_in_order (rules U home sc one_value t) (rules U home sc one_value u ++ rules_of_pairs U home sc ps) (labels t) (labels u ++ labels_of_pairs ps) (in_order sc one_value t)
+        (both_in_order (rules U home sc one_value u) (rules_of_pairs U home sc ps) (labels u) (labels_of_pairs ps) (in_order sc one_value u) (pairs_in_order sc ps)))
 
     segments_in_order : (sc : Scope) (ss : m.Segments) → InOrder (rules_of_segments U home sc ss) (labels_of_segments ss)
     segments_in_order sc m.no_segment = left_none
-    segments_in_order sc (m.and_segment t ts ss) = of_three (labels t) (labels_of_all ts) (labels_of_segments ss) (both_in_order (rules U home sc one_value t) (rules_of_all U home sc ts ++ rules_of_segments U home sc ss) (labels t) (labels_of_all ts ++ labels_of_segments ss) (in_order sc one_value t) (both_in_order (rules_of_all U home sc ts) (rules_of_segments U home sc ss) (labels_of_all ts) (labels_of_segments ss) (all_in_order sc ts) (segments_in_order sc ss)))
+    segments_in_order sc (m.and_segment t ts ss) = of_three (labels t) (labels_of_all ts) (labels_of_segments ss)
+        (both_in_order (rules U home sc one_value t) (rules_of_all U home sc ts ++ rules_of_segments U home sc ss) (labels t) (labels_of_all ts ++ labels_of_segments ss) (in_order sc one_value t)
+        (both_in_order (rules_of_all U home sc ts) (rules_of_segments U home sc ss) (labels_of_all ts) (labels_of_segments ss) (all_in_order sc ts) (segments_in_order sc ss)))
 
     steps_in_order : (sc : Scope) (ss : m.Steps) → InOrder (rules_of_steps U home sc ss) (labels_of_steps ss)
     steps_in_order sc m.no_step = left_none
@@ -197,7 +215,8 @@ module _ (U : Program) (home : Atom) where
         let inner = with_heads qs ps sc in
         let body = passed_to U home label k (places U home inner k t) ++ rules U home inner k t in
         let later = rules_of_clauses U home sc k label qs cs in
-        left_out (of_four (labels_of_patterns ps) (labels g) (labels t) (labels_of_clauses cs) (both_in_order (rules_of_heads U home sc qs ps) (rules U home inner one_value g ++ (body ++ later)) (labels_of_patterns ps) (labels g ++ (labels t ++ labels_of_clauses cs)) (heads_in_order sc qs ps)
+        left_out (of_four (labels_of_patterns ps) (labels g) (labels t) (labels_of_clauses cs)
+        (both_in_order (rules_of_heads U home sc qs ps) (rules U home inner one_value g ++ (body ++ later)) (labels_of_patterns ps) (labels g ++ (labels t ++ labels_of_clauses cs)) (heads_in_order sc qs ps)
         (both_in_order (rules U home inner one_value g) (body ++ later) (labels g) (labels t ++ labels_of_clauses cs) (in_order inner one_value g)
         (both_in_order body later (labels t) (labels_of_clauses cs) (passed_in_order label k (places U home inner k t) (rules U home inner k t) (labels t) (in_order inner k t)) (clauses_in_order sc k label qs cs)))))
 
@@ -205,12 +224,14 @@ module _ (U : Program) (home : Atom) where
     definitions_in_order sc m.no_def = left_none
     definitions_in_order sc (m.and_def f i xs t ds) =
         let inner = in_function U home i.label xs sc in
-        left_out (both_in_order (flows (first (places U home inner one_value t)) (returned home i.label) ∷ rules U home inner one_value t) (rules_of_definitions U home sc ds) (labels t) (labels_of_defs ds) (in_order inner one_value t) (definitions_in_order sc ds))
+        left_out (both_in_order (flows (first (places U home inner one_value t)) (returned home i.label) ∷ rules U home inner one_value t) (rules_of_definitions U home sc ds) (labels t) (labels_of_defs ds) (in_order inner one_value t)
+        (definitions_in_order sc ds))
 
     pattern_in_order : (sc : Scope) (q : Place) (p : m.Pattern) → InOrder (rules_of_pattern U home sc q p) (labels_of_pattern p)
     pattern_in_order sc q (m.binds i x) = left_out left_none
     pattern_in_order sc q (m.equals i l) = left_out left_none
-    pattern_in_order sc q (m.list_of i ps p) = left_out (both_in_order (rules_of_patterns U home sc q ps) (rules_of_pattern U home (with_patterns q ps sc) q p) (labels_of_patterns ps) (labels_of_pattern p) (patterns_in_order sc q ps) (pattern_in_order (with_patterns q ps sc) q p))
+    pattern_in_order sc q (m.list_of i ps p) = left_out (both_in_order (rules_of_patterns U home sc q ps) (rules_of_pattern U home (with_patterns q ps sc) q p) (labels_of_patterns ps) (labels_of_pattern p) (patterns_in_order sc q ps)
+        (pattern_in_order (with_patterns q ps sc) q p))
     pattern_in_order sc q (m.tuple_of i ps) = left_out (patterns_in_order sc q ps)
     pattern_in_order sc q (m.map_of i ps) = left_out (pat_pairs_in_order sc q ps)
     pattern_in_order sc q (m.binary_of i ss) = left_out (pat_segments_in_order sc ss)
@@ -218,24 +239,29 @@ module _ (U : Program) (home : Atom) where
 
     patterns_in_order : (sc : Scope) (q : Place) (ps : m.Patterns) → InOrder (rules_of_patterns U home sc q ps) (labels_of_patterns ps)
     patterns_in_order sc q m.no_pattern = left_none
-    patterns_in_order sc q (m.and_pattern p ps) = both_in_order (rules_of_pattern U home sc q p) (rules_of_patterns U home (with_pattern q p sc) q ps) (labels_of_pattern p) (labels_of_patterns ps) (pattern_in_order sc q p) (patterns_in_order (with_pattern q p sc) q ps)
+    patterns_in_order sc q (m.and_pattern p ps) = both_in_order (rules_of_pattern U home sc q p) (rules_of_patterns U home (with_pattern q p sc) q ps) (labels_of_pattern p) (labels_of_patterns ps) (pattern_in_order sc q p)
+        (patterns_in_order (with_pattern q p sc) q ps)
 
     pat_pairs_in_order : (sc : Scope) (q : Place) (ps : m.PatPairs) → InOrder (rules_of_pat_pairs U home sc q ps) (labels_of_pat_pairs ps)
     pat_pairs_in_order sc q m.no_pat_pair = left_none
     pat_pairs_in_order sc q (m.and_pat_pair t p ps) =
-        of_three (labels t) (labels_of_pattern p) (labels_of_pat_pairs ps) (both_in_order (rules U home sc one_value t) (rules_of_pattern U home sc q p ++ rules_of_pat_pairs U home (with_pattern q p sc) q ps) (labels t) (labels_of_pattern p ++ labels_of_pat_pairs ps) (in_order sc one_value t)
+        of_three (labels t) (labels_of_pattern p) (labels_of_pat_pairs ps) (both_in_order (rules U home sc one_value t) (rules_of_pattern U home sc q p ++ rules_of_pat_pairs U home (with_pattern q p sc) q ps) (labels t)
+        (labels_of_pattern p ++ labels_of_pat_pairs ps) (in_order sc one_value t)
         (both_in_order (rules_of_pattern U home sc q p) (rules_of_pat_pairs U home (with_pattern q p sc) q ps) (labels_of_pattern p) (labels_of_pat_pairs ps) (pattern_in_order sc q p) (pat_pairs_in_order (with_pattern q p sc) q ps)))
 
     pat_segments_in_order : (sc : Scope) (ss : m.PatSegments) → InOrder (rules_of_pat_segments U home sc ss) (labels_of_pat_segments ss)
     pat_segments_in_order sc m.no_pat_segment = left_none
     pat_segments_in_order sc (m.and_pat_segment p ts ss) =
         let inner = with_pattern anywhere p sc in
-        of_three (labels_of_pattern p) (labels_of_all ts) (labels_of_pat_segments ss) (both_in_order (rules_of_pattern U home sc anywhere p) (rules_of_all U home inner ts ++ rules_of_pat_segments U home inner ss) (labels_of_pattern p) (labels_of_all ts ++ labels_of_pat_segments ss) (pattern_in_order sc anywhere p)
+        of_three (labels_of_pattern p) (labels_of_all ts) (labels_of_pat_segments ss)
+        (both_in_order (rules_of_pattern U home sc anywhere p) (rules_of_all U home inner ts ++ rules_of_pat_segments U home inner ss) (labels_of_pattern p) (labels_of_all ts ++ labels_of_pat_segments ss)
+        (pattern_in_order sc anywhere p)
         (both_in_order (rules_of_all U home inner ts) (rules_of_pat_segments U home inner ss) (labels_of_all ts) (labels_of_pat_segments ss) (all_in_order inner ts) (pat_segments_in_order inner ss)))
 
     heads_in_order : (sc : Scope) (qs : List Place) (ps : m.Patterns) → InOrder (rules_of_heads U home sc qs ps) (labels_of_patterns ps)
     heads_in_order sc qs m.no_pattern = left_none
-    heads_in_order sc qs (m.and_pattern p ps) = both_in_order (rules_of_pattern U home sc (first qs) p) (rules_of_heads U home (with_pattern (first qs) p sc) (rest qs) ps) (labels_of_pattern p) (labels_of_patterns ps) (pattern_in_order sc (first qs) p) (heads_in_order (with_pattern (first qs) p sc) (rest qs) ps)
+    heads_in_order sc qs (m.and_pattern p ps) = both_in_order (rules_of_pattern U home sc (first qs) p) (rules_of_heads U home (with_pattern (first qs) p sc) (rest qs) ps) (labels_of_pattern p) (labels_of_patterns ps)
+        (pattern_in_order sc (first qs) p) (heads_in_order (with_pattern (first qs) p sc) (rest qs) ps)
 
 exports_quiet : (home : Atom) (ds : m.Defs) (fs : List FunName) → InOrder (export_rules home ds fs) []
 exports_quiet home ds [] = left_none

@@ -26,7 +26,8 @@ module_among : (U ps : Program) (home : Atom) (p : m.Module) → module_named ps
 module_among U [] home p e = absurd cc
 module_among U (q ∷ ps) home p e = by (same_atom q.name home) refl (module_among U ps home p) e
   where
-    by : (b : Bool) → same_atom q.name home ≡ b → (module_named ps home ≡ Some p → (p.name ≡ home) × ((r : Rule) → IsAmong (module_rules U p) r → IsAmong (rules_of_modules U ps) r)) → (if b then Some q else module_named ps home) ≡ Some p → (p.name ≡ home) × ((r : Rule) → IsAmong (module_rules U p) r → IsAmong (module_rules U q ++ rules_of_modules U ps) r)
+    by : (b : Bool) → same_atom q.name home ≡ b → (module_named ps home ≡ Some p → (p.name ≡ home) × ((r : Rule) → IsAmong (module_rules U p) r → IsAmong (rules_of_modules U ps) r))
+        → (if b then Some q else module_named ps home) ≡ Some p → (p.name ≡ home) × ((r : Rule) → IsAmong (module_rules U p) r → IsAmong (module_rules U q ++ rules_of_modules U ps) r)
     by true n more w =
         let same : q ≡ p = same_Some _ _ w in
         (subst (λ z. z.name ≡ home) same ((bytes_decides q.name home).0 n), λ r i. among_left (module_rules U q) (rules_of_modules U ps) r (subst (λ z. IsAmong (module_rules U z) r) (sym same) i))
@@ -37,7 +38,8 @@ export_among : (home : Atom) (ds : m.Defs) (fs : List FunName) (f : FunName) (r 
 export_among home ds [] f r e i = absurd cc
 export_among home ds (g ∷ fs) f r e i = by (same_function f g) refl e (λ h. export_among home ds fs f r h i)
   where
-    by : (b : Bool) → same_function f g ≡ b → (b || has_function fs f) ≡ true → (has_function fs f ≡ true → IsAmong (export_rules home ds fs) r) → IsAmong (opens_definition home (function_named (locals_of ds) g) ++ export_rules home ds fs) r
+    by : (b : Bool) → same_function f g ≡ b → (b || has_function fs f) ≡ true → (has_function fs f ≡ true → IsAmong (export_rules home ds fs) r)
+        → IsAmong (opens_definition home (function_named (locals_of ds) g) ++ export_rules home ds fs) r
     by true n h more = among_left (opens_definition home (function_named (locals_of ds) g)) (export_rules home ds fs) r (subst (λ z. IsAmong (opens_definition home (function_named (locals_of ds) z)) r) (function_is f g n) i)
     by false n h more = among_right (opens_definition home (function_named (locals_of ds) g)) (export_rules home ds fs) r (more h)
 
@@ -54,4 +56,5 @@ exports_there U home f r e i = by (module_named U home) refl e i
     by None q h j = absurd cc
     by (Some p) q h j =
         let k = module_among U U home p q in
-        k.1 r (among_left (export_rules p.name p.defs p.exports) (rules_of_definitions U p.name no_place p.defs) r (export_among p.name p.defs p.exports f r h (subst (λ z. IsAmong (opens_definition z (function_named (locals_of p.defs) f)) r) (sym k.0) j)))
+        k.1 r (among_left (export_rules p.name p.defs p.exports) (rules_of_definitions U p.name no_place p.defs) r
+        (export_among p.name p.defs p.exports f r h (subst (λ z. IsAmong (opens_definition z (function_named (locals_of p.defs) f)) r) (sym k.0) j)))

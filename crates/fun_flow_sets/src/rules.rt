@@ -53,7 +53,8 @@ pub fn captured_keep_places()
 /// and what follows them, keys, values, and the map after the bar.
 pub fn parts_are_joined()
     ensures literals { (U : Program) (home : Atom) (sc : Scope) (k : Ask) (i : Mark) (c : Literal) → places U home sc k (m.literal i c) ≡ nowhere ∷ [] }
-    ensures binaries { (U : Program) (home : Atom) (sc : Scope) (k : Ask) (i : Mark) (ss : m.Segments) → places U home sc k (m.binary i ss) ≡ nowhere ∷ [] }
+    ensures binaries { (U : Program) (home : Atom) (sc : Scope) (k : Ask) (i : Mark) (ss : m.Segments)
+        → places U home sc k (m.binary i ss) ≡ nowhere ∷ [] }
     ensures elements { ListsHaveElements }
     ensures rests { ListsHaveRests }
     ensures tuples { TuplesHaveElements }
@@ -66,7 +67,8 @@ pub fn parts_are_joined()
 /// binds its variables to what its expression gives, `do` drops it, and the last expression of a chain and
 /// the body of a `letrec` pass on what they give.
 pub fn values_pass_on()
-    ensures variables { (U : Program) (home : Atom) (sc : Scope) (k : Ask) (i : Mark) (x : Atom) → places U home sc k (m.variable i x) ≡ place_of sc x ∷ [] }
+    ensures variables { (U : Program) (home : Atom) (sc : Scope) (k : Ask) (i : Mark) (x : Atom)
+        → places U home sc k (m.variable i x) ≡ place_of sc x ∷ [] }
     ensures value_lists { ValueListsPassOn }
     ensures chains { ChainsPassOn }
     ensures lets { LetsBind }

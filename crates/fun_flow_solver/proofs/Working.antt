@@ -31,7 +31,8 @@ pub put_there : (sets : List (List ℕ)) (place item : ℕ) → list_any (λ x. 
 put_there sets place item e = contains_it (targets sets place) item e
 
 -- an item that is new is put into the queue
-pub put_new : (sets sets' : List (List ℕ)) (queue : List Pair) (place item : ℕ) → length sets' ≡ length sets → ((p x : ℕ) → Leads sets' p x ↔ (Leads sets p x ⊎ ((p ≡ place) × (x ≡ item)))) → Moves sets queue sets' (queue ++ record { place = place; item = item } ∷ [])
+pub put_new : (sets sets' : List (List ℕ)) (queue : List Pair) (place item : ℕ) → length sets' ≡ length sets → ((p x : ℕ) → Leads sets' p x ↔ (Leads sets p x ⊎ ((p ≡ place) × (x ≡ item))))
+    → Moves sets queue sets' (queue ++ record { place = place; item = item } ∷ [])
 put_new sets sets' queue place item n h =
     record {
       count = n;
@@ -43,7 +44,8 @@ put_new sets sets' queue place item n h =
       ];
       new = λ p x k. elim ((h p x).0 k) [
         | inl old ↦ inl old
-        | inr is ↦ inr (subst (λ z. Contains (queue ++ record { place = place; item = item } ∷ []) (record { place = z; item = x })) (sym is.0) (subst (λ z. Contains (queue ++ record { place = place; item = item } ∷ []) (record { place = place; item = z })) (sym is.1) (Contains-push queue (record { place = place; item = item }))))
+        | inr is ↦ inr (subst (λ z. Contains (queue ++ record { place = place; item = item } ∷ []) (record { place = z; item = x })) (sym is.0)
+            (subst (λ z. Contains (queue ++ record { place = place; item = item } ∷ []) (record { place = place; item = z })) (sym is.1) (Contains-push queue (record { place = place; item = item }))))
       ];
     }
 
@@ -56,7 +58,8 @@ pub of_each : (Q : ℕ → Type 0) (xs : List ℕ) → ((k : ℕ) → k < length
 of_each Q xs f x h = subst Q (sym (get_or_default xs h.0 x 0 h.1) ∙ h.2) (f h.0 h.1)
 
 -- Items that were put into places with a reason keep what the worklist keeps.
-pub moves_keep : (P : Problem) (o : Option Pair) (sets : List (List ℕ)) (queue : List Pair) (sets' : List (List ℕ)) (queue' : List Pair) (out : List (List ℕ)) → IsWork P o sets out queue → Moves sets queue sets' queue' → ((p x : ℕ) → Leads sets' p x → Holds P p x) → IsWork P o sets' out queue'
+pub moves_keep : (P : Problem) (o : Option Pair) (sets : List (List ℕ)) (queue : List Pair) (sets' : List (List ℕ)) (queue' : List Pair) (out : List (List ℕ)) → IsWork P o sets out queue → Moves sets queue sets' queue'
+    → ((p x : ℕ) → Leads sets' p x → Holds P p x) → IsWork P o sets' out queue'
 moves_keep P o sets queue sets' queue' out w m s =
     record {
       sound = s;
@@ -75,7 +78,8 @@ moves_keep P o sets queue sets' queue' out w m s =
     }
 
 -- One more edge keeps it, where all that its first place holds was sent along.
-pub edge_keeps : (P : Problem) (o : Option Pair) (sets out out' : List (List ℕ)) (queue : List Pair) (from to : ℕ) → IsWork P o sets out queue → ((p q : ℕ) → Leads out' p q ↔ (Leads out p q ⊎ ((p ≡ from) × (q ≡ to)))) → ((x : ℕ) → Leads sets from x → Leads sets to x) → ((x : ℕ) → Holds P from x → Holds P to x) → IsWork P o sets out' queue
+pub edge_keeps : (P : Problem) (o : Option Pair) (sets out out' : List (List ℕ)) (queue : List Pair) (from to : ℕ) → IsWork P o sets out queue → ((p q : ℕ) → Leads out' p q ↔ (Leads out p q ⊎ ((p ≡ from) × (q ≡ to))))
+    → ((x : ℕ) → Leads sets from x → Leads sets to x) → ((x : ℕ) → Holds P from x → Holds P to x) → IsWork P o sets out' queue
 edge_keeps P o sets out out' queue from to w e s j =
     record {
       sound = w.sound;
@@ -128,7 +132,8 @@ finished P sets out w p x h = elim (w.done p x h) [
 ]
 
 -- Where nothing waits, all starts are held and all flows are edges, the sets are exact.
-pub work_ends : (P : Problem) (sets out : List (List ℕ)) → IsWork P None sets out [] → ((s : Pair) → Contains P.starts.items s → Leads sets s.place s.item) → ((e : Edge) → Contains P.flows.items e → Leads out e.from e.to) → (p x : ℕ) → Holds P p x → Leads sets p x
+pub work_ends : (P : Problem) (sets out : List (List ℕ)) → IsWork P None sets out [] → ((s : Pair) → Contains P.starts.items s → Leads sets s.place s.item) → ((e : Edge) → Contains P.flows.items e → Leads out e.from e.to)
+    → (p x : ℕ) → Holds P p x → Leads sets p x
 work_ends P sets out w st fl p x (by_start {s = s} h) = st s h
 work_ends P sets out w st fl p x (by_flow {e = e} h r) = (finished P sets out w e.from x (work_ends P sets out w st fl e.from x r)).0 e.to (fl e h)
 work_ends P sets out w st fl p x (by_unknown {c = c} {x = y} h r e) = ((finished P sets out w c.operator y (work_ends P sets out w st fl c.operator y r)).1 c h refl).0 e
@@ -141,7 +146,8 @@ work_ends P sets out w st fl p x (by_body {c = c} {x = z} {r = b} h r e k) =
 pub keeps_none : (P : Problem) (sets out : List (List ℕ)) (queue : List Pair) → Keeps P sets out queue sets out queue
 keeps_none P sets out queue = record { count = refl; edge_count = refl; grown = λ p x h. h; edges = λ p x h. h; work = λ o w. w; still = λ p x h k. k }
 
-pub keeps_then : (P : Problem) (s o : List (List ℕ)) (q : List Pair) (s' o' : List (List ℕ)) (q' : List Pair) (s'' o'' : List (List ℕ)) (q'' : List Pair) → Keeps P s o q s' o' q' → Keeps P s' o' q' s'' o'' q'' → Keeps P s o q s'' o'' q''
+pub keeps_then : (P : Problem) (s o : List (List ℕ)) (q : List Pair) (s' o' : List (List ℕ)) (q' : List Pair) (s'' o'' : List (List ℕ)) (q'' : List Pair) → Keeps P s o q s' o' q' → Keeps P s' o' q' s'' o'' q''
+    → Keeps P s o q s'' o'' q''
 keeps_then P s o q s' o' q' s'' o'' q'' a b =
     record {
       count = b.count ∙ a.count;
@@ -153,7 +159,8 @@ keeps_then P s o q s' o' q' s'' o'' q'' a b =
     }
 
 -- one item that was put with a reason
-pub put_keeps : (P : Problem) (sets out : List (List ℕ)) (queue : List Pair) (sets' : List (List ℕ)) (queue' : List Pair) (place item : ℕ) → Moves sets queue sets' queue' → ((p x : ℕ) → Leads sets' p x → Leads sets p x ⊎ ((p ≡ place) × (x ≡ item))) → Holds P place item → Keeps P sets out queue sets' out queue'
+pub put_keeps : (P : Problem) (sets out : List (List ℕ)) (queue : List Pair) (sets' : List (List ℕ)) (queue' : List Pair) (place item : ℕ) → Moves sets queue sets' queue'
+    → ((p x : ℕ) → Leads sets' p x → Leads sets p x ⊎ ((p ≡ place) × (x ≡ item))) → Holds P place item → Keeps P sets out queue sets' out queue'
 put_keeps P sets out queue sets' queue' place item m only r =
     record {
       count = m.count;
@@ -165,10 +172,13 @@ put_keeps P sets out queue sets' queue' place item m only r =
     }
 
 -- what stays of the first place of an edge, after all that it holds was sent
-sent_on : (sets sets' : List (List ℕ)) (from to : ℕ) → ((p x : ℕ) → Leads sets' p x → Leads sets p x ⊎ ((p ≡ to) × Leads sets from x)) → ((x : ℕ) → Leads sets from x → Leads sets' to x) → (x : ℕ) → Leads sets' from x → Leads sets' to x
+sent_on : (sets sets' : List (List ℕ)) (from to : ℕ) → ((p x : ℕ) → Leads sets' p x → Leads sets p x ⊎ ((p ≡ to) × Leads sets from x)) → ((x : ℕ) → Leads sets from x → Leads sets' to x) → (x : ℕ)
+    → Leads sets' from x → Leads sets' to x
 sent_on sets sets' from to only there x h = elim (only from x h) [ inl k ↦ there x k | inr both ↦ there x both.1 ]
 
-pub link_keeps : (P : Problem) (sets out : List (List ℕ)) (queue : List Pair) (sets' out' : List (List ℕ)) (queue' : List Pair) (from to : ℕ) → Moves sets queue sets' queue' → ((p x : ℕ) → Leads sets' p x → Leads sets p x ⊎ ((p ≡ to) × Leads sets from x)) → ((x : ℕ) → Leads sets from x → Leads sets' to x) → length out' ≡ length out → ((p q : ℕ) → Leads out' p q ↔ (Leads out p q ⊎ ((p ≡ from) × (q ≡ to)))) → ((x : ℕ) → Holds P from x → Holds P to x) → Keeps P sets out queue sets' out' queue'
+pub link_keeps : (P : Problem) (sets out : List (List ℕ)) (queue : List Pair) (sets' out' : List (List ℕ)) (queue' : List Pair) (from to : ℕ) → Moves sets queue sets' queue'
+    → ((p x : ℕ) → Leads sets' p x → Leads sets p x ⊎ ((p ≡ to) × Leads sets from x)) → ((x : ℕ) → Leads sets from x → Leads sets' to x) → length out' ≡ length out
+    → ((p q : ℕ) → Leads out' p q ↔ (Leads out p q ⊎ ((p ≡ from) × (q ≡ to)))) → ((x : ℕ) → Holds P from x → Holds P to x) → Keeps P sets out queue sets' out' queue'
 link_keeps P sets out queue sets' out' queue' from to m only there n e j =
     record {
       count = m.count;
@@ -196,23 +206,32 @@ holds_below P n b p x (by_body {c = c} {r = r} h k e j) = ((b.applications c h).
 holds_below P n b p x (by_unknown {c = c} h k e) = ((b.applications c h).1, b.some)
 
 -- the step of a pair: first along its edges, then at its applications
-pub spread_keeps : (P : Problem) (o : Option Pair) (sets out : List (List ℕ)) (queue : List Pair) (sets' : List (List ℕ)) (queue' : List Pair) (place item : ℕ) → IsWork P o sets out queue → Moves sets queue sets' queue' → ((p x : ℕ) → Leads sets' p x → Leads sets p x ⊎ (Leads out place p × (x ≡ item))) → Leads sets place item → IsWork P o sets' out queue'
+pub spread_keeps : (P : Problem) (o : Option Pair) (sets out : List (List ℕ)) (queue : List Pair) (sets' : List (List ℕ)) (queue' : List Pair) (place item : ℕ) → IsWork P o sets out queue → Moves sets queue sets' queue'
+    → ((p x : ℕ) → Leads sets' p x → Leads sets p x ⊎ (Leads out place p × (x ≡ item))) → Leads sets place item → IsWork P o sets' out queue'
 spread_keeps P o sets out queue sets' queue' place item w m only h =
     moves_keep P o sets queue sets' queue' out w m
     (λ p x k. elim (only p x k) [ inl old ↦ w.sound p x old | inr both ↦ subst (λ z. Holds P p z) (sym both.1) (w.just place p item both.0 (w.sound place item h)) ])
 
-pub step_ends : (P : Problem) (sets out : List (List ℕ)) (queue : List Pair) (sets' out' : List (List ℕ)) (queue' : List Pair) (e : Pair) → IsWork P (Some e) sets out queue → Leads sets e.place e.item → IsSent sets out e.place e.item → Keeps P sets out queue sets' out' queue' → ((c : Application) → Contains P.applications.items c → c.operator ≡ e.place → IsApplied P sets' out' c e.item) → IsWork P None sets' out' queue'
+pub step_ends : (P : Problem) (sets out : List (List ℕ)) (queue : List Pair) (sets' out' : List (List ℕ)) (queue' : List Pair) (e : Pair) → IsWork P (Some e) sets out queue → Leads sets e.place e.item
+    → IsSent sets out e.place e.item → Keeps P sets out queue sets' out' queue' → ((c : Application) → Contains P.applications.items c → c.operator ≡ e.place → IsApplied P sets' out' c e.item)
+    → IsWork P None sets' out' queue'
 step_ends P sets out queue sets' out' queue' e w h s k a = pair_done P sets' out' queue' e (k.work (Some e) w) (k.still e.place e.item h s, a)
 
 pub application_there : (P : Problem) (applications_at : List (List ℕ)) (n place k : ℕ) (ks : List ℕ) → ks ≡ targets applications_at place → k < length ks → Leads applications_at place (slice_index ks k)
 application_there P applications_at n place k ks e h = subst (λ xs. Contains xs (slice_index ks k)) e (at_place ks k h)
 
 -- one more application has been applied
-pub applied_more : (P : Problem) (sets out sets' out' : List (List ℕ)) (x i : ℕ) (ks : List ℕ) (application : Application) → Grows sets sets' → Grows out out' → slice_index ks i < length P.applications.items → slice_index_or P.applications.items (slice_index ks i) application ≡ application → IsApplied P sets' out' application x → ((j : ℕ) → j < i → (c : Application) → slice_index_or P.applications.items (slice_index ks j) c ≡ c → IsApplied P sets out c x) → (j : ℕ) → j < i + 1 → (c : Application) → slice_index_or P.applications.items (slice_index ks j) c ≡ c → IsApplied P sets' out' c x
-applied_more P sets out sets' out' x i ks application g e l is a f = below_more _ _ (λ j h c q. applied_grows P sets out sets' out' c x g e (f j h c q)) (λ c q. subst (λ z. IsApplied P sets' out' z x) (sym is ∙ get_or_default P.applications.items (slice_index ks i) application c l ∙ q) a)
+pub applied_more : (P : Problem) (sets out sets' out' : List (List ℕ)) (x i : ℕ) (ks : List ℕ) (application : Application) → Grows sets sets' → Grows out out' → slice_index ks i < length P.applications.items
+    → slice_index_or P.applications.items (slice_index ks i) application ≡ application → IsApplied P sets' out' application x
+    → ((j : ℕ) → j < i → (c : Application) → slice_index_or P.applications.items (slice_index ks j) c ≡ c → IsApplied P sets out c x) → (j : ℕ) → j < i + 1 → (c : Application)
+    → slice_index_or P.applications.items (slice_index ks j) c ≡ c → IsApplied P sets' out' c x
+applied_more P sets out sets' out' x i ks application g e l is a f = below_more _ _ (λ j h c q. applied_grows P sets out sets' out' c x g e (f j h c q))
+    (λ c q. subst (λ z. IsApplied P sets' out' z x) (sym is ∙ get_or_default P.applications.items (slice_index ks i) application c l ∙ q) a)
 
 -- all applications of a place have been applied
-pub applied_all : (P : Problem) (applications_at : List (List ℕ)) (sets out : List (List ℕ)) (place x i : ℕ) (ks : List ℕ) → AreAt P applications_at (length P.applications.items) → ks ≡ targets applications_at place → ((j : ℕ) → j < length ks → (c : Application) → slice_index_or P.applications.items (slice_index ks j) c ≡ c → IsApplied P sets out c x) → (c : Application) → Contains P.applications.items c → c.operator ≡ place → IsApplied P sets out c x
+pub applied_all : (P : Problem) (applications_at : List (List ℕ)) (sets out : List (List ℕ)) (place x i : ℕ) (ks : List ℕ) → AreAt P applications_at (length P.applications.items) → ks ≡ targets applications_at place
+    → ((j : ℕ) → j < length ks → (c : Application) → slice_index_or P.applications.items (slice_index ks j) c ≡ c → IsApplied P sets out c x) → (c : Application) → Contains P.applications.items c → c.operator ≡ place
+    → IsApplied P sets out c x
 applied_all P applications_at sets out place x i ks at e f c h o =
     let there = subst (λ z. Leads applications_at z h.0) o (at.all h.0 c h.1 h.2) in
     of_each (λ k. slice_index_or P.applications.items k c ≡ c → IsApplied P sets out c x) ks (λ j l q. f j l c q) h.0 (subst (λ xs. Contains xs h.0) (sym e) there) h.2
@@ -220,13 +239,15 @@ applied_all P applications_at sets out place x i ks at e f c h o =
 -- ---- the beginning
 
 -- one more application stands at its operator
-pub at_more : (P : Problem) (applications_at applications_at' : List (List ℕ)) (n : ℕ) (application : Application) → n < length P.applications.items → slice_index_or P.applications.items n application ≡ application → ((p k : ℕ) → Leads applications_at' p k ↔ (Leads applications_at p k ⊎ ((p ≡ application.operator) × (k ≡ n)))) → AreAt P applications_at n → AreAt P applications_at' (n + 1)
+pub at_more : (P : Problem) (applications_at applications_at' : List (List ℕ)) (n : ℕ) (application : Application) → n < length P.applications.items → slice_index_or P.applications.items n application ≡ application
+    → ((p k : ℕ) → Leads applications_at' p k ↔ (Leads applications_at p k ⊎ ((p ≡ application.operator) × (k ≡ n)))) → AreAt P applications_at n → AreAt P applications_at' (n + 1)
 at_more P applications_at applications_at' n application l is e a =
     record {
       below = λ p k h. elim ((e p k).0 h) [ inl old ↦ (let j = a.below p k old in omega (arith, j)) | inr both ↦ (let j = both.1 in omega (arith, j)) ];
       operator = λ p k c h q. elim ((e p k).0 h) [
         | inl old ↦ a.operator p k c old q
-        | inr both ↦ (let same : application ≡ c = sym is ∙ get_or_default P.applications.items n application c l ∙ subst (λ z. slice_index_or P.applications.items z c ≡ c) both.1 q in sym (ap (λ z. z.operator) same) ∙ sym both.0)
+        | inr both ↦ (let same : application ≡ c = sym is ∙ get_or_default P.applications.items n application c l ∙ subst (λ z. slice_index_or P.applications.items z c ≡ c) both.1 q in sym (ap (λ z. z.operator) same)
+            ∙ sym both.0)
       ];
       all = λ k c h q. below_more (λ j. (d : Application) → slice_index_or P.applications.items j d ≡ d → Leads applications_at' d.operator j) n
           (λ j i d z. (e d.operator j).1 (inl (a.all j d i z)))
@@ -242,7 +263,8 @@ pub of_all : {T : Type 0} (Q : T → Type 0) (xs : List T) (n : ℕ) → n ≡ l
 of_all Q xs n e f x h = f h.0 (subst (λ m. h.0 < m) (sym e) h.1) x h.2
 
 -- the worklist before its first step
-pub work_begins : (P : Problem) (sets out : List (List ℕ)) (queue : List Pair) (sets' : List (List ℕ)) (queue' : List Pair) → queue ≡ [] → ((p x : ℕ) → Leads sets p x → ⊥) → ((p q x : ℕ) → Leads out p q → Holds P p x → Holds P q x) → Moves sets queue sets' queue' → ((p x : ℕ) → Leads sets' p x → Leads sets p x ⊎ Holds P p x) → IsWork P None sets' out queue'
+pub work_begins : (P : Problem) (sets out : List (List ℕ)) (queue : List Pair) (sets' : List (List ℕ)) (queue' : List Pair) → queue ≡ [] → ((p x : ℕ) → Leads sets p x → ⊥)
+    → ((p q x : ℕ) → Leads out p q → Holds P p x → Holds P q x) → Moves sets queue sets' queue' → ((p x : ℕ) → Leads sets' p x → Leads sets p x ⊎ Holds P p x) → IsWork P None sets' out queue'
 work_begins P sets out queue sets' queue' e none just m only =
     record {
       sound = λ p x h. elim (only p x h) [ inl old ↦ absurd (none p x old) | inr r ↦ r ];
@@ -262,7 +284,10 @@ pub shorter : {T : Type 0} (xs ys : List T) (n : ℕ) → xs ≡ ys → n < leng
 shorter xs ys n e h = subst (λ zs. n < length zs) e h
 
 -- one more edge
-pub edges_more : (P : Problem) (out out' : List (List ℕ)) (n : ℕ) (ed : Edge) → n < length P.flows.items → slice_index_or P.flows.items n ed ≡ ed → ((p q : ℕ) → Leads out' p q ↔ (Leads out p q ⊎ ((p ≡ ed.from) × (q ≡ ed.to)))) → ((p q x : ℕ) → Leads out p q → Holds P p x → Holds P q x) → ((k : ℕ) → k < n → (e : Edge) → slice_index_or P.flows.items k e ≡ e → Leads out e.from e.to) → ((p q x : ℕ) → Leads out' p q → Holds P p x → Holds P q x) × ((k : ℕ) → k < n + 1 → (e : Edge) → slice_index_or P.flows.items k e ≡ e → Leads out' e.from e.to)
+pub edges_more : (P : Problem) (out out' : List (List ℕ)) (n : ℕ) (ed : Edge) → n < length P.flows.items → slice_index_or P.flows.items n ed ≡ ed
+    → ((p q : ℕ) → Leads out' p q ↔ (Leads out p q ⊎ ((p ≡ ed.from) × (q ≡ ed.to)))) → ((p q x : ℕ) → Leads out p q → Holds P p x → Holds P q x)
+    → ((k : ℕ) → k < n → (e : Edge) → slice_index_or P.flows.items k e ≡ e → Leads out e.from e.to)
+    → ((p q x : ℕ) → Leads out' p q → Holds P p x → Holds P q x) × ((k : ℕ) → k < n + 1 → (e : Edge) → slice_index_or P.flows.items k e ≡ e → Leads out' e.from e.to)
 edges_more P out out' n ed l is e just all = (
   λ p q x h r. elim ((e p q).0 h) [
     | inl old ↦ just p q x old r
@@ -273,7 +298,10 @@ edges_more P out out' n ed l is e just all = (
 )
 
 -- one more start
-pub starts_more : (P : Problem) (first sets sets' : List (List ℕ)) (n : ℕ) (s : Pair) → n < length P.starts.items → slice_index_or P.starts.items n s ≡ s → Grows sets sets' → ((p x : ℕ) → Leads sets' p x → Leads sets p x ⊎ ((p ≡ s.place) × (x ≡ s.item))) → Leads sets' s.place s.item → ((p x : ℕ) → Leads sets p x → Leads first p x ⊎ Holds P p x) → ((k : ℕ) → k < n → (t : Pair) → slice_index_or P.starts.items k t ≡ t → Leads sets t.place t.item) → ((p x : ℕ) → Leads sets' p x → Leads first p x ⊎ Holds P p x) × ((k : ℕ) → k < n + 1 → (t : Pair) → slice_index_or P.starts.items k t ≡ t → Leads sets' t.place t.item)
+pub starts_more : (P : Problem) (first sets sets' : List (List ℕ)) (n : ℕ) (s : Pair) → n < length P.starts.items → slice_index_or P.starts.items n s ≡ s → Grows sets sets'
+    → ((p x : ℕ) → Leads sets' p x → Leads sets p x ⊎ ((p ≡ s.place) × (x ≡ s.item))) → Leads sets' s.place s.item → ((p x : ℕ) → Leads sets p x → Leads first p x ⊎ Holds P p x)
+    → ((k : ℕ) → k < n → (t : Pair) → slice_index_or P.starts.items k t ≡ t → Leads sets t.place t.item)
+    → ((p x : ℕ) → Leads sets' p x → Leads first p x ⊎ Holds P p x) × ((k : ℕ) → k < n + 1 → (t : Pair) → slice_index_or P.starts.items k t ≡ t → Leads sets' t.place t.item)
 starts_more P first sets sets' n s l is g only there old all = (
   λ p x h. elim (only p x h) [
     | inl k ↦ old p x k

@@ -16,7 +16,8 @@ use Rattle.module_flow_state.specs.World.{World}
 use Rattle.module_flow.specs.steps.Beginning.{initial_function}
 
 -- the functions that have names, each as it begins
-one_initial : (escaping_labels : List ℕ) (f : LabelledFunction) (name : Option FunName) (ds : List DefinedFunction) (rest : FlowState) → map (initial_function escaping_labels) ds ≡ rest → map (initial_function escaping_labels) (named_as f name ++ ds) ≡ begins_one escaping_labels f name ++ rest
+one_initial : (escaping_labels : List ℕ) (f : LabelledFunction) (name : Option FunName) (ds : List DefinedFunction) (rest : FlowState) → map (initial_function escaping_labels) ds ≡ rest
+    → map (initial_function escaping_labels) (named_as f name ++ ds) ≡ begins_one escaping_labels f name ++ rest
 one_initial escaping_labels f None ds rest e = e
 one_initial escaping_labels f (Some name) ds rest e = ap (λ gs. begins_one escaping_labels f (Some name) ++ gs) e
 
@@ -41,11 +42,13 @@ initial_functions_as one other same (d ∷ ds) = ap₂ (λ f fs. f ∷ fs) (init
 pub same_world : (callees : Callees) (x : m.Module) (W : World) → W.callee ≡ callees → W.home ≡ x.name → W.names ≡ defined_names x.defs → W.labels ≡ defined_labels x.defs → W ≡ world callees x W.state
 same_world callees x W c h n l = λ i. record { callee = c i; home = h i; names = n i; labels = l i; state = W.state }
 
-pub round_made : (callees : Callees) (x : m.Module) (W : World) → W.callee ≡ callees → W.home ≡ x.name → W.names ≡ defined_names x.defs → W.labels ≡ defined_labels x.defs → takes W.state (contributions_of_functions W outermost x.defs) ≡ made_of callees x W.state
+pub round_made : (callees : Callees) (x : m.Module) (W : World) → W.callee ≡ callees → W.home ≡ x.name → W.names ≡ defined_names x.defs → W.labels ≡ defined_labels x.defs
+    → takes W.state (contributions_of_functions W outermost x.defs) ≡ made_of callees x W.state
 round_made callees x W c h n l = ap (λ V. takes W.state (contributions_of_functions V outermost x.defs)) (same_world callees x W c h n l)
 
 -- where the flow of a module begins, from the labels that are looked up and the functions that have names
-pub initial_first : (x : m.Module) (labels set : List ℕ) (functions : List DefinedFunction) (state : FlowState) → functions ≡ named_functions (functions_of x) → labels ≡ open_labels x → ((l : ℕ) → has_label set l ≡ has_label labels l) → state ≡ map (initial_function set) functions → state ≡ first_state x
+pub initial_first : (x : m.Module) (labels set : List ℕ) (functions : List DefinedFunction) (state : FlowState) → functions ≡ named_functions (functions_of x) → labels ≡ open_labels x
+    → ((l : ℕ) → has_label set l ≡ has_label labels l) → state ≡ map (initial_function set) functions → state ≡ first_state x
 initial_first x labels set functions state named escaping_labels same is =
     is
     ∙ ap (map (initial_function set)) named

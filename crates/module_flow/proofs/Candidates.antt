@@ -1,5 +1,6 @@
 -- A walk over candidates walks all functions for which something changed.
-use Rattle.std.proofs.Common.{◌≡◌, ℕ, zero, suc, ◌+◌, ◌-◌, ◌<◌, ◌≤◌, ◌⊎◌, inl, inr, Bool, true, false, ◌||◌, List, [], ◌∷◌, ◌++◌, length, drop, get_or, set, take, Some, slice_get, slice_index, refl, ap, ◌∙◌, subst, arith}
+use Rattle.std.proofs.Common.{◌≡◌, ℕ, zero, suc, ◌+◌, ◌-◌, ◌<◌, ◌≤◌, ◌⊎◌, inl, inr, Bool, true, false, ◌||◌, List, [], ◌∷◌}
+use Rattle.std.proofs.Common.{◌++◌, length, drop, get_or, set, take, Some, slice_get, slice_index, refl, ap, ◌∙◌, subst, arith}
 use Rattle.std.specs.List.{Contains, list_any}
 use Rattle.std.specs.List.Sorted.{IsNonDecreasing}
 use Rattle.std.proofs.lemmas.List.Elements.{Contains-append_left, Contains-append_right}
@@ -30,8 +31,11 @@ any_found p (l ∷ ls) e = by (p l) refl e (any_found p ls)
         let h : there.1.0 < length ls = there.1.1 in
         (there.0, (suc there.1.0, omega arith, there.1.2), there.2)
 
-pub candidates_of : (table : List (List ℕ)) (vs : List Visit) (rounds : Rounds) (entered given positions : List ℕ) (k : ℕ) → AreNoted table vs → ((l q : ℕ) → Contains (entered ++ given) l → Contains (readers table l) q → Contains positions q) → IsNonDecreasing positions → AllListed rounds.0 k entered → AllListed rounds.1 k given → AreCandidates rounds k vs positions
-candidates_of table vs rounds entered given positions k noted all ascending listed_entered listed_given = record { ascending = ascending; all = λ q v at touched. by q v at (or_cases (list_any (in_round rounds.0 k) v.own) (list_any (in_round rounds.1 k) v.given) touched) }
+pub candidates_of : (table : List (List ℕ)) (vs : List Visit) (rounds : Rounds) (entered given positions : List ℕ) (k : ℕ) → AreNoted table vs
+    → ((l q : ℕ) → Contains (entered ++ given) l → Contains (readers table l) q → Contains positions q) → IsNonDecreasing positions → AllListed rounds.0 k entered → AllListed rounds.1 k given
+    → AreCandidates rounds k vs positions
+candidates_of table vs rounds entered given positions k noted all ascending listed_entered listed_given =
+    record { ascending = ascending; all = λ q v at touched. by q v at (or_cases (list_any (in_round rounds.0 k) v.own) (list_any (in_round rounds.1 k) v.given) touched) }
   where
     by : (q : ℕ) (v : Visit) → slice_get vs q ≡ Some v → (list_any (in_round rounds.0 k) v.own ≡ true) ⊎ (list_any (in_round rounds.1 k) v.given ≡ true) → Contains positions q
     by q v at (inl e) = let f = any_found (in_round rounds.0 k) v.own e in all f.0 q (Contains-append_left entered given f.0 (listed_entered f.0 f.2)) (noted.own q v at f.0 f.1)
@@ -86,7 +90,8 @@ module _ (W : World) (rounds : Rounds) (k : ℕ) (ds : List Definition) (all_con
   no_more : (p : ℕ) (more : List ℕ) → IsNonDecreasing (p ∷ more) → IsNonDecreasing more
   no_more p more ascending = λ i j d h l. ascending (suc i) (suc j) d (omega arith) (omega arith)
 
-  pub walk_begins : (vs : List Visit) (positions : List ℕ) → length vs ≡ length ds → AreCandidates rounds k vs positions → contributions_again W rounds k ds vs ≡ all_contributions → visits_again W rounds k ds vs ≡ all_visits → IsWalked vs [] 0 positions
+  pub walk_begins : (vs : List Visit) (positions : List ℕ) → length vs ≡ length ds → AreCandidates rounds k vs positions → contributions_again W rounds k ds vs ≡ all_contributions → visits_again W rounds k ds vs ≡ all_visits
+      → IsWalked vs [] 0 positions
   walk_begins vs positions many candidates contributions visits = record {
     many = many;
     within = omega arith;
@@ -128,7 +133,8 @@ module _ (W : World) (rounds : Rounds) (k : ℕ) (ds : List Definition) (all_con
     up_to =
         skipped (p - from) vs gs from p (omega arith) walked.many (omega arith) untouched_before walked.contributions walked.visits
 
-    left_behind : (new : List Visit) → ((q : ℕ) (v : Visit) → p < q → slice_get new q ≡ Some v → slice_get vs q ≡ Some v) → (q : ℕ) (v : Visit) → p + 1 ≤ q → slice_get new q ≡ Some v → is_touched rounds k v ≡ true → Contains more q
+    left_behind : (new : List Visit) → ((q : ℕ) (v : Visit) → p < q → slice_get new q ≡ Some v → slice_get vs q ≡ Some v) → (q : ℕ) (v : Visit) → p + 1 ≤ q → slice_get new q ≡ Some v
+        → is_touched rounds k v ≡ true → Contains more q
     left_behind new same q v l at touched =
         by (contains_cases p q more (subst (λ xs. Contains xs q) is (walked.all q v (omega arith) (same q v (omega arith) at) touched)))
       where
@@ -148,7 +154,8 @@ module _ (W : World) (rounds : Rounds) (k : ℕ) (ds : List Definition) (all_con
     }
 
     -- and one that is
-    pub walk_takes : (d : Definition) (v : Visit) (new : List Visit) (hs : List Contribution) → slice_get ds p ≡ Some d → slice_get vs p ≡ Some v → is_touched rounds k v ≡ true → hs ≡ gs ++ contributions_of_one W d → new ≡ set vs p (record { own = v.own; given = labels_given (contributions_of_one W d) }) → IsWalked new hs (p + 1) more
+    pub walk_takes : (d : Definition) (v : Visit) (new : List Visit) (hs : List Contribution) → slice_get ds p ≡ Some d → slice_get vs p ≡ Some v → is_touched rounds k v ≡ true → hs ≡ gs ++ contributions_of_one W d
+        → new ≡ set vs p (record { own = v.own; given = labels_given (contributions_of_one W d) }) → IsWalked new hs (p + 1) more
     walk_takes d v new hs here known on given put = record {
       many = ap length put ∙ length-set vs p w ∙ walked.many;
       within = omega arith;

@@ -174,7 +174,8 @@ module _ (counts : ℕ → ℕ) where
           still_open (counts l) (parameters_of (states k) l) (subst (λ p. Grow p (parameters_of (states k) l)) e (rounds_grow k l))
           (counted_at (states k) l (rounds_counted k))
 
-      pub last_wholly : AreTaken (last_state callees x) (contributions_of_functions (world callees x (last_state callees x)) outermost x.defs) → AreWhollyTaken (last_state callees x) (contributions_of_functions (world callees x (last_state callees x)) outermost x.defs)
+      pub last_wholly : AreTaken (last_state callees x) (contributions_of_functions (world callees x (last_state callees x)) outermost x.defs)
+          → AreWhollyTaken (last_state callees x) (contributions_of_functions (world callees x (last_state callees x)) outermost x.defs)
       last_wholly taken =
           wholly (last_state callees x) (contributions_of_functions (world callees x (last_state callees x)) outermost x.defs)
           (rounds_counted (last_round callees x)) (gives (last_state callees x)) taken

@@ -31,7 +31,8 @@ pub reader_still : (before after : List (List ℕ)) (ls : List ℕ) (q : ℕ) �
 reader_still before after ls q kept reads l among = kept l q (reads l among)
 
 -- one label more
-pub noted_more : (before after : List (List ℕ)) (ls : List ℕ) (i l q : ℕ) → i < length ls → l ≡ get_or ls i 0 → KeepsReaders before after → Contains (readers after l) q → IsReader before (take i ls) q → IsReader after (take (i + 1) ls) q
+pub noted_more : (before after : List (List ℕ)) (ls : List ℕ) (i l q : ℕ) → i < length ls → l ≡ get_or ls i 0 → KeepsReaders before after → Contains (readers after l) q → IsReader before (take i ls) q
+    → IsReader after (take (i + 1) ls) q
 noted_more before after ls i l q h is kept here noted k among =
     by (Contains-push_cases (take i ls) l k (subst (λ xs. Contains xs k) (take_more ls i 0 h ∙ ap (λ x. take i ls ++ x ∷ []) (sym is)) among))
   where
@@ -40,7 +41,8 @@ noted_more before after ls i l q h is kept here noted k among =
     by (inr e) = subst (λ j. Contains (readers after j) q) e here
 
 -- the positions of one label more
-pub positions_more : (table : List (List ℕ)) (ls : List ℕ) (i l : ℕ) (before after : List ℕ) → i < length ls → l ≡ get_or ls i 0 → after ≡ before ++ readers table l → ((k q : ℕ) → Contains (take i ls) k → Contains (readers table k) q → Contains before q) → (k q : ℕ) → Contains (take (i + 1) ls) k → Contains (readers table k) q → Contains after q
+pub positions_more : (table : List (List ℕ)) (ls : List ℕ) (i l : ℕ) (before after : List ℕ) → i < length ls → l ≡ get_or ls i 0 → after ≡ before ++ readers table l
+    → ((k q : ℕ) → Contains (take i ls) k → Contains (readers table k) q → Contains before q) → (k q : ℕ) → Contains (take (i + 1) ls) k → Contains (readers table k) q → Contains after q
 positions_more table ls i l before after h is added all k q among reads =
     subst (λ xs. Contains xs q) (sym added)
     (by (Contains-push_cases (take i ls) l k (subst (λ xs. Contains xs k) (take_more ls i 0 h ∙ ap (λ x. take i ls ++ x ∷ []) (sym is)) among)))
@@ -94,7 +96,8 @@ of_set (x ∷ vs) (suc i) (suc q) w v e = by (of_set vs i q w v e)
     by (inr f) = inr (ap suc f.0, f.1)
 
 -- one function more
-pub noted_longer : (before after : List (List ℕ)) (vs new : List Visit) (v : Visit) → KeepsReaders before after → IsReader after v.own (length vs) → IsReader after v.given (length vs) → new ≡ vs ++ v ∷ [] → AreNoted before vs → AreNoted after new
+pub noted_longer : (before after : List (List ℕ)) (vs new : List Visit) (v : Visit) → KeepsReaders before after → IsReader after v.own (length vs) → IsReader after v.given (length vs) → new ≡ vs ++ v ∷ []
+    → AreNoted before vs → AreNoted after new
 noted_longer before after vs new v kept own given is noted =
     subst (AreNoted after) (sym is)
     (record {
@@ -113,7 +116,8 @@ noted_longer before after vs new v kept own given is noted =
         subst (λ p. Contains (readers after l) p) (sym e.0) (given l (subst (λ u. Contains u.given l) (sym e.1) among))
 
 -- a function that was walked
-pub noted_walked : (before after : List (List ℕ)) (vs new : List Visit) (i : ℕ) (v w : Visit) → KeepsReaders before after → slice_get vs i ≡ Some v → w.own ≡ v.own → IsReader after w.given i → new ≡ set vs i w → AreNoted before vs → AreNoted after new
+pub noted_walked : (before after : List (List ℕ)) (vs new : List Visit) (i : ℕ) (v w : Visit) → KeepsReaders before after → slice_get vs i ≡ Some v → w.own ≡ v.own → IsReader after w.given i → new ≡ set vs i w
+    → AreNoted before vs → AreNoted after new
 noted_walked before after vs new i v w kept at same given is noted =
     subst (AreNoted after) (sym is)
     (record {

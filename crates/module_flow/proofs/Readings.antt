@@ -23,7 +23,8 @@ use Rattle.module_flow_calls.specs.TypeLists.{Given, one, where_given, either, f
 use Rattle.module_flow_state.specs.Applications.{applied, by_meaning, resolved_name, enters, enters_resolved, where_meets}
 use Rattle.module_flow_calls.specs.Calls.{by_state, called}
 use Rattle.module_flow_walk.specs.Clauses.{patterns_solved, head_solved, inside}
-use Rattle.module_flow_walk.specs.Contributions.{listed_by, where_entered, where_limited, where_seen, where_solved, contributions, contributions_of_all, contributions_of_pairs, contributions_of_segments, contributions_of_steps, contributions_of_clauses, contributions_of_functions}
+use Rattle.module_flow_walk.specs.Contributions.{listed_by, where_entered, where_limited, where_seen, where_solved, contributions, contributions_of_all, contributions_of_pairs}
+use Rattle.module_flow_walk.specs.Contributions.{contributions_of_segments, contributions_of_steps, contributions_of_clauses, contributions_of_functions}
 use Rattle.module_flow_state.specs.States.{returns, FlowState, parameters_of}
 use Rattle.module_flow_state.specs.Scopes.{WalkScope, with_functions, with_variables}
 use Rattle.module_flow_walk.specs.Walk.{passed, if_named, matched_slots, see_given, see_steps, seen_by_clauses, seen_by_messages, then, then_inside, then_seen, walk, walk_all, walk_clauses, walk_pairs, walk_segments, by_primop}
@@ -159,7 +160,8 @@ module _ (callee : Atom → FunName → Callee) (home : Atom) (names : List FunN
     walk_same (m.tuple i ts) sc k a = ap (λ o. then o (λ us. value (tuple us))) (walk_all_same ts sc a)
     walk_same (m.new_map i ps) sc k a = ap (λ o. then o (λ us. value (of_kind Map))) (walk_pairs_same ps sc a)
     walk_same (m.updated_map i ps t) sc k a =
-        then_same (walk_pairs V sc ps) (walk_pairs W sc ps) (λ us. then (walk V sc one_value t) (λ old. where_meets (first old) (of_kind Map) (value (of_kind Map)))) (λ us. then (walk W sc one_value t) (λ old. where_meets (first old) (of_kind Map) (value (of_kind Map))))
+        then_same (walk_pairs V sc ps) (walk_pairs W sc ps) (λ us. then (walk V sc one_value t) (λ old. where_meets (first old) (of_kind Map) (value (of_kind Map))))
+        (λ us. then (walk W sc one_value t) (λ old. where_meets (first old) (of_kind Map) (value (of_kind Map))))
         (walk_pairs_same ps sc (front (contributions_of_pairs V sc ps) (contributions V sc one_value t) a))
         (λ us e. ap (λ o. then o (λ old. where_meets (first old) (of_kind Map) (value (of_kind Map)))) (walk_same t sc one_value (back (contributions_of_pairs V sc ps) (contributions V sc one_value t) a)))
     walk_same (m.binary i ss) sc k a = ap (λ o. then o (λ us. value (of_kind Bitstring))) (walk_segments_same ss sc a)
@@ -167,11 +169,13 @@ module _ (callee : Atom → FunName → Callee) (home : Atom) (names : List FunN
     walk_same (m.chain i ss t) sc k a =
         seen_same (see_steps V sc ss) (see_steps W sc ss) (λ inner. passed k (walk V inner k t)) (λ inner. passed k (walk W inner k t))
         (see_steps_same ss sc (front (contributions_of_steps V sc ss) (where_seen (see_steps V sc ss) (λ inner. contributions V inner k t)) a))
-        (λ inner e. ap (passed k) (walk_same t inner k (at_seen (see_steps V sc ss) (λ inner. contributions V inner k t) inner (back (contributions_of_steps V sc ss) (where_seen (see_steps V sc ss) (λ inner. contributions V inner k t)) a) e)))
+        (λ inner e. ap (passed k) (walk_same t inner k (at_seen (see_steps V sc ss) (λ inner. contributions V inner k t) inner
+        (back (contributions_of_steps V sc ss) (where_seen (see_steps V sc ss) (λ inner. contributions V inner k t)) a) e)))
     walk_same (m.case i t cs) sc k a =
         let argument = contributions V sc (Exactly (width cs)) t in
         let clauses = λ (ts : List Type4). contributions_of_clauses V (seen_by_clauses sc cs ts) k (matched_slots sc t cs) cs in
-        then_same (walk V sc (Exactly (width cs)) t) (walk W sc (Exactly (width cs)) t) (λ ts. walk_clauses V (seen_by_clauses sc cs ts) k (matched_slots sc t cs) cs) (λ ts. walk_clauses W (seen_by_clauses sc cs ts) k (matched_slots sc t cs) cs)
+        then_same (walk V sc (Exactly (width cs)) t) (walk W sc (Exactly (width cs)) t) (λ ts. walk_clauses V (seen_by_clauses sc cs ts) k (matched_slots sc t cs) cs)
+        (λ ts. walk_clauses W (seen_by_clauses sc cs ts) k (matched_slots sc t cs) cs)
         (walk_same t sc (Exactly (width cs)) (front argument (where_given (walk V sc (Exactly (width cs)) t) clauses) a))
         (λ ts e. walk_clauses_same cs (seen_by_clauses sc cs ts) k (matched_slots sc t cs) (at_given (walk V sc (Exactly (width cs)) t) clauses ts (back argument (where_given (walk V sc (Exactly (width cs)) t) clauses) a) e))
     walk_same (m.letrec i ds t) sc k a =
@@ -189,7 +193,8 @@ module _ (callee : Atom → FunName → Callee) (home : Atom) (names : List FunN
         (λ us w. applied_same sc f us (at_given (walk_all V sc ts) (λ us. enters V sc f us) us (back (contributions_of_all V sc ts) (where_given (walk_all V sc ts) (λ us. enters V sc f us)) b) w)))
         (λ e.
         let b = at_no_name (local_name t) by_name by_value a e in
-        then_same (walk V sc one_value t) (walk W sc one_value t) (λ operator. then (walk_all V sc ts) (λ us. where_meets (first operator) (function_type (length us)) (value any))) (λ operator. then (walk_all W sc ts) (λ us. where_meets (first operator) (function_type (length us)) (value any)))
+        then_same (walk V sc one_value t) (walk W sc one_value t) (λ operator. then (walk_all V sc ts) (λ us. where_meets (first operator) (function_type (length us)) (value any)))
+        (λ operator. then (walk_all W sc ts) (λ us. where_meets (first operator) (function_type (length us)) (value any)))
         (walk_same t sc one_value (front (contributions V sc one_value t) (contributions_of_all V sc ts) b))
         (λ operator w. ap (λ o. then o (λ us. where_meets (first operator) (function_type (length us)) (value any))) (walk_all_same ts sc (back (contributions V sc one_value t) (contributions_of_all V sc ts) b))))
     walk_same (m.call i t u ts) sc k a =
@@ -202,7 +207,8 @@ module _ (callee : Atom → FunName → Callee) (home : Atom) (names : List FunN
         (λ e.
         let b = at_no_name (call_names t u) by_names by_value a e in
         let operator = front (contributions V sc one_value t ++ contributions V sc one_value u) (contributions_of_all V sc ts) b in
-        then_same (walk V sc one_value t) (walk W sc one_value t) (λ home. then (walk V sc one_value u) (λ name. then (walk_all V sc ts) (λ us. value any))) (λ home. then (walk W sc one_value u) (λ name. then (walk_all W sc ts) (λ us. value any)))
+        then_same (walk V sc one_value t) (walk W sc one_value t) (λ home. then (walk V sc one_value u) (λ name. then (walk_all V sc ts) (λ us. value any)))
+        (λ home. then (walk W sc one_value u) (λ name. then (walk_all W sc ts) (λ us. value any)))
         (walk_same t sc one_value (front (contributions V sc one_value t) (contributions V sc one_value u) operator))
         (λ home w. then_same (walk V sc one_value u) (walk W sc one_value u) (λ name. then (walk_all V sc ts) (λ us. value any)) (λ name. then (walk_all W sc ts) (λ us. value any))
         (walk_same u sc one_value (back (contributions V sc one_value t) (contributions V sc one_value u) operator))
@@ -282,7 +288,8 @@ module _ (callee : Atom → FunName → Callee) (home : Atom) (names : List FunN
         let body = where_solved (head_solved V sc qs ps g) (λ solved. contributions V (inside sc ps solved) k t) in
         ap₂ either
         (inside_same (head_solved V sc qs ps g) (λ solved. passed k (walk V (inside sc ps solved) k t)) (λ solved. passed k (walk W (inside sc ps solved) k t))
-        (λ solved e. ap (passed k) (walk_same t (inside sc ps solved) k (at_solved (head_solved V sc qs ps g) (λ solved. contributions V (inside sc ps solved) k t) solved (back guard body (front (guard ++ body) (contributions_of_clauses V sc k qs cs) a)) e))))
+        (λ solved e. ap (passed k) (walk_same t (inside sc ps solved) k (at_solved (head_solved V sc qs ps g) (λ solved. contributions V (inside sc ps solved) k t) solved
+        (back guard body (front (guard ++ body) (contributions_of_clauses V sc k qs cs) a)) e))))
         (walk_clauses_same cs sc k qs (back (guard ++ body) (contributions_of_clauses V sc k qs cs) a))
 
   -- ---- what it gives to the state
@@ -326,7 +333,8 @@ module _ (callee : Atom → FunName → Callee) (home : Atom) (names : List FunN
         let b = front argument (where_given (walk V sc (Exactly (width cs)) t) clauses) a in
         both (contributions_same t sc (Exactly (width cs)) (text_front (functions t) (functions_of_clauses cs) h) b)
         (given_same (walk V sc (Exactly (width cs)) t) (walk W sc (Exactly (width cs)) t) clauses (λ ts. contributions_of_clauses W (seen_by_clauses sc cs ts) k (matched_slots sc t cs) cs) (walk_same t sc (Exactly (width cs)) b)
-        (λ ts e. contributions_of_clauses_same cs (seen_by_clauses sc cs ts) k (matched_slots sc t cs) (text_back (functions t) (functions_of_clauses cs) h) (at_given (walk V sc (Exactly (width cs)) t) clauses ts (back argument (where_given (walk V sc (Exactly (width cs)) t) clauses) a) e)))
+        (λ ts e. contributions_of_clauses_same cs (seen_by_clauses sc cs ts) k (matched_slots sc t cs) (text_back (functions t) (functions_of_clauses cs) h)
+        (at_given (walk V sc (Exactly (width cs)) t) clauses ts (back argument (where_given (walk V sc (Exactly (width cs)) t) clauses) a) e)))
     contributions_same (m.letrec i ds t) sc k h a =
         let defined = contributions_of_functions V (with_functions sc ds) ds in
         let body = contributions V (with_functions sc ds) k t in
@@ -342,7 +350,8 @@ module _ (callee : Atom → FunName → Callee) (home : Atom) (names : List FunN
         both (contributions_of_all_same ts sc arguments b) (ap (λ o. where_given o (λ us. enters W sc f us)) (walk_all_same ts sc b)))
         (λ e.
         let b = at_no_name (local_name t) by_name by_value a e in
-        both (contributions_same t sc one_value (text_front (functions t) (functions_of_all ts) h) (front (contributions V sc one_value t) (contributions_of_all V sc ts) b)) (contributions_of_all_same ts sc arguments (back (contributions V sc one_value t) (contributions_of_all V sc ts) b)))
+        both (contributions_same t sc one_value (text_front (functions t) (functions_of_all ts) h) (front (contributions V sc one_value t) (contributions_of_all V sc ts) b))
+        (contributions_of_all_same ts sc arguments (back (contributions V sc one_value t) (contributions_of_all V sc ts) b)))
     contributions_same (m.call i t u ts) sc k h a =
         let by_names = λ (names : Atom × Atom). contributions_of_all V sc ts in
         let by_value = contributions V sc one_value t ++ contributions V sc one_value u ++ contributions_of_all V sc ts in
@@ -367,7 +376,8 @@ module _ (callee : Atom → FunName → Callee) (home : Atom) (names : List FunN
         let tried_text = text_front (functions t ++ functions u) (functions w) h in
         both (both (contributions_same t sc (Exactly (length xs)) (text_front (functions t) (functions u) tried_text) c)
         (given_same (walk V sc (Exactly (length xs)) t) (walk W sc (Exactly (length xs)) t) body (λ ts. contributions W (with_variables sc xs ts) k u) (walk_same t sc (Exactly (length xs)) c)
-        (λ ts e. contributions_same u (with_variables sc xs ts) k (text_back (functions t) (functions u) tried_text) (at_given (walk V sc (Exactly (length xs)) t) body ts (back argument (where_given (walk V sc (Exactly (length xs)) t) body) b) e))))
+        (λ ts e. contributions_same u (with_variables sc xs ts) k (text_back (functions t) (functions u) tried_text)
+        (at_given (walk V sc (Exactly (length xs)) t) body ts (back argument (where_given (walk V sc (Exactly (length xs)) t) body) b) e))))
         (contributions_same w (with_variables sc ys []) k (text_back (functions t ++ functions u) (functions w) h) (back tried handler a))
     contributions_same (m.receive i cs t u) sc k h a =
         let timeout = contributions V sc one_value t in
@@ -380,7 +390,8 @@ module _ (callee : Atom → FunName → Callee) (home : Atom) (names : List FunN
         (λ limit e.
         let c = at_given (walk V sc one_value t) rest limit (back timeout (where_given (walk V sc one_value t) rest) a) e in
         both (contributions_of_clauses_same cs (seen_by_messages sc) k (length sc.types ∷ []) (text_front (functions_of_clauses cs) (functions t) before_action) (front messages (where_limited limit (contributions V sc k u)) c))
-        (limited_contributions limit (contributions V sc k u) (contributions W sc k u) (back messages (where_limited limit (contributions V sc k u)) c) (λ d. contributions_same u sc k (text_back (functions_of_clauses cs ++ functions t) (functions u) h) d))))
+        (limited_contributions limit (contributions V sc k u) (contributions W sc k u) (back messages (where_limited limit (contributions V sc k u)) c)
+        (λ d. contributions_same u sc k (text_back (functions_of_clauses cs ++ functions t) (functions u) h) d))))
     contributions_same (m.catch i t) sc k h a = contributions_same t sc one_value h a
 
     contributions_of_all_same : (ts : m.Trees) (sc : WalkScope) → Text_alike (functions_of_all ts) → Given_alike (contributions_of_all V sc ts) → contributions_of_all V sc ts ≡ contributions_of_all W sc ts
@@ -399,7 +410,8 @@ module _ (callee : Atom → FunName → Callee) (home : Atom) (names : List FunN
         (contributions_same u sc one_value (text_back (functions t) (functions u) text) (back (contributions V sc one_value t) (contributions V sc one_value u) b)))
         (contributions_of_pairs_same ps sc (text_back (functions t ++ functions u) (functions_of_pairs ps) h) (back key_and_value (contributions_of_pairs V sc ps) a))
 
-    contributions_of_segments_same : (ss : m.Segments) (sc : WalkScope) → Text_alike (functions_of_segments ss) → Given_alike (contributions_of_segments V sc ss) → contributions_of_segments V sc ss ≡ contributions_of_segments W sc ss
+    contributions_of_segments_same : (ss : m.Segments) (sc : WalkScope) → Text_alike (functions_of_segments ss) → Given_alike (contributions_of_segments V sc ss)
+        → contributions_of_segments V sc ss ≡ contributions_of_segments W sc ss
     contributions_of_segments_same m.no_segment sc h a = refl
     contributions_of_segments_same (m.and_segment t ts ss) sc h a =
         let one_segment = contributions V sc one_value t ++ contributions_of_all V sc ts in
@@ -416,7 +428,8 @@ module _ (callee : Atom → FunName → Callee) (home : Atom) (names : List FunN
         let b = front (contributions V sc (Exactly (length xs)) u) (where_given (walk V sc (Exactly (length xs)) u) rest) a in
         both (contributions_same u sc (Exactly (length xs)) (text_front (functions u) (functions_of_steps ss) h) b)
         (given_same (walk V sc (Exactly (length xs)) u) (walk W sc (Exactly (length xs)) u) rest (λ us. contributions_of_steps W (with_variables sc xs us) ss) (walk_same u sc (Exactly (length xs)) b)
-        (λ us e. contributions_of_steps_same ss (with_variables sc xs us) (text_back (functions u) (functions_of_steps ss) h) (at_given (walk V sc (Exactly (length xs)) u) rest us (back (contributions V sc (Exactly (length xs)) u) (where_given (walk V sc (Exactly (length xs)) u) rest) a) e)))
+        (λ us e. contributions_of_steps_same ss (with_variables sc xs us) (text_back (functions u) (functions_of_steps ss) h)
+        (at_given (walk V sc (Exactly (length xs)) u) rest us (back (contributions V sc (Exactly (length xs)) u) (where_given (walk V sc (Exactly (length xs)) u) rest) a) e)))
     contributions_of_steps_same (m.and_do i u ss) sc h a =
         let rest = λ (us : List Type4). contributions_of_steps V sc ss in
         let b = front (contributions V sc AnyNumber u) (where_given (walk V sc AnyNumber u) rest) a in
@@ -424,7 +437,8 @@ module _ (callee : Atom → FunName → Callee) (home : Atom) (names : List FunN
         (given_same (walk V sc AnyNumber u) (walk W sc AnyNumber u) rest (λ us. contributions_of_steps W sc ss) (walk_same u sc AnyNumber b)
         (λ us e. contributions_of_steps_same ss sc (text_back (functions u) (functions_of_steps ss) h) (at_given (walk V sc AnyNumber u) rest us (back (contributions V sc AnyNumber u) (where_given (walk V sc AnyNumber u) rest) a) e)))
 
-    contributions_of_clauses_same : (cs : m.Clauses) (sc : WalkScope) (k : Ask) (qs : List ℕ) → Text_alike (functions_of_clauses cs) → Given_alike (contributions_of_clauses V sc k qs cs) → contributions_of_clauses V sc k qs cs ≡ contributions_of_clauses W sc k qs cs
+    contributions_of_clauses_same : (cs : m.Clauses) (sc : WalkScope) (k : Ask) (qs : List ℕ) → Text_alike (functions_of_clauses cs) → Given_alike (contributions_of_clauses V sc k qs cs)
+        → contributions_of_clauses V sc k qs cs ≡ contributions_of_clauses W sc k qs cs
     contributions_of_clauses_same m.no_clause sc k qs h a = refl
     contributions_of_clauses_same (m.and_clause i ps g t cs) sc k qs h a =
         let guard = where_solved (patterns_solved sc qs ps g) (λ solved. contributions V (inside sc ps solved) one_value g) in
@@ -434,18 +448,22 @@ module _ (callee : Atom → FunName → Callee) (home : Atom) (names : List FunN
         let head_text = text_front (functions_of_patterns ps ++ functions g) (functions t) clause_text in
         both (both
         (solved_same (patterns_solved sc qs ps g) (λ solved. contributions V (inside sc ps solved) one_value g) (λ solved. contributions W (inside sc ps solved) one_value g)
-        (λ solved e. contributions_same g (inside sc ps solved) one_value (text_back (functions_of_patterns ps) (functions g) head_text) (at_solved (patterns_solved sc qs ps g) (λ solved. contributions V (inside sc ps solved) one_value g) solved (front guard body b) e)))
+        (λ solved e. contributions_same g (inside sc ps solved) one_value (text_back (functions_of_patterns ps) (functions g) head_text)
+        (at_solved (patterns_solved sc qs ps g) (λ solved. contributions V (inside sc ps solved) one_value g) solved (front guard body b) e)))
         (solved_same (head_solved V sc qs ps g) (λ solved. contributions V (inside sc ps solved) k t) (λ solved. contributions W (inside sc ps solved) k t)
-        (λ solved e. contributions_same t (inside sc ps solved) k (text_back (functions_of_patterns ps ++ functions g) (functions t) clause_text) (at_solved (head_solved V sc qs ps g) (λ solved. contributions V (inside sc ps solved) k t) solved (back guard body b) e))))
+        (λ solved e. contributions_same t (inside sc ps solved) k (text_back (functions_of_patterns ps ++ functions g) (functions t) clause_text)
+        (at_solved (head_solved V sc qs ps g) (λ solved. contributions V (inside sc ps solved) k t) solved (back guard body b) e))))
         (contributions_of_clauses_same cs sc k qs (text_back (functions_of_patterns ps ++ functions g ++ functions t) (functions_of_clauses cs) h) (back (guard ++ body) (contributions_of_clauses V sc k qs cs) a))
 
-    pub contributions_of_functions_same : (ds : m.Defs) (sc : WalkScope) → Text_alike (functions_of_defs ds) → Given_alike (contributions_of_functions V sc ds) → contributions_of_functions V sc ds ≡ contributions_of_functions W sc ds
+    pub contributions_of_functions_same : (ds : m.Defs) (sc : WalkScope) → Text_alike (functions_of_defs ds) → Given_alike (contributions_of_functions V sc ds)
+        → contributions_of_functions V sc ds ≡ contributions_of_functions W sc ds
     contributions_of_functions_same m.no_def sc h a = refl
     contributions_of_functions_same (m.and_def f i xs t ds) sc h a =
         let one_function = λ (ts : List Type4). contributions V (with_variables sc xs ts) one_value t ++ returns i.label (walk V (with_variables sc xs ts) one_value t) in
         let own = where_entered (parameters_of st i.label) one_function in
         both (entered_same (parameters_of st i.label) (parameters_of su i.label) one_function (λ ts. contributions W (with_variables sc xs ts) one_value t ++ returns i.label (walk W (with_variables sc xs ts) one_value t)) (sym h.0)
         (λ ts e.
-        let b = front (contributions V (with_variables sc xs ts) one_value t) (returns i.label (walk V (with_variables sc xs ts) one_value t)) (at_entered (parameters_of st i.label) one_function ts (front own (contributions_of_functions V sc ds) a) e) in
+        let b = front (contributions V (with_variables sc xs ts) one_value t) (returns i.label (walk V (with_variables sc xs ts) one_value t))
+        (at_entered (parameters_of st i.label) one_function ts (front own (contributions_of_functions V sc ds) a) e) in
         both (contributions_same t (with_variables sc xs ts) one_value (text_front (functions t) (functions_of_defs ds) h.1) b) (ap (returns i.label) (walk_same t (with_variables sc xs ts) one_value b))))
         (contributions_of_functions_same ds sc (text_back (functions t) (functions_of_defs ds) h.1) (back own (contributions_of_functions V sc ds) a))

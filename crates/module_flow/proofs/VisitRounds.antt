@@ -1,5 +1,6 @@
 -- The loop that walks functions again, and where it begins.
-use Rattle.std.proofs.Common.{◌≡◌, ℕ, zero, suc, ◌+◌, ◌≤◌, true, false, cond, List, [], ◌∷◌, ◌++◌, length, set, drop, take, map, slice_get, Some, refl, sym, ap, ap₂, ◌∙◌, subst, arith, append_assoc, append-nil}
+use Rattle.std.proofs.Common.{◌≡◌, ℕ, zero, suc, ◌+◌, ◌≤◌, true, false, cond, List, [], ◌∷◌, ◌++◌, length, set, drop}
+use Rattle.std.proofs.Common.{take, map, slice_get, Some, refl, sym, ap, ap₂, ◌∙◌, subst, arith, append_assoc, append-nil}
 use Rattle.std.proofs.lemmas.List.{drop-set-lt, take_more_set, drop_all}
 use Rattle.std.proofs.lemmas.Option.{slice_get_within}
 use Rattle.module_flow_state.specs.declared.states.Contribution.{Contribution}
@@ -41,13 +42,15 @@ module _ (W : World) (rounds : Rounds) (k : ℕ) where
   visits_from ds vs = visits_again W rounds k ds vs
 
   -- a function that isn't walked
-  pub contributions_off : (ds : List Definition) (vs : List Visit) (i : ℕ) (d : Definition) (v : Visit) (gs goal : List Contribution) → slice_get ds i ≡ Some d → slice_get vs i ≡ Some v → is_touched rounds k v ≡ false → gs ++ contributions_from (drop i ds) (drop i vs) ≡ goal → gs ++ contributions_from (drop (i + 1) ds) (drop (i + 1) vs) ≡ goal
+  pub contributions_off : (ds : List Definition) (vs : List Visit) (i : ℕ) (d : Definition) (v : Visit) (gs goal : List Contribution) → slice_get ds i ≡ Some d → slice_get vs i ≡ Some v → is_touched rounds k v ≡ false
+      → gs ++ contributions_from (drop i ds) (drop i vs) ≡ goal → gs ++ contributions_from (drop (i + 1) ds) (drop (i + 1) vs) ≡ goal
   contributions_off ds vs i d v gs goal a b off before =
       sym (ap₂ (λ xs ys. gs ++ contributions_from xs ys) (next_at ds i d a) (next_at vs i v b)
       ∙ ap (λ c. gs ++ (cond c (contributions_of_one W d) [] ++ contributions_from (drop (i + 1) ds) (drop (i + 1) vs))) off)
       ∙ before
 
-  pub visits_off : (ds : List Definition) (vs : List Visit) (i : ℕ) (d : Definition) (v : Visit) (goal : List Visit) → slice_get ds i ≡ Some d → slice_get vs i ≡ Some v → is_touched rounds k v ≡ false → take i vs ++ visits_from (drop i ds) (drop i vs) ≡ goal → take (i + 1) vs ++ visits_from (drop (i + 1) ds) (drop (i + 1) vs) ≡ goal
+  pub visits_off : (ds : List Definition) (vs : List Visit) (i : ℕ) (d : Definition) (v : Visit) (goal : List Visit) → slice_get ds i ≡ Some d → slice_get vs i ≡ Some v → is_touched rounds k v ≡ false
+      → take i vs ++ visits_from (drop i ds) (drop i vs) ≡ goal → take (i + 1) vs ++ visits_from (drop (i + 1) ds) (drop (i + 1) vs) ≡ goal
   visits_off ds vs i d v goal a b off before =
       let rest = visits_from (drop (i + 1) ds) (drop (i + 1) vs) in
       ap (λ xs. xs ++ rest) (taken_more vs i v b)
@@ -57,7 +60,8 @@ module _ (W : World) (rounds : Rounds) (k : ℕ) where
       ∙ before
 
   -- and one that is
-  pub contributions_on : (ds : List Definition) (vs new : List Visit) (i : ℕ) (d : Definition) (v w : Visit) (gs hs goal : List Contribution) → slice_get ds i ≡ Some d → slice_get vs i ≡ Some v → is_touched rounds k v ≡ true → hs ≡ gs ++ contributions_of_one W d → new ≡ set vs i w → gs ++ contributions_from (drop i ds) (drop i vs) ≡ goal → hs ++ contributions_from (drop (i + 1) ds) (drop (i + 1) new) ≡ goal
+  pub contributions_on : (ds : List Definition) (vs new : List Visit) (i : ℕ) (d : Definition) (v w : Visit) (gs hs goal : List Contribution) → slice_get ds i ≡ Some d → slice_get vs i ≡ Some v → is_touched rounds k v ≡ true
+      → hs ≡ gs ++ contributions_of_one W d → new ≡ set vs i w → gs ++ contributions_from (drop i ds) (drop i vs) ≡ goal → hs ++ contributions_from (drop (i + 1) ds) (drop (i + 1) new) ≡ goal
   contributions_on ds vs new i d v w gs hs goal a b on given is before =
       let rest = contributions_from (drop (i + 1) ds) (drop (i + 1) vs) in
       let left : drop (i + 1) new ≡ drop (i + 1) vs = ap (drop (i + 1)) is ∙ drop-set-lt (i + 1) vs i w (omega arith) in
@@ -67,7 +71,9 @@ module _ (W : World) (rounds : Rounds) (k : ℕ) where
       ∙ ap (λ c. gs ++ (cond c (contributions_of_one W d) [] ++ rest)) on)
       ∙ before
 
-  pub visits_on : (ds : List Definition) (vs new : List Visit) (i : ℕ) (d : Definition) (v : Visit) (goal : List Visit) → slice_get ds i ≡ Some d → slice_get vs i ≡ Some v → is_touched rounds k v ≡ true → new ≡ set vs i (record { own = v.own; given = labels_given (contributions_of_one W d) }) → take i vs ++ visits_from (drop i ds) (drop i vs) ≡ goal → take (i + 1) new ++ visits_from (drop (i + 1) ds) (drop (i + 1) new) ≡ goal
+  pub visits_on : (ds : List Definition) (vs new : List Visit) (i : ℕ) (d : Definition) (v : Visit) (goal : List Visit) → slice_get ds i ≡ Some d → slice_get vs i ≡ Some v → is_touched rounds k v ≡ true
+      → new ≡ set vs i (record { own = v.own; given = labels_given (contributions_of_one W d) }) → take i vs ++ visits_from (drop i ds) (drop i vs) ≡ goal
+      → take (i + 1) new ++ visits_from (drop (i + 1) ds) (drop (i + 1) new) ≡ goal
   visits_on ds vs new i d v goal a b on is before =
       let w : Visit = record { own = v.own; given = labels_given (contributions_of_one W d) } in
       let rest = visits_from (drop (i + 1) ds) (drop (i + 1) vs) in

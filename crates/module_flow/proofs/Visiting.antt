@@ -27,7 +27,8 @@ use Rattle.module_flow_state.proofs.Skipping.{after, after_skips, kept_given, ke
 
 -- ---- what is alike where nothing was touched
 
-all_alike : {X : Type 0} (kind : FlowState → ℕ → X) (old new : FlowState) (rounds : List ℕ) (k : ℕ) → ((l : ℕ) → in_round rounds k l ≡ false → kind new l ≡ kind old l) → (ls : List ℕ) → list_any (in_round rounds k) ls ≡ false → AreAlike kind old new ls
+all_alike : {X : Type 0} (kind : FlowState → ℕ → X) (old new : FlowState) (rounds : List ℕ) (k : ℕ) → ((l : ℕ) → in_round rounds k l ≡ false → kind new l ≡ kind old l) → (ls : List ℕ)
+    → list_any (in_round rounds k) ls ≡ false → AreAlike kind old new ls
 all_alike kind old new rounds k alike [] e = tt
 all_alike kind old new rounds k alike (l ∷ ls) e =
     let parts = or_parts (in_round rounds k l) (list_any (in_round rounds k) ls) e in
@@ -42,7 +43,8 @@ module _ (old new : FlowState) where
   text_alike [] a = tt
   text_alike (f ∷ fs) a = by f.name a (text_alike fs)
     where
-      by : (o : Option FunName) → AreAlike parameters_of old new (labels_named (named_as f o ++ named_functions fs)) → (AreAlike parameters_of old new (labels_named (named_functions fs)) → AlikeInText old new fs) → AlikeIfNamed old new f.label o × AlikeInText old new fs
+      by : (o : Option FunName) → AreAlike parameters_of old new (labels_named (named_as f o ++ named_functions fs)) → (AreAlike parameters_of old new (labels_named (named_functions fs)) → AlikeInText old new fs)
+          → AlikeIfNamed old new f.label o × AlikeInText old new fs
       by None b more = (tt, more b)
       by (Some name) b more = (b.0, more b.1)
 
@@ -57,7 +59,8 @@ module _ (F : JoinFacts) (callee : Atom → FunName → Callee) (home : Atom) (n
 
   one_more : (d : Definition) (ds : List Definition) → all_contributions (d ∷ ds) ≡ contributions_of_one (world_in st) d ++ all_contributions ds
   one_more d ds =
-      let body = λ (ts : List Type4). contributions (world_in st) (with_variables outermost d.fun.params ts) one_value (tree d.fun.body) ++ returns d.mark.label (walk (world_in st) (with_variables outermost d.fun.params ts) one_value (tree d.fun.body)) in
+      let body = λ (ts : List Type4). contributions (world_in st) (with_variables outermost d.fun.params ts) one_value (tree d.fun.body)
+      ++ returns d.mark.label (walk (world_in st) (with_variables outermost d.fun.params ts) one_value (tree d.fun.body)) in
       ap (λ gs. gs ++ all_contributions ds) (sym (append-nil (where_entered (parameters_of st d.mark.label) body)))
 
   -- behind what was given before
@@ -83,15 +86,18 @@ module _ (F : JoinFacts) (callee : Atom → FunName → Callee) (home : Atom) (n
 
   -- ---- what is known of the functions after it
 
-  module _ (next : FlowState) (later : Rounds) (entered : (l : ℕ) → in_round later.0 (suc k) l ≡ false → parameters_of next l ≡ parameters_of st l) (given_same : (l : ℕ) → in_round later.1 (suc k) l ≡ false → result_of next l ≡ result_of st l) where
-    same_contributions : (d : Definition) → AreAlike parameters_of st next (labels_in_text d) → AreAlike result_of st next (labels_given (contributions_of_one (world_in st) d)) → contributions_of_one (world_in st) d ≡ contributions_of_one (world_in next) d
+  module _ (next : FlowState) (later : Rounds) (entered : (l : ℕ) → in_round later.0 (suc k) l ≡ false → parameters_of next l ≡ parameters_of st l) (given_same : (l : ℕ) → in_round later.1 (suc k) l ≡ false
+      → result_of next l ≡ result_of st l) where
+    same_contributions : (d : Definition) → AreAlike parameters_of st next (labels_in_text d) → AreAlike result_of st next (labels_given (contributions_of_one (world_in st) d))
+        → contributions_of_one (world_in st) d ≡ contributions_of_one (world_in next) d
     same_contributions d text given =
         contributions_of_functions_same callee home names labels st next (all_defs (d ∷ [])) outermost
         (text_alike st next (functions_of_defs (all_defs (d ∷ []))) text)
         (given_alike st next (contributions_of_one (world_in st) d) given)
 
     -- one function, of which is known what it gave
-    settled_one : (d : Definition) (v : Visit) → v.own ≡ labels_in_text d → labels_given (contributions_of_one (world_in st) d) ≡ v.given → KeptIn (suc k) next (contributions_of_one (world_in st) d) → IsSettled (world_in next) later (suc k) d v
+    settled_one : (d : Definition) (v : Visit) → v.own ≡ labels_in_text d → labels_given (contributions_of_one (world_in st) d) ≡ v.given → KeptIn (suc k) next (contributions_of_one (world_in st) d)
+        → IsSettled (world_in next) later (suc k) d v
     settled_one d v own given kept = record {
       own = own;
       given = λ e. ap labels_given (sym (same e)) ∙ given;
@@ -104,14 +110,19 @@ module _ (F : JoinFacts) (callee : Atom → FunName → Callee) (home : Atom) (n
             same_contributions d (subst (AreAlike parameters_of st next) own (all_alike parameters_of st next later.0 (suc k) entered v.own parts.0))
             (subst (AreAlike result_of st next) (sym given) (all_alike result_of st next later.1 (suc k) given_same v.given parts.1))
 
-    settled_from : (ds : List Definition) (vs : List Visit) (hs : List Contribution) → next ≡ after k st (hs ++ contributions_again (world_in st) rounds k ds vs) → AreSettled (world_in st) rounds k ds vs → AreSettled (world_in next) later (suc k) ds (visits_again (world_in st) rounds k ds vs)
+    settled_from : (ds : List Definition) (vs : List Visit) (hs : List Contribution) → next ≡ after k st (hs ++ contributions_again (world_in st) rounds k ds vs) → AreSettled (world_in st) rounds k ds vs
+        → AreSettled (world_in next) later (suc k) ds (visits_again (world_in st) rounds k ds vs)
     settled_from [] [] hs is s = tt
     settled_from [] (v ∷ vs) hs is s = absurd s
     settled_from (d ∷ ds) [] hs is s = absurd s
-    settled_from (d ∷ ds) (v ∷ vs) hs is s =
-        (by (is_touched rounds k v) refl is, settled_from ds vs (hs ++ cond (is_touched rounds k v) (contributions_of_one (world_in st) d) []) (is ∙ ap (after k st) (sym (append_assoc hs (cond (is_touched rounds k v) (contributions_of_one (world_in st) d) []) (contributions_again (world_in st) rounds k ds vs)))) s.1)
+    settled_from (d ∷ ds) (v ∷ vs) hs is s = (
+      by (is_touched rounds k v) refl is,
+      settled_from ds vs (hs ++ cond (is_touched rounds k v) (contributions_of_one (world_in st) d) [])
+          (is ∙ ap (after k st) (sym (append_assoc hs (cond (is_touched rounds k v) (contributions_of_one (world_in st) d) []) (contributions_again (world_in st) rounds k ds vs)))) s.1,
+    )
       where
-        by : (b : Bool) → is_touched rounds k v ≡ b → next ≡ after k st (hs ++ (cond b (contributions_of_one (world_in st) d) [] ++ contributions_again (world_in st) rounds k ds vs)) → IsSettled (world_in next) later (suc k) d (cond b (record { own = v.own; given = labels_given (contributions_of_one (world_in st) d) }) v)
+        by : (b : Bool) → is_touched rounds k v ≡ b → next ≡ after k st (hs ++ (cond b (contributions_of_one (world_in st) d) [] ++ contributions_again (world_in st) rounds k ds vs))
+            → IsSettled (world_in next) later (suc k) d (cond b (record { own = v.own; given = labels_given (contributions_of_one (world_in st) d) }) v)
         by true e at =
             settled_one d (record { own = v.own; given = labels_given (contributions_of_one (world_in st) d) }) s.0.own refl
             (subst (λ n. KeptIn (suc k) n (contributions_of_one (world_in st) d)) (sym at) (kept_given F k st hs (contributions_of_one (world_in st) d) (contributions_again (world_in st) rounds k ds vs)))
@@ -119,5 +130,6 @@ module _ (F : JoinFacts) (callee : Atom → FunName → Callee) (home : Atom) (n
             settled_one d v s.0.own (s.0.given e)
             (subst (λ n. KeptIn (suc k) n (contributions_of_one (world_in st) d)) (sym at) (kept_still F k st (hs ++ ([] ++ contributions_again (world_in st) rounds k ds vs)) (contributions_of_one (world_in st) d) (s.0.kept e)))
 
-    pub settled_again : (ds : List Definition) (vs : List Visit) → next ≡ after k st (contributions_again (world_in st) rounds k ds vs) → AreSettled (world_in st) rounds k ds vs → AreSettled (world_in next) later (suc k) ds (visits_again (world_in st) rounds k ds vs)
+    pub settled_again : (ds : List Definition) (vs : List Visit) → next ≡ after k st (contributions_again (world_in st) rounds k ds vs) → AreSettled (world_in st) rounds k ds vs
+        → AreSettled (world_in next) later (suc k) ds (visits_again (world_in st) rounds k ds vs)
     settled_again ds vs is s = settled_from ds vs [] is s

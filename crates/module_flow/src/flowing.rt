@@ -138,7 +138,9 @@ fn findings(
     around: NodeContext,
     defs: &[Shared<FunDef>],
 ) -> Result<List<Finding>, Memory>
-    ensures { IfOk result (λ list. list ≡ functions_reported (world_of context.now) around (all_defs defs.now) ++ found_in_functions (world_of context.now) around outermost (all_defs defs.now) ++ unknown_functions (found context.now.known.now) around (all_defs defs.now)) }
+    ensures { IfOk result (λ list. list ≡ functions_reported (world_of context.now) around (all_defs defs.now)
+        ++ found_in_functions (world_of context.now) around outermost (all_defs defs.now)
+        ++ unknown_functions (found context.now.known.now) around (all_defs defs.now)) }
 {
     let mut findings = report_functions(alloc, context, around, defs)?;
     add_findings(&mut findings, found_by_walk(alloc, context, around, defs)?)?;
@@ -197,7 +199,8 @@ fn report_no_return(
     around: NodeContext,
     def: &FunDef,
 ) -> Result<(), Memory>
-    ensures { OnOk result (walker.new ≡ noting walker.old [] (cond (gives_nothing (found context.now.known.now context.now.home.now def.now.name)) (at_node around def.now.mark (NoReturn def.now.name)) [])) }
+    ensures { OnOk result (walker.new ≡ noting walker.old []
+        (cond (gives_nothing (found context.now.known.now context.now.home.now def.now.name)) (at_node around def.now.mark (NoReturn def.now.name)) [])) }
 {
     if !gives_nothing(context.known.find(context.home, &def.name)) {
         return Ok(());
@@ -213,7 +216,8 @@ fn report_never_called(
     around: NodeContext,
     def: &FunDef,
 ) -> Result<(), Memory>
-    ensures { OnOk result (walker.new ≡ noting walker.old [] (unless_entered (parameters_of context.now.state.now def.now.mark.label) (at_node around def.now.mark (NeverCalled def.now.name)))) }
+    ensures { OnOk result (walker.new ≡ noting walker.old []
+        (unless_entered (parameters_of context.now.state.now def.now.mark.label) (at_node around def.now.mark (NeverCalled def.now.name)))) }
 {
     if context.state.parameters(def.mark.label).is_some() {
         return Ok(());

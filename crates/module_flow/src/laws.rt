@@ -16,13 +16,20 @@ use type_lattice::decision_laws;
 /// and one that gives a value has a result above it. Where each function is entered with as many arguments as its
 /// `counts` says, this holds of all of them, and a function that begins entered with anything stays so.
 pub fn last_state_laws()
-    ensures unchanged { (callees : Callees) (x : m.Module) → widened (last_state callees x) (made_of callees x (last_state callees x)) ≡ last_state callees x }
-    ensures late { (callees : Callees) (x : m.Module) (k : ℕ) → joined_rounds ≤ k → next_state k (last_state callees x) (made_of callees x (last_state callees x)) ≡ last_state callees x }
+    ensures unchanged { (callees : Callees) (x : m.Module)
+        → widened (last_state callees x) (made_of callees x (last_state callees x)) ≡ last_state callees x }
+    ensures late { (callees : Callees) (x : m.Module) (k : ℕ) → joined_rounds ≤ k
+        → next_state k (last_state callees x) (made_of callees x (last_state callees x)) ≡ last_state callees x }
     ensures ends { (callees : Callees) (x : m.Module) (k : ℕ) → last_round callees x ≤ k → after_rounds callees x k ≡ last_state callees x }
     ensures labels { (callees : Callees) (x : m.Module) → labels_of (last_state callees x) ≡ labels_of (first_state x) }
-    ensures taken { (callees : Callees) (x : m.Module) → AreTaken (last_state callees x) (contributions_of_functions (world callees x (last_state callees x)) outermost x.defs) }
-    ensures wholly { (callees : Callees) (x : m.Module) (counts : ℕ → ℕ) → AreCounted counts (first_state x) → ((st : FlowState) → GiveCounted counts (contributions_of_functions (world callees x st) outermost x.defs)) → AreWhollyTaken (last_state callees x) (contributions_of_functions (world callees x (last_state callees x)) outermost x.defs) }
-    ensures stays_open { (callees : Callees) (x : m.Module) (counts : ℕ → ℕ) → AreCounted counts (first_state x) → ((st : FlowState) → GiveCounted counts (contributions_of_functions (world callees x st) outermost x.defs)) → (l : ℕ) → parameters_of (first_state x) l ≡ Some (replicate (counts l) any) → parameters_of (last_state callees x) l ≡ Some (replicate (counts l) any) }
+    ensures taken { (callees : Callees) (x : m.Module)
+        → AreTaken (last_state callees x) (contributions_of_functions (world callees x (last_state callees x)) outermost x.defs) }
+    ensures wholly { (callees : Callees) (x : m.Module) (counts : ℕ → ℕ) → AreCounted counts (first_state x)
+        → ((st : FlowState) → GiveCounted counts (contributions_of_functions (world callees x st) outermost x.defs))
+        → AreWhollyTaken (last_state callees x) (contributions_of_functions (world callees x (last_state callees x)) outermost x.defs) }
+    ensures stays_open { (callees : Callees) (x : m.Module) (counts : ℕ → ℕ) → AreCounted counts (first_state x)
+        → ((st : FlowState) → GiveCounted counts (contributions_of_functions (world callees x st) outermost x.defs)) → (l : ℕ)
+        → parameters_of (first_state x) l ≡ Some (replicate (counts l) any) → parameters_of (last_state callees x) l ≡ Some (replicate (counts l) any) }
 {
     type_facts();
     decision_laws();

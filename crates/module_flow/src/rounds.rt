@@ -185,7 +185,8 @@ pub fn walk_module(
     reporting: bool,
 ) -> Result<FlowWalk, Memory>
     ensures contributions { IfOk result (λ walker. walker.contributions ≡ contributions_of_functions (world_of context.now) outermost (all_defs defs.now)) }
-    ensures found { IfOk result (λ walker. walker.found ≡ cond reporting (found_in_functions (world_of context.now) around outermost (all_defs defs.now)) []) }
+    ensures found { IfOk result (λ walker. walker.found
+        ≡ cond reporting (found_in_functions (world_of context.now) around outermost (all_defs defs.now)) []) }
 {
     let mut walker = FlowWalk::new(alloc, reporting);
     for def in defs {

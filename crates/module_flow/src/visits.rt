@@ -83,7 +83,8 @@ impl Visits {
     // Notes a walk of the function at a position that gave this.
     fn walked(&mut self, position: usize, contributions: &[Contribution]) -> Result<(), Memory>
         requires { position < length self.old }
-        ensures { OnOk result ((v : Visit) → slice_get self.old position ≡ Some v → self.new ≡ slice_set self.old position (record { own = v.own; given = labels_given contributions.now })) }
+        ensures { OnOk result ((v : Visit) → slice_get self.old position ≡ Some v
+            → self.new ≡ slice_set self.old position (record { own = v.own; given = labels_given contributions.now })) }
     {
         let given = labels_given(self.alloc, contributions)?;
         let before = self.all.at(position);
@@ -99,7 +100,8 @@ impl Visits {
     /// The positions, in ascending order, of the functions for which something changed before the round for which changes were
     /// noted last, and perhaps of others.
     pub fn candidates(&self, changes: &FlowChanges) -> Result<List<usize>, Memory>
-        ensures { IfOk result (λ positions. (k : ℕ) → AllListed changes.now.entered.rounds k changes.now.entered.latest → AllListed changes.now.given.rounds k changes.now.given.latest → AreCandidates (rounds_of changes.now) k self.now positions) }
+        ensures { IfOk result (λ positions. (k : ℕ) → AllListed changes.now.entered.rounds k changes.now.entered.latest
+            → AllListed changes.now.given.rounds k changes.now.given.latest → AreCandidates (rounds_of changes.now) k self.now positions) }
     {
         let mut labels = changes.entered.latest.copy(self.alloc)?;
         add_labels(&mut labels, changes.given.latest.as_slice())?;
@@ -227,7 +229,8 @@ fn walk_at(
 ) -> Result<(), Memory>
     requires { position < length visits.old }
     ensures contributions { OnOk result (contributions.new ≡ contributions.old ++ contributions_of_one (world_of context.now) def.now) }
-    ensures visits { OnOk result ((v : Visit) → slice_get visits.old position ≡ Some v → visits.new ≡ slice_set visits.old position (record { own = v.own; given = labels_given (contributions_of_one (world_of context.now) def.now) })) }
+    ensures visits { OnOk result ((v : Visit) → slice_get visits.old position ≡ Some v
+        → visits.new ≡ slice_set visits.old position (record { own = v.own; given = labels_given (contributions_of_one (world_of context.now) def.now) })) }
 {
     let given = walk_one(alloc, context, around, def)?;
     visits.walked(position, given.as_slice())?;
@@ -248,7 +251,8 @@ pub fn walk_again(
 ) -> Result<List<Contribution>, Memory>
     requires many { length visits.old ≡ length defs.now }
     requires positions { AreCandidates (rounds_of changes.now) round visits.old positions.now }
-    ensures contributions { IfOk result (λ contributions. contributions ≡ contributions_again (world_of context.now) (rounds_of changes.now) round defs.now visits.old) }
+    ensures contributions { IfOk result (λ contributions. contributions
+        ≡ contributions_again (world_of context.now) (rounds_of changes.now) round defs.now visits.old) }
     ensures visits { OnOk result (visits.new ≡ visits_again (world_of context.now) (rounds_of changes.now) round defs.now visits.old) }
 {
     let mut contributions = List::new(alloc);

@@ -43,14 +43,17 @@ module _ (k : Atom → FunName → Callee) (w0 : NamingWalk) (a : NodeContext) (
     pattern_map ps qs is same = on_ok_weaker r (λ one. whole w1 _ (map_of_pattern e ps is) (within w0 w1 (λ z. pat_pair_namings z (all_pat_pairs ps)) (subst (λ z. Notes k w0 w1 (pat_pair_namings b (all_pat_pairs z))) same one)))
 
     pub pattern_binary : (ss ts : List PatSegment) → e.form ≡ p.Binary ss → ts ≡ ss → OnOk r (Notes k w0 w1 (pat_segment_namings b (all_pat_segments ts))) → OnOk r (Notes k w0 w1 (pattern_namings a (pattern_tree e)))
-    pattern_binary ss ts is same = on_ok_weaker r (λ one. whole w1 _ (binary_of_pattern e ss is) (within w0 w1 (λ z. pat_segment_namings z (all_pat_segments ss)) (subst (λ z. Notes k w0 w1 (pat_segment_namings b (all_pat_segments z))) same one)))
+    pattern_binary ss ts is same = on_ok_weaker r (λ one. whole w1 _ (binary_of_pattern e ss is)
+        (within w0 w1 (λ z. pat_segment_namings z (all_pat_segments ss)) (subst (λ z. Notes k w0 w1 (pat_segment_namings b (all_pat_segments z))) same one)))
 
     pub pattern_alias : (v : VarName) (x y : Pattern) → e.form ≡ p.Alias v x → y ≡ x → OnOk r (Notes k w0 w1 (pattern_namings b (pattern_tree y))) → OnOk r (Notes k w0 w1 (pattern_namings a (pattern_tree e)))
     pattern_alias v x y is same = on_ok_weaker r (λ one. whole w1 _ (alias_pattern e v x is) (within w0 w1 (λ z. pattern_namings z (pattern_tree x)) (subst (λ z. Notes k w0 w1 (pattern_namings b (pattern_tree z))) same one)))
 
     module _ (w2 : NamingWalk) where
-      pub pattern_listed : (ps qs : List Pattern) (x y : Pattern) → e.form ≡ p.Listed ps x → qs ≡ ps → Notes k w0 w1 (patterns_namings b (all_patterns qs)) → y ≡ x → OnOk r (Notes k w1 w2 (pattern_namings b (pattern_tree y))) → OnOk r (Notes k w0 w2 (pattern_namings a (pattern_tree e)))
+      pub pattern_listed : (ps qs : List Pattern) (x y : Pattern) → e.form ≡ p.Listed ps x → qs ≡ ps → Notes k w0 w1 (patterns_namings b (all_patterns qs)) → y ≡ x
+          → OnOk r (Notes k w1 w2 (pattern_namings b (pattern_tree y))) → OnOk r (Notes k w0 w2 (pattern_namings a (pattern_tree e)))
       pattern_listed ps qs x y is same one last = on_ok_weaker r (λ two. whole w2 _ (list_of_pattern e ps x is) (within w0 w2 (λ z. patterns_namings z (all_patterns ps) ++ pattern_namings z (pattern_tree x))
-          (notes_then k w0 w1 w2 (patterns_namings b (all_patterns ps)) (pattern_namings b (pattern_tree x)) (subst (λ z. Notes k w0 w1 (patterns_namings b (all_patterns z))) same one) (subst (λ z. Notes k w1 w2 (pattern_namings b (pattern_tree z))) last two))))
+          (notes_then k w0 w1 w2 (patterns_namings b (all_patterns ps)) (pattern_namings b (pattern_tree x)) (subst (λ z. Notes k w0 w1 (patterns_namings b (all_patterns z))) same one)
+          (subst (λ z. Notes k w1 w2 (pattern_namings b (pattern_tree z))) last two))))
 
 pub ruleset called_patterns = (pattern_variable, pattern_literal, pattern_tuple, pattern_map, pattern_binary, pattern_alias, pattern_listed)

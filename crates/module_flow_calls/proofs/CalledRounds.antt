@@ -13,7 +13,8 @@ use Rattle.core_ast.specs.declared.syntax.FunDefOf.{FunDefOf}
 use Rattle.core_ast.specs.declared.syntax.StepOf.{StepOf}
 use Rattle.core_ast.specs.declared.syntax.StepOf.TheVariants.{Let, Do}
 use Rattle.core_ast.specs.Model as m
-use Rattle.core_ast.specs.Tree.{tree, pattern_tree, clause_parts, pair_parts, pat_pair_parts, segment_parts, pat_segment_parts, all_trees, all_patterns, all_pairs, all_pat_pairs, all_segments, all_pat_segments, all_steps, all_clauses, all_defs}
+use Rattle.core_ast.specs.Tree.{tree, pattern_tree, clause_parts, pair_parts, pat_pair_parts, segment_parts, pat_segment_parts, all_trees}
+use Rattle.core_ast.specs.Tree.{all_patterns, all_pairs, all_pat_pairs, all_segments, all_pat_segments, all_steps, all_clauses, all_defs}
 use Rattle.core_ast.proofs.Trees.{clause-is, pair-is, segment-is, pat_pair-is, pat_segment-is}
 use Rattle.core_ast.proofs.Items.{all_trees-next, all_patterns-next, all_pairs-next, all_pat_pairs-next, all_segments-next, all_pat_segments-next, all_steps-next, all_clauses-next, all_defs-next}
 use Rattle.cons_tree.specs.declared.parts.Callee.{Callee}
@@ -26,12 +27,14 @@ use Rattle.module_flow_calls.specs.steps.Notes.{step_note}
 use Rattle.module_flow_calls.proofs.FirstCalls.{notes_then, round}
 
 module _ (k : Atom → FunName → Callee) (a : NodeContext) (w w1 first : NamingWalk) (whole : List Naming) where
-  pub all_round : (es : List Expr) (i : ℕ) (e : Expr) → i < length es → e ≡ get_or es i e → Notes k w w1 (namings a (tree e)) → Leads k w (all_namings a (all_trees (drop i es))) first whole → Leads k w1 (all_namings a (all_trees (drop (i + 1) es))) first whole
+  pub all_round : (es : List Expr) (i : ℕ) (e : Expr) → i < length es → e ≡ get_or es i e → Notes k w w1 (namings a (tree e)) → Leads k w (all_namings a (all_trees (drop i es))) first whole
+      → Leads k w1 (all_namings a (all_trees (drop (i + 1) es))) first whole
   all_round es i e within is step =
       let rest : m.Trees = all_trees (drop (i + 1) es) in
       round k w w1 first (namings a (tree e)) (all_namings a rest) (all_namings a (all_trees (drop i es))) whole step (ap (all_namings a) (all_trees-next es i e within ∙ ap (λ x. m.and_tree (tree x) rest) (sym is)))
 
-  pub defs_round : (b : NodeContext) (ds : List (FunDefOf Expr)) (i : ℕ) (d d1 : FunDefOf Expr) (body : Expr) → i < length ds → d ≡ get_or ds i d → d1 ≡ d → b ≡ under a d1.mark.note → body ≡ d1.fun.body → Notes k w w1 (namings b (tree body)) → Leads k w (def_namings a (all_defs (drop i ds))) first whole
+  pub defs_round : (b : NodeContext) (ds : List (FunDefOf Expr)) (i : ℕ) (d d1 : FunDefOf Expr) (body : Expr) → i < length ds → d ≡ get_or ds i d → d1 ≡ d → b ≡ under a d1.mark.note → body ≡ d1.fun.body
+      → Notes k w w1 (namings b (tree body)) → Leads k w (def_namings a (all_defs (drop i ds))) first whole
       → Leads k w1 (def_namings a (all_defs (drop (i + 1) ds))) first whole
   defs_round b ds i d d1 body within is same inner body_is step =
       let rest : m.Defs = all_defs (drop (i + 1) ds) in
@@ -50,7 +53,8 @@ module _ (k : Atom → FunName → Callee) (a : NodeContext) (w w1 first : Namin
   step_first (Let i xs e) rest = refl
   step_first (Do i e) rest = refl
 
-  pub steps_round : (a1 : NodeContext) (ss : List (StepOf Expr)) (i : ℕ) (x : StepOf Expr) (e : Expr) → i < length ss → x ≡ get_or ss i x → e ≡ step_expression x → a1 ≡ under a (step_note x) → Notes k w w1 (namings a1 (tree e))
+  pub steps_round : (a1 : NodeContext) (ss : List (StepOf Expr)) (i : ℕ) (x : StepOf Expr) (e : Expr) → i < length ss → x ≡ get_or ss i x → e ≡ step_expression x → a1 ≡ under a (step_note x)
+      → Notes k w w1 (namings a1 (tree e))
       → Leads k w (step_namings a (all_steps (drop i ss))) first whole → Leads k w1 (step_namings a1 (all_steps (drop (i + 1) ss))) first whole
   steps_round a1 ss i x e within is own inner step =
       let rest : List (StepOf Expr) = drop (i + 1) ss in
@@ -59,7 +63,8 @@ module _ (k : Atom → FunName → Callee) (a : NodeContext) (w w1 first : Namin
       ∙ ap (λ b. namings b (tree (step_expression x)) ++ step_namings b (all_steps rest)) (sym inner) ∙ ap (λ z. namings a1 (tree z) ++ step_namings a1 (all_steps rest)) (sym own))
 
   module _ (w2 : NamingWalk) where
-    pub pairs_round : (ps : List MapPair) (i : ℕ) (p : MapPair) → i < length ps → p ≡ get_or ps i p → Notes k w w1 (namings a (tree p.key)) → Notes k w1 w2 (namings a (tree p.value)) → Leads k w (pair_namings a (all_pairs (drop i ps))) first whole
+    pub pairs_round : (ps : List MapPair) (i : ℕ) (p : MapPair) → i < length ps → p ≡ get_or ps i p → Notes k w w1 (namings a (tree p.key)) → Notes k w1 w2 (namings a (tree p.value))
+        → Leads k w (pair_namings a (all_pairs (drop i ps))) first whole
         → Leads k w2 (pair_namings a (all_pairs (drop (i + 1) ps))) first whole
     pairs_round ps i p within is one two =
         let rest : m.Pairs = all_pairs (drop (i + 1) ps) in
@@ -75,7 +80,8 @@ module _ (k : Atom → FunName → Callee) (a : NodeContext) (w w1 first : Namin
         (notes_then k w w1 w2 (namings a (tree x.key)) (pattern_namings a (pattern_tree x.value)) one two)
         (ap (pat_pair_namings a) (all_pat_pairs-next ps i x within ∙ ap (λ z. let y = pat_pair_parts z in m.and_pat_pair y.key y.value rest) (sym is) ∙ ap (λ y. m.and_pat_pair y.key y.value rest) (pat_pair-is x)))
 
-    pub segments_round : (ss : List Segment) (i : ℕ) (x : Segment) (args : List Expr) → i < length ss → x ≡ get_or ss i x → Notes k w w1 (namings a (tree (out-Segment x).value)) → args ≡ (out-Segment x).args → Notes k w1 w2 (all_namings a (all_trees args))
+    pub segments_round : (ss : List Segment) (i : ℕ) (x : Segment) (args : List Expr) → i < length ss → x ≡ get_or ss i x → Notes k w w1 (namings a (tree (out-Segment x).value)) → args ≡ (out-Segment x).args
+        → Notes k w1 w2 (all_namings a (all_trees args))
         → Leads k w (segment_namings a (all_segments (drop i ss))) first whole → Leads k w2 (segment_namings a (all_segments (drop (i + 1) ss))) first whole
     segments_round ss i x args within is one args_are two =
         let rest : m.Segments = all_segments (drop (i + 1) ss) in
@@ -84,7 +90,8 @@ module _ (k : Atom → FunName → Callee) (a : NodeContext) (w w1 first : Namin
         (ap (segment_namings a) (all_segments-next ss i x within ∙ ap (λ z. let y = segment_parts z in m.and_segment y.value y.args rest) (sym is) ∙ ap (λ y. m.and_segment y.value y.args rest) (segment-is x)
         ∙ ap (λ ts. m.and_segment (tree (out-Segment x).value) (all_trees ts) rest) (sym args_are)))
 
-    pub pat_segments_round : (ss : List PatSegment) (i : ℕ) (x : PatSegment) (args : List Expr) → i < length ss → x ≡ get_or ss i x → Notes k w w1 (pattern_namings a (pattern_tree (out-PatSegment x).value)) → args ≡ (out-PatSegment x).args
+    pub pat_segments_round : (ss : List PatSegment) (i : ℕ) (x : PatSegment) (args : List Expr) → i < length ss → x ≡ get_or ss i x → Notes k w w1 (pattern_namings a (pattern_tree (out-PatSegment x).value))
+        → args ≡ (out-PatSegment x).args
         → Notes k w1 w2 (all_namings a (all_trees args)) → Leads k w (pat_segment_namings a (all_pat_segments (drop i ss))) first whole → Leads k w2 (pat_segment_namings a (all_pat_segments (drop (i + 1) ss))) first whole
     pat_segments_round ss i x args within is one args_are two =
         let rest : m.PatSegments = all_pat_segments (drop (i + 1) ss) in
@@ -94,7 +101,8 @@ module _ (k : Atom → FunName → Callee) (a : NodeContext) (w w1 first : Namin
         ∙ ap (λ ts. m.and_pat_segment (pattern_tree (out-PatSegment x).value) (all_trees ts) rest) (sym args_are)))
 
     module _ (w3 : NamingWalk) where
-      pub clauses_round : (b : NodeContext) (cs : List Clause) (i : ℕ) (c : Clause) (ps : List Pattern) → i < length cs → c ≡ get_or cs i c → b ≡ under a (out-Clause c).mark.note → ps ≡ (out-Clause c).patterns → Notes k w w1 (patterns_namings b (all_patterns ps))
+      pub clauses_round : (b : NodeContext) (cs : List Clause) (i : ℕ) (c : Clause) (ps : List Pattern) → i < length cs → c ≡ get_or cs i c → b ≡ under a (out-Clause c).mark.note → ps ≡ (out-Clause c).patterns
+          → Notes k w w1 (patterns_namings b (all_patterns ps))
           → Notes k w1 w2 (namings b (tree (out-Clause c).guard)) → Notes k w2 w3 (namings b (tree (out-Clause c).body))
           → Leads k w (clause_namings a (all_clauses (drop i cs))) first whole → Leads k w3 (clause_namings a (all_clauses (drop (i + 1) cs))) first whole
       clauses_round b cs i c ps within is inner ps_are one two three =
@@ -103,6 +111,7 @@ module _ (k : Atom → FunName → Callee) (a : NodeContext) (w w1 first : Namin
           let body : m.Tree = tree (out-Clause c).body in
           round k w w3 first (patterns_namings b (all_patterns ps) ++ namings b guard ++ namings b body) (clause_namings a rest) (clause_namings a (all_clauses (drop i cs))) whole
           (notes_then k w w2 w3 (patterns_namings b (all_patterns ps) ++ namings b guard) (namings b body) (notes_then k w w1 w2 (patterns_namings b (all_patterns ps)) (namings b guard) one two) three)
-          (ap (clause_namings a) (all_clauses-next cs i c within ∙ ap (λ x. let y = clause_parts x in m.and_clause y.mark y.patterns y.guard y.body rest) (sym is) ∙ ap (λ y. m.and_clause y.mark y.patterns y.guard y.body rest) (clause-is c)
+          (ap (clause_namings a) (all_clauses-next cs i c within ∙ ap (λ x. let y = clause_parts x in m.and_clause y.mark y.patterns y.guard y.body rest) (sym is)
+          ∙ ap (λ y. m.and_clause y.mark y.patterns y.guard y.body rest) (clause-is c)
           ∙ ap (λ qs. m.and_clause (out-Clause c).mark (all_patterns qs) guard body rest) (sym ps_are))
           ∙ ap (λ z. patterns_namings z (all_patterns ps) ++ namings z guard ++ namings z body ++ clause_namings a rest) (sym inner))

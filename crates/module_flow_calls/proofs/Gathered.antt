@@ -39,7 +39,8 @@ pub next_step : (w0 w1 w2 : NameWalk) (before : Gathered) (part : Part) → w1 �
 next_step w0 w1 w2 before part one two = two ∙ ap (λ w. noting w (part (defined_around w))) one ∙ noted_twice w0 before (part (defined_around w0))
 
 -- one round of a loop: what is gathered here, and what is left
-pub round : (w w1 goal : NameWalk) (here rest whole : Part) → w1 ≡ noting w (here (defined_around w)) → whole (defined_around w) ≡ and_then (here (defined_around w)) (rest (defined_around w)) → noting w (whole (defined_around w)) ≡ goal
+pub round : (w w1 goal : NameWalk) (here rest whole : Part) → w1 ≡ noting w (here (defined_around w)) → whole (defined_around w) ≡ and_then (here (defined_around w)) (rest (defined_around w))
+    → noting w (whole (defined_around w)) ≡ goal
     → noting w1 (rest (defined_around w1)) ≡ goal
 round w w1 goal here rest whole step is before =
     ap (λ v. noting v (rest (defined_around v))) step ∙ noted_twice w (here (defined_around w)) (rest (defined_around w)) ∙ ap (noting w) (sym is) ∙ before

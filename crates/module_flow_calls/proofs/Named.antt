@@ -46,7 +46,8 @@ at_position (suc p) (g ∷ fs) [] f there innermost =
 at_position (suc p) (g ∷ fs) (l ∷ ls) f there innermost =
     ap (λ o. or_outer o (if same_function g f then Some l else None)) (at_position p fs ls f there innermost)
 
-pub found_label : (p : ℕ) (fs : List FunName) (ls : List ℕ) (f : FunName) (l : ℕ) → list_any (same_function f) (drop p fs) ≡ true → list_any (same_function f) (drop (p + 1) fs) ≡ false → l ≡ get_or ls p 0 → Some l ≡ label_named fs ls f
+pub found_label : (p : ℕ) (fs : List FunName) (ls : List ℕ) (f : FunName) (l : ℕ) → list_any (same_function f) (drop p fs) ≡ true → list_any (same_function f) (drop (p + 1) fs) ≡ false → l ≡ get_or ls p 0
+    → Some l ≡ label_named fs ls f
 found_label p fs ls f l there innermost got =
     ap Some got ∙ sym (at_position p fs ls f there (ap (λ n. list_any (same_function f) (drop n fs)) (let e : suc p ≡ p + 1 = omega arith in e) ∙ innermost))
 

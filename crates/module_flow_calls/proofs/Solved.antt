@@ -34,6 +34,7 @@ part_solved p ts xs ys alive same solved =
 pub part_dead : (p : Part) (ts : List Type4) (xs ys : Types) (alive : Bool) → xs ≡ any ∷ ts → solution (constraint (tree.Part p)) xs ≡ answer alive ys → alive ≡ false → None ≡ by_part p ts
 part_dead p ts xs ys alive same solved dead = sym (part_solved p ts xs ys alive same solved ∙ ap (λ b. result_in (answer b ys)) dead)
 
-pub part_alive : {E : Type 0} (r : Result Given E) (p : Part) (ts : List Type4) (xs ys : Types) (alive : Bool) (t : Type4) → xs ≡ any ∷ ts → solution (constraint (tree.Part p)) xs ≡ answer alive ys → alive ≡ true → t ≡ type_at ys 0 → IfOk r (λ g. g ≡ one t) → IfOk r (λ g. g ≡ by_part p ts)
+pub part_alive : {E : Type 0} (r : Result Given E) (p : Part) (ts : List Type4) (xs ys : Types) (alive : Bool) (t : Type4) → xs ≡ any ∷ ts → solution (constraint (tree.Part p)) xs ≡ answer alive ys → alive ≡ true
+    → t ≡ type_at ys 0 → IfOk r (λ g. g ≡ one t) → IfOk r (λ g. g ≡ by_part p ts)
 part_alive r p ts xs ys alive t same solved lives is given =
     subst (λ o. IfOk r (λ g. g ≡ o)) (ap one is ∙ sym (part_solved p ts xs ys alive same solved ∙ ap (λ b. result_in (answer b ys)) lives)) given

@@ -123,7 +123,8 @@ pub fn called(
     name: &Atom,
     args: &[Ty],
 ) -> Result<Given, Memory>
-    ensures { (P : Knowledge) → P.lenient ≡ lenient → P.callee ≡ found known.now → IfOk result (λ given. given ≡ called P home.now name.now args.now) }
+    ensures { (P : Knowledge) → P.lenient ≡ lenient → P.callee ≡ found known.now
+        → IfOk result (λ given. given ≡ called P home.now name.now args.now) }
 {
     if is_text(home, b"erlang") {
         return by_row(alloc, lenient, built_in(name, args.len()), args);

@@ -1,11 +1,14 @@
 //! The functions that stand in a text, and those whose names stand as values in it.
 ghost use Rattle.std.specs.Prelude.{◌≡◌, ◌≤◌, ◌∷◌, [], length, OnOk, IfOk};
-ghost use Rattle.core_ast.specs.Tree.{all_clauses, all_defs, all_pairs, all_pat_pairs, all_pat_segments, all_patterns, all_segments, all_steps, all_trees, pattern_tree, tree};
+ghost use Rattle.core_ast.specs.Tree.{all_clauses, all_defs, all_pairs, all_pat_pairs, all_pat_segments};
+ghost use Rattle.core_ast.specs.Tree.{all_patterns, all_segments, all_steps, all_trees, pattern_tree, tree};
 ghost use Rattle.core_scope.specs.Functions.{functions_of_defs};
 ghost use Rattle.module_flow_calls.specs.Escapes.{escaping, label_listed};
 ghost use Rattle.module_flow_calls.specs.Functions.{label_named};
 ghost use Rattle.module_flow_calls.specs.NamedFunctions.{named_function, named_functions};
-ghost use Rattle.module_flow_calls.specs.steps.Gathering.{defined_around, defining, in_all, in_clauses, in_defs, in_pairs, in_pat_pairs, in_pat_segments, in_pattern, in_patterns, in_segments, in_steps, in_tree, in_try, leaving, noting, step_expression, with_function, with_labels};
+ghost use Rattle.module_flow_calls.specs.steps.Gathering.{defined_around, defining, in_all, in_clauses, in_defs, in_pairs, in_pat_pairs};
+ghost use Rattle.module_flow_calls.specs.steps.Gathering.{in_pat_segments, in_pattern, in_patterns, in_segments, in_steps, in_tree};
+ghost use Rattle.module_flow_calls.specs.steps.Gathering.{in_try, leaving, noting, step_expression, with_function, with_labels};
 
 use crate::functions::Functions;
 use core_ast::{

@@ -1,13 +1,15 @@
 //! The functions of other modules that a text calls and of which nothing is known.
 ghost use Rattle.std.specs.Prelude.{◌≡◌, ◌&&◌, ◌∷◌, [], not, Some, OnOk, IfOk};
-ghost use Rattle.core_ast.specs.Tree.{all_clauses, all_defs, all_pairs, all_pat_pairs, all_pat_segments, all_patterns, all_segments, all_steps, all_trees, pattern_tree, tree};
+ghost use Rattle.core_ast.specs.Tree.{all_clauses, all_defs, all_pairs, all_pat_pairs, all_pat_segments};
+ghost use Rattle.core_ast.specs.Tree.{all_patterns, all_segments, all_steps, all_trees, pattern_tree, tree};
 ghost use Rattle.core_scope.specs.Asks.{erlang};
 ghost use Rattle.core_scope.specs.Names.{same_atom};
 ghost use Rattle.cons_gen_rows.specs.Counts.{call_names};
 ghost use Rattle.cons_tree.specs.Callees.{found};
 ghost use Rattle.warn_list.specs.declared.finding.FindingKind.TheVariants.{UnknownFunction};
 ghost use Rattle.module_flow_calls.specs.NodeContext.{at_node};
-ghost use Rattle.module_flow_calls.specs.Unknown.{all_namings, clause_namings, def_namings, is_unknown, naming, namings, pair_namings, pat_pair_namings, pat_segment_namings, pattern_namings, patterns_namings, segment_namings, step_namings, unknown_functions};
+ghost use Rattle.module_flow_calls.specs.Unknown.{all_namings, clause_namings, def_namings, is_unknown, naming, namings, pair_namings, pat_pair_namings};
+ghost use Rattle.module_flow_calls.specs.Unknown.{pat_segment_namings, pattern_namings, patterns_namings, segment_namings, step_namings, unknown_functions};
 ghost use Rattle.module_flow_calls.specs.steps.FirstCalls.{Notes, naming_of, none_named, step_expression, try_namings, with_found};
 
 use crate::calls::function_name;

@@ -47,7 +47,8 @@ module _ (V W : World) where
       by None s = refl
       by (Some ts) s = s ts refl
 
-  pub where_seen_with : {A : Type 0} (g : World → Option WalkScope) (f : World → WalkScope → List A) → g V ≡ g W → ((sc : WalkScope) → g W ≡ Some sc → f V sc ≡ f W sc) → where_seen (g V) (f V) ≡ where_seen (g W) (f W)
+  pub where_seen_with : {A : Type 0} (g : World → Option WalkScope) (f : World → WalkScope → List A) → g V ≡ g W → ((sc : WalkScope) → g W ≡ Some sc → f V sc ≡ f W sc)
+      → where_seen (g V) (f V) ≡ where_seen (g W) (f W)
   where_seen_with g f e s = ap (λ x. where_seen x (f V)) e ∙ by (g W) s
     where
       by : (r : Option WalkScope) → ((sc : WalkScope) → r ≡ Some sc → f V sc ≡ f W sc) → where_seen r (f V) ≡ where_seen r (f W)

@@ -35,7 +35,8 @@ use Rattle.module_flow_walk.specs.Contributions.{listed_by, where_entered, where
 use Rattle.module_flow_walk.specs.Findings.{either_found, found, found_in_all, found_in_pairs, found_in_segments, found_in_steps, found_in_clauses, found_in_functions}
 use Rattle.module_flow_walk.specs.Walk.{then as and_then, matched_slots, seen_by_clauses, seen_by_messages, see_steps, walk, walk_all}
 use Rattle.module_flow.specs.Flow.{gives_nothing, unless_entered, functions_reported}
-use Rattle.module_flow_frame.specs.Sites.{Speaks, definition, application, call, clause, Site, noted_line, is_generated, call_site, through, sites, sites_of_all, sites_of_pairs, sites_of_segments, sites_of_steps, sites_of_clauses, sites_of_defs, sites_of_patterns, definition_sites, Fits, IsTied, AreTied}
+use Rattle.module_flow_frame.specs.Sites.{Speaks, definition, application, call, clause, Site, noted_line, is_generated, call_site, through, sites, sites_of_all, sites_of_pairs}
+use Rattle.module_flow_frame.specs.Sites.{sites_of_segments, sites_of_steps, sites_of_clauses, sites_of_defs, sites_of_patterns, definition_sites, Fits, IsTied, AreTied}
 
 -- the context of notes
 abbrev pub context_of : List Note → NodeContext
@@ -285,7 +286,8 @@ module _ (W : World) where
     pub functions_tied : (ns : List Note) (sc : WalkScope) (ds : m.Defs) → AreTied (sites_of_defs ns ds) (found_in_functions W (context_of ns) sc ds)
     functions_tied ns sc m.no_def = none_tied []
     functions_tied ns sc (m.and_def f i xs t ds) =
-        in_both (if_entered (parameters_of W.state i.label) (λ ts. found W (context_of (i.note ∷ ns)) (with_variables sc xs ts) one_value t) (λ ts. found_tied (i.note ∷ ns) (with_variables sc xs ts) one_value t)) (functions_tied ns sc ds)
+        in_both (if_entered (parameters_of W.state i.label) (λ ts. found W (context_of (i.note ∷ ns)) (with_variables sc xs ts) one_value t) (λ ts. found_tied (i.note ∷ ns) (with_variables sc xs ts) one_value t))
+        (functions_tied ns sc ds)
 
   -- ---- the functions themselves
 

@@ -14,10 +14,12 @@ use Rattle.cons_gen_rows.specs.Counts.{call_names}
 use Rattle.warn_list.specs.declared.finding.FindingKind.TheVariants.{UnknownFunction}
 use Rattle.warn_list.specs.Lines.{AreLines}
 use Rattle.module_flow_calls.specs.NodeContext.{at_node}
-use Rattle.module_flow_calls.specs.Unknown.{Naming, naming, namings, all_namings, pair_namings, segment_namings, step_namings, clause_namings, def_namings, pattern_namings, patterns_namings, pat_pair_namings, pat_segment_namings, is_unknown, is_named, found_first}
+use Rattle.module_flow_calls.specs.Unknown.{Naming, naming, namings, all_namings, pair_namings, segment_namings, step_namings, clause_namings, def_namings}
+use Rattle.module_flow_calls.specs.Unknown.{pattern_namings, patterns_namings, pat_pair_namings, pat_segment_namings, is_unknown, is_named, found_first}
 use Rattle.module_flow_state.specs.Scopes.{outermost}
 use Rattle.module_flow.specs.Flow.{Callees, world, last_state, findings}
-use Rattle.module_flow_frame.specs.Sites.{call, Site, is_generated, call_site, through, sites, sites_of_all, sites_of_pairs, sites_of_segments, sites_of_steps, sites_of_clauses, sites_of_defs, sites_of_pattern, sites_of_patterns, sites_of_pat_pairs, sites_of_pat_segments, definition_sites, sites_of_module, AreTied, AreTiedLines}
+use Rattle.module_flow_frame.specs.Sites.{call, Site, is_generated, call_site, through, sites, sites_of_all, sites_of_pairs, sites_of_segments, sites_of_steps, sites_of_clauses, sites_of_defs}
+use Rattle.module_flow_frame.specs.Sites.{sites_of_pattern, sites_of_patterns, sites_of_pat_pairs, sites_of_pat_segments, definition_sites, sites_of_module, AreTied, AreTiedLines}
 use Rattle.module_flow_frame.proofs.Tied.{context_of, through_steps, Holds, after_first, in_left, in_right, within, none_tied, joined, tied_at, if_so, functions_tied, definitions_tied}
 
 -- what is found at each of the calls is tied

@@ -16,7 +16,8 @@ use Rattle.cons_gen_rows.specs.Counts.{call_names}
 use Rattle.warn_list.specs.declared.finding.FindingKind.TheVariants.{UnknownFunction}
 use Rattle.module_flow_calls.specs.declared.node_context.NodeContext.{NodeContext}
 use Rattle.module_flow_calls.specs.NodeContext.{under, under_steps, at_node}
-use Rattle.module_flow_calls.specs.Unknown.{Naming, naming, namings, all_namings, pair_namings, segment_namings, step_namings, clause_namings, def_namings, pattern_namings, patterns_namings, pat_pair_namings, pat_segment_namings, is_unknown, is_named, found_first, unknown_functions}
+use Rattle.module_flow_calls.specs.Unknown.{Naming, naming, namings, all_namings, pair_namings, segment_namings, step_namings, clause_namings, def_namings}
+use Rattle.module_flow_calls.specs.Unknown.{pattern_namings, patterns_namings, pat_pair_namings, pat_segment_namings, is_unknown, is_named, found_first, unknown_functions}
 use Rattle.module_flow.specs.Flow.{Callees}
 use Rattle.cons_gen_frame.specs.Agreement.{GivesNothing, AreAlike, Agrees}
 use Rattle.cons_gen_frame.proofs.Targets.{TreeAgrees, TreesAgree, PairsAgree, SegmentsAgree, StepsAgree, ClausesAgree, DefsAgree, PatternAgrees, PatternsAgree, PatPairsAgree, PatSegmentsAgree, call_target}

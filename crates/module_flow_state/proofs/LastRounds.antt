@@ -1,6 +1,7 @@
 -- For each label, the round before which it last changed: what is noted, and what a state that took contributions has of the
 -- others.
-use Rattle.std.proofs.Common.{◌≡◌, ℕ, zero, suc, ◌+◌, ◌-◌, ◌<◌, ◌≤◌, ◌⊎◌, inl, inr, Bool, true, false, cond, nat_eq, List, [], ◌∷◌, ◌++◌, length, get_or, set, drop, replicate, refl, sym, ap, ap₂, ◌∙◌, subst, eqb-true, eq-eqb, true≢false, length-append, le-ltb, lt-ltb, arith}
+use Rattle.std.proofs.Common.{◌≡◌, ℕ, zero, suc, ◌+◌, ◌-◌, ◌<◌, ◌≤◌, ◌⊎◌, inl, inr, Bool, true, false, cond, nat_eq, List, [], ◌∷◌, ◌++◌, length, get_or}
+use Rattle.std.proofs.Common.{set, drop, replicate, refl, sym, ap, ap₂, ◌∙◌, subst, eqb-true, eq-eqb, true≢false, length-append, le-ltb, lt-ltb, arith}
 use Rattle.std.specs.Prelude.{IsTrue, ◌↔◌, Some, if◌then◌else◌, slice_get}
 use Rattle.std.proofs.lemmas.List.{get_or-set_other, get_or-set_same}
 use Rattle.std.proofs.lemmas.Option.{slice_get_read}
@@ -86,7 +87,8 @@ module _ (change : FlowFun → FlowFun) (keeps : (f : FlowFun) → (change f).la
   same_parameters [] l k e = refl
   same_parameters (f ∷ fs) l k e = by (nat_eq f.label l) refl (same_parameters fs l k e)
     where
-      here : nat_eq f.label l ≡ true → (nat_eq l k ≡ false) ⊎ ((f : FlowFun) → (change f).params ≡ f.params) → (if nat_eq f.label k then (change f).params else parameters_of fs k) ≡ (if nat_eq f.label k then f.params else parameters_of fs k)
+      here : nat_eq f.label l ≡ true → (nat_eq l k ≡ false) ⊎ ((f : FlowFun) → (change f).params ≡ f.params)
+          → (if nat_eq f.label k then (change f).params else parameters_of fs k) ≡ (if nat_eq f.label k then f.params else parameters_of fs k)
       here q (inl other) =
           let no : nat_eq f.label k ≡ false = ap (λ j. nat_eq j k) (eqb-true f.label l q) ∙ other in
           ap (λ b. if b then (change f).params else parameters_of fs k) no ∙ sym (ap (λ b. if b then f.params else parameters_of fs k) no)
@@ -100,7 +102,8 @@ module _ (change : FlowFun → FlowFun) (keeps : (f : FlowFun) → (change f).la
   same_result [] l k e = refl
   same_result (f ∷ fs) l k e = by (nat_eq f.label l) refl (same_result fs l k e)
     where
-      here : nat_eq f.label l ≡ true → (nat_eq l k ≡ false) ⊎ ((f : FlowFun) → (change f).result ≡ f.result) → (if nat_eq f.label k then (change f).result else result_of fs k) ≡ (if nat_eq f.label k then f.result else result_of fs k)
+      here : nat_eq f.label l ≡ true → (nat_eq l k ≡ false) ⊎ ((f : FlowFun) → (change f).result ≡ f.result)
+          → (if nat_eq f.label k then (change f).result else result_of fs k) ≡ (if nat_eq f.label k then f.result else result_of fs k)
       here q (inl other) =
           let no : nat_eq f.label k ≡ false = ap (λ j. nat_eq j k) (eqb-true f.label l q) ∙ other in
           ap (λ b. if b then (change f).result else result_of fs k) no ∙ sym (ap (λ b. if b then f.result else result_of fs k) no)
@@ -111,7 +114,8 @@ module _ (change : FlowFun → FlowFun) (keeps : (f : FlowFun) → (change f).la
       by false q more = ap (λ r. if nat_eq f.label k then f.result else r) more
 
 -- what is noted of a kind that changed at one label, and what where that kind changed nowhere
-one_of : {X : Type 0} (kind : FlowState → ℕ → X) (st new : FlowState) (i : ℕ) (before after : List ℕ) (k : ℕ) → ((l : ℕ) → nat_eq i l ≡ false → kind new l ≡ kind st l) → ((r l : ℕ) → in_round after r l ≡ cond (nat_eq i l) (nat_eq k r) (in_round before r l)) → NotedOf kind st new before after k
+one_of : {X : Type 0} (kind : FlowState → ℕ → X) (st new : FlowState) (i : ℕ) (before after : List ℕ) (k : ℕ) → ((l : ℕ) → nat_eq i l ≡ false → kind new l ≡ kind st l)
+    → ((r l : ℕ) → in_round after r l ≡ cond (nat_eq i l) (nat_eq k r) (in_round before r l)) → NotedOf kind st new before after k
 one_of kind st new i before after k others noted = record {
   keeps = λ l h. first l (nat_eq i l) (sym (noted k l) ∙ h);
   alike = λ l h. others l (second l (nat_eq i l) (sym (noted k l) ∙ h));
@@ -126,7 +130,8 @@ one_of kind st new i before after k others noted = record {
     second l false h = refl
 
 -- a contribution that changed the state
-pub noted_entered : (st new : FlowState) (g : Contribution) (i : ℕ) (ts : List Type4) (before after : Rounds) (k : ℕ) → g ≡ Enters i ts → new ≡ takes_one st g → after.1 ≡ before.1 → ((r l : ℕ) → in_round after.0 r l ≡ cond (nat_eq i l) (nat_eq k r) (in_round before.0 r l)) → Noted st new before after k true
+pub noted_entered : (st new : FlowState) (g : Contribution) (i : ℕ) (ts : List Type4) (before after : Rounds) (k : ℕ) → g ≡ Enters i ts → new ≡ takes_one st g → after.1 ≡ before.1
+    → ((r l : ℕ) → in_round after.0 r l ≡ cond (nat_eq i l) (nat_eq k r) (in_round before.0 r l)) → Noted st new before after k true
 noted_entered st new g i ts before after k e is same noted =
     let made : new ≡ changed st i (λ f. entered f ts) = is ∙ ap (takes_one st) e in
     record {
@@ -138,7 +143,8 @@ noted_entered st new g i ts before after k e is same noted =
       still = λ h. absurd cc;
     }
 
-pub noted_returned : (st new : FlowState) (g : Contribution) (i : ℕ) (t : Type4) (before after : Rounds) (k : ℕ) → g ≡ Returns i t → new ≡ takes_one st g → after.0 ≡ before.0 → ((r l : ℕ) → in_round after.1 r l ≡ cond (nat_eq i l) (nat_eq k r) (in_round before.1 r l)) → Noted st new before after k true
+pub noted_returned : (st new : FlowState) (g : Contribution) (i : ℕ) (t : Type4) (before after : Rounds) (k : ℕ) → g ≡ Returns i t → new ≡ takes_one st g → after.0 ≡ before.0
+    → ((r l : ℕ) → in_round after.1 r l ≡ cond (nat_eq i l) (nat_eq k r) (in_round before.1 r l)) → Noted st new before after k true
 noted_returned st new g i t before after k e is same noted =
     let made : new ≡ changed st i (λ f. returning f t) = is ∙ ap (takes_one st) e in
     record {
@@ -153,7 +159,8 @@ noted_returned st new g i t before after k e is same noted =
 -- ---- late rounds
 
 module _ (same : (s t : Type4) → IsTrue (is_same s t) ↔ (s ≡ t)) where
-  pub noted_wide : (st made new : FlowState) (gs : List Contribution) (before after : Rounds) (k : ℕ) (c : Bool) → made ≡ takes st gs → new ≡ widened st (takes st gs) → Noted st made before after k c → Noted st new before after k c
+  pub noted_wide : (st made new : FlowState) (gs : List Contribution) (before after : Rounds) (k : ℕ) (c : Bool) → made ≡ takes st gs → new ≡ widened st (takes st gs) → Noted st made before after k c
+      → Noted st new before after k c
   noted_wide st made new gs before after k c is wide noted =
       subst (λ n. Noted st n before after k c) (sym wide)
       (record {
@@ -193,7 +200,8 @@ next_contribution [] (suc i) g e = absurd cc
 next_contribution (h ∷ gs) zero g e = let q : h ≡ g = cc in ap (λ x. x ∷ gs) q
 next_contribution (h ∷ gs) (suc i) g e = next_contribution gs i g e
 
-pub taken_round : (st new goal : FlowState) (gs : List Contribution) (i : ℕ) (g : Contribution) → i < length gs → g ≡ get_or gs i g → new ≡ takes_one st g → takes st (drop i gs) ≡ goal → takes new (drop (i + 1) gs) ≡ goal
+pub taken_round : (st new goal : FlowState) (gs : List Contribution) (i : ℕ) (g : Contribution) → i < length gs → g ≡ get_or gs i g → new ≡ takes_one st g → takes st (drop i gs) ≡ goal
+    → takes new (drop (i + 1) gs) ≡ goal
 taken_round st new goal gs i g h is one before =
     ap₂ takes one (ap (λ n. drop n gs) (let e : i + 1 ≡ suc i = omega arith in e))
     ∙ sym (ap (takes st) (next_contribution gs i g (slice_get_read gs (length gs) i g refl h is)))

@@ -45,7 +45,8 @@ then_notes w w1 w2 gs fs hs is one two =
     two ∙ ap (λ x. noting x (hs (walk_scope_of x)) (is (walk_scope_of x))) one ∙ noting_both w gs (hs (walk_scope_of w)) fs (is (walk_scope_of w))
 
 -- one round of a loop: what is noted here, and what is left
-pub notes_round : (w w1 goal : FlowWalk) (gs hs all : WalkScope → List Contribution) (fs is every : WalkScope → List Finding) → w1 ≡ noting w (gs (walk_scope_of w)) (fs (walk_scope_of w)) → all (walk_scope_of w) ≡ gs (walk_scope_of w) ++ hs (walk_scope_of w) → every (walk_scope_of w) ≡ fs (walk_scope_of w) ++ is (walk_scope_of w)
+pub notes_round : (w w1 goal : FlowWalk) (gs hs all : WalkScope → List Contribution) (fs is every : WalkScope → List Finding) → w1 ≡ noting w (gs (walk_scope_of w)) (fs (walk_scope_of w))
+    → all (walk_scope_of w) ≡ gs (walk_scope_of w) ++ hs (walk_scope_of w) → every (walk_scope_of w) ≡ fs (walk_scope_of w) ++ is (walk_scope_of w)
     → noting w (all (walk_scope_of w)) (every (walk_scope_of w)) ≡ goal → noting w1 (hs (walk_scope_of w1)) (is (walk_scope_of w1)) ≡ goal
 notes_round w w1 goal gs hs all fs is every one contributions found before =
     then_notes w w1 (noting w1 (hs (walk_scope_of w1)) (is (walk_scope_of w1))) (gs (walk_scope_of w)) (fs (walk_scope_of w)) hs is one refl

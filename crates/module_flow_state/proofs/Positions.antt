@@ -19,12 +19,14 @@ step_none true o x y z e h = absurd cc
 step_none false None x y z e h = h refl
 step_none false (Some i) x y z e h = absurd cc
 
-step_some : {X : Type 0} (pick : FlowFun → X) (b : Bool) (o : Option ℕ) (i : ℕ) (f : FlowFun) (fs : FlowState) (d : FlowFun) (y : X) → cond b (Some 0) (after_one o) ≡ Some i → ((j : ℕ) → o ≡ Some j → y ≡ pick (get_or fs j d)) → (if b then pick f else y) ≡ pick (get_or (f ∷ fs) i d)
+step_some : {X : Type 0} (pick : FlowFun → X) (b : Bool) (o : Option ℕ) (i : ℕ) (f : FlowFun) (fs : FlowState) (d : FlowFun) (y : X) → cond b (Some 0) (after_one o) ≡ Some i
+    → ((j : ℕ) → o ≡ Some j → y ≡ pick (get_or fs j d)) → (if b then pick f else y) ≡ pick (get_or (f ∷ fs) i d)
 step_some pick true o i f fs d y e h = let q : 0 ≡ i = cc in ap (λ j. pick (get_or (f ∷ fs) j d)) q
 step_some pick false None i f fs d y e h = absurd cc
 step_some pick false (Some j) i f fs d y e h = let q : suc j ≡ i = cc in h j refl ∙ ap (λ k. pick (get_or (f ∷ fs) k d)) q
 
-step_changed : (change : FlowFun → FlowFun) (b : Bool) (o : Option ℕ) (i : ℕ) (f : FlowFun) (fs more : FlowState) (d : FlowFun) → cond b (Some 0) (after_one o) ≡ Some i → ((j : ℕ) → o ≡ Some j → more ≡ set fs j (change (get_or fs j d))) → (if b then change f ∷ fs else f ∷ more) ≡ set (f ∷ fs) i (change (get_or (f ∷ fs) i d))
+step_changed : (change : FlowFun → FlowFun) (b : Bool) (o : Option ℕ) (i : ℕ) (f : FlowFun) (fs more : FlowState) (d : FlowFun) → cond b (Some 0) (after_one o) ≡ Some i
+    → ((j : ℕ) → o ≡ Some j → more ≡ set fs j (change (get_or fs j d))) → (if b then change f ∷ fs else f ∷ more) ≡ set (f ∷ fs) i (change (get_or (f ∷ fs) i d))
 step_changed change true o i f fs more d e h = let q : 0 ≡ i = cc in ap (λ j. set (f ∷ fs) j (change (get_or (f ∷ fs) j d))) q
 step_changed change false None i f fs more d e h = absurd cc
 step_changed change false (Some j) i f fs more d e h =
@@ -96,16 +98,19 @@ within_kept fs st i same h = subst (λ gs. i < length gs) (sym same) h
 kept_there : (fs st : FlowState) (i : ℕ) (f : FlowFun) → fs ≡ st → slice_get fs i ≡ Some f → slice_get st i ≡ Some f
 kept_there fs st i f same there = ap (λ gs. slice_get gs i) (sym same) ∙ there
 
-pub parameters_told : (fs st : FlowState) (l i : ℕ) (f : FlowFun) (o : Option (Bor (List Type4))) → fs ≡ st → Some i ≡ position_of st l → slice_get fs i ≡ Some f → option_copied o ≡ f.params → MatchOption o (parameters_of st l ≡ None) (λ ts. parameters_of st l ≡ Some ts.now)
+pub parameters_told : (fs st : FlowState) (l i : ℕ) (f : FlowFun) (o : Option (Bor (List Type4))) → fs ≡ st → Some i ≡ position_of st l → slice_get fs i ≡ Some f → option_copied o ≡ f.params
+    → MatchOption o (parameters_of st l ≡ None) (λ ts. parameters_of st l ≡ Some ts.now)
 parameters_told fs st l i f None same at there is = parameters_there st l i f (sym at) (kept_there fs st i f same there) ∙ sym is
 parameters_told fs st l i f (Some ts) same at there is = parameters_there st l i f (sym at) (kept_there fs st i f same there) ∙ sym is
 
-pub result_told : {E : Type 0} (fs st : FlowState) (l i : ℕ) (f : FlowFun) (r : Result Type4 E) → fs ≡ st → Some i ≡ position_of st l → slice_get fs i ≡ Some f → IfOk r (λ t. t ≡ f.result) → IfOk r (λ t. t ≡ result_of st l)
+pub result_told : {E : Type 0} (fs st : FlowState) (l i : ℕ) (f : FlowFun) (r : Result Type4 E) → fs ≡ st → Some i ≡ position_of st l → slice_get fs i ≡ Some f → IfOk r (λ t. t ≡ f.result)
+    → IfOk r (λ t. t ≡ result_of st l)
 result_told fs st l i f r same at there is =
     subst (λ u. IfOk r (λ t. t ≡ u)) (sym (result_there st l i f (sym at) (kept_there fs st i f same there))) is
 
 -- where the function at the position of a label was changed
-pub changed_told : (fs st new : FlowState) (l i : ℕ) (change : FlowFun → FlowFun) (f g : FlowFun) → fs ≡ st → Some i ≡ position_of st l → slice_get fs i ≡ Some f → g ≡ change f → new ≡ set fs i g → new ≡ changed st l change
+pub changed_told : (fs st new : FlowState) (l i : ℕ) (change : FlowFun → FlowFun) (f g : FlowFun) → fs ≡ st → Some i ≡ position_of st l → slice_get fs i ≡ Some f → g ≡ change f → new ≡ set fs i g
+    → new ≡ changed st l change
 changed_told fs st new l i change f g same at there is after =
     after ∙ ap (λ gs. set gs i g) same ∙ ap (set st i) is ∙ sym (changed_there st l i change f (sym at) (kept_there fs st i f same there))
 
@@ -113,7 +118,8 @@ changed_told fs st new l i change f g same at there is after =
 set_itself : (fs : FlowState) (i : ℕ) (f : FlowFun) → slice_get fs i ≡ Some f → set fs i f ≡ fs
 set_itself fs i f there = ap (set fs i) (sym (at_slice fs i f f there)) ∙ set-get_or fs i f
 
-pub unchanged_told : (fs st : FlowState) (l i : ℕ) (change : FlowFun → FlowFun) (f g : FlowFun) (b : Bool) → fs ≡ st → Some i ≡ position_of st l → slice_get fs i ≡ Some f → g ≡ change f → b ≡ is_same_function f g → b ≡ true → st ≡ changed st l change
+pub unchanged_told : (fs st : FlowState) (l i : ℕ) (change : FlowFun → FlowFun) (f g : FlowFun) (b : Bool) → fs ≡ st → Some i ≡ position_of st l → slice_get fs i ≡ Some f → g ≡ change f → b ≡ is_same_function f g
+    → b ≡ true → st ≡ changed st l change
 unchanged_told fs st l i change f g b same at there is told holds =
     let here = kept_there fs st i f same there in
     sym (changed_there st l i change f (sym at) here ∙ ap (set st i) (sym is ∙ sym (function_equal f g (sym told ∙ holds))) ∙ set_itself st i f here)
@@ -220,7 +226,8 @@ placed_there fs new f positions placed there added l = by (position_of fs l) ref
         absurd (some_is (lookup (nat_eq f.label) positions) there (ap (λ k. lookup (nat_eq k) positions) e ∙ placed l ∙ at))
 
 -- and a new one is entered
-pub placed_more : (fs new : FlowState) (f : FlowFun) (n : ℕ) (old positions : List (ℕ × ℕ)) → ArePlaced fs old → false ≡ is_some (lookup (nat_eq f.label) old) → n ≡ length fs → ((q : ℕ) → lookup (nat_eq q) positions ≡ cond (nat_eq f.label q) (Some n) (lookup (nat_eq q) old)) → new ≡ fs ++ f ∷ [] → ArePlaced new positions
+pub placed_more : (fs new : FlowState) (f : FlowFun) (n : ℕ) (old positions : List (ℕ × ℕ)) → ArePlaced fs old → false ≡ is_some (lookup (nat_eq f.label) old) → n ≡ length fs
+    → ((q : ℕ) → lookup (nat_eq q) positions ≡ cond (nat_eq f.label q) (Some n) (lookup (nat_eq q) old)) → new ≡ fs ++ f ∷ [] → ArePlaced new positions
 placed_more fs new f n old positions placed none len entered added l = by (position_of fs l) refl (nat_eq f.label l) refl ∙ ap (λ gs. position_of gs l) (sym added)
   where
     by : (o : Option ℕ) → position_of fs l ≡ o → (b : Bool) → nat_eq f.label l ≡ b → lookup (nat_eq l) positions ≡ position_of (fs ++ f ∷ []) l

@@ -49,7 +49,9 @@ takes_each f fs (g ∷ gs) =
     (takes_each (taking f g) fs gs ∙ ap (λ l. taking_all (taking f g) (own l gs) ∷ takes fs (others l gs)) (taking_label f g))
     (takes_each f (takes_one fs g) gs)
   where
-    by : (b : Bool) → takes (taking f g ∷ fs) gs ≡ taking_all (taking f g) (own f.label gs) ∷ takes fs (others f.label gs) → takes (f ∷ takes_one fs g) gs ≡ taking_all f (own f.label gs) ∷ takes (takes_one fs g) (others f.label gs) → takes (cond b (taking f g ∷ fs) (f ∷ takes_one fs g)) gs ≡ taking_all f (cond b (g ∷ own f.label gs) (own f.label gs)) ∷ takes fs (cond b (others f.label gs) (g ∷ others f.label gs))
+    by : (b : Bool) → takes (taking f g ∷ fs) gs ≡ taking_all (taking f g) (own f.label gs) ∷ takes fs (others f.label gs)
+        → takes (f ∷ takes_one fs g) gs ≡ taking_all f (own f.label gs) ∷ takes (takes_one fs g) (others f.label gs)
+        → takes (cond b (taking f g ∷ fs) (f ∷ takes_one fs g)) gs ≡ taking_all f (cond b (g ∷ own f.label gs) (own f.label gs)) ∷ takes fs (cond b (others f.label gs) (g ∷ others f.label gs))
     by true here there = here
     by false here there = there
 

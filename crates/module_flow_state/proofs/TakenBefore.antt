@@ -1,5 +1,6 @@
 -- Contributions that change nothing may be left out of a round.
-use Rattle.std.proofs.Common.{◌≡◌, ℕ, suc, ◌+◌, ◌<◌, inl, Bool, true, false, cond, nat_eq, List, [], ◌∷◌, ◌++◌, Option, Some, None, drop, get_or, length, slice_get, refl, sym, ap, ap₂, ◌∙◌, append_assoc, append-nil, subst}
+use Rattle.std.proofs.Common.{◌≡◌, ℕ, suc, ◌+◌, ◌<◌, inl, Bool, true, false, cond, nat_eq, List, [], ◌∷◌, ◌++◌, Option, Some}
+use Rattle.std.proofs.Common.{None, drop, get_or, length, slice_get, refl, sym, ap, ap₂, ◌∙◌, append_assoc, append-nil, subst}
 use Rattle.std.proofs.lemmas.List.{drop_more}
 use Rattle.type_lattice.specs.Types.{Type4, Below, join}
 use Rattle.cons_tree.specs.Facts.{TypeFacts}
@@ -43,7 +44,8 @@ kept_at : (k : ℕ) (st : FlowState) (g : Contribution) (i : ℕ) (d : FlowFun) 
 kept_at k [] g i d e a = tt
 kept_at k (f ∷ fs) g i d e a = by (nat_eq f.label (label_of g)) (position_of fs (label_of g)) e (λ j h. kept_at k fs g j d h)
   where
-    by : (b : Bool) (o : Option ℕ) → cond b (Some 0) (after_one o) ≡ Some i → ((j : ℕ) → o ≡ Some j → Absorbs (get_or fs j d) g → KeptIn k fs (g ∷ [])) → HasAll k f (cond b (g ∷ []) []) × KeptIn k fs (cond b [] (g ∷ []))
+    by : (b : Bool) (o : Option ℕ) → cond b (Some 0) (after_one o) ≡ Some i → ((j : ℕ) → o ≡ Some j → Absorbs (get_or fs j d) g → KeptIn k fs (g ∷ []))
+        → HasAll k f (cond b (g ∷ []) []) × KeptIn k fs (cond b [] (g ∷ []))
     by true o e h = let q : 0 ≡ i = cc in ((inl (subst (λ j. Absorbs (get_or (f ∷ fs) j d) g) (sym q) a), tt), kept_none k fs)
     by false None e h = absurd cc
     by false (Some j) e h = let q : suc j ≡ i = cc in (tt, h j refl (subst (λ n. Absorbs (get_or (f ∷ fs) n d) g) (sym q) a))
@@ -69,7 +71,8 @@ TakenAs st news all = (k : ℕ) → after k st news ≡ after k st all
 abbrev pub TakenSoFar : FlowState → (news left all : List Contribution) → Type 0
 TakenSoFar st news left all = TakenAs st (news ++ left) all
 
-pub taken_more : (st : FlowState) (news left all : List Contribution) (i : ℕ) (g : Contribution) → drop i left ≡ g ∷ drop (i + 1) left → TakenSoFar st news (drop i left) all → TakenSoFar st (news ++ g ∷ []) (drop (i + 1) left) all
+pub taken_more : (st : FlowState) (news left all : List Contribution) (i : ℕ) (g : Contribution) → drop i left ≡ g ∷ drop (i + 1) left → TakenSoFar st news (drop i left) all
+    → TakenSoFar st (news ++ g ∷ []) (drop (i + 1) left) all
 taken_more st news left all i g e h k = ap (after k st) (append_assoc news (g ∷ []) (drop (i + 1) left) ∙ ap (λ gs. news ++ gs) (sym e)) ∙ h k
 
 pub taken_at_end : (st : FlowState) (news left all : List Contribution) → left ≡ [] → TakenSoFar st news left all → TakenAs st news all
@@ -80,6 +83,7 @@ pub news_taken : (st next : FlowState) (taken news all : List Contribution) (k :
 news_taken st next taken news all k e same is = is ∙ ap (after k st) e ∙ same
 
 module _ (F : JoinFacts) where
-  pub taken_without : (st : FlowState) (news left all : List Contribution) (i : ℕ) (g : Contribution) → drop i left ≡ g ∷ drop (i + 1) left → ((k : ℕ) → KeptIn k st (g ∷ [])) → TakenSoFar st news (drop i left) all → TakenSoFar st news (drop (i + 1) left) all
+  pub taken_without : (st : FlowState) (news left all : List Contribution) (i : ℕ) (g : Contribution) → drop i left ≡ g ∷ drop (i + 1) left → ((k : ℕ) → KeptIn k st (g ∷ [])) → TakenSoFar st news (drop i left) all
+      → TakenSoFar st news (drop (i + 1) left) all
   taken_without st news left all i g e kept h k =
       sym (after_skips F k st news (g ∷ []) (drop (i + 1) left) (kept k)) ∙ ap (λ gs. after k st (news ++ gs)) (sym e) ∙ h k

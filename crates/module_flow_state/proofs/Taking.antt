@@ -103,7 +103,8 @@ entered_at : (fs : FlowState) (l : ℕ) (ts : List Type4) → stands fs l ≡ tr
 entered_at [] l ts s = absurd (true≢false (sym s))
 entered_at (f ∷ fs) l ts s = by (nat_eq f.label l) refl s (entered_at fs l ts)
   where
-    by : (b : Bool) → nat_eq f.label l ≡ b → (b || stands fs l) ≡ true → (stands fs l ≡ true → parameters_of (changed fs l (λ f. entered f ts)) l ≡ entered_with (parameters_of fs l) ts) → parameters_of (if b then entered f ts ∷ fs else f ∷ changed fs l (λ f. entered f ts)) l ≡ entered_with (if b then f.params else parameters_of fs l) ts
+    by : (b : Bool) → nat_eq f.label l ≡ b → (b || stands fs l) ≡ true → (stands fs l ≡ true → parameters_of (changed fs l (λ f. entered f ts)) l ≡ entered_with (parameters_of fs l) ts)
+        → parameters_of (if b then entered f ts ∷ fs else f ∷ changed fs l (λ f. entered f ts)) l ≡ entered_with (if b then f.params else parameters_of fs l) ts
     by true e s more = ap (λ b. if b then entered_with f.params ts else parameters_of fs l) e
     by false e s more = ap (λ b. if b then f.params else parameters_of (changed fs l (λ f. entered f ts)) l) e ∙ more s
 
@@ -111,7 +112,8 @@ given_at : (fs : FlowState) (l : ℕ) (t : Type4) → stands fs l ≡ true → r
 given_at [] l t s = absurd (true≢false (sym s))
 given_at (f ∷ fs) l t s = by (nat_eq f.label l) refl s (given_at fs l t)
   where
-    by : (b : Bool) → nat_eq f.label l ≡ b → (b || stands fs l) ≡ true → (stands fs l ≡ true → result_of (changed fs l (λ f. returning f t)) l ≡ join (result_of fs l) t) → result_of (if b then returning f t ∷ fs else f ∷ changed fs l (λ f. returning f t)) l ≡ join (if b then f.result else result_of fs l) t
+    by : (b : Bool) → nat_eq f.label l ≡ b → (b || stands fs l) ≡ true → (stands fs l ≡ true → result_of (changed fs l (λ f. returning f t)) l ≡ join (result_of fs l) t)
+        → result_of (if b then returning f t ∷ fs else f ∷ changed fs l (λ f. returning f t)) l ≡ join (if b then f.result else result_of fs l) t
     by true e s more = ap (λ b. if b then join f.result t else result_of fs l) e
     by false e s more = ap (λ b. if b then f.result else result_of (changed fs l (λ f. returning f t)) l) e ∙ more s
 
@@ -127,7 +129,8 @@ widened_parameters_of (f ∷ fs) (n ∷ ns) l e =
     by (nat_eq f.label l) (widened_parameters_of fs ns l t)
     ∙ ap (λ k. widened_parameters (parameters_of (f ∷ fs) l) (if nat_eq k l then n.params else parameters_of ns l)) (sym h)
   where
-    by : (b : Bool) → parameters_of (widened fs ns) l ≡ widened_parameters (parameters_of fs l) (parameters_of ns l) → (if b then widened_parameters f.params n.params else parameters_of (widened fs ns) l) ≡ widened_parameters (if b then f.params else parameters_of fs l) (if b then n.params else parameters_of ns l)
+    by : (b : Bool) → parameters_of (widened fs ns) l ≡ widened_parameters (parameters_of fs l) (parameters_of ns l)
+        → (if b then widened_parameters f.params n.params else parameters_of (widened fs ns) l) ≡ widened_parameters (if b then f.params else parameters_of fs l) (if b then n.params else parameters_of ns l)
     by true more = refl
     by false more = more
 
@@ -142,7 +145,8 @@ module _ (same : (s t : Type4) → IsTrue (is_same s t) ↔ (s ≡ t)) where
       by (nat_eq f.label l) (widened_result_of fs ns l t)
       ∙ ap (λ k. widened_result (result_of (f ∷ fs) l) (if nat_eq k l then n.result else result_of ns l)) (sym h)
     where
-      by : (b : Bool) → result_of (widened fs ns) l ≡ widened_result (result_of fs l) (result_of ns l) → (if b then widened_result f.result n.result else result_of (widened fs ns) l) ≡ widened_result (if b then f.result else result_of fs l) (if b then n.result else result_of ns l)
+      by : (b : Bool) → result_of (widened fs ns) l ≡ widened_result (result_of fs l) (result_of ns l)
+          → (if b then widened_result f.result n.result else result_of (widened fs ns) l) ≡ widened_result (if b then f.result else result_of fs l) (if b then n.result else result_of ns l)
       by true more = refl
       by false more = more
 

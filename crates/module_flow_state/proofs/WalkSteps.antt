@@ -1,5 +1,6 @@
 -- The small steps of a walk's state.
-use Rattle.std.proofs.Common.{◌≡◌, ℕ, suc, ◌+◌, ◌-◌, ◌<◌, ◌⊎◌, inl, inr, Bool, true, false, cond, List, [], ◌∷◌, ◌++◌, replicate, Option, Some, None, Result, IfOk, OnOk, is_some, refl, sym, ap, ◌∙◌, append_assoc, arith}
+use Rattle.std.proofs.Common.{◌≡◌, ℕ, suc, ◌+◌, ◌-◌, ◌<◌, ◌⊎◌, inl, inr, Bool, true, false, cond, List, [], ◌∷◌, ◌++◌, replicate}
+use Rattle.std.proofs.Common.{Option, Some, None, Result, IfOk, OnOk, is_some, refl, sym, ap, ◌∙◌, append_assoc, arith}
 use Rattle.std.specs.Option.{unwrap_or}
 use Rattle.std.specs.Prelude.{slice_get}
 use Rattle.std.proofs.lemmas.Option.{unwrap_or-slice_get}
@@ -72,7 +73,8 @@ dead_reported : {A E : Type 0} (r : Result A E) (w w1 : FlowWalk) (b : Bool) (g 
 dead_reported r w w1 b g fs told off = on_ok_weaker r (λ one. one ∙ ap (noting w []) (sym (unless_none b g fs told off)))
 
 -- a call by a module and a name
-pub remote_reported : {A E : Type 0} (r : Result A E) (w w1 : FlowWalk) (a : NodeContext) (k : Mark) (home name h : Atom) (n : ℕ) (f : FunName) (b : Bool) (g : Given) → h ≡ home → f ≡ function_name name n → b ≡ is_some g → b ≡ false → OnOk r (w1 ≡ noting w [] (at_node a k (DeadCall (Remote h f))))
+pub remote_reported : {A E : Type 0} (r : Result A E) (w w1 : FlowWalk) (a : NodeContext) (k : Mark) (home name h : Atom) (n : ℕ) (f : FunName) (b : Bool) (g : Given) → h ≡ home → f ≡ function_name name n → b ≡ is_some g
+    → b ≡ false → OnOk r (w1 ≡ noting w [] (at_node a k (DeadCall (Remote h f))))
     → OnOk r (w1 ≡ noting w [] (unless_given g (at_node a k (DeadCall (Remote home (function_name name n))))))
 remote_reported r w w1 a k home name h n f b g home_is name_is told off one =
     dead_reported r w w1 b g (at_node a k (DeadCall (Remote home (function_name name n)))) told off
@@ -81,7 +83,8 @@ remote_reported r w w1 a k home name h n f b g home_is name_is told off one =
 -- ---- slots of what is matched
 
 -- no type at the slot of a variable
-pub variable_anew : {E : Type 0} (r : Result Given E) (sc : WalkScope) (x : Atom) (s : ℕ) (t : Type4) → slot_of sc.variables x ≡ Some s → None ≡ slice_get sc.types s → t ≡ any → IfOk r (λ g. g ≡ value t) → IfOk r (λ g. g ≡ of_variable (type_of sc x))
+pub variable_anew : {E : Type 0} (r : Result Given E) (sc : WalkScope) (x : Atom) (s : ℕ) (t : Type4) → slot_of sc.variables x ≡ Some s → None ≡ slice_get sc.types s → t ≡ any → IfOk r (λ g. g ≡ value t)
+    → IfOk r (λ g. g ≡ of_variable (type_of sc x))
 variable_anew r sc x s t slot none is = IfOk-weaker r (λ g. g ≡ value t) (λ g. g ≡ of_variable (type_of sc x)) (λ g e.
     e ∙ ap value is ∙ ap (λ o. value (unwrap_or o any)) none ∙ ap value (unwrap_or-slice_get sc.types s any) ∙ ap (λ o. of_variable (type_of_slot sc.types o)) (sym slot))
 
@@ -113,13 +116,15 @@ module _ (e : Expr) where
       by (m.values i ts) is = let h = opened e (m.values i ts) is in absurd (no_values h.0 h.1)
       by t is = refl
 
-pub slots_as : {E : Type 0} (r : Result (List ℕ) E) (bs : List Binding) (s k : ℕ) (os ps : List (Option Atom)) → s ≡ k → os ≡ ps → IfOk r (λ slots. slots ≡ argument_slots bs s os) → IfOk r (λ slots. slots ≡ argument_slots bs k ps)
+pub slots_as : {E : Type 0} (r : Result (List ℕ) E) (bs : List Binding) (s k : ℕ) (os ps : List (Option Atom)) → s ≡ k → os ≡ ps → IfOk r (λ slots. slots ≡ argument_slots bs s os)
+    → IfOk r (λ slots. slots ≡ argument_slots bs k ps)
 slots_as r bs s k os ps at same = IfOk-weaker r (λ slots. slots ≡ argument_slots bs s os) (λ slots. slots ≡ argument_slots bs k ps) (λ slots e. e ∙ ap (λ x. argument_slots bs x os) at ∙ ap (argument_slots bs k) same)
 
 one_more : (n i : ℕ) → i < n → replicate {A = Option Atom} (n - i) None ≡ None ∷ replicate (n - (i + 1)) None
 one_more n i within = let e : n - i ≡ suc (n - (i + 1)) = omega arith in ap (λ k. replicate {A = Option Atom} k None) e
 
-pub own_round : (bs : List Binding) (n i s own : ℕ) (old new goal : List ℕ) → i < n → own ≡ s + i → new ≡ old ++ own ∷ [] → old ++ argument_slots bs (s + i) (replicate (n - i) None) ≡ goal → new ++ argument_slots bs (s + (i + 1)) (replicate (n - (i + 1)) None) ≡ goal
+pub own_round : (bs : List Binding) (n i s own : ℕ) (old new goal : List ℕ) → i < n → own ≡ s + i → new ≡ old ++ own ∷ [] → old ++ argument_slots bs (s + i) (replicate (n - i) None) ≡ goal
+    → new ++ argument_slots bs (s + (i + 1)) (replicate (n - (i + 1)) None) ≡ goal
 own_round bs n i s own old new goal within own_is added before =
     let rest : List ℕ = argument_slots bs (s + (i + 1)) (replicate (n - (i + 1)) None) in
     let further : s + (i + 1) ≡ s + i + 1 = omega arith in

@@ -57,7 +57,8 @@ widens_each n ns (h ∷ hs) =
     by : (b : Bool) → nat_eq n.label h.label ≡ b
         → widens (widened_one h n ∷ ns) hs ≡ widens_one (widened_one h n) (of_label h.label hs) ∷ widens ns (of_others h.label hs)
         → widens (n ∷ changed ns h.label (λ m. widened_one h m)) hs ≡ widens_one n (of_label n.label hs) ∷ widens (changed ns h.label (λ m. widened_one h m)) (of_others n.label hs)
-        → widens (if b then widened_one h n ∷ ns else n ∷ changed ns h.label (λ m. widened_one h m)) hs ≡ widens_one n (cond b (h ∷ of_label n.label hs) (of_label n.label hs)) ∷ widens ns (cond b (of_others n.label hs) (h ∷ of_others n.label hs))
+        → widens (if b then widened_one h n ∷ ns else n ∷ changed ns h.label (λ m. widened_one h m)) hs
+        ≡ widens_one n (cond b (h ∷ of_label n.label hs) (of_label n.label hs)) ∷ widens ns (cond b (of_others n.label hs) (h ∷ of_others n.label hs))
     by true e here there = here ∙ ap (λ l. widens_one (widened_one h n) (of_label l hs) ∷ widens ns (of_others l hs)) (sym (eqb-true n.label h.label e))
     by false e here there = there
 
@@ -93,7 +94,8 @@ given_others f fs (g ∷ gs) =
     ∙ ap (λ xs. of_others f.label (functions_at (f ∷ fs) (label_of g)) ++ xs) (given_others f fs gs)
     ∙ by (nat_eq f.label (label_of g)) refl
   where
-    by : (b : Bool) → nat_eq f.label (label_of g) ≡ b → of_others f.label (cond b (f ∷ []) (functions_at fs (label_of g))) ++ functions_given fs (others f.label gs) ≡ functions_given fs (cond b (others f.label gs) (g ∷ others f.label gs))
+    by : (b : Bool) → nat_eq f.label (label_of g) ≡ b → of_others f.label (cond b (f ∷ []) (functions_at fs (label_of g))) ++ functions_given fs (others f.label gs)
+        ≡ functions_given fs (cond b (others f.label gs) (g ∷ others f.label gs))
     by true e = ap (λ c. cond c [] (f ∷ []) ++ functions_given fs (others f.label gs)) (eq-eqb f.label f.label refl)
     by false e = ap (λ xs. xs ++ functions_given fs (others f.label gs)) (none_at fs f.label (label_of g) e).1
 

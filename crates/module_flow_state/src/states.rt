@@ -1,7 +1,9 @@
 //! The state of the flow: what each function is entered with, and what it gives.
-ghost use Rattle.std.specs.Prelude.{◌≡◌, ◌++◌, ◌∷◌, [], ◌<◌, ℕ, false, length, IfOk, IfSome, IsTrue, OnErr, OnOk, MatchOption, None, Some};
+ghost use Rattle.std.specs.Prelude.{◌≡◌, ◌++◌, ◌∷◌, [], ◌<◌, ℕ, false, length, IfOk};
+ghost use Rattle.std.specs.Prelude.{IfSome, IsTrue, OnErr, OnOk, MatchOption, None, Some};
 ghost use Rattle.module_flow_calls.specs.TypeLists.{joins};
-ghost use Rattle.module_flow_state.specs.States.{changed, entered, next_state, parameters_of, result_of, returning, takes, takes_one, widened_one, widened_parameters};
+ghost use Rattle.module_flow_state.specs.States.{changed, entered, next_state, parameters_of, result_of};
+ghost use Rattle.module_flow_state.specs.States.{returning, takes, takes_one, widened_one, widened_parameters};
 ghost use Rattle.module_flow_state.specs.steps.Kept.{Absorbs, KeptIn, functions_at, functions_given, widens};
 ghost use Rattle.module_flow_state.specs.steps.Placing.{are_same_parameters, is_same_function, position_of};
 ghost use Rattle.module_flow_state.specs.steps.Reading.{label_of};
@@ -163,7 +165,8 @@ impl FlowStates {
 
     // Those of the contributions that may change something.
     fn news(&self, contributions: &[Contribution]) -> Result<List<Contribution>, Memory>
-        ensures { IfOk result (λ news. (k : ℕ) → next_state k self.now (takes self.now news) ≡ next_state k self.now (takes self.now contributions.now)) }
+        ensures { IfOk result (λ news. (k : ℕ) → next_state k self.now (takes self.now news)
+            ≡ next_state k self.now (takes self.now contributions.now)) }
     {
         type_facts();
         decision_laws();

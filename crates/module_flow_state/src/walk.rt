@@ -1,5 +1,6 @@
 //! The state of a walk, and its small steps.
-ghost use Rattle.std.specs.Prelude.{◌≡◌, ◌≤◌, ◌-◌, ◌++◌, ◌∷◌, [], cond, false, true, None, Some, length, replicate, is_some, IfOk, OnOk};
+ghost use Rattle.std.specs.Prelude.{◌≡◌, ◌≤◌, ◌-◌, ◌++◌, ◌∷◌, [], cond, false, true};
+ghost use Rattle.std.specs.Prelude.{None, Some, length, replicate, is_some, IfOk, OnOk};
 ghost use Rattle.core_ast.specs.Tree.{all_defs, all_trees, tree};
 ghost use Rattle.core_scope.specs.Asks.{function_name};
 ghost use Rattle.type_lattice.specs.Types.{any, is_none, meet};
@@ -14,13 +15,16 @@ ghost use Rattle.warn_list.specs.declared.finding.CallText.TheVariants.{Local, R
 ghost use Rattle.module_flow_calls.specs.declared.functions.ResolvedName.TheVariants.{Top};
 ghost use Rattle.module_flow_state.specs.declared.states.Contribution.TheVariants.{Enters};
 ghost use Rattle.module_flow_calls.specs.NodeContext.{at_node};
-ghost use Rattle.module_flow_state.specs.Applications.{applied, by_meaning, enters, may_apply, may_by_meaning, resolved_name, unless_function, unless_given, where_meets};
+ghost use Rattle.module_flow_state.specs.Applications.{applied, by_meaning, enters, may_apply, may_by_meaning};
+ghost use Rattle.module_flow_state.specs.Applications.{resolved_name, unless_function, unless_given, where_meets};
 ghost use Rattle.module_flow_calls.specs.Calls.{called, may_return};
 ghost use Rattle.module_flow_calls.specs.TypeLists.{value};
 ghost use Rattle.module_flow_state.specs.States.{returns};
-ghost use Rattle.module_flow_state.specs.Scopes.{argument_names, argument_slot, argument_slots, of_variable, outermost, type_of, variable_name, variable_names, with_functions, with_variables};
+ghost use Rattle.module_flow_state.specs.Scopes.{argument_names, argument_slot, argument_slots, of_variable, outermost};
+ghost use Rattle.module_flow_state.specs.Scopes.{type_of, variable_name, variable_names, with_functions, with_variables};
 ghost use Rattle.module_flow_state.specs.World.{lenient, strict};
-ghost use Rattle.module_flow_state.specs.steps.Walking.{first_listed, left, noting, reporting_if, seeing, walk_scope_of, undefined, with_bindings, with_types, world_of};
+ghost use Rattle.module_flow_state.specs.steps.Walking.{first_listed, left, noting, reporting_if, seeing};
+ghost use Rattle.module_flow_state.specs.steps.Walking.{walk_scope_of, undefined, with_bindings, with_types, world_of};
 
 use crate::states::{Contribution, FlowStates};
 use cons_gen::InScope;
@@ -378,7 +382,8 @@ impl FlowWalk {
         types: List<Ty>,
     ) -> Result<Given, Memory>
         ensures given { IfOk result (λ given. given ≡ applied (world_of context.now) (walk_scope_of self.old) name.now types) }
-        ensures noted { OnOk result (self.new ≡ noting self.old (enters (world_of context.now) (walk_scope_of self.old) name.now types) (unless_given (may_apply (world_of context.now) (walk_scope_of self.old) name.now types) (at_node around mark.now (DeadCall (Local name.now))))) }
+        ensures noted { OnOk result (self.new ≡ noting self.old (enters (world_of context.now) (walk_scope_of self.old) name.now types)
+            (unless_given (may_apply (world_of context.now) (walk_scope_of self.old) name.now types) (at_node around mark.now (DeadCall (Local name.now))))) }
     {
         if name.arity as usize != types.len() {
             self.report_name(around, mark, name)?;
@@ -409,7 +414,8 @@ impl FlowWalk {
         types: List<Ty>,
     ) -> Result<Given, Memory>
         ensures given { IfOk result (λ given. given ≡ by_meaning (world_of context.now) name.now (Top label) types) }
-        ensures noted { OnOk result (self.new ≡ noting self.old (Enters label types ∷ []) (unless_given (may_by_meaning (world_of context.now) name.now (Top label) types) (at_node around mark.now (DeadCall (Local name.now))))) }
+        ensures noted { OnOk result (self.new ≡ noting self.old (Enters label types ∷ [])
+            (unless_given (may_by_meaning (world_of context.now) name.now (Top label) types) (at_node around mark.now (DeadCall (Local name.now))))) }
     {
         let callee = context.known.find(context.home, name);
         self.report_dead_name(around, mark, name, callee, types.as_slice())?;
@@ -428,7 +434,8 @@ impl FlowWalk {
         callee: &Callee,
         types: &[Ty],
     ) -> Result<(), Memory>
-        ensures { OnOk result (self.new ≡ noting self.old [] (unless_given (may_return callee.now types.now) (at_node around mark.now (DeadCall (Local name.now))))) }
+        ensures { OnOk result (self.new ≡ noting self.old []
+            (unless_given (may_return callee.now types.now) (at_node around mark.now (DeadCall (Local name.now))))) }
     {
         if !self.reporting || around.quiet {
             return Ok(());
@@ -494,7 +501,9 @@ impl FlowWalk {
         types: &[Ty],
     ) -> Result<Given, Memory>
         ensures given { IfOk result (λ given. given ≡ called (strict (world_of context.now)) home.now name.now types.now) }
-        ensures noted { OnOk result (self.new ≡ noting self.old [] (unless_given (called (lenient (world_of context.now)) home.now name.now types.now) (at_node around mark.now (DeadCall (Remote home.now (function_name name.now (length types.now))))))) }
+        ensures noted { OnOk result (self.new ≡ noting self.old []
+            (unless_given (called (lenient (world_of context.now)) home.now name.now types.now)
+            (at_node around mark.now (DeadCall (Remote home.now (function_name name.now (length types.now))))))) }
     {
         self.report_dead_call(context, around, mark, home, name, types)?;
         called(self.alloc, context.known, false, home, name, types)
@@ -510,7 +519,9 @@ impl FlowWalk {
         name: &Atom,
         types: &[Ty],
     ) -> Result<(), Memory>
-        ensures { OnOk result (self.new ≡ noting self.old [] (unless_given (called (lenient (world_of context.now)) home.now name.now types.now) (at_node around mark.now (DeadCall (Remote home.now (function_name name.now (length types.now))))))) }
+        ensures { OnOk result (self.new ≡ noting self.old []
+            (unless_given (called (lenient (world_of context.now)) home.now name.now types.now)
+            (at_node around mark.now (DeadCall (Remote home.now (function_name name.now (length types.now))))))) }
     {
         if !self.reporting || around.quiet {
             return Ok(());

@@ -32,10 +32,12 @@ use Rattle.module_flow_walk.proofs.Walks.{ended, seen_given, seen_list}
 
 module _ (W : World) (a : NodeContext) (k : Ask) (t : m.Tree) where
   -- an expression that also sees variables
-  pub under_given : (w v : FlowWalk) (g : Given) (xs : List VarName) (us : List Type4) → v ≡ seeing w (with_variables (walk_scope_of w) xs us) → g ≡ walk W (walk_scope_of v) k t → g ≡ walk W (with_variables (walk_scope_of w) xs us) k t
+  pub under_given : (w v : FlowWalk) (g : Given) (xs : List VarName) (us : List Type4) → v ≡ seeing w (with_variables (walk_scope_of w) xs us) → g ≡ walk W (walk_scope_of v) k t
+      → g ≡ walk W (with_variables (walk_scope_of w) xs us) k t
   under_given w v g xs us one two = two ∙ ap (λ z. walk W (walk_scope_of z) k t) one
 
-  pub under_noted : (w v x y : FlowWalk) (xs : List VarName) (us : List Type4) (n p : ℕ) → n ≡ length w.scope.variables → p ≡ length w.types → v ≡ seeing w (with_variables (walk_scope_of w) xs us) → x ≡ noting v (contributions W (walk_scope_of v) k t) (found W a (walk_scope_of v) k t) → y ≡ left x n p
+  pub under_noted : (w v x y : FlowWalk) (xs : List VarName) (us : List Type4) (n p : ℕ) → n ≡ length w.scope.variables → p ≡ length w.types → v ≡ seeing w (with_variables (walk_scope_of w) xs us)
+      → x ≡ noting v (contributions W (walk_scope_of v) k t) (found W a (walk_scope_of v) k t) → y ≡ left x n p
       → y ≡ noting w (contributions W (with_variables (walk_scope_of w) xs us) k t) (found W a (with_variables (walk_scope_of w) xs us) k t)
   under_noted w v x y xs us n p n_is p_is one two three =
       leaves w v x y (bindings xs (length w.types)) (as_many (length xs) us) (contributions W (with_variables (walk_scope_of w) xs us) k t) (found W a (with_variables (walk_scope_of w) xs us) k t) n p one
@@ -47,7 +49,8 @@ module _ (W : World) (a : NodeContext) (k : Ask) (t : m.Tree) where
   pub chain_given : (there : Bool) (o : Option WalkScope) (sc : WalkScope) (g : Given) → o ≡ sees there sc → g ≡ cond there (passed k (walk W sc k t)) None → g ≡ then_seen o (λ s. passed k (walk W s k t))
   chain_given there o sc g is h = h ∙ seen_given there o sc (λ s. passed k (walk W s k t)) is
 
-  pub chain_noted : (w v x y : FlowWalk) (there : Bool) (o : Option WalkScope) (gs : List Contribution) (fs : List Finding) (n p : ℕ) (b : NodeContext) → n ≡ length w.scope.variables → p ≡ length w.types → a ≡ b → Grows w v gs fs → o ≡ sees there (walk_scope_of v)
+  pub chain_noted : (w v x y : FlowWalk) (there : Bool) (o : Option WalkScope) (gs : List Contribution) (fs : List Finding) (n p : ℕ) (b : NodeContext) → n ≡ length w.scope.variables → p ≡ length w.types → a ≡ b
+      → Grows w v gs fs → o ≡ sees there (walk_scope_of v)
       → x ≡ noting v (cond there (contributions W (walk_scope_of v) k t) []) (cond there (found W a (walk_scope_of v) k t) []) → y ≡ left x n p
       → y ≡ noting w (gs ++ where_seen o (λ s. contributions W s k t)) (fs ++ where_seen o (λ s. found W b s k t))
   chain_noted w v x y there o gs fs n p b n_is p_is a_is grows is one two =
@@ -75,7 +78,8 @@ module _ (W : World) (a : NodeContext) (k : Ask) (cs : m.Clauses) where
   pub matching_given : (w v : FlowWalk) (g : Given) (us : List Type4) (qs : List ℕ) → v ≡ with_types w (w.types ++ us) → g ≡ clauses_given (walk_scope_of v) qs → g ≡ clauses_given (matching (walk_scope_of w) us) qs
   matching_given w v g us qs one two = two ∙ ap (λ z. clauses_given (walk_scope_of z) qs) one
 
-  pub matching_noted : (w v x y : FlowWalk) (us : List Type4) (qs : List ℕ) (n p : ℕ) → n ≡ length w.scope.variables → p ≡ length w.types → v ≡ with_types w (w.types ++ us) → x ≡ noting v (clauses_contributions (walk_scope_of v) qs) (clauses_found (walk_scope_of v) qs) → y ≡ left x n p
+  pub matching_noted : (w v x y : FlowWalk) (us : List Type4) (qs : List ℕ) (n p : ℕ) → n ≡ length w.scope.variables → p ≡ length w.types → v ≡ with_types w (w.types ++ us)
+      → x ≡ noting v (clauses_contributions (walk_scope_of v) qs) (clauses_found (walk_scope_of v) qs) → y ≡ left x n p
       → y ≡ noting w (clauses_contributions (matching (walk_scope_of w) us) qs) (clauses_found (matching (walk_scope_of w) us) qs)
   matching_noted w v x y us qs n p n_is p_is one two three =
       leaves w v x y [] us (clauses_contributions (matching (walk_scope_of w) us) qs) (clauses_found (matching (walk_scope_of w) us) qs) n p (one ∙ inside_matching w us)
@@ -87,11 +91,13 @@ module _ (W : World) (a : NodeContext) (k : Ask) (ds : m.Defs) (t : m.Tree) wher
   abbrev named : FlowWalk → WalkScope
   named w = with_functions (walk_scope_of w) ds
 
-  pub letrec_given : (w v x : FlowWalk) (gs : List Contribution) (fs : List Finding) (g : Given) → v ≡ seeing w (named w) → x ≡ noting v gs fs → g ≡ passed k (walk W (walk_scope_of x) k t) → g ≡ passed k (walk W (named w) k t)
+  pub letrec_given : (w v x : FlowWalk) (gs : List Contribution) (fs : List Finding) (g : Given) → v ≡ seeing w (named w) → x ≡ noting v gs fs → g ≡ passed k (walk W (walk_scope_of x) k t)
+      → g ≡ passed k (walk W (named w) k t)
   letrec_given w v x gs fs g one two is = is ∙ ap (λ z. passed k (walk W (walk_scope_of z) k t)) (two ∙ ap (λ z. noting z gs fs) one)
 
   pub letrec_noted : (w v x y z : FlowWalk) (n p : ℕ) → n ≡ length w.scope.functions → p ≡ length w.labels → v ≡ seeing w (named w)
-      → x ≡ noting v (contributions_of_functions W (walk_scope_of v) ds) (found_in_functions W a (walk_scope_of v) ds) → y ≡ noting x (contributions W (walk_scope_of x) k t) (found W a (walk_scope_of x) k t) → z ≡ undefined y n p
+      → x ≡ noting v (contributions_of_functions W (walk_scope_of v) ds) (found_in_functions W a (walk_scope_of v) ds) → y ≡ noting x (contributions W (walk_scope_of x) k t) (found W a (walk_scope_of x) k t)
+      → z ≡ undefined y n p
       → z ≡ noting w (contributions_of_functions W (named w) ds ++ contributions W (named w) k t) (found_in_functions W a (named w) ds ++ found W a (named w) k t)
   letrec_noted w v x y z n p n_is p_is one two three four =
       undefines w v y z ds (contributions_of_functions W (named w) ds ++ contributions W (named w) k t) (found_in_functions W a (named w) ds ++ found W a (named w) k t) n p one
@@ -118,10 +124,12 @@ module _ (W : World) (a : NodeContext) (ds : List (FunDefOf Expr)) (w : FlowWalk
   functions_noted goal past = ended w goal (left_contributions i (walk_scope_of w)) (left_found i (walk_scope_of w))
       (ap (λ z. contributions_of_functions W (walk_scope_of w) (all_defs z)) (drop_of_length-le ds past)) (ap (λ z. found_in_functions W a (walk_scope_of w) (all_defs z)) (drop_of_length-le ds past))
 
-  pub functions_round : (v goal : FlowWalk) (x : FunDefOf Expr) → i < length ds → x ≡ get_or ds i x → v ≡ noting w (contributions_of_functions W (walk_scope_of w) (all_defs (x ∷ []))) (found_in_functions W a (walk_scope_of w) (all_defs (x ∷ [])))
+  pub functions_round : (v goal : FlowWalk) (x : FunDefOf Expr) → i < length ds → x ≡ get_or ds i x
+      → v ≡ noting w (contributions_of_functions W (walk_scope_of w) (all_defs (x ∷ []))) (found_in_functions W a (walk_scope_of w) (all_defs (x ∷ [])))
       → noting w (left_contributions i (walk_scope_of w)) (left_found i (walk_scope_of w)) ≡ goal → noting v (left_contributions (i + 1) (walk_scope_of v)) (left_found (i + 1) (walk_scope_of v)) ≡ goal
   functions_round v goal x within is step =
       let opens : all_defs (drop i ds) ≡ all_defs (x ∷ drop (i + 1) ds) = all_defs-next ds i x within ∙ ap (λ z. all_defs (z ∷ drop (i + 1) ds)) (sym is) in
       notes_round w v goal (λ sc. contributions_of_functions W sc (all_defs (x ∷ []))) (left_contributions (i + 1)) (left_contributions i) (λ sc. found_in_functions W a sc (all_defs (x ∷ []))) (left_found (i + 1)) (left_found i) step
-      (ap (λ z. contributions_of_functions W (walk_scope_of w) z) opens ∙ ap (λ l. l ++ left_contributions (i + 1) (walk_scope_of w)) (sym (append-nil (where_entered (parameters_of W.state x.mark.label) (entered_contributions W a x (walk_scope_of w))))))
+      (ap (λ z. contributions_of_functions W (walk_scope_of w) z) opens ∙ ap (λ l. l ++ left_contributions (i + 1) (walk_scope_of w))
+      (sym (append-nil (where_entered (parameters_of W.state x.mark.label) (entered_contributions W a x (walk_scope_of w))))))
       (ap (λ z. found_in_functions W a (walk_scope_of w) z) opens ∙ ap (λ l. l ++ left_found (i + 1) (walk_scope_of w)) (sym (append-nil (where_entered (parameters_of W.state x.mark.label) (entered_found W a x (walk_scope_of w))))))

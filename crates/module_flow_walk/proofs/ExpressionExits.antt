@@ -25,7 +25,8 @@ use Rattle.module_flow_calls.specs.TypeLists.{Given, where_given, first, value}
 use Rattle.module_flow_state.specs.Applications.{applied, may_apply, unless_function, unless_given, enters, where_meets}
 use Rattle.module_flow_calls.specs.Calls.{called}
 use Rattle.module_flow_walk.specs.Findings.{found, found_in_all, found_in_clauses, found_in_functions, found_in_pairs, found_in_segments, found_in_steps}
-use Rattle.module_flow_walk.specs.Contributions.{contributions, contributions_of_all, contributions_of_clauses, contributions_of_functions, contributions_of_pairs, contributions_of_segments, contributions_of_steps, listed_by, where_limited, where_seen}
+use Rattle.module_flow_walk.specs.Contributions.{contributions, contributions_of_all, contributions_of_clauses, contributions_of_functions}
+use Rattle.module_flow_walk.specs.Contributions.{contributions_of_pairs, contributions_of_segments, contributions_of_steps, listed_by, where_limited, where_seen}
 use Rattle.module_flow_state.specs.Scopes.{WalkScope, with_functions, with_variables}
 use Rattle.module_flow_walk.specs.Walk.{if_named, matched_slots, see_steps, seen_by_clauses, seen_by_messages, then, walk, walk_all}
 use Rattle.module_flow_state.specs.World.{World, lenient, strict}
@@ -50,12 +51,15 @@ module _ (W : World) (k : Ask) (w : FlowWalk) (e : Expr) (t : m.Tree) (is : tree
 
   module _ (a a1 : NodeContext) (note : a1 ≡ under a e.mark.note) where
     -- and it notes what its form notes, inside its own note
-    pub form_noted : {A E : Type 0} (r : Result A E) (w1 : FlowWalk) (F : NodeContext → List Finding) → F (under a e.mark.note) ≡ found W a (walk_scope_of w) k t → OnOk r (w1 ≡ noting w (contributions W (walk_scope_of w) k t) (F a1)) → OnOk r (w1 ≡ noting w (contributions W (walk_scope_of w) k (tree e)) (found W a (walk_scope_of w) k (tree e)))
-    form_noted r w1 F same = on_ok_weaker r (λ one. one ∙ ap (λ b. noting w (contributions W (walk_scope_of w) k t) (F b)) note ∙ ap (noting w (contributions W (walk_scope_of w) k t)) same ∙ ap (λ u. noting w (contributions W (walk_scope_of w) k u) (found W a (walk_scope_of w) k u)) (sym is))
+    pub form_noted : {A E : Type 0} (r : Result A E) (w1 : FlowWalk) (F : NodeContext → List Finding) → F (under a e.mark.note) ≡ found W a (walk_scope_of w) k t
+        → OnOk r (w1 ≡ noting w (contributions W (walk_scope_of w) k t) (F a1)) → OnOk r (w1 ≡ noting w (contributions W (walk_scope_of w) k (tree e)) (found W a (walk_scope_of w) k (tree e)))
+    form_noted r w1 F same = on_ok_weaker r (λ one. one ∙ ap (λ b. noting w (contributions W (walk_scope_of w) k t) (F b)) note ∙ ap (noting w (contributions W (walk_scope_of w) k t)) same
+        ∙ ap (λ u. noting w (contributions W (walk_scope_of w) k u) (found W a (walk_scope_of w) k u)) (sym is))
 
   -- a form that notes nothing
   pub form_silent : (a : NodeContext) → [] ≡ contributions W (walk_scope_of w) k t → [] ≡ found W a (walk_scope_of w) k t → w ≡ noting w (contributions W (walk_scope_of w) k (tree e)) (found W a (walk_scope_of w) k (tree e))
-  form_silent a gs fs = sym (noting_none w) ∙ ap (λ xs. noting w xs []) gs ∙ ap (noting w (contributions W (walk_scope_of w) k t)) fs ∙ ap (λ u. noting w (contributions W (walk_scope_of w) k u) (found W a (walk_scope_of w) k u)) (sym is)
+  form_silent a gs fs = sym (noting_none w) ∙ ap (λ xs. noting w xs []) gs ∙ ap (noting w (contributions W (walk_scope_of w) k t)) fs
+      ∙ ap (λ u. noting w (contributions W (walk_scope_of w) k u) (found W a (walk_scope_of w) k u)) (sym is)
 
 -- what is noted, where the contributions are the same
 by_contributions : {A E : Type 0} (w w1 : FlowWalk) (gs hs : List Contribution) (fs : List Finding) (r : Result A E) → gs ≡ hs → OnOk r (w1 ≡ noting w gs fs) → OnOk r (w1 ≡ noting w hs fs)
@@ -77,7 +81,8 @@ module _ (W : World) (a a1 : NodeContext) (k : Ask) (w w1 : FlowWalk) (e : Expr)
   pub fun_noted : (xs : List VarName) (t : m.Tree) → tree e ≡ m.function e.mark xs t → OnOk r (w1 ≡ noting w (contributions W (with_variables sc xs []) one_value t) (found W a1 (with_variables sc xs []) one_value t)) → Notes
   fun_noted xs t is = by_form (m.function e.mark xs t) (λ b. found W b (with_variables sc xs []) one_value t) is refl
 
-  pub listed_noted : (ts : m.Trees) (t : m.Tree) → tree e ≡ m.listed e.mark ts t → OnOk r (w1 ≡ noting w (contributions_of_all W sc ts ++ contributions W sc one_value t) (found_in_all W a1 sc ts ++ found W a1 sc one_value t)) → Notes
+  pub listed_noted : (ts : m.Trees) (t : m.Tree) → tree e ≡ m.listed e.mark ts t → OnOk r (w1 ≡ noting w (contributions_of_all W sc ts ++ contributions W sc one_value t) (found_in_all W a1 sc ts ++ found W a1 sc one_value t))
+      → Notes
   listed_noted ts t is = by_form (m.listed e.mark ts t) (λ b. found_in_all W b sc ts ++ found W b sc one_value t) is refl
 
   pub tuple_noted : (ts : m.Trees) → tree e ≡ m.tuple e.mark ts → OnOk r (w1 ≡ noting w (contributions_of_all W sc ts) (found_in_all W a1 sc ts)) → Notes
@@ -86,7 +91,8 @@ module _ (W : World) (a a1 : NodeContext) (k : Ask) (w w1 : FlowWalk) (e : Expr)
   pub new_map_noted : (ps : m.Pairs) → tree e ≡ m.new_map e.mark ps → OnOk r (w1 ≡ noting w (contributions_of_pairs W sc ps) (found_in_pairs W a1 sc ps)) → Notes
   new_map_noted ps is = by_form (m.new_map e.mark ps) (λ b. found_in_pairs W b sc ps) is refl
 
-  pub updated_map_noted : (ps : m.Pairs) (t : m.Tree) → tree e ≡ m.updated_map e.mark ps t → OnOk r (w1 ≡ noting w (contributions_of_pairs W sc ps ++ contributions W sc one_value t) (found_in_pairs W a1 sc ps ++ found W a1 sc one_value t)) → Notes
+  pub updated_map_noted : (ps : m.Pairs) (t : m.Tree) → tree e ≡ m.updated_map e.mark ps t
+      → OnOk r (w1 ≡ noting w (contributions_of_pairs W sc ps ++ contributions W sc one_value t) (found_in_pairs W a1 sc ps ++ found W a1 sc one_value t)) → Notes
   updated_map_noted ps t is = by_form (m.updated_map e.mark ps t) (λ b. found_in_pairs W b sc ps ++ found W b sc one_value t) is refl
 
   pub binary_noted : (ss : m.Segments) → tree e ≡ m.binary e.mark ss → OnOk r (w1 ≡ noting w (contributions_of_segments W sc ss) (found_in_segments W a1 sc ss)) → Notes
@@ -96,7 +102,8 @@ module _ (W : World) (a a1 : NodeContext) (k : Ask) (w w1 : FlowWalk) (e : Expr)
   values_noted ts is = by_form (m.values e.mark ts) (λ b. found_in_all W b sc ts) is refl
 
   pub chain_form_noted : (ss : m.Steps) (t : m.Tree) → tree e ≡ m.chain e.mark ss t
-      → OnOk r (w1 ≡ noting w (contributions_of_steps W sc ss ++ where_seen (see_steps W sc ss) (λ inner. contributions W inner k t)) (found_in_steps W a1 sc ss ++ where_seen (see_steps W sc ss) (λ inner. found W (under_steps a1 ss) inner k t))) → Notes
+      → OnOk r (w1 ≡ noting w (contributions_of_steps W sc ss ++ where_seen (see_steps W sc ss) (λ inner. contributions W inner k t))
+      (found_in_steps W a1 sc ss ++ where_seen (see_steps W sc ss) (λ inner. found W (under_steps a1 ss) inner k t))) → Notes
   chain_form_noted ss t is = by_form (m.chain e.mark ss t) (λ b. found_in_steps W b sc ss ++ where_seen (see_steps W sc ss) (λ inner. found W (under_steps b ss) inner k t)) is refl
 
   pub case_noted : (t : m.Tree) (cs : m.Clauses) → tree e ≡ m.case e.mark t cs
@@ -118,10 +125,12 @@ module _ (W : World) (a a1 : NodeContext) (k : Ask) (w w1 : FlowWalk) (e : Expr)
       by_form (m.try e.mark t xs u ys v) (λ b. found W b sc (Exactly (length xs)) t ++ where_given (walk W sc (Exactly (length xs)) t) (λ ts. found W b (with_variables sc xs ts) k u) ++ found W b (with_variables sc ys []) k v) is refl
 
   pub receive_noted : (cs : m.Clauses) (t u : m.Tree) → tree e ≡ m.receive e.mark cs t u
-      → OnOk r (w1 ≡ noting w (contributions W sc one_value t ++ where_given (walk W sc one_value t) (λ limit. contributions_of_clauses W (seen_by_messages sc) k (length w.types ∷ []) cs ++ where_limited limit (contributions W sc k u)))
+      → OnOk r (w1 ≡ noting w (contributions W sc one_value t ++ where_given (walk W sc one_value t)
+      (λ limit. contributions_of_clauses W (seen_by_messages sc) k (length w.types ∷ []) cs ++ where_limited limit (contributions W sc k u)))
       (found W a1 sc one_value t ++ where_given (walk W sc one_value t) (λ limit. found_in_clauses W a1 (seen_by_messages sc) k (length w.types ∷ []) cs ++ where_limited limit (found W a1 sc k u)))) → Notes
   receive_noted cs t u is =
-      by_form (m.receive e.mark cs t u) (λ b. found W b sc one_value t ++ where_given (walk W sc one_value t) (λ limit. found_in_clauses W b (seen_by_messages sc) k (length w.types ∷ []) cs ++ where_limited limit (found W b sc k u))) is refl
+      by_form (m.receive e.mark cs t u) (λ b. found W b sc one_value t ++ where_given (walk W sc one_value t) (λ limit. found_in_clauses W b (seen_by_messages sc) k (length w.types ∷ []) cs ++ where_limited limit (found W b sc k u))) is
+      refl
 
   pub catch_noted : (t : m.Tree) → tree e ≡ m.catch e.mark t → OnOk r (w1 ≡ noting w (contributions W sc one_value t) (found W a1 sc one_value t)) → Notes
   catch_noted t is = by_form (m.catch e.mark t) (λ b. found W b sc one_value t) is refl
@@ -156,7 +165,8 @@ module _ (W : World) (a a1 : NodeContext) (k : Ask) (w w1 : FlowWalk) (e : Expr)
     found_by_value unnamed = ap (λ o. listed_by o (name_found (under a e.mark.note)) (value_found (under a e.mark.note))) (sym unnamed)
 
     pub applied_noted : (f : FunName) → local_name t ≡ Some f
-        → OnOk r (w1 ≡ noting w (contributions_of_all W sc ts ++ where_given (walk_all W sc ts) (λ us. enters W sc f us)) (found_in_all W a1 sc ts ++ where_given (walk_all W sc ts) (λ us. unless_given (may_apply W sc f us) (at_node a1 e.mark (DeadCall (Local f)))))) → Notes
+        → OnOk r (w1 ≡ noting w (contributions_of_all W sc ts ++ where_given (walk_all W sc ts) (λ us. enters W sc f us))
+        (found_in_all W a1 sc ts ++ where_given (walk_all W sc ts) (λ us. unless_given (may_apply W sc f us) (at_node a1 e.mark (DeadCall (Local f)))))) → Notes
     applied_noted f named h =
         by_form (m.apply e.mark t ts) (λ b. name_found b f) is (found_by_name f named)
         (by_contributions w w1 (name_contributions f) (contributions W sc k (m.apply e.mark t ts)) (name_found a1 f) r (contributions_by_name f named) h)
@@ -223,7 +233,8 @@ module _ (W : World) (k : Ask) (w : FlowWalk) (e : Expr) {E : Type 0} (r : Resul
     pub applied_gives : (f : FunName) → local_name t ≡ Some f → IfOk r (λ g. g ≡ then (walk_all W (walk_scope_of w) ts) (λ us. applied W (walk_scope_of w) f us)) → Gives
     applied_gives f named = gives_as (m.apply e.mark t ts) (by_name f) is (ap (λ o. if_named o by_name by_value) (sym named))
 
-    pub operator_gives : local_name t ≡ None → IfOk r (λ g. g ≡ then (walk W (walk_scope_of w) one_value t) (λ operator. then (walk_all W (walk_scope_of w) ts) (λ us. where_meets (first operator) (function_type (length us)) (value any)))) → Gives
+    pub operator_gives : local_name t ≡ None → IfOk r (λ g. g ≡ then (walk W (walk_scope_of w) one_value t)
+        (λ operator. then (walk_all W (walk_scope_of w) ts) (λ us. where_meets (first operator) (function_type (length us)) (value any)))) → Gives
     operator_gives unnamed = gives_as (m.apply e.mark t ts) by_value is (ap (λ o. if_named o by_name by_value) (sym unnamed))
 
   module _ (t u : m.Tree) (ts : m.Trees) (is : tree e ≡ m.call e.mark t u ts) where
@@ -236,5 +247,6 @@ module _ (W : World) (k : Ask) (w : FlowWalk) (e : Expr) {E : Type 0} (r : Resul
     pub named_call_gives : (home name : Atom) → call_names t u ≡ Some (home, name) → IfOk r (λ g. g ≡ then (walk_all W (walk_scope_of w) ts) (λ us. called (strict W) home name us)) → Gives
     named_call_gives home name named = gives_as (m.call e.mark t u ts) (by_names (home, name)) is (ap (λ o. if_named o by_names by_values) (sym named))
 
-    pub call_gives : call_names t u ≡ None → IfOk r (λ g. g ≡ then (walk W (walk_scope_of w) one_value t) (λ home. then (walk W (walk_scope_of w) one_value u) (λ name. then (walk_all W (walk_scope_of w) ts) (λ us. value any)))) → Gives
+    pub call_gives : call_names t u ≡ None → IfOk r (λ g. g ≡ then (walk W (walk_scope_of w) one_value t) (λ home. then (walk W (walk_scope_of w) one_value u) (λ name. then (walk_all W (walk_scope_of w) ts) (λ us. value any))))
+        → Gives
     call_gives unnamed = gives_as (m.call e.mark t u ts) by_values is (ap (λ o. if_named o by_names by_values) (sym unnamed))

@@ -40,7 +40,8 @@ pub meets_told : (t u : Type4) (common : Bool) (ts : List Type4) → is_none (me
 meets_told t u common ts told = told_some common ts ∙ ap (λ g. is_some g) (meets_given t u common (Some ts) told)
 
 -- whether the map that is updated may be one
-pub updated_told : {E : Type 0} (r : Result Bool E) (W : World) (sc : WalkScope) (t : m.Tree) (g : Given) (ts : List Type4) (old map : Type4) → g ≡ walk W sc one_value t → g ≡ Some ts → old ≡ first ts → map ≡ of_kind Map → IfOk r (λ b. is_none (meet old map) ≡ cond b false true)
+pub updated_told : {E : Type 0} (r : Result Bool E) (W : World) (sc : WalkScope) (t : m.Tree) (g : Given) (ts : List Type4) (old map : Type4) → g ≡ walk W sc one_value t → g ≡ Some ts → old ≡ first ts → map ≡ of_kind Map
+    → IfOk r (λ b. is_none (meet old map) ≡ cond b false true)
     → IfOk r (λ b. b ≡ is_some (updated_given W sc t))
 updated_told r W sc t g ts old map is some old_is map_is = IfOk-weaker r (λ b. is_none (meet old map) ≡ cond b false true) (λ b. b ≡ is_some (updated_given W sc t)) (λ b told.
     meets_told old map b (of_kind Map ∷ []) told
@@ -81,4 +82,5 @@ module _ (W : World) (a : NodeContext) where
 
   abbrev pub NotesCall : FlowWalk → FlowWalk → Mark → Atom → Atom → m.Trees → Type 0
   NotesCall w w2 k home name ts =
-      w2 ≡ noting w (contributions_of_all W (walk_scope_of w) ts) (found_in_all W a (walk_scope_of w) ts ++ where_given (walk_all W (walk_scope_of w) ts) (λ us. unless_given (called (lenient W) home name us) (at_node a k (DeadCall (Remote home (function_name name (length us)))))))
+      w2 ≡ noting w (contributions_of_all W (walk_scope_of w) ts) (found_in_all W a (walk_scope_of w) ts
+      ++ where_given (walk_all W (walk_scope_of w) ts) (λ us. unless_given (called (lenient W) home name us) (at_node a k (DeadCall (Remote home (function_name name (length us)))))))

@@ -113,7 +113,8 @@ step_silent (Let k xs e) ss first rest =
 step_silent (Do k e) ss first rest =
     λ W sc. none_both (first W sc AnyNumber) (none_given (walk W sc AnyNumber (tree e)) (λ us. contributions_of_steps W sc (all_steps ss)) (λ us. rest W sc))
 
-pub steps_silent : (ss : List (StepOf Expr)) (i : ℕ) (x : StepOf Expr) (e : Expr) → i < length ss → x ≡ get_or ss i x → e ≡ step_expression x → IsSilent (tree e) → AreSilentSteps (all_steps (drop (i + 1) ss)) → AreSilentSteps (all_steps (drop i ss))
+pub steps_silent : (ss : List (StepOf Expr)) (i : ℕ) (x : StepOf Expr) (e : Expr) → i < length ss → x ≡ get_or ss i x → e ≡ step_expression x → IsSilent (tree e) → AreSilentSteps (all_steps (drop (i + 1) ss))
+    → AreSilentSteps (all_steps (drop i ss))
 steps_silent ss i x e within is own first rest =
     λ W sc. ap (contributions_of_steps W sc) (all_steps-next ss i x within ∙ ap (λ z. all_steps (z ∷ drop (i + 1) ss)) (sym is))
     ∙ step_silent x (drop (i + 1) ss) (subst (λ z. IsSilent (tree z)) own first) rest W sc

@@ -61,12 +61,16 @@ module _ (W : World) (a : NodeContext) where
   contributions_alone sc (Let i xs e) = alone (contributions W sc (Exactly (length xs)) (tree e)) (walk W sc (Exactly (length xs)) (tree e))
   contributions_alone sc (Do i e) = alone (contributions W sc AnyNumber (tree e)) (walk W sc AnyNumber (tree e))
 
-  contributions_next : (sc sc' : WalkScope) (x : StepOf Expr) (rest : List (StepOf Expr)) → Stepped sc x (Some sc') → contributions_of_steps W sc (all_steps (x ∷ rest)) ≡ step_contributions sc x ++ contributions_of_steps W sc' (all_steps rest)
-  contributions_next sc sc' (Let i xs e) rest h = ap (λ l. contributions W sc (Exactly (length xs)) (tree e) ++ l) (given_on (walk W sc (Exactly (length xs)) (tree e)) (λ us. with_variables sc xs us) sc' (λ s. contributions_of_steps W s (all_steps rest)) h)
+  contributions_next : (sc sc' : WalkScope) (x : StepOf Expr) (rest : List (StepOf Expr)) → Stepped sc x (Some sc')
+      → contributions_of_steps W sc (all_steps (x ∷ rest)) ≡ step_contributions sc x ++ contributions_of_steps W sc' (all_steps rest)
+  contributions_next sc sc' (Let i xs e) rest h = ap (λ l. contributions W sc (Exactly (length xs)) (tree e) ++ l)
+      (given_on (walk W sc (Exactly (length xs)) (tree e)) (λ us. with_variables sc xs us) sc' (λ s. contributions_of_steps W s (all_steps rest)) h)
   contributions_next sc sc' (Do i e) rest h = ap (λ l. contributions W sc AnyNumber (tree e) ++ l) (given_on (walk W sc AnyNumber (tree e)) (λ us. sc) sc' (λ s. contributions_of_steps W s (all_steps rest)) h)
 
-  found_next : (sc sc' : WalkScope) (x : StepOf Expr) (rest : List (StepOf Expr)) → Stepped sc x (Some sc') → found_in_steps W a sc (all_steps (x ∷ rest)) ≡ step_found W (under a (step_note x)) sc x ++ found_in_steps W (under a (step_note x)) sc' (all_steps rest)
-  found_next sc sc' (Let i xs e) rest h = ap (λ l. found W (under a i.note) sc (Exactly (length xs)) (tree e) ++ l) (given_on (walk W sc (Exactly (length xs)) (tree e)) (λ us. with_variables sc xs us) sc' (λ s. found_in_steps W (under a i.note) s (all_steps rest)) h)
+  found_next : (sc sc' : WalkScope) (x : StepOf Expr) (rest : List (StepOf Expr)) → Stepped sc x (Some sc')
+      → found_in_steps W a sc (all_steps (x ∷ rest)) ≡ step_found W (under a (step_note x)) sc x ++ found_in_steps W (under a (step_note x)) sc' (all_steps rest)
+  found_next sc sc' (Let i xs e) rest h = ap (λ l. found W (under a i.note) sc (Exactly (length xs)) (tree e) ++ l)
+      (given_on (walk W sc (Exactly (length xs)) (tree e)) (λ us. with_variables sc xs us) sc' (λ s. found_in_steps W (under a i.note) s (all_steps rest)) h)
   found_next sc sc' (Do i e) rest h = ap (λ l. found W (under a i.note) sc AnyNumber (tree e) ++ l) (given_on (walk W sc AnyNumber (tree e)) (λ us. sc) sc' (λ s. found_in_steps W (under a i.note) s (all_steps rest)) h)
 
 -- ---- the loop
@@ -89,7 +93,8 @@ module _ (W : World) (a : NodeContext) (first : FlowWalk) (ss : List (StepOf Exp
     Left b w n = StepsLeft W a b first w (all_steps ss) (all_steps (drop n ss))
 
     module _ (next : FlowWalk) (under_it : NodeContext) (x : StepOf Expr) (there : Bool) (within : i < length ss) (is : x ≡ get_or ss i x) (under_is : under_it ≡ under inner (step_note x)) (before : Left inner now i)
-        (told : see_steps W (walk_scope_of now) (all_steps (x ∷ [])) ≡ sees there (walk_scope_of next)) (noted : Grows now next (contributions_of_steps W (walk_scope_of now) (all_steps (x ∷ []))) (step_found W under_it (walk_scope_of now) x)) where
+        (told : see_steps W (walk_scope_of now) (all_steps (x ∷ [])) ≡ sees there (walk_scope_of next))
+        (noted : Grows now next (contributions_of_steps W (walk_scope_of now) (all_steps (x ∷ []))) (step_found W under_it (walk_scope_of now) x)) where
       opens : all_steps (drop i ss) ≡ all_steps (x ∷ drop (i + 1) ss)
       opens = all_steps-next ss i x within ∙ ap (λ z. all_steps (z ∷ drop (i + 1) ss)) (sym is)
 

@@ -83,29 +83,37 @@ module _ (F : Facts) (P : Knowledge) (U : Program) (W : Value → Type 0) (hones
   -- ---- apply
 
   -- the name of a function
-  pub apply_name_extends : {env : Env} {v : Value} {vs ws : Values} {tr more : Trace} (i j : Mark) (f : FunName) (ts : m.Trees) (back : Trace) (sc : Scope) (s : ℕ) (a : Assignment) (k : Ask) → f.arity ≡ how_many ts → function_of U home env f ≡ Some v → AllGive (E home) env ts vs tr → Enter U W E v vs (gives ws) more → AllBearOut P U (tr ++ (more ++ back)) → StandsFor home s a sc env → Meets P home sc s a k (m.apply i (m.local j f) ts) ws
+  pub apply_name_extends : {env : Env} {v : Value} {vs ws : Values} {tr more : Trace} (i j : Mark) (f : FunName) (ts : m.Trees) (back : Trace) (sc : Scope) (s : ℕ) (a : Assignment) (k : Ask) → f.arity ≡ how_many ts
+      → function_of U home env f ≡ Some v → AllGive (E home) env ts vs tr → Enter U W E v vs (gives ws) more → AllBearOut P U (tr ++ (more ++ back)) → StandsFor home s a sc env
+      → Meets P home sc s a k (m.apply i (m.local j f) ts) ws
   apply_name_extends {env} {v} {vs} {ws} {tr} {more} i j f ts back sc s a k arity is xs x g st =
       let w = entered_one F P U W honest E x in
       subst (λ z. Meets P home sc s a k (m.apply i (m.local j f) ts) z) (sym w.1)
       (mapped
-      (with_one {n = s + span k (m.apply i (m.local j f) ts)} s w.0 (omega arith) (λ b h e. wider {n = s + 1 + spans ts} (omega arith) (parts_extend P U E each home sc (s + 1) b xs (front_bears P U tr (more ++ back) g) (stands_in (omega arith) h st))))
+      (with_one {n = s + span k (m.apply i (m.local j f) ts)} s w.0 (omega arith)
+      (λ b h e. wider {n = s + 1 + spans ts} (omega arith) (parts_extend P U E each home sc (s + 1) b xs (front_bears P U tr (more ++ back) g) (stands_in (omega arith) h st))))
       (λ b h. (
         joined (all_rows P home sc (s + 1) ts) (applied_rows P home sc.functions f (how_many ts) s (value_slots (s + 1) ts)) b h.1.0
-            (applied_holds F P U W honest E home env sc.functions f (how_many ts) s (value_slots (s + 1) ts) b (st.functions f) arity is (subst (λ z. Enter U W E v vs (gives z) more) w.1 x) (front_bears P U more back (back_bears P U tr (more ++ back) g)) h.1.1 h.0),
+            (applied_holds F P U W honest E home env sc.functions f (how_many ts) s (value_slots (s + 1) ts) b (st.functions f) arity is (subst (λ z. Enter U W E v vs (gives z) more) w.1 x)
+            (front_bears P U more back (back_bears P U tr (more ++ back) g)) h.1.1 h.0),
         held_one k b s w.0 h.0,
       )))
 
   -- any other value
-  pub apply_extends : {env : Env} {v : Value} {vs ws : Values} {tr more : Trace} (i : Mark) (t : m.Tree) (ts : m.Trees) (behind : Trace) (sc : Scope) (s : ℕ) (a : Assignment) (k : Ask) → local_name t ≡ None → AllGive (E home) env (m.and_tree t ts) (and_value v vs) tr → Apply U W E v vs (gives ws) more → AllBearOut P U (tr ++ behind) → StandsFor home s a sc env → Meets P home sc s a k (m.apply i t ts) ws
+  pub apply_extends : {env : Env} {v : Value} {vs ws : Values} {tr more : Trace} (i : Mark) (t : m.Tree) (ts : m.Trees) (behind : Trace) (sc : Scope) (s : ℕ) (a : Assignment) (k : Ask) → local_name t ≡ None
+      → AllGive (E home) env (m.and_tree t ts) (and_value v vs) tr → Apply U W E v vs (gives ws) more → AllBearOut P U (tr ++ behind) → StandsFor home s a sc env → Meets P home sc s a k (m.apply i t ts) ws
   apply_extends {env} {v} {vs} {ws} {tr} {more} i t ts behind sc s a k unnamed (give_next {tr = tr1} {more = tr2} y ys) x g st =
       let w = applied_one F P U W honest E x in
       let front = front_bears P U (tr1 ++ tr2) behind g in
       let first = s + 1 + span (Exactly 1) t in
       let count_is : count vs ≡ how_many ts = given_count ys in
       subst
-      (λ o. Extension a s (s + (1 + unless_named o (span (Exactly 1) t) + spans ts)) (λ b. SatRows (named_or o (λ f. all_rows P home sc (s + 1) ts ++ applied_rows P home sc.functions f (how_many ts) s (value_slots (s + 1) ts)) (rows P home sc (s + 1) (Exactly 1) t ++ all_rows P home sc first ts ++ bound (s + 1) (function_type (how_many ts)))) b × Hold k b (s ∷ []) ws))
+      (λ o. Extension a s (s + (1 + unless_named o (span (Exactly 1) t) + spans ts))
+      (λ b. SatRows (named_or o (λ f. all_rows P home sc (s + 1) ts ++ applied_rows P home sc.functions f (how_many ts) s (value_slots (s + 1) ts))
+      (rows P home sc (s + 1) (Exactly 1) t ++ all_rows P home sc first ts ++ bound (s + 1) (function_type (how_many ts)))) b × Hold k b (s ∷ []) ws))
       (sym unnamed)
-      (subst (λ z. Extension a s (s + (1 + span (Exactly 1) t + spans ts)) (λ b. SatRows (rows P home sc (s + 1) (Exactly 1) t ++ all_rows P home sc first ts ++ bound (s + 1) (function_type (how_many ts))) b × Hold k b (s ∷ []) z)) (sym w.1)
+      (subst (λ z. Extension a s (s + (1 + span (Exactly 1) t + spans ts)) (λ b. SatRows (rows P home sc (s + 1) (Exactly 1) t ++ all_rows P home sc first ts ++ bound (s + 1) (function_type (how_many ts))) b × Hold k b (s ∷ []) z))
+      (sym w.1)
       (mapped
       (with_one s w.0 (omega arith)
       (λ b h e. wider {n = first + spans ts} (omega arith)
@@ -122,7 +130,8 @@ module _ (F : Facts) (P : Knowledge) (U : Program) (W : Value → Type 0) (hones
   -- ---- call
 
   -- the value of a literal atom
-  literal_value : {env : Env} {y : Atom} {tr : Trace} (t : m.Tree) (x : Atom) (sc : Scope) (s : ℕ) (a : Assignment) → literal_atom t ≡ Some x → E home env t (gives (and_value (atom y) no_value)) tr → AllBearOut P U tr → StandsFor home s a sc env → y ≡ x
+  literal_value : {env : Env} {y : Atom} {tr : Trace} (t : m.Tree) (x : Atom) (sc : Scope) (s : ℕ) (a : Assignment) → literal_atom t ≡ Some x → E home env t (gives (and_value (atom y) no_value)) tr → AllBearOut P U tr
+      → StandsFor home s a sc env → y ≡ x
   literal_value {env} {y} {tr} t x sc s a e h g st =
       let lit = literal_is t x e in
       let it = part_extends P U E each home sc s a (subst (λ z. E home env z (gives (and_value (atom y) no_value)) tr) lit.1 h) g st in
@@ -130,7 +139,9 @@ module _ (F : Facts) (P : Knowledge) (U : Program) (W : Value → Type 0) (hones
       one_atom F x y (subst (λ z. HasType z (literal_type (c.Atom x))) held.1 held.0.0)
 
   -- the module and the name are literal
-  named_call : {env : Env} {v : Value} {vs : Values} {tr more : Trace} (ts : m.Trees) (x name : Atom) (n : ℕ) (sc : Scope) (s : ℕ) (a : Assignment) (k : Ask) → n ≡ 1 → AllGive (E home) env ts vs tr → Called U W E x name vs (gives (and_value v no_value)) more → AllBearOut P U tr → AllBearOut P U more → StandsFor home s a sc env → Extension a s (s + (n + 0 + spans ts)) (λ b. SatRows (all_rows P home sc (s + n) ts ++ called_rows P x name (how_many ts) (slots_from s n) (value_slots (s + n) ts)) b × Hold k b (slots_from s n) (and_value v no_value))
+  named_call : {env : Env} {v : Value} {vs : Values} {tr more : Trace} (ts : m.Trees) (x name : Atom) (n : ℕ) (sc : Scope) (s : ℕ) (a : Assignment) (k : Ask) → n ≡ 1 → AllGive (E home) env ts vs tr
+      → Called U W E x name vs (gives (and_value v no_value)) more → AllBearOut P U tr → AllBearOut P U more → StandsFor home s a sc env
+      → Extension a s (s + (n + 0 + spans ts)) (λ b. SatRows (all_rows P home sc (s + n) ts ++ called_rows P x name (how_many ts) (slots_from s n) (value_slots (s + n) ts)) b × Hold k b (slots_from s n) (and_value v no_value))
   named_call {env} {v} {vs} ts x name n sc s a k one xs h g more_bears st =
       subst
       (λ j. Extension a s (s + (j + 0 + spans ts)) (λ b. SatRows (all_rows P home sc (s + j) ts ++ called_rows P x name (how_many ts) (slots_from s j) (value_slots (s + j) ts)) b × Hold k b (slots_from s j) (and_value v no_value)))
@@ -144,10 +155,16 @@ module _ (F : Facts) (P : Knowledge) (U : Program) (W : Value → Type 0) (hones
       )))
 
   -- the module or the name isn't
-  computed_call : {env : Env} {y z : Value} {vs : Values} {tr1 tr2 tr3 : Trace} (t u : m.Tree) (ts : m.Trees) (v : Value) (n : ℕ) (sc : Scope) (s : ℕ) (a : Assignment) (k : Ask) → n ≡ 1 → E home env t (gives (and_value y no_value)) tr1 → E home env u (gives (and_value z no_value)) tr2 → AllGive (E home) env ts vs tr3 → AllBearOut P U tr1 → AllBearOut P U tr2 → AllBearOut P U tr3 → StandsFor home s a sc env → Extension a s (s + (n + (span (Exactly 1) t + span (Exactly 1) u) + spans ts)) (λ b. SatRows (rows P home sc (s + n) (Exactly 1) t ++ rows P home sc (s + n + span (Exactly 1) t) (Exactly 1) u ++ all_rows P home sc (s + n + (span (Exactly 1) t + span (Exactly 1) u)) ts) b × Hold k b (slots_from s n) (and_value v no_value))
+  computed_call : {env : Env} {y z : Value} {vs : Values} {tr1 tr2 tr3 : Trace} (t u : m.Tree) (ts : m.Trees) (v : Value) (n : ℕ) (sc : Scope) (s : ℕ) (a : Assignment) (k : Ask) → n ≡ 1
+      → E home env t (gives (and_value y no_value)) tr1 → E home env u (gives (and_value z no_value)) tr2 → AllGive (E home) env ts vs tr3 → AllBearOut P U tr1 → AllBearOut P U tr2 → AllBearOut P U tr3
+      → StandsFor home s a sc env → Extension a s (s + (n + (span (Exactly 1) t + span (Exactly 1) u) + spans ts))
+      (λ b. SatRows (rows P home sc (s + n) (Exactly 1) t ++ rows P home sc (s + n + span (Exactly 1) t) (Exactly 1) u ++ all_rows P home sc (s + n + (span (Exactly 1) t + span (Exactly 1) u)) ts) b
+      × Hold k b (slots_from s n) (and_value v no_value))
   computed_call {env} {y} {z} t u ts v n sc s a k one x1 x2 xs g1 g2 g3 st =
       subst
-      (λ j. Extension a s (s + (j + (span (Exactly 1) t + span (Exactly 1) u) + spans ts)) (λ b. SatRows (rows P home sc (s + j) (Exactly 1) t ++ rows P home sc (s + j + span (Exactly 1) t) (Exactly 1) u ++ all_rows P home sc (s + j + (span (Exactly 1) t + span (Exactly 1) u)) ts) b × Hold k b (slots_from s j) (and_value v no_value)))
+      (λ j. Extension a s (s + (j + (span (Exactly 1) t + span (Exactly 1) u) + spans ts))
+      (λ b. SatRows (rows P home sc (s + j) (Exactly 1) t ++ rows P home sc (s + j + span (Exactly 1) t) (Exactly 1) u ++ all_rows P home sc (s + j + (span (Exactly 1) t + span (Exactly 1) u)) ts) b
+      × Hold k b (slots_from s j) (and_value v no_value)))
       (sym one)
       (let second = s + 1 + span (Exactly 1) t in
       let third = s + 1 + (span (Exactly 1) t + span (Exactly 1) u) in
@@ -163,9 +180,13 @@ module _ (F : Facts) (P : Knowledge) (U : Program) (W : Value → Type 0) (hones
 
   -- the rows of a call with n results, by the names that are literal
   abbrev call_rows : Scope → (s n : ℕ) → m.Tree → m.Tree → m.Trees → Option (Atom × Atom) → Rows
-  call_rows sc s n t u ts o = named_or o (λ f. all_rows P home sc (s + n) ts ++ called_rows P f.0 f.1 (how_many ts) (slots_from s n) (value_slots (s + n) ts)) (rows P home sc (s + n) (Exactly 1) t ++ rows P home sc (s + n + span (Exactly 1) t) (Exactly 1) u ++ all_rows P home sc (s + n + (span (Exactly 1) t + span (Exactly 1) u)) ts)
+  call_rows sc s n t u ts o = named_or o (λ f. all_rows P home sc (s + n) ts ++ called_rows P f.0 f.1 (how_many ts) (slots_from s n) (value_slots (s + n) ts))
+      (rows P home sc (s + n) (Exactly 1) t ++ rows P home sc (s + n + span (Exactly 1) t) (Exactly 1) u ++ all_rows P home sc (s + n + (span (Exactly 1) t + span (Exactly 1) u)) ts)
 
-  call_by : {env : Env} {x name : Atom} {v : Value} {vs : Values} {tr1 tr2 tr3 more : Trace} (t u : m.Tree) (ts : m.Trees) (o : Option (Atom × Atom)) (n : ℕ) (sc : Scope) (s : ℕ) (a : Assignment) (k : Ask) → call_names t u ≡ o → n ≡ 1 → E home env t (gives (and_value (atom x) no_value)) tr1 → E home env u (gives (and_value (atom name) no_value)) tr2 → AllGive (E home) env ts vs tr3 → Called U W E x name vs (gives (and_value v no_value)) more → AllBearOut P U tr1 → AllBearOut P U tr2 → AllBearOut P U tr3 → AllBearOut P U more → StandsFor home s a sc env → Extension a s (s + (n + unless_named o (span (Exactly 1) t + span (Exactly 1) u) + spans ts)) (λ b. SatRows (call_rows sc s n t u ts o) b × Hold k b (slots_from s n) (and_value v no_value))
+  call_by : {env : Env} {x name : Atom} {v : Value} {vs : Values} {tr1 tr2 tr3 more : Trace} (t u : m.Tree) (ts : m.Trees) (o : Option (Atom × Atom)) (n : ℕ) (sc : Scope) (s : ℕ) (a : Assignment) (k : Ask) → call_names t u ≡ o
+      → n ≡ 1 → E home env t (gives (and_value (atom x) no_value)) tr1 → E home env u (gives (and_value (atom name) no_value)) tr2 → AllGive (E home) env ts vs tr3 → Called U W E x name vs (gives (and_value v no_value)) more
+      → AllBearOut P U tr1 → AllBearOut P U tr2 → AllBearOut P U tr3 → AllBearOut P U more → StandsFor home s a sc env
+      → Extension a s (s + (n + unless_named o (span (Exactly 1) t + span (Exactly 1) u) + spans ts)) (λ b. SatRows (call_rows sc s n t u ts o) b × Hold k b (slots_from s n) (and_value v no_value))
   call_by {v = v} t u ts None n sc s a k e one x1 x2 xs h g1 g2 g3 g4 st = computed_call t u ts v n sc s a k one x1 x2 xs g1 g2 g3 st
   call_by {env} {x} {name} {v} {vs} {tr1} {tr2} {tr3} {more} t u ts (Some f) n sc s a k e one x1 x2 xs h g1 g2 g3 g4 st =
       let lit = both_given (literal_atom t) (literal_atom u) f e in
@@ -173,7 +194,9 @@ module _ (F : Facts) (P : Knowledge) (U : Program) (W : Value → Type 0) (hones
       let name_is : name ≡ f.1 = literal_value u f.1 sc s a lit.1 x2 g2 st in
       named_call ts f.0 f.1 n sc s a k one xs (subst (λ z. Called U W E f.0 z vs (gives (and_value v no_value)) more) name_is (subst (λ z. Called U W E z name vs (gives (and_value v no_value)) more) home_is h)) g3 g4 st
 
-  pub call_extends : {env : Env} {x name : Atom} {vs ws : Values} {tr more : Trace} (i : Mark) (t u : m.Tree) (ts : m.Trees) (back : Trace) (sc : Scope) (s : ℕ) (a : Assignment) (k : Ask) → AllGive (E home) env (m.and_tree t (m.and_tree u ts)) (and_value (atom x) (and_value (atom name) vs)) tr → Called U W E x name vs (gives ws) more → AllBearOut P U (tr ++ (more ++ back)) → StandsFor home s a sc env → AreAsked k ws → Meets P home sc s a k (m.call i t u ts) ws
+  pub call_extends : {env : Env} {x name : Atom} {vs ws : Values} {tr more : Trace} (i : Mark) (t u : m.Tree) (ts : m.Trees) (back : Trace) (sc : Scope) (s : ℕ) (a : Assignment) (k : Ask)
+      → AllGive (E home) env (m.and_tree t (m.and_tree u ts)) (and_value (atom x) (and_value (atom name) vs)) tr → Called U W E x name vs (gives ws) more → AllBearOut P U (tr ++ (more ++ back)) → StandsFor home s a sc env
+      → AreAsked k ws → Meets P home sc s a k (m.call i t u ts) ws
   call_extends {env} {x} {name} {vs} {ws} {tr} {more} i t u ts back sc s a k (give_next {tr = tr1} {more = rest} y1 (give_next {tr = tr2} {more = tr3} y2 ys)) h g st asked =
       let w = called_one F P U W honest E h in
       let front = front_bears P U (tr1 ++ (tr2 ++ tr3)) (more ++ back) g in
@@ -187,7 +210,8 @@ module _ (F : Facts) (P : Knowledge) (U : Program) (W : Value → Type 0) (hones
 
   -- ---- primops
 
-  pub primop_extends : {env : Env} {vs : Values} {tr : Trace} (ws : Values) (i : Mark) (x : Atom) (ts : m.Trees) (sc : Scope) (s : ℕ) (a : Assignment) (k : Ask) → (is_raising x ≡ true → ⊥) → AllGive (E home) env ts vs tr → AllBearOut P U tr → StandsFor home s a sc env → AreAsked k ws → Meets P home sc s a k (m.primop i x ts) ws
+  pub primop_extends : {env : Env} {vs : Values} {tr : Trace} (ws : Values) (i : Mark) (x : Atom) (ts : m.Trees) (sc : Scope) (s : ℕ) (a : Assignment) (k : Ask) → (is_raising x ≡ true → ⊥) → AllGive (E home) env ts vs tr
+      → AllBearOut P U tr → StandsFor home s a sc env → AreAsked k ws → Meets P home sc s a k (m.primop i x ts) ws
   primop_extends ws i x ts sc s a k calm xs g st asked =
       let first = s + whatever_asked k in
       mapped

@@ -31,7 +31,9 @@ use Rattle.sound_laws.proofs.Words.{joined, equal_slots, still_held}
 
 module _ (P : Knowledge) (U : Program) (E : Atom → Env → m.Tree → Outcome → Trace → Type 0) (each : Extends P U E) (home : Atom) where
   -- the steps of a chain, from slot s on, and its last expression, from slot `last` on
-  steps_extend : {env : Env} {ss : m.Steps} {t : m.Tree} {vs : Values} {tr : Trace} (sc inner : Scope) (r s last : ℕ) (a : Assignment) (k : Ask) → Chained (E home) env ss t (gives vs) tr → AllBearOut P U tr → StandsFor home s a sc env → AreAsked k vs → last ≡ s + step_spans ss → inner ≡ with_bindings sc (step_bindings s ss) → r + passed_on k ≤ s → Hold k a (slots_from r (passed_on k)) vs → Extension a s (last + span k t) (λ b. SatRows (step_rows P home sc s ss) b × (SatRows (rows P home inner last k t) b × SatRows (equals (slots_from r (passed_on k)) (results k last t)) b))
+  steps_extend : {env : Env} {ss : m.Steps} {t : m.Tree} {vs : Values} {tr : Trace} (sc inner : Scope) (r s last : ℕ) (a : Assignment) (k : Ask) → Chained (E home) env ss t (gives vs) tr → AllBearOut P U tr
+      → StandsFor home s a sc env → AreAsked k vs → last ≡ s + step_spans ss → inner ≡ with_bindings sc (step_bindings s ss) → r + passed_on k ≤ s → Hold k a (slots_from r (passed_on k)) vs
+      → Extension a s (last + span k t) (λ b. SatRows (step_rows P home sc s ss) b × (SatRows (rows P home inner last k t) b × SatRows (equals (slots_from r (passed_on k)) (results k last t)) b))
   steps_extend {env = env} sc inner r s last a k (chain_ends x) g st n el ei l h =
       mapped
       (earlier {k = last} (omega (arith, el))
@@ -46,10 +48,12 @@ module _ (P : Knowledge) (U : Program) (E : Atom → Env → m.Tree → Outcome 
       (bound_in_turn xs us s sc env a n st)
       (λ b1 h1 q1. and_next after (omega arith) (omega (arith, el))
       (each home _ _ _ _ sc first b1 (Exactly (length xs)) x (front_bears P U tr more g) (stands_in (omega arith) h1 st) (sym n))
-      (λ b2 h2 q2. steps_extend (with_bindings sc (bindings xs s)) inner r after last b2 k xs2 (back_bears P U tr more g) (stands_in (omega arith) h2 q1.0) asked (omega (arith, el)) (ei ∙ sym (bindings_assoc sc (bindings xs s) (step_bindings after ss))) (omega (arith, l)) (still_held k s (slots_from r (passed_on k)) a b2 _ held (λ i j. h1 i j ∙ h2 i (omega (arith, j))) h))))
+      (λ b2 h2 q2. steps_extend (with_bindings sc (bindings xs s)) inner r after last b2 k xs2 (back_bears P U tr more g) (stands_in (omega arith) h2 q1.0) asked (omega (arith, el))
+      (ei ∙ sym (bindings_assoc sc (bindings xs s) (step_bindings after ss))) (omega (arith, l)) (still_held k s (slots_from r (passed_on k)) a b2 _ held (λ i j. h1 i j ∙ h2 i (omega (arith, j))) h))))
       (λ b q. (
         joined _ (step_rows P home (with_bindings sc (bindings xs s)) after ss) b
-            (joined (rows P home sc first (Exactly (length xs)) u) (equals (slots_from s (length xs)) (results (Exactly (length xs)) first u)) b q.1.0.0 (equal_slots (slots_from s (length xs)) (results (Exactly (length xs)) first u) b (q.0.1 ∙ sym q.1.0.1)))
+            (joined (rows P home sc first (Exactly (length xs)) u) (equals (slots_from s (length xs)) (results (Exactly (length xs)) first u)) b q.1.0.0
+            (equal_slots (slots_from s (length xs)) (results (Exactly (length xs)) first u) b (q.0.1 ∙ sym q.1.0.1)))
             q.1.1.0,
         q.1.1.1,
       ))
@@ -62,7 +66,8 @@ module _ (P : Knowledge) (U : Program) (E : Atom → Env → m.Tree → Outcome 
       (λ b1 h1 q1. steps_extend sc inner r after last b1 k xs2 (back_bears P U tr more g) (stands_in (omega arith) h1 st) asked (omega (arith, el)) ei (omega (arith, l)) (still_held k s (slots_from r (passed_on k)) a b1 _ held h1 h)))
       (λ b q. (joined (rows P home sc s AnyNumber u) (step_rows P home sc after ss) b q.0.0 q.1.0, q.1.1))
 
-  pub chain_extends : {env : Env} {vs : Values} {tr : Trace} (i : Mark) (ss : m.Steps) (t : m.Tree) (sc : Scope) (s : ℕ) (a : Assignment) (k : Ask) → Chained (E home) env ss t (gives vs) tr → AllBearOut P U tr → StandsFor home s a sc env → AreAsked k vs → Meets P home sc s a k (m.chain i ss t) vs
+  pub chain_extends : {env : Env} {vs : Values} {tr : Trace} (i : Mark) (ss : m.Steps) (t : m.Tree) (sc : Scope) (s : ℕ) (a : Assignment) (k : Ask) → Chained (E home) env ss t (gives vs) tr → AllBearOut P U tr
+      → StandsFor home s a sc env → AreAsked k vs → Meets P home sc s a k (m.chain i ss t) vs
   chain_extends {vs = vs} i ss t sc s a k x g st n =
       let first = s + passed_on k in
       let last = first + step_spans ss in
@@ -72,7 +77,8 @@ module _ (P : Knowledge) (U : Program) (E : Atom → Env → m.Tree → Outcome 
       (λ b h q. wider {n = last + span k t} (omega arith) (steps_extend sc inner s first last b k x g (stands_in (omega arith) h st) n refl refl (omega arith) q)))
       (λ b h. (joined _ (equals (slots_from s (passed_on k)) (results k last t)) b (joined (step_rows P home sc first ss) (rows P home inner last k t) b h.1.0 h.1.1.0) h.1.1.1, h.0))
 
-  pub letrec_extends : {env : Env} {vs : Values} {tr : Trace} (i : Mark) (ds : m.Defs) (t : m.Tree) (sc : Scope) (s : ℕ) (a : Assignment) (k : Ask) → E home (and_frame (locals_of ds) env) t (gives vs) tr → AllBearOut P U tr → StandsFor home s a sc env → AreAsked k vs → Meets P home sc s a k (m.letrec i ds t) vs
+  pub letrec_extends : {env : Env} {vs : Values} {tr : Trace} (i : Mark) (ds : m.Defs) (t : m.Tree) (sc : Scope) (s : ℕ) (a : Assignment) (k : Ask) → E home (and_frame (locals_of ds) env) t (gives vs) tr → AllBearOut P U tr
+      → StandsFor home s a sc env → AreAsked k vs → Meets P home sc s a k (m.letrec i ds t) vs
   letrec_extends {vs = vs} i ds t sc s a k x g st n =
       let body = s + passed_on k in
       let inner = with_functions sc (defined_names ds) in
@@ -82,7 +88,8 @@ module _ (P : Knowledge) (U : Program) (E : Atom → Env → m.Tree → Outcome 
       (λ b h. (joined (rows P home inner body k t) (equals (slots_from s (passed_on k)) (results k body t)) b h.1.0 h.1.1, h.0))
 
   -- a `try` whose first expression gives values
-  pub try_extends : {env : Env} {us vs : Values} {tr more : Trace} (i : Mark) (t : m.Tree) (xs : List VarName) (u : m.Tree) (ys : List VarName) (w : m.Tree) (sc : Scope) (s : ℕ) (a : Assignment) (k : Ask) → E home env t (gives us) tr → length xs ≡ count us → E home (with_variables xs us env) u (gives vs) more → AllBearOut P U (tr ++ more) → StandsFor home s a sc env → AreAsked k vs → Meets P home sc s a k (m.try i t xs u ys w) vs
+  pub try_extends : {env : Env} {us vs : Values} {tr more : Trace} (i : Mark) (t : m.Tree) (xs : List VarName) (u : m.Tree) (ys : List VarName) (w : m.Tree) (sc : Scope) (s : ℕ) (a : Assignment) (k : Ask) → E home env t (gives us) tr
+      → length xs ≡ count us → E home (with_variables xs us env) u (gives vs) more → AllBearOut P U (tr ++ more) → StandsFor home s a sc env → AreAsked k vs → Meets P home sc s a k (m.try i t xs u ys w) vs
   try_extends {env} {us} {vs} {tr} {more} i t xs u ys w sc s a k x n y g st asked =
       let first = s + passed_on k in
       let vars = first + span (Exactly (length xs)) t in
@@ -102,7 +109,8 @@ module _ (P : Knowledge) (U : Program) (E : Atom → Env → m.Tree → Outcome 
           inl
               (joined _ (equals (slots_from s (passed_on k)) (results k body u)) b
               (joined _ (rows P home inner body k u) b
-              (joined (rows P home sc first (Exactly (length xs)) t) (equals (slots_from vars (length xs)) (results (Exactly (length xs)) first t)) b h.1.0.0 (equal_slots (slots_from vars (length xs)) (results (Exactly (length xs)) first t) b (h.1.1.0.1 ∙ sym h.1.0.1)))
+              (joined (rows P home sc first (Exactly (length xs)) t) (equals (slots_from vars (length xs)) (results (Exactly (length xs)) first t)) b h.1.0.0
+              (equal_slots (slots_from vars (length xs)) (results (Exactly (length xs)) first t) b (h.1.1.0.1 ∙ sym h.1.0.1)))
               h.1.1.1.0)
               h.1.1.1.1),
           tt,
@@ -111,7 +119,8 @@ module _ (P : Knowledge) (U : Program) (E : Atom → Env → m.Tree → Outcome 
       ))
 
   -- one whose first expression raises
-  pub handler_extends : {env : Env} {vs : Values} {more : Trace} (us : Values) (i : Mark) (t : m.Tree) (xs : List VarName) (u : m.Tree) (ys : List VarName) (w : m.Tree) (sc : Scope) (s : ℕ) (a : Assignment) (k : Ask) → length ys ≡ count us → E home (with_variables ys us env) w (gives vs) more → AllBearOut P U more → StandsFor home s a sc env → AreAsked k vs → Meets P home sc s a k (m.try i t xs u ys w) vs
+  pub handler_extends : {env : Env} {vs : Values} {more : Trace} (us : Values) (i : Mark) (t : m.Tree) (xs : List VarName) (u : m.Tree) (ys : List VarName) (w : m.Tree) (sc : Scope) (s : ℕ) (a : Assignment) (k : Ask)
+      → length ys ≡ count us → E home (with_variables ys us env) w (gives vs) more → AllBearOut P U more → StandsFor home s a sc env → AreAsked k vs → Meets P home sc s a k (m.try i t xs u ys w) vs
   handler_extends {env} {vs} {more} us i t xs u ys w sc s a k n y g st asked =
       let first = s + passed_on k in
       let caught = first + span (Exactly (length xs)) t + length xs + span k u in

@@ -37,19 +37,26 @@ use Rattle.sound_laws.proofs.Words.{joined, SatOne, one_behind, one_before, stil
 
 module _ (F : Facts) (P : Knowledge) (U : Program) (W : Value → Type 0) (E : Atom → Env → m.Tree → Outcome → Trace → Type 0) (each : Extends P U E) (home : Atom) where
   -- a clause that isn't chosen: the alternative of a later one is satisfied
-  later : {a : Assignment} (sc : Scope) (rs qs : List ℕ) (s : ℕ) (k : Ask) (i : Mark) (ps : m.Patterns) (g t : m.Tree) (cs : m.Clauses) → Extension a (s + outer_span ps + span (Exactly 1) g + span k t) (s + outer_span ps + span (Exactly 1) g + span k t + clause_spans k cs) (λ b. SatOne (clause_rows P home sc rs qs (s + outer_span ps + span (Exactly 1) g + span k t) k cs) b) → Extension a s (s + (outer_span ps + span (Exactly 1) g + span k t + clause_spans k cs)) (λ b. SatOne (clause_rows P home sc rs qs s k (m.and_clause i ps g t cs)) b)
+  later : {a : Assignment} (sc : Scope) (rs qs : List ℕ) (s : ℕ) (k : Ask) (i : Mark) (ps : m.Patterns) (g t : m.Tree) (cs : m.Clauses)
+      → Extension a (s + outer_span ps + span (Exactly 1) g + span k t) (s + outer_span ps + span (Exactly 1) g + span k t + clause_spans k cs)
+      (λ b. SatOne (clause_rows P home sc rs qs (s + outer_span ps + span (Exactly 1) g + span k t) k cs) b)
+      → Extension a s (s + (outer_span ps + span (Exactly 1) g + span k t + clause_spans k cs)) (λ b. SatOne (clause_rows P home sc rs qs s k (m.and_clause i ps g t cs)) b)
   later sc rs qs s k i ps g t cs x = mapped (wider (omega arith) (earlier (omega arith) x)) (λ b h. inr h)
 
-  pub clauses_extend : {none : Failure} {env : Env} {vs ws : Values} {cs : m.Clauses} {tr : Trace} (sc : Scope) (r : ℕ) (qs : List ℕ) (s : ℕ) (a : Assignment) (k : Ask) → Choose (E home) W none home env vs cs (gives ws) tr → AllBearOut P U tr → StandsFor home s a sc env → AreUnder s qs → r + passed_on k ≤ s → values_of a qs ≡ vs → AreAsked k ws → Hold k a (slots_from r (passed_on k)) ws → Extension a s (s + clause_spans k cs) (λ b. SatOne (clause_rows P home sc (slots_from r (passed_on k)) qs s k cs) b)
+  pub clauses_extend : {none : Failure} {env : Env} {vs ws : Values} {cs : m.Clauses} {tr : Trace} (sc : Scope) (r : ℕ) (qs : List ℕ) (s : ℕ) (a : Assignment) (k : Ask) → Choose (E home) W none home env vs cs (gives ws) tr
+      → AllBearOut P U tr → StandsFor home s a sc env → AreUnder s qs → r + passed_on k ≤ s → values_of a qs ≡ vs → AreAsked k ws → Hold k a (slots_from r (passed_on k)) ws
+      → Extension a s (s + clause_spans k cs) (λ b. SatOne (clause_rows P home sc (slots_from r (passed_on k)) qs s k cs) b)
   clauses_extend sc r qs s a k (choose_missed {k = i} {ps = ps} {g = g} {t = t} {cs = cs} miss c) gd st under l e n h =
       let after = s + outer_span ps + span (Exactly 1) g + span k t in
       later sc (slots_from r (passed_on k)) qs s k i ps g t cs (clauses_extend sc r qs after a k c gd (stands_in (omega arith) (λ j z. refl) st) (under_wider s after qs (omega arith) under) (omega (arith, l)) e n h)
   clauses_extend sc r qs s a k (choose_refused {k = i} {ps = ps} {g = g} {t = t} {cs = cs} {tr = tr} {more = more} mt x other c) gd st under l e n h =
       let after = s + outer_span ps + span (Exactly 1) g + span k t in
-      later sc (slots_from r (passed_on k)) qs s k i ps g t cs (clauses_extend sc r qs after a k c (back_bears P U tr more gd) (stands_in (omega arith) (λ j z. refl) st) (under_wider s after qs (omega arith) under) (omega (arith, l)) e n h)
+      later sc (slots_from r (passed_on k)) qs s k i ps g t cs (clauses_extend sc r qs after a k c (back_bears P U tr more gd) (stands_in (omega arith) (λ j z. refl) st) (under_wider s after qs (omega arith) under)
+      (omega (arith, l)) e n h)
   clauses_extend sc r qs s a k (choose_raised {k = i} {ps = ps} {g = g} {t = t} {cs = cs} {tr = tr} {more = more} mt x c) gd st under l e n h =
       let after = s + outer_span ps + span (Exactly 1) g + span k t in
-      later sc (slots_from r (passed_on k)) qs s k i ps g t cs (clauses_extend sc r qs after a k c (back_bears P U tr more gd) (stands_in (omega arith) (λ j z. refl) st) (under_wider s after qs (omega arith) under) (omega (arith, l)) e n h)
+      later sc (slots_from r (passed_on k)) qs s k i ps g t cs (clauses_extend sc r qs after a k c (back_bears P U tr more gd) (stands_in (omega arith) (λ j z. refl) st) (under_wider s after qs (omega arith) under)
+      (omega (arith, l)) e n h)
   clauses_extend {ws = ws} sc r qs s a k (choose_this {k = i} {ps = ps} {g = g} {t = t} {cs = cs} {tr = tr} {more = more} mt x y) gd st under l e n h =
       let inner = with_bindings sc (outer_bindings s ps) in
       let guard = s + outer_span ps in
@@ -74,7 +81,8 @@ module _ (F : Facts) (P : Knowledge) (U : Program) (W : Value → Type 0) (E : A
       q.1.1.0)
       q.1.1.1))
 
-  pub case_extends : {env : Env} {us vs : Values} {tr more : Trace} (i : Mark) (t : m.Tree) (cs : m.Clauses) (sc : Scope) (s : ℕ) (a : Assignment) (k : Ask) → E home env t (gives us) tr → count us ≡ width cs → Choose (E home) W raised home env us cs (gives vs) more → AllBearOut P U (tr ++ more) → StandsFor home s a sc env → AreAsked k vs → Meets P home sc s a k (m.case i t cs) vs
+  pub case_extends : {env : Env} {us vs : Values} {tr more : Trace} (i : Mark) (t : m.Tree) (cs : m.Clauses) (sc : Scope) (s : ℕ) (a : Assignment) (k : Ask) → E home env t (gives us) tr → count us ≡ width cs
+      → Choose (E home) W raised home env us cs (gives vs) more → AllBearOut P U (tr ++ more) → StandsFor home s a sc env → AreAsked k vs → Meets P home sc s a k (m.case i t cs) vs
   case_extends {us = us} {vs = vs} {tr = tr} {more = more} i t cs sc s a k x n c g st asked =
       let argument = s + passed_on k in
       let one = Exactly (width cs) in
@@ -91,7 +99,8 @@ module _ (F : Facts) (P : Knowledge) (U : Program) (W : Value → Type 0) (E : A
       (λ b h. (joined (rows P home sc argument one t) _ b h.1.0.0 (h.1.1, tt), h.0))
 
   -- a message comes
-  pub receive_extends : {env : Env} {limit v : Value} {vs : Values} {tr more : Trace} (i : Mark) (cs : m.Clauses) (t u : m.Tree) (sc : Scope) (s : ℕ) (a : Assignment) (k : Ask) → E home env t (gives (and_value limit no_value)) tr → Choose (E home) W stopped home env (and_value v no_value) cs (gives vs) more → AllBearOut P U (tr ++ more) → StandsFor home s a sc env → AreAsked k vs → Meets P home sc s a k (m.receive i cs t u) vs
+  pub receive_extends : {env : Env} {limit v : Value} {vs : Values} {tr more : Trace} (i : Mark) (cs : m.Clauses) (t u : m.Tree) (sc : Scope) (s : ℕ) (a : Assignment) (k : Ask) → E home env t (gives (and_value limit no_value)) tr
+      → Choose (E home) W stopped home env (and_value v no_value) cs (gives vs) more → AllBearOut P U (tr ++ more) → StandsFor home s a sc env → AreAsked k vs → Meets P home sc s a k (m.receive i cs t u) vs
   receive_extends {v = v} {vs = vs} {tr = tr} {more = more} i cs t u sc s a k x c g st asked =
       let message = s + passed_on k in
       let timeout = message + 1 + clause_spans k cs in
@@ -109,7 +118,8 @@ module _ (F : Facts) (P : Knowledge) (U : Program) (W : Value → Type 0) (E : A
       (λ b h. (joined (rows P home sc timeout (Exactly 1) t) _ b h.1.1.1.0 (one_before (clause_rows P home sc rs (message ∷ []) (message + 1) k cs) _ b h.1.1.0, tt), h.0))
 
   -- none comes in time
-  pub timeout_extends : {env : Env} {n : ℕ} {vs : Values} {tr more : Trace} (i : Mark) (cs : m.Clauses) (t u : m.Tree) (sc : Scope) (s : ℕ) (a : Assignment) (k : Ask) → E home env t (gives (and_value (int (pos n)) no_value)) tr → E home env u (gives vs) more → AllBearOut P U (tr ++ more) → StandsFor home s a sc env → AreAsked k vs → Meets P home sc s a k (m.receive i cs t u) vs
+  pub timeout_extends : {env : Env} {n : ℕ} {vs : Values} {tr more : Trace} (i : Mark) (cs : m.Clauses) (t u : m.Tree) (sc : Scope) (s : ℕ) (a : Assignment) (k : Ask) → E home env t (gives (and_value (int (pos n)) no_value)) tr
+      → E home env u (gives vs) more → AllBearOut P U (tr ++ more) → StandsFor home s a sc env → AreAsked k vs → Meets P home sc s a k (m.receive i cs t u) vs
   timeout_extends {n = n} {vs = vs} {tr = tr} {more = more} i cs t u sc s a k x y g st asked =
       let message = s + passed_on k in
       let timeout = message + 1 + clause_spans k cs in

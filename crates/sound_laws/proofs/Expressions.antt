@@ -27,7 +27,8 @@ no_values e = cc
 
 module _ (F : Facts) (P : Knowledge) (U : Program) (W : Value → Type 0) (honest : IsHonest P U) where
   module _ (E : Atom → Env → m.Tree → Outcome → Trace → Type 0) (each : Extends P U E) (home : Atom) where
-    step_extends : (env : Env) (t : m.Tree) (vs : Values) (tr : Trace) (sc : Scope) (s : ℕ) (a : Assignment) (k : Ask) → Step U W E home env t (gives vs) tr → AllBearOut P U tr → StandsFor home s a sc env → AreAsked k vs → Meets P home sc s a k t vs
+    step_extends : (env : Env) (t : m.Tree) (vs : Values) (tr : Trace) (sc : Scope) (s : ℕ) (a : Assignment) (k : Ask) → Step U W E home env t (gives vs) tr → AllBearOut P U tr → StandsFor home s a sc env → AreAsked k vs
+        → Meets P home sc s a k t vs
     step_extends env _ _ _ sc s a k (step_variable {k = i} {x = x} {v = v} e) g st n = variable_extends F P U E each home i x v sc s a k e st
     step_extends env _ _ _ sc s a k (step_literal {k = i} {c = c} {v = v} is) g st n = literal_extends F P U E each home i c v sc s a k is
     step_extends env _ _ _ sc s a k (step_function {k = i} {xs = xs} {t = t} is) g st n = function_extends F P U E each home i xs t env sc s a k
@@ -43,11 +44,13 @@ module _ (F : Facts) (P : Knowledge) (U : Program) (W : Value → Type 0) (hones
     step_extends env _ _ _ sc s a k (step_case {k = i} {t = t} {cs = cs} x many c) g st n = case_extends F P U W E each home i t cs sc s a k x many c g st n
     step_extends env _ _ _ sc s a k (step_letrec {k = i} {ds = ds} {t = t} at x) g st n = letrec_extends P U E each home i ds t sc s a k x g st n
     step_extends env _ ws _ sc s a k (step_apply_name {k = i} {i = j} {f = f} {ts = ts} arity is xs x) g st n = apply_name_extends F P U W honest E each home i j f ts (back_by home i.label (gives ws)) sc s a k arity is xs x g st
-    step_extends env _ ws _ sc s a k (step_apply {k = i} {t = t} {ts = ts} {c = c} {more = more} unnamed xs x) g st n = apply_extends F P U W honest E each home i t ts (applied home i.label c ∷ (more ++ back_by home i.label (gives ws))) sc s a k unnamed xs x g st
+    step_extends env _ ws _ sc s a k (step_apply {k = i} {t = t} {ts = ts} {c = c} {more = more} unnamed xs x) g st n =
+        apply_extends F P U W honest E each home i t ts (applied home i.label c ∷ (more ++ back_by home i.label (gives ws))) sc s a k unnamed xs x g st
     step_extends env _ ws _ sc s a k (step_call {k = i} {t = t} {u = u} {ts = ts} xs x) g st n = call_extends F P U W honest E each home i t u ts (back_by home i.label (gives ws)) sc s a k xs x g st n
     step_extends env _ ws _ sc s a k (step_primop {k = i} {x = x} {ts = ts} calm xs from) g st n = primop_extends F P U W honest E each home ws i x ts sc s a k calm xs g st n
     step_extends env _ _ _ sc s a k (step_try {k = i} {t = t} {u = u} {w = w} {xs = xs} {ys = ys} x many y) g st n = try_extends P U E each home i t xs u ys w sc s a k x many y g st n
-    step_extends env _ _ _ sc s a k (step_handle {k = i} {t = t} {u = u} {w = w} {xs = xs} {ys = ys} us {tr = tr} {more = more} x many from y) g st n = handler_extends P U E each home us i t xs u ys w sc s a k many y (back_bears P U tr more g) st n
+    step_extends env _ _ _ sc s a k (step_handle {k = i} {t = t} {u = u} {w = w} {xs = xs} {ys = ys} us {tr = tr} {more = more} x many from y) g st n =
+        handler_extends P U E each home us i t xs u ys w sc s a k many y (back_bears P U tr more g) st n
     step_extends env _ _ _ sc s a k (step_catch {k = i} {t = t} {v = v} x) g st n = catch_extends P U E each home i t v sc s a k
     step_extends env _ _ _ sc s a k (step_caught {k = i} {t = t} {v = v} x from) g st n = catch_extends P U E each home i t v sc s a k
     step_extends env _ _ _ sc s a k (step_receive {k = i} {cs = cs} {t = t} {u = u} x from c) g st n = receive_extends F P U W E each home i cs t u sc s a k x c g st n

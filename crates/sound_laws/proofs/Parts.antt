@@ -28,7 +28,8 @@ use Rattle.sound_laws.proofs.Words.{joined, still_held, equal_results, and_last}
 
 -- An expression that gives values, in an environment that the scope stands for, meets its rows.
 abbrev pub Extends : Knowledge → Program → (Atom → Env → m.Tree → Outcome → Trace → Type 0) → Type 0
-Extends P U E = (home : Atom) (env : Env) (t : m.Tree) (vs : Values) (tr : Trace) (sc : Scope) (s : ℕ) (a : Assignment) (k : Ask) → E home env t (gives vs) tr → AllBearOut P U tr → StandsFor home s a sc env → AreAsked k vs → Meets P home sc s a k t vs
+Extends P U E = (home : Atom) (env : Env) (t : m.Tree) (vs : Values) (tr : Trace) (sc : Scope) (s : ℕ) (a : Assignment) (k : Ask) → E home env t (gives vs) tr → AllBearOut P U tr → StandsFor home s a sc env → AreAsked k vs
+    → Meets P home sc s a k t vs
 
 -- ---- traces
 
@@ -77,10 +78,12 @@ value_at_slot t b s v h = let one : values_of b (slots_from s 1) ≡ and_value v
 
 module _ (P : Knowledge) (U : Program) (E : Atom → Env → m.Tree → Outcome → Trace → Type 0) (each : Extends P U E) (home : Atom) where
   -- a part of which one value is asked
-  pub part_extends : {env : Env} {t : m.Tree} {v : Value} {tr : Trace} (sc : Scope) (s : ℕ) (a : Assignment) → E home env t (gives (and_value v no_value)) tr → AllBearOut P U tr → StandsFor home s a sc env → Extension a s (s + span (Exactly 1) t) (λ b. SatRows (rows P home sc s (Exactly 1) t) b × (b s ≡ v))
+  pub part_extends : {env : Env} {t : m.Tree} {v : Value} {tr : Trace} (sc : Scope) (s : ℕ) (a : Assignment) → E home env t (gives (and_value v no_value)) tr → AllBearOut P U tr → StandsFor home s a sc env
+      → Extension a s (s + span (Exactly 1) t) (λ b. SatRows (rows P home sc s (Exactly 1) t) b × (b s ≡ v))
   part_extends {t = t} {v = v} sc s a x g st = mapped (each home _ _ _ _ sc s a (Exactly 1) x g st refl) (λ b h. (h.0, value_at_slot t b s v h.1))
 
-  pub parts_extend : {env : Env} {ts : m.Trees} {vs : Values} {tr : Trace} (sc : Scope) (s : ℕ) (a : Assignment) → AllGive (E home) env ts vs tr → AllBearOut P U tr → StandsFor home s a sc env → Extension a s (s + spans ts) (λ b. SatRows (all_rows P home sc s ts) b × (values_of b (value_slots s ts) ≡ vs))
+  pub parts_extend : {env : Env} {ts : m.Trees} {vs : Values} {tr : Trace} (sc : Scope) (s : ℕ) (a : Assignment) → AllGive (E home) env ts vs tr → AllBearOut P U tr → StandsFor home s a sc env
+      → Extension a s (s + spans ts) (λ b. SatRows (all_rows P home sc s ts) b × (values_of b (value_slots s ts) ≡ vs))
   parts_extend sc s a give_none g st = wider (omega arith) (kept (λ b. Unit {0} × (◌≡◌ {A = Values} no_value no_value)) (λ b h. (tt, refl)))
   parts_extend sc s a (give_next {t = t} {ts = ts} {v = v} {tr = tr} {more = more} x xs) g st =
       mapped
@@ -91,7 +94,8 @@ module _ (P : Knowledge) (U : Program) (E : Atom → Env → m.Tree → Outcome 
       (λ b h. (joined (rows P home sc s (Exactly 1) t) (all_rows P home sc (s + span (Exactly 1) t) ts) b h.0.0 h.1.0, ap₂ and_value h.0.1 h.1.1))
 
   -- the keys and the values of a map's pairs
-  pub pairs_extend : {env : Env} {vs : Values} {tr : Trace} (ps : m.Pairs) (sc : Scope) (s : ℕ) (a : Assignment) → AllGive (E home) env (in_pairs ps) vs tr → AllBearOut P U tr → StandsFor home s a sc env → Extension a s (s + pair_spans ps) (λ b. SatRows (pair_rows P home sc s ps) b)
+  pub pairs_extend : {env : Env} {vs : Values} {tr : Trace} (ps : m.Pairs) (sc : Scope) (s : ℕ) (a : Assignment) → AllGive (E home) env (in_pairs ps) vs tr → AllBearOut P U tr → StandsFor home s a sc env
+      → Extension a s (s + pair_spans ps) (λ b. SatRows (pair_rows P home sc s ps) b)
   pairs_extend m.no_pair sc s a xs g st = wider (omega arith) (kept (λ b. Unit {0}) (λ b h. tt))
   pairs_extend (m.and_pair exact t u ps) sc s a (give_next {tr = tr} {more = more} x (give_next {tr = tr2} {more = more2} y xs)) g st =
       let second = s + span (Exactly 1) t in
@@ -121,7 +125,15 @@ module _ (P : Knowledge) (U : Program) (E : Atom → Env → m.Tree → Outcome 
   split {vs = vs} {tr = tr} m.no_tree us xs = record { firsts = no_value; others = vs; front = []; behind = tr; given = give_none; given_too = xs; bears = λ g. (tt, g) }
   split (m.and_tree t ts) us (give_next {v = v} {tr = tr} {more = more} x xs) =
       let r = split ts us xs in
-      record { firsts = and_value v r.firsts; others = r.others; front = tr ++ r.front; behind = r.behind; given = give_next x r.given; given_too = r.given_too; bears = λ g. let k = r.bears (back_bears P U tr more g) in (bears_both tr r.front (front_bears P U tr more g) k.0, k.1) }
+      record {
+        firsts = and_value v r.firsts;
+        others = r.others;
+        front = tr ++ r.front;
+        behind = r.behind;
+        given = give_next x r.given;
+        given_too = r.given_too;
+        bears = λ g. let k = r.bears (back_bears P U tr more g) in (bears_both tr r.front (front_bears P U tr more g) k.0, k.1);
+      }
     where
       bears_both : (tr more : Trace) → AllBearOut P U tr → AllBearOut P U more → AllBearOut P U (tr ++ more)
       bears_both [] more h g = g
@@ -140,10 +152,30 @@ module _ (P : Knowledge) (U : Program) (E : Atom → Env → m.Tree → Outcome 
     pub bears : AllBearOut P U tr → AllBearOut P U front × AllBearOut P U behind
 
   pub list_parts : {env : Env} {vs : Values} {tr : Trace} (ts : m.Trees) (t : m.Tree) → AllGive (E home) env (with_last ts t) vs tr → ListParts env ts t vs tr
-  list_parts m.no_tree t (give_next {v = v} {tr = tr} x give_none) = record { elements = no_value; last = v; front = []; behind = tr; given = give_none; given_last = x; whole = refl; many = refl; bears = λ g. (tt, front_bears P U tr [] g) }
+  list_parts m.no_tree t (give_next {v = v} {tr = tr} x give_none) = record {
+    elements = no_value;
+    last = v;
+    front = [];
+    behind = tr;
+    given = give_none;
+    given_last = x;
+    whole = refl;
+    many = refl;
+    bears = λ g. (tt, front_bears P U tr [] g);
+  }
   list_parts (m.and_tree u ts) t (give_next {v = v} {tr = tr} {more = more} x xs) =
       let r = list_parts ts t xs in
-      record { elements = and_value v r.elements; last = r.last; front = tr ++ r.front; behind = r.behind; given = give_next x r.given; given_last = r.given_last; whole = ap (and_value v) r.whole; many = one_more (count r.elements) (how_many ts) r.many; bears = λ g. let k = r.bears (back_bears P U tr more g) in (bears_both tr r.front (front_bears P U tr more g) k.0, k.1) }
+      record {
+        elements = and_value v r.elements;
+        last = r.last;
+        front = tr ++ r.front;
+        behind = r.behind;
+        given = give_next x r.given;
+        given_last = r.given_last;
+        whole = ap (and_value v) r.whole;
+        many = one_more (count r.elements) (how_many ts) r.many;
+        bears = λ g. let k = r.bears (back_bears P U tr more g) in (bears_both tr r.front (front_bears P U tr more g) k.0, k.1);
+      }
     where
       one_more : (i j : ℕ) → i ≡ j → suc i ≡ j + 1
       one_more i j e = omega (arith, e)
@@ -153,7 +185,8 @@ module _ (P : Knowledge) (U : Program) (E : Atom → Env → m.Tree → Outcome 
       bears_both (x ∷ tr) more h g = (h.0, bears_both tr more h.1 g)
 
   -- the values of a binary's segments and their arguments
-  pub segments_extend : (ss : m.Segments) {env : Env} {vs : Values} {tr : Trace} (sc : Scope) (s : ℕ) (a : Assignment) → AllGive (E home) env (in_segments ss) vs tr → AllBearOut P U tr → StandsFor home s a sc env → Extension a s (s + segment_spans ss) (λ b. SatRows (segment_rows P home sc s ss) b)
+  pub segments_extend : (ss : m.Segments) {env : Env} {vs : Values} {tr : Trace} (sc : Scope) (s : ℕ) (a : Assignment) → AllGive (E home) env (in_segments ss) vs tr → AllBearOut P U tr → StandsFor home s a sc env
+      → Extension a s (s + segment_spans ss) (λ b. SatRows (segment_rows P home sc s ss) b)
   segments_extend m.no_segment sc s a xs g st = wider (omega arith) (kept (λ b. Unit {0}) (λ b h. tt))
   segments_extend (m.and_segment t ts ss) sc s a (give_next {tr = tr} {more = more} x xs) g st =
       let second = s + span (Exactly 1) t in
@@ -170,7 +203,8 @@ module _ (P : Knowledge) (U : Program) (E : Atom → Env → m.Tree → Outcome 
       (λ b h. joined _ (segment_rows P home sc rest ss) b (joined (rows P home sc s (Exactly 1) t) (all_rows P home sc second ts) b h.0.0 h.1.0.0) h.1.1)
 
   -- a body whose values are those of the whole, in the slots from r on
-  pub body_extends : {env : Env} {t : m.Tree} {vs : Values} {tr : Trace} (sc : Scope) (r s : ℕ) (a : Assignment) (k : Ask) → E home env t (gives vs) tr → AllBearOut P U tr → StandsFor home s a sc env → AreAsked k vs → r + passed_on k ≤ s → Hold k a (slots_from r (passed_on k)) vs → Extension a s (s + span k t) (λ b. SatRows (rows P home sc s k t) b × SatRows (equals (slots_from r (passed_on k)) (results k s t)) b)
+  pub body_extends : {env : Env} {t : m.Tree} {vs : Values} {tr : Trace} (sc : Scope) (r s : ℕ) (a : Assignment) (k : Ask) → E home env t (gives vs) tr → AllBearOut P U tr → StandsFor home s a sc env → AreAsked k vs
+      → r + passed_on k ≤ s → Hold k a (slots_from r (passed_on k)) vs → Extension a s (s + span k t) (λ b. SatRows (rows P home sc s k t) b × SatRows (equals (slots_from r (passed_on k)) (results k s t)) b)
   body_extends {t = t} {vs = vs} sc r s a k x g st n l h =
       mapped
       (and_next s (omega arith) (omega arith)

@@ -12,11 +12,13 @@ use Rattle.core_scope.specs.Segments.{segment_kind}
 use Rattle.cons_tree.specs.Environments.{Assignment}
 use Rattle.cons_tree.specs.Satisfied.{values_of}
 use Rattle.core_meaning.specs.Environments.{with_variable}
-use Rattle.core_meaning.specs.Matching.{Match, match_variable, match_literal, match_list, match_tuple, match_map, match_binary, match_alias, MatchEach, match_none, match_next, MatchList, match_rest, match_head, MatchPairs, match_no_pair, match_pair, MatchSegments, match_no_segment, match_segment}
+use Rattle.core_meaning.specs.Matching.{Match, match_variable, match_literal, match_list, match_tuple, match_map, match_binary, match_alias, MatchEach, match_none}
+use Rattle.core_meaning.specs.Matching.{match_next, MatchList, match_rest, match_head, MatchPairs, match_no_pair, match_pair, MatchSegments, match_no_segment, match_segment}
 use Rattle.cons_gen_rows.specs.Slots.{slots_from}
 use Rattle.cons_gen_rows.specs.Scopes.{Scope, binding, with_bindings}
 use Rattle.cons_gen_rows.specs.Words.{equal, bound, list_rows, inner_cells, literal_type}
-use Rattle.cons_gen_rows.specs.Patterns.{pattern_span, pattern_spans, pat_pair_spans, pat_segment_spans, pattern_slots, outer_span, pattern_bindings, patterns_bindings, pat_pairs_bindings, pat_segments_bindings, outer_bindings, segment_rows, pattern_rows, patterns_rows, pat_pairs_rows, pat_segments_rows, outer_rows}
+use Rattle.cons_gen_rows.specs.Patterns.{pattern_span, pattern_spans, pat_pair_spans, pat_segment_spans, pattern_slots, outer_span, pattern_bindings, patterns_bindings, pat_pairs_bindings}
+use Rattle.cons_gen_rows.specs.Patterns.{pat_segments_bindings, outer_bindings, segment_rows, pattern_rows, patterns_rows, pat_pairs_rows, pat_segments_rows, outer_rows}
 use Rattle.sound_laws.specs.Assignments.{Extension}
 use Rattle.sound_laws.specs.Facts.{Facts}
 use Rattle.sound_laws.specs.Satisfied.{SatRows}
@@ -49,7 +51,8 @@ elements_count (match_head {ps = ps} {w = w} mt ms) = let same : count (elements
 module _ (F : Facts) (W : Value → Type 0) (home : Atom) where
   mutual
     -- a pattern at slot r, whose own slots begin at s
-    pub pattern_extends : {p : m.Pattern} {v : Value} {env to : Env} (sc : Scope) (s r : ℕ) (a : Assignment) → Match W p v env to → StandsFor home s a sc env → r < s → a r ≡ v → Extension a s (s + pattern_span p) (λ b. SatRows (pattern_rows r s p) b × StandsFor home (s + pattern_span p) b (with_bindings sc (pattern_bindings s p)) to)
+    pub pattern_extends : {p : m.Pattern} {v : Value} {env to : Env} (sc : Scope) (s r : ℕ) (a : Assignment) → Match W p v env to → StandsFor home s a sc env → r < s → a r ≡ v
+        → Extension a s (s + pattern_span p) (λ b. SatRows (pattern_rows r s p) b × StandsFor home (s + pattern_span p) b (with_bindings sc (pattern_bindings s p)) to)
     pattern_extends sc s r a (match_variable {x = x} {v = v} {env = env}) st below e =
         mapped
         (and_next s (omega arith) (omega arith)
@@ -114,7 +117,8 @@ module _ (F : Facts) (W : Value → Type 0) (home : Atom) where
         ))
 
     -- patterns that each have a slot of their own
-    pub patterns_extends : {ps : m.Patterns} {vs : Values} {env to : Env} (sc : Scope) (s : ℕ) (a : Assignment) → MatchEach W ps vs env to → StandsFor home s a sc env → Extension a s (s + pattern_spans ps) (λ b. SatRows (patterns_rows s ps) b × (StandsFor home (s + pattern_spans ps) b (with_bindings sc (patterns_bindings s ps)) to × (values_of b (pattern_slots s ps) ≡ vs)))
+    pub patterns_extends : {ps : m.Patterns} {vs : Values} {env to : Env} (sc : Scope) (s : ℕ) (a : Assignment) → MatchEach W ps vs env to → StandsFor home s a sc env
+        → Extension a s (s + pattern_spans ps) (λ b. SatRows (patterns_rows s ps) b × (StandsFor home (s + pattern_spans ps) b (with_bindings sc (patterns_bindings s ps)) to × (values_of b (pattern_slots s ps) ≡ vs)))
     patterns_extends sc s a (match_none {env = env}) st =
         wider (omega arith)
         (kept (λ b. Unit {0} × (StandsFor home (s + 0) b (with_bindings sc []) env × (◌≡◌ {A = Values} no_value no_value)))
@@ -130,13 +134,17 @@ module _ (F : Facts) (W : Value → Type 0) (home : Atom) where
         (λ b h. (
           joined (pattern_rows s (s + 1) p) (patterns_rows (s + 1 + pattern_span p) ps) b h.1.0.0 h.1.1.0,
           (
-            subst (λ z. StandsFor home (s + (1 + pattern_span p + pattern_spans ps)) b z to) (bindings_assoc sc (pattern_bindings (s + 1) p) (patterns_bindings (s + 1 + pattern_span p) ps)) (stands_in (omega arith) (λ i g. refl) h.1.1.1.0),
+            subst (λ z. StandsFor home (s + (1 + pattern_span p + pattern_spans ps)) b z to) (bindings_assoc sc (pattern_bindings (s + 1) p) (patterns_bindings (s + 1 + pattern_span p) ps))
+                (stands_in (omega arith) (λ i g. refl) h.1.1.1.0),
             ap₂ and_value h.0 h.1.1.1.1,
           ),
         ))
 
     -- the elements of a list, each with a slot of its own, and then what follows them, at the slot `rest`
-    list_extends : {ps : m.Patterns} {p : m.Pattern} {v : Value} {env to : Env} (sc : Scope) (s rest : ℕ) (a : Assignment) → MatchList W ps p v env to → StandsFor home s a sc env → rest ≡ s + pattern_spans ps → Extension a s (rest + 1 + pattern_span p) (λ b. SatRows (patterns_rows s ps) b × (SatRows (pattern_rows rest (rest + 1) p) b × (StandsFor home (rest + 1 + pattern_span p) b (with_bindings sc (patterns_bindings s ps ++ pattern_bindings (rest + 1) p)) to × ((values_of b (pattern_slots s ps) ≡ elements_by ps v) × (b rest ≡ rest_by ps v)))))
+    list_extends : {ps : m.Patterns} {p : m.Pattern} {v : Value} {env to : Env} (sc : Scope) (s rest : ℕ) (a : Assignment) → MatchList W ps p v env to → StandsFor home s a sc env → rest ≡ s + pattern_spans ps
+        → Extension a s (rest + 1 + pattern_span p) (λ b. SatRows (patterns_rows s ps) b
+        × (SatRows (pattern_rows rest (rest + 1) p) b × (StandsFor home (rest + 1 + pattern_span p) b (with_bindings sc (patterns_bindings s ps ++ pattern_bindings (rest + 1) p)) to
+        × ((values_of b (pattern_slots s ps) ≡ elements_by ps v) × (b rest ≡ rest_by ps v)))))
     list_extends sc s rest a (match_rest {p = p} {v = v} mt) st e =
         mapped
         (earlier {k = rest} (omega (arith, e))
@@ -158,14 +166,16 @@ module _ (F : Facts) (W : Value → Type 0) (home : Atom) where
             h.1.1.1.0,
             (
               subst (λ z. StandsFor home (rest + 1 + pattern_span q) b z to)
-                  (bindings_assoc sc (pattern_bindings (s + 1) p) (patterns_bindings after ps ++ pattern_bindings (rest + 1) q) ∙ ap (with_bindings sc) (sym (append_assoc (pattern_bindings (s + 1) p) (patterns_bindings after ps) (pattern_bindings (rest + 1) q))))
+                  (bindings_assoc sc (pattern_bindings (s + 1) p) (patterns_bindings after ps ++ pattern_bindings (rest + 1) q)
+                  ∙ ap (with_bindings sc) (sym (append_assoc (pattern_bindings (s + 1) p) (patterns_bindings after ps) (pattern_bindings (rest + 1) q))))
                   h.1.1.1.1.0,
               (ap₂ and_value h.0 h.1.1.1.1.1.0, h.1.1.1.1.1.1),
             ),
           ),
         ))
 
-    pairs_extends : {ps : m.PatPairs} {qs : value.ValuePairs} {env to : Env} (sc : Scope) (s : ℕ) (a : Assignment) → MatchPairs W ps qs env to → StandsFor home s a sc env → Extension a s (s + pat_pair_spans ps) (λ b. SatRows (pat_pairs_rows s ps) b × StandsFor home (s + pat_pair_spans ps) b (with_bindings sc (pat_pairs_bindings s ps)) to)
+    pairs_extends : {ps : m.PatPairs} {qs : value.ValuePairs} {env to : Env} (sc : Scope) (s : ℕ) (a : Assignment) → MatchPairs W ps qs env to → StandsFor home s a sc env
+        → Extension a s (s + pat_pair_spans ps) (λ b. SatRows (pat_pairs_rows s ps) b × StandsFor home (s + pat_pair_spans ps) b (with_bindings sc (pat_pairs_bindings s ps)) to)
     pairs_extends sc s a (match_no_pair {env = env}) st =
         wider (omega arith)
         (kept (λ b. Unit {0} × StandsFor home (s + 0) b (with_bindings sc []) env)
@@ -183,7 +193,8 @@ module _ (F : Facts) (W : Value → Type 0) (home : Atom) where
           subst (λ z. StandsFor home (s + (1 + pattern_span p + pat_pair_spans ps)) b z to) (bindings_assoc sc (pattern_bindings (s + 1) p) (pat_pairs_bindings (s + 1 + pattern_span p) ps)) (stands_in (omega arith) (λ i g. refl) h.1.1.1),
         ))
 
-    segments_extends : {ss : m.PatSegments} {env to : Env} (sc : Scope) (s : ℕ) (a : Assignment) → MatchSegments W ss env to → StandsFor home s a sc env → Extension a s (s + pat_segment_spans ss) (λ b. SatRows (pat_segments_rows s ss) b × StandsFor home (s + pat_segment_spans ss) b (with_bindings sc (pat_segments_bindings s ss)) to)
+    segments_extends : {ss : m.PatSegments} {env to : Env} (sc : Scope) (s : ℕ) (a : Assignment) → MatchSegments W ss env to → StandsFor home s a sc env
+        → Extension a s (s + pat_segment_spans ss) (λ b. SatRows (pat_segments_rows s ss) b × StandsFor home (s + pat_segment_spans ss) b (with_bindings sc (pat_segments_bindings s ss)) to)
     segments_extends sc s a (match_no_segment {env = env}) st =
         wider (omega arith)
         (kept (λ b. Unit {0} × StandsFor home (s + 0) b (with_bindings sc []) env)
@@ -198,11 +209,13 @@ module _ (F : Facts) (W : Value → Type 0) (home : Atom) where
         (λ c i g. segments_extends (with_bindings sc (pattern_bindings (s + 1) p)) (s + 1 + pattern_span p) c ms g.1))))
         (λ b h. (
           joined _ (pat_segments_rows (s + 1 + pattern_span p) ss) b (joined (segment_rows s (segment_kind ts)) (pattern_rows s (s + 1) p) b (segment_in F s (segment_kind ts) b v h.0 is) h.1.0.0) h.1.1.0,
-          subst (λ z. StandsFor home (s + (1 + pattern_span p + pat_segment_spans ss)) b z to) (bindings_assoc sc (pattern_bindings (s + 1) p) (pat_segments_bindings (s + 1 + pattern_span p) ss)) (stands_in (omega arith) (λ i g. refl) h.1.1.1),
+          subst (λ z. StandsFor home (s + (1 + pattern_span p + pat_segment_spans ss)) b z to) (bindings_assoc sc (pattern_bindings (s + 1) p) (pat_segments_bindings (s + 1 + pattern_span p) ss))
+              (stands_in (omega arith) (λ i g. refl) h.1.1.1),
         ))
 
   -- the outermost patterns of a clause, at the slots of what they are matched with
-  pub outer_extends : {ps : m.Patterns} {vs : Values} {env to : Env} (sc : Scope) (qs : List ℕ) (s : ℕ) (a : Assignment) → MatchEach W ps vs env to → StandsFor home s a sc env → AreUnder s qs → values_of a qs ≡ vs → Extension a s (s + outer_span ps) (λ b. SatRows (outer_rows qs s ps) b × StandsFor home (s + outer_span ps) b (with_bindings sc (outer_bindings s ps)) to)
+  pub outer_extends : {ps : m.Patterns} {vs : Values} {env to : Env} (sc : Scope) (qs : List ℕ) (s : ℕ) (a : Assignment) → MatchEach W ps vs env to → StandsFor home s a sc env → AreUnder s qs → values_of a qs ≡ vs
+      → Extension a s (s + outer_span ps) (λ b. SatRows (outer_rows qs s ps) b × StandsFor home (s + outer_span ps) b (with_bindings sc (outer_bindings s ps)) to)
   outer_extends sc qs s a (match_none {env = env}) st under e =
       wider (omega arith)
       (kept (λ b. Unit {0} × StandsFor home (s + 0) b (with_bindings sc []) env)

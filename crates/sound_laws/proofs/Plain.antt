@@ -51,7 +51,8 @@ pub with_one : {a : Assignment} {n : ℕ} {Q : Assignment → Type 0} (s : ℕ) 
 with_one {a} s v l f = and_next (s + 1) (omega arith) l (set_one a s v) f
 
 -- the slots of all results first
-pub with_results : {a : Assignment} {n : ℕ} {Q : Assignment → Type 0} (s : ℕ) (k : Ask) (vs : Values) → AreAsked k vs → s + passed_on k ≤ n → ((b : Assignment) → Alike s a b → Hold k b (slots_from s (passed_on k)) vs → Extension b (s + passed_on k) n Q) → Extension a s n (λ b. Hold k b (slots_from s (passed_on k)) vs × Q b)
+pub with_results : {a : Assignment} {n : ℕ} {Q : Assignment → Type 0} (s : ℕ) (k : Ask) (vs : Values) → AreAsked k vs → s + passed_on k ≤ n
+    → ((b : Assignment) → Alike s a b → Hold k b (slots_from s (passed_on k)) vs → Extension b (s + passed_on k) n Q) → Extension a s n (λ b. Hold k b (slots_from s (passed_on k)) vs × Q b)
 with_results {a} s k vs n l f = and_next (s + passed_on k) (omega arith) l (set_results k vs s a n) f
 
 variable_holds : (o : Option ℕ) (s r : ℕ) (b : Assignment) (v : Value) → o ≡ Some r → b r ≡ v → b s ≡ v → SatRows (variable_rows o s) b
@@ -63,7 +64,8 @@ equal_values AnyNumber s ss b vs h e = tt
 equal_values (Exactly n) s ss b vs h e = equal_slots (slots_from s n) ss b (h ∙ sym e)
 
 module _ (F : Facts) (P : Knowledge) (U : Program) (E : Atom → Env → m.Tree → Outcome → Trace → Type 0) (each : Extends P U E) (home : Atom) where
-  pub variable_extends : {env : Env} (i : Mark) (x : Atom) (v : Value) (sc : Scope) (s : ℕ) (a : Assignment) (k : Ask) → value_of env x ≡ Some v → StandsFor home s a sc env → Meets P home sc s a k (m.variable i x) (and_value v no_value)
+  pub variable_extends : {env : Env} (i : Mark) (x : Atom) (v : Value) (sc : Scope) (s : ℕ) (a : Assignment) (k : Ask) → value_of env x ≡ Some v → StandsFor home s a sc env
+      → Meets P home sc s a k (m.variable i x) (and_value v no_value)
   variable_extends i x v sc s a k e st =
       let at = st.variables x v e in
       alone s k v (λ b. SatRows (variable_rows (slot_of sc.variables x) s) b) (λ b h is. variable_holds (slot_of sc.variables x) s at.0 b v at.1.0 (sym (h at.0 at.1.1.0) ∙ at.1.1.1) is)
@@ -84,7 +86,8 @@ module _ (F : Facts) (P : Knowledge) (U : Program) (E : Atom → Env → m.Tree 
   pub external_extends : (i : Mark) (x : Atom) (f : FunName) (sc : Scope) (s : ℕ) (a : Assignment) (k : Ask) → Meets P home sc s a k (m.external i x f) (and_value (external x f.name f.arity) no_value)
   external_extends i x f sc s a k = function_alone s a k f.arity (external x f.name f.arity) refl
 
-  pub list_extends : {env : Env} {vs : Values} {tr : Trace} (i : Mark) (ts : m.Trees) (t : m.Tree) (sc : Scope) (s : ℕ) (a : Assignment) (k : Ask) → AllGive (E home) env (with_last ts t) vs tr → AllBearOut P U tr → StandsFor home s a sc env → Meets P home sc s a k (m.listed i ts t) (and_value (list_value vs) no_value)
+  pub list_extends : {env : Env} {vs : Values} {tr : Trace} (i : Mark) (ts : m.Trees) (t : m.Tree) (sc : Scope) (s : ℕ) (a : Assignment) (k : Ask) → AllGive (E home) env (with_last ts t) vs tr → AllBearOut P U tr
+      → StandsFor home s a sc env → Meets P home sc s a k (m.listed i ts t) (and_value (list_value vs) no_value)
   list_extends {vs = vs} i ts t sc s a k xs g st =
       let r = list_parts P U E each home ts t xs in
       let inner = inner_cells (how_many ts) in
@@ -108,20 +111,23 @@ module _ (F : Facts) (P : Knowledge) (U : Program) (E : Atom → Env → m.Tree 
         held_one k b s (list_value vs) h.0,
       ))
 
-  pub tuple_extends : {env : Env} {vs : Values} {tr : Trace} (i : Mark) (ts : m.Trees) (sc : Scope) (s : ℕ) (a : Assignment) (k : Ask) → AllGive (E home) env ts vs tr → AllBearOut P U tr → StandsFor home s a sc env → Meets P home sc s a k (m.tuple i ts) (and_value (tuple vs) no_value)
+  pub tuple_extends : {env : Env} {vs : Values} {tr : Trace} (i : Mark) (ts : m.Trees) (sc : Scope) (s : ℕ) (a : Assignment) (k : Ask) → AllGive (E home) env ts vs tr → AllBearOut P U tr → StandsFor home s a sc env
+      → Meets P home sc s a k (m.tuple i ts) (and_value (tuple vs) no_value)
   tuple_extends {vs = vs} i ts sc s a k xs g st =
       mapped
       (with_one {n = s + span k (m.tuple i ts)} s (tuple vs) (omega arith) (λ b h e. wider (omega arith) (parts_extend P U E each home sc (s + 1) b xs g (stands_in (omega arith) h st))))
       (λ b h. (joined (all_rows P home sc (s + 1) ts) _ b h.1.0 (h.0 ∙ ap tuple (sym h.1.1), tt), held_one k b s (tuple vs) h.0))
 
   -- a map, of whatever pairs
-  pub new_map_extends : {env : Env} {vs : Values} {tr : Trace} (i : Mark) (ps : m.Pairs) (qs : ValuePairs) (sc : Scope) (s : ℕ) (a : Assignment) (k : Ask) → AllGive (E home) env (in_pairs ps) vs tr → AllBearOut P U tr → StandsFor home s a sc env → Meets P home sc s a k (m.new_map i ps) (and_value (value.map qs) no_value)
+  pub new_map_extends : {env : Env} {vs : Values} {tr : Trace} (i : Mark) (ps : m.Pairs) (qs : ValuePairs) (sc : Scope) (s : ℕ) (a : Assignment) (k : Ask) → AllGive (E home) env (in_pairs ps) vs tr → AllBearOut P U tr
+      → StandsFor home s a sc env → Meets P home sc s a k (m.new_map i ps) (and_value (value.map qs) no_value)
   new_map_extends i ps qs sc s a k xs g st =
       mapped
       (with_one {n = s + span k (m.new_map i ps)} s (value.map qs) (omega arith) (λ b h e. wider (omega arith) (pairs_extend P U E each home ps sc (s + 1) b xs g (stands_in (omega arith) h st))))
       (λ b h. (joined (pair_rows P home sc (s + 1) ps) (bound s (of_kind Map)) b h.1 (subst (λ z. HasType z (of_kind Map)) (sym h.0) (map_in F qs), tt), held_one k b s (value.map qs) h.0))
 
-  pub updated_map_extends : {env : Env} {vs : Values} {tr more : Trace} (i : Mark) (ps : m.Pairs) (t : m.Tree) (old qs : ValuePairs) (sc : Scope) (s : ℕ) (a : Assignment) (k : Ask) → AllGive (E home) env (in_pairs ps) vs tr → E home env t (gives (and_value (value.map old) no_value)) more → AllBearOut P U (tr ++ more) → StandsFor home s a sc env → Meets P home sc s a k (m.updated_map i ps t) (and_value (value.map qs) no_value)
+  pub updated_map_extends : {env : Env} {vs : Values} {tr more : Trace} (i : Mark) (ps : m.Pairs) (t : m.Tree) (old qs : ValuePairs) (sc : Scope) (s : ℕ) (a : Assignment) (k : Ask) → AllGive (E home) env (in_pairs ps) vs tr
+      → E home env t (gives (and_value (value.map old) no_value)) more → AllBearOut P U (tr ++ more) → StandsFor home s a sc env → Meets P home sc s a k (m.updated_map i ps t) (and_value (value.map qs) no_value)
   updated_map_extends {tr = tr} {more = more} i ps t old qs sc s a k xs x g st =
       let base = s + 1 + pair_spans ps in
       mapped
@@ -137,13 +143,15 @@ module _ (F : Facts) (P : Knowledge) (U : Program) (E : Atom → Env → m.Tree 
         held_one k b s (value.map qs) h.0,
       ))
 
-  pub binary_extends : {env : Env} {vs : Values} {tr : Trace} (i : Mark) (ss : m.Segments) (bs : List Bool) (sc : Scope) (s : ℕ) (a : Assignment) (k : Ask) → AllGive (E home) env (in_segments ss) vs tr → AllBearOut P U tr → StandsFor home s a sc env → Meets P home sc s a k (m.binary i ss) (and_value (bits bs) no_value)
+  pub binary_extends : {env : Env} {vs : Values} {tr : Trace} (i : Mark) (ss : m.Segments) (bs : List Bool) (sc : Scope) (s : ℕ) (a : Assignment) (k : Ask) → AllGive (E home) env (in_segments ss) vs tr → AllBearOut P U tr
+      → StandsFor home s a sc env → Meets P home sc s a k (m.binary i ss) (and_value (bits bs) no_value)
   binary_extends i ss bs sc s a k xs g st =
       mapped
       (with_one {n = s + span k (m.binary i ss)} s (bits bs) (omega arith) (λ b h e. wider (omega arith) (segments_extend P U E each home ss sc (s + 1) b xs g (stands_in (omega arith) h st))))
       (λ b h. (joined (segment_rows P home sc (s + 1) ss) (bound s (of_kind Bitstring)) b h.1 (subst (λ z. HasType z (of_kind Bitstring)) (sym h.0) (bits_in F (bits bs) (bs, refl)), tt), held_one k b s (bits bs) h.0))
 
-  pub values_extend : {env : Env} {vs : Values} {tr : Trace} (i : Mark) (ts : m.Trees) (sc : Scope) (s : ℕ) (a : Assignment) (k : Ask) → AllGive (E home) env ts vs tr → AllBearOut P U tr → StandsFor home s a sc env → AreAsked k vs → Meets P home sc s a k (m.values i ts) vs
+  pub values_extend : {env : Env} {vs : Values} {tr : Trace} (i : Mark) (ts : m.Trees) (sc : Scope) (s : ℕ) (a : Assignment) (k : Ask) → AllGive (E home) env ts vs tr → AllBearOut P U tr → StandsFor home s a sc env → AreAsked k vs
+      → Meets P home sc s a k (m.values i ts) vs
   values_extend {vs = vs} i ts sc s a k xs g st n =
       let first = s + passed_on k in
       mapped

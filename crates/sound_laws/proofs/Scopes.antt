@@ -1,5 +1,6 @@
 -- What a scope stands for while variables and functions come into it.
-use Rattle.std.proofs.Common.{◌≡◌, ℕ, suc, ◌+◌, ◌<◌, ◌≤◌, ◌&&◌, ◌||◌, Bool, true, false, if◌then◌else◌, List, [], ◌∷◌, ◌++◌, length, Option, Some, None, nat_eq, refl, sym, ap, ap₂, ◌∙◌, subst, arith, le_trans, append_assoc, append-nil, true≢false, eqb-true, eq-eqb}
+use Rattle.std.proofs.Common.{◌≡◌, ℕ, suc, ◌+◌, ◌<◌, ◌≤◌, ◌&&◌, ◌||◌, Bool, true, false, if◌then◌else◌, List, [], ◌∷◌, ◌++◌, length, Option, Some}
+use Rattle.std.proofs.Common.{None, nat_eq, refl, sym, ap, ap₂, ◌∙◌, subst, arith, le_trans, append_assoc, append-nil, true≢false, eqb-true, eq-eqb}
 use Rattle.std.specs.List.{list_any}
 use Rattle.std.specs.Cmp.Lexicographic.{bytes_decides}
 use Rattle.std.proofs.lemmas.Bool.{and_parts}
@@ -45,7 +46,8 @@ slot_appended ((y, s) ∷ bs) cs x =
     ∙ outer_assoc (slot_of cs x) (slot_of bs x) (if same_atom y x then Some s else None)
 
 -- one more variable
-pub stands_with : {home : Atom} {k s n : ℕ} {a : Assignment} {sc : Scope} {env : Env} (x : Atom) (v : Value) → k ≤ n → s < n → a s ≡ v → StandsFor home k a sc env → StandsFor home n a (with_bindings sc (binding x s)) (with_variable x v env)
+pub stands_with : {home : Atom} {k s n : ℕ} {a : Assignment} {sc : Scope} {env : Env} (x : Atom) (v : Value) → k ≤ n → s < n → a s ≡ v → StandsFor home k a sc env
+    → StandsFor home n a (with_bindings sc (binding x s)) (with_variable x v env)
 stands_with {home} {k} {s} {n} {a} {sc} {env} x v l below e st = by (same_atom x wildcard)
   where
     at : (c : Bool) (y : Atom) (w : Value) → (if c then Some v else value_of env y) ≡ Some w → (r : ℕ) × ((or_outer (if c then Some s else None) (slot_of sc.variables y) ≡ Some r) × ((r < n) × (a r ≡ w)))
@@ -70,9 +72,11 @@ pub bindings_none : (sc : Scope) → with_bindings sc [] ≡ sc
 bindings_none sc = ap (λ ds. record { variables = ds; functions = sc.functions }) (append-nil sc.variables)
 
 -- variables that are bound one after another, each at a slot of its own
-pub bound_in_turn : {home : Atom} (xs : List VarName) (vs : Values) (s : ℕ) (sc : Scope) (env : Env) (a : Assignment) → length xs ≡ count vs → StandsFor home s a sc env → Extension a s (s + length xs) (λ b. StandsFor home (s + length xs) b (with_bindings sc (bindings xs s)) (with_variables xs vs env) × (values_of b (slots_from s (length xs)) ≡ vs))
+pub bound_in_turn : {home : Atom} (xs : List VarName) (vs : Values) (s : ℕ) (sc : Scope) (env : Env) (a : Assignment) → length xs ≡ count vs → StandsFor home s a sc env
+    → Extension a s (s + length xs) (λ b. StandsFor home (s + length xs) b (with_bindings sc (bindings xs s)) (with_variables xs vs env) × (values_of b (slots_from s (length xs)) ≡ vs))
 bound_in_turn {home} [] no_value s sc env a n st =
-    wider (omega arith) (kept (λ b. StandsFor home (s + 0) b (with_bindings sc []) env × (◌≡◌ {A = Values} no_value no_value)) (λ b h. (subst (λ z. StandsFor home (s + 0) b z env) (sym (bindings_none sc)) (stands_in (omega arith) h st), refl)))
+    wider (omega arith) (kept (λ b. StandsFor home (s + 0) b (with_bindings sc []) env × (◌≡◌ {A = Values} no_value no_value))
+    (λ b h. (subst (λ z. StandsFor home (s + 0) b z env) (sym (bindings_none sc)) (stands_in (omega arith) h st), refl)))
 bound_in_turn [] (and_value v vs) s sc env a n st = absurd (omega (arith, n))
 bound_in_turn (x ∷ xs) no_value s sc env a n st = absurd (omega (arith, n))
 bound_in_turn {home} (x ∷ xs) (and_value v vs) s sc env a n st =
@@ -81,7 +85,10 @@ bound_in_turn {home} (x ∷ xs) (and_value v vs) s sc env a n st =
     (and_next (s + 1) (omega arith) (omega arith)
     (set_one a s v)
     (λ b h e. bound_in_turn xs vs (s + 1) (with_bindings sc (binding x.name s)) (with_variable x.name v env) b (omega (arith, n)) (stands_with {k = s} x.name v (omega arith) (omega arith) e (stands_in (omega arith) h st)))))
-    (λ b h. (subst (λ z. StandsFor home (s + suc (length xs)) b z (with_variables xs vs (with_variable x.name v env))) (bindings_assoc sc (binding x.name s) (bindings xs (s + 1))) (stands_in (omega arith) (λ i g. refl) h.1.0), ap₂ and_value h.0 h.1.1))
+    (λ b h. (
+      subst (λ z. StandsFor home (s + suc (length xs)) b z (with_variables xs vs (with_variable x.name v env))) (bindings_assoc sc (binding x.name s) (bindings xs (s + 1))) (stands_in (omega arith) (λ i g. refl) h.1.0),
+      ap₂ and_value h.0 h.1.1,
+    ))
 
 -- ---- functions of `letrec`s
 
@@ -112,7 +119,8 @@ not_defined (m.and_def g k xs t ds) f h =
     no_more true e = absurd (true≢false e)
     no_more false e = (refl, e)
 
-    by : (c : Bool) → (same_atom g.name f.name && nat_eq g.arity f.arity) ≡ c → same_function f g ≡ false → function_named (locals_of ds) f ≡ None → (if c then Some (record { name = g.name; arity = g.arity; label = k.label }) else function_named (locals_of ds) f) ≡ None
+    by : (c : Bool) → (same_atom g.name f.name && nat_eq g.arity f.arity) ≡ c → same_function f g ≡ false → function_named (locals_of ds) f ≡ None
+        → (if c then Some (record { name = g.name; arity = g.arity; label = k.label }) else function_named (locals_of ds) f) ≡ None
     by true e unlike more = absurd (true≢false (sym (name_back f g e) ∙ unlike))
     by false e unlike more = more
 

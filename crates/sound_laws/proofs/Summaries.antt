@@ -1,5 +1,6 @@
 -- What a function gave lies in the solution of its constraint, and so, in every run, in its signature where all are closed.
-use Rattle.std.proofs.Common.{◌≡◌, ℕ, zero, suc, ◌+◌, ◌≤◌, Bool, true, false, ◌&&◌, if◌then◌else◌, List, [], ◌∷◌, length, Option, Some, None, take, replicate, nat_eq, inl, inr, refl, sym, ap, ◌∙◌, subst, arith}
+use Rattle.std.proofs.Common.{◌≡◌, ℕ, zero, suc, ◌+◌, ◌≤◌, Bool, true, false, ◌&&◌, if◌then◌else◌, List, [], ◌∷◌, length}
+use Rattle.std.proofs.Common.{Option, Some, None, take, replicate, nat_eq, inl, inr, refl, sym, ap, ◌∙◌, subst, arith}
 use Rattle.std.proofs.lemmas.List.{length-replicate}
 use Rattle.std.proofs.lemmas.Option.{same_Some}
 use Rattle.type_lattice.proofs.ListOrder.{are_long, types_more}
@@ -47,11 +48,14 @@ abbrev pub LabelsStand : Program → Type 0
 LabelsStand U = (home : Atom) (p : m.Module) → module_named U home ≡ Some p → AreAtLabels U home p.defs
 
 -- what is found at the label of a named definition is that definition
-found_named : (U : Program) (home : Atom) (ds : m.Defs) (f : FunName) (d : Local) (c : LabelledFunction) → AreAtLabels U home ds → function_named (locals_of ds) f ≡ Some d → function_at U home d.label ≡ Some c → definition_named ds f ≡ Some (record { parameters = c.parameters; body = c.body })
+found_named : (U : Program) (home : Atom) (ds : m.Defs) (f : FunName) (d : Local) (c : LabelledFunction) → AreAtLabels U home ds → function_named (locals_of ds) f ≡ Some d → function_at U home d.label ≡ Some c
+    → definition_named ds f ≡ Some (record { parameters = c.parameters; body = c.body })
 found_named U home m.no_def f d c at h e = absurd cc
 found_named U home (m.and_def g k xs t ds) f d c at h e = by (same_atom g.name f.name && nat_eq g.arity f.arity) (λ q. found_named U home ds f d c at.1 q e) h
   where
-    by : (b : Bool) → (function_named (locals_of ds) f ≡ Some d → definition_named ds f ≡ Some (record { parameters = c.parameters; body = c.body })) → (if b then Some (record { name = g.name; arity = g.arity; label = k.label }) else function_named (locals_of ds) f) ≡ Some d → (if b then Some (record { parameters = xs; body = t }) else definition_named ds f) ≡ Some (record { parameters = c.parameters; body = c.body })
+    by : (b : Bool) → (function_named (locals_of ds) f ≡ Some d → definition_named ds f ≡ Some (record { parameters = c.parameters; body = c.body }))
+        → (if b then Some (record { name = g.name; arity = g.arity; label = k.label }) else function_named (locals_of ds) f) ≡ Some d
+        → (if b then Some (record { parameters = xs; body = t }) else definition_named ds f) ≡ Some (record { parameters = c.parameters; body = c.body })
     by true more q =
         let label : k.label ≡ d.label = ap (λ z. z.label) (same_Some _ _ q) in
         let same = same_Some _ _ (sym at.0 ∙ ap (function_at U home) label ∙ e) in
@@ -59,7 +63,8 @@ found_named U home (m.and_def g k xs t ds) f d c at h e = by (same_atom g.name f
     by false more q = more q
 
 -- it has a name
-has_name : (U : Program) (home : Atom) (ds : m.Defs) (f : FunName) (d : Local) (c : LabelledFunction) → AreAtLabels U home ds → function_named (locals_of ds) f ≡ Some d → function_at U home d.label ≡ Some c → c.name ≡ None → ⊥
+has_name : (U : Program) (home : Atom) (ds : m.Defs) (f : FunName) (d : Local) (c : LabelledFunction) → AreAtLabels U home ds → function_named (locals_of ds) f ≡ Some d → function_at U home d.label ≡ Some c → c.name ≡ None
+    → ⊥
 has_name U home m.no_def f d c at h e none = absurd cc
 has_name U home (m.and_def g k xs t ds) f d c at h e none = by (same_atom g.name f.name && nat_eq g.arity f.arity) (λ q. has_name U home ds f d c at.1 q e none) h
   where
@@ -97,7 +102,8 @@ pub record IsOfModule (U : Program) (home : Atom) (f : FunName) (other : Atom) (
 pub of_module : (U : Program) (home : Atom) (f : FunName) (other : Atom) (label arity : ℕ) (env : Env) → LabelsStand U → top_function U home f ≡ Some (closure other label arity env) → IsOfModule U home f other label env
 of_module U home f other label arity env stand h = in_module (module_named U home) refl h
   where
-    at_name : (p : m.Module) → module_named U home ≡ Some p → (o : Option Local) → function_named (locals_of p.defs) f ≡ o → closure_of home no_variable o ≡ Some (closure other label arity env) → IsOfModule U home f other label env
+    at_name : (p : m.Module) → module_named U home ≡ Some p → (o : Option Local) → function_named (locals_of p.defs) f ≡ o → closure_of home no_variable o ≡ Some (closure other label arity env)
+        → IsOfModule U home f other label env
     at_name p e None named q = absurd cc
     at_name p e (Some d) named q =
         let is = same_Some _ _ q in
@@ -125,7 +131,8 @@ empty_stands home a = record { variables = λ x v e. absurd cc; functions = λ f
 
 module _ (F : Facts) (P : Knowledge) (U : Program) (W : Value → Type 0) (honest : IsHonest P U) where
   -- the parameters' slots hold the arguments, the next one the value, and the constraint of the definition is satisfied
-  pub definition_satisfied : (fuel : ℕ) (home : Atom) (xs : List VarName) (t : m.Tree) (vs : Values) (v : Value) (tr : Trace) → length xs ≡ count vs → EvalWith U W fuel home (with_variables xs vs no_variable) t (gives (and_value v no_value)) tr → AllBearOut P U tr → CallIsIn P home xs t vs v
+  pub definition_satisfied : (fuel : ℕ) (home : Atom) (xs : List VarName) (t : m.Tree) (vs : Values) (v : Value) (tr : Trace) → length xs ≡ count vs
+      → EvalWith U W fuel home (with_variables xs vs no_variable) t (gives (and_value v no_value)) tr → AllBearOut P U tr → CallIsIn P home xs t vs v
   definition_satisfied fuel home xs t vs v tr n h g =
       let x = bound_in_turn xs vs 0 (record { variables = []; functions = [] }) no_variable (λ i. nil) n (empty_stands home (λ i. nil)) in
       let h1 = x.holds x.to (λ i l. refl) in
@@ -152,11 +159,13 @@ module _ (F : Facts) (P : Knowledge) (U : Program) (W : Value → Type 0) (hones
         by : (r : State) → solved P home xs t ≡ r → LiesInState h.0 r → HasCall (length xs) r vs v
         by None e l = absurd l
         by (Some ts) e l =
-            let long : length ts ≡ definition_slots xs t = are_long ts (replicate (definition_slots xs t) any) (R.below (definition_constraint P home xs t) (replicate (definition_slots xs t) any) ts e) ∙ length-replicate (definition_slots xs t) any in
+            let long : length ts ≡ definition_slots xs t = are_long ts (replicate (definition_slots xs t) any) (R.below (definition_constraint P home xs t) (replicate (definition_slots xs t) any) ts e)
+            ∙ length-replicate (definition_slots xs t) any in
             let shifted : (i : ℕ) → HasType (h.0 (0 + i)) (type_at ts i) = λ i. let same : i ≡ 0 + i = omega arith in subst (λ j. HasType (h.0 j) (type_at ts i)) same (l i) in
             (subst (λ z. HasTypes z (take (length xs) ts)) h.1.0 (have_front h.0 (length xs) 0 ts shifted (omega (arith, long))), subst (λ z. HasType z (type_at ts (length xs))) h.1.1.0 (l (length xs)))
 
-    pub solution_has_call : (fuel : ℕ) (home : Atom) (xs : List VarName) (t : m.Tree) (vs : Values) (v : Value) (tr : Trace) → length xs ≡ count vs → EvalWith U W fuel home (with_variables xs vs no_variable) t (gives (and_value v no_value)) tr → AllBearOut P U tr → HasCall (length xs) (solved P home xs t) vs v
+    pub solution_has_call : (fuel : ℕ) (home : Atom) (xs : List VarName) (t : m.Tree) (vs : Values) (v : Value) (tr : Trace) → length xs ≡ count vs
+        → EvalWith U W fuel home (with_variables xs vs no_variable) t (gives (and_value v no_value)) tr → AllBearOut P U tr → HasCall (length xs) (solved P home xs t) vs v
     solution_has_call fuel home xs t vs v tr n h g = call_in_solution home xs t vs v (definition_satisfied fuel home xs t vs v tr n h g)
 
 -- ---- closed signatures
@@ -189,21 +198,25 @@ module _ (F : Facts) (R : SolutionFacts) (U : Program) (stand : LabelsStand U) (
   others = record { of_made = λ c. tt; of_chosen = λ home l. tt; of_applied = λ home l c. tt; of_entered = λ c vs. tt; of_back = λ home l v. tt }
 
   module _ (W : Value → Type 0) where
-    kept_by : (fuel : ℕ) (other : Atom) (label arity : ℕ) (c : LabelledFunction) (env : Env) (vs : Values) (v : Value) (tr : Trace) → function_at U other label ≡ Some c → length c.parameters ≡ count vs → EvalWith U W fuel other (with_variables c.parameters vs env) c.body (gives (and_value v no_value)) tr → EachEvent InSignature tr → InSignature (gave (closure other label arity env) vs v)
+    kept_by : (fuel : ℕ) (other : Atom) (label arity : ℕ) (c : LabelledFunction) (env : Env) (vs : Values) (v : Value) (tr : Trace) → function_at U other label ≡ Some c → length c.parameters ≡ count vs
+        → EvalWith U W fuel other (with_variables c.parameters vs env) c.body (gives (and_value v no_value)) tr → EachEvent InSignature tr → InSignature (gave (closure other label arity env) vs v)
     kept_by fuel other label arity c env vs v tr at n x inside home f s top given =
         let is = of_module U home f other label arity env stand top in
-        let body = subst (λ z. EvalWith U W fuel z (with_variables c.parameters vs no_variable) c.body (gives (and_value v no_value)) tr) is.same_home (subst (λ z. EvalWith U W fuel other (with_variables c.parameters vs z) c.body (gives (and_value v no_value)) tr) is.nothing x) in
+        let body = subst (λ z. EvalWith U W fuel z (with_variables c.parameters vs no_variable) c.body (gives (and_value v no_value)) tr) is.same_home
+        (subst (λ z. EvalWith U W fuel other (with_variables c.parameters vs z) c.body (gives (and_value v no_value)) tr) is.nothing x) in
         within_signature (length c.parameters) (solved (closed.pass home f) home c.parameters c.body) s vs v (closed.above home f (record { parameters = c.parameters; body = c.body }) s (is.defined c at) given)
         (solution_has_call F (closed.pass home f) U W (closed.honest home f) R fuel home c.parameters c.body vs v tr n body (borne_out home f tr inside))
 
   run_in_signatures : (stage : ℕ) (tr : Trace) → Run U stage tr → EachEvent InSignature tr
   run_in_signatures stage tr r =
-      entering U (λ v. IsOutside U stage v) InSignature others (Eval U stage r.fuel) (everywhere U (λ v. IsOutside U stage v) InSignature others (kept_by (λ v. IsOutside U stage v)) r.fuel) (kept_by (λ v. IsOutside U stage v) r.fuel) r.enters
+      entering U (λ v. IsOutside U stage v) InSignature others (Eval U stage r.fuel) (everywhere U (λ v. IsOutside U stage v) InSignature others (kept_by (λ v. IsOutside U stage v)) r.fuel)
+      (kept_by (λ v. IsOutside U stage v) r.fuel) r.enters
 
   among : (x : Event) (tr : Trace) → EachEvent InSignature tr → Among x tr → InSignature x
   among x [] h i = absurd i
   among x (y ∷ tr) h (inl e) = subst InSignature (sym e) h.0
   among x (y ∷ tr) h (inr i) = among x tr h.1 i
 
-  pub gave_in_signature : (stage : ℕ) (tr : Trace) (home : Atom) (f : FunName) (c : Value) (s : Sig) (vs : Values) (v : Value) → Run U stage tr → top_function U home f ≡ Some c → S home f ≡ Some s → Among (gave c vs v) tr → Within s vs v
+  pub gave_in_signature : (stage : ℕ) (tr : Trace) (home : Atom) (f : FunName) (c : Value) (s : Sig) (vs : Values) (v : Value) → Run U stage tr → top_function U home f ≡ Some c → S home f ≡ Some s → Among (gave c vs v) tr
+      → Within s vs v
   gave_in_signature stage tr home f c s vs v r top given i = among (gave c vs v) tr (run_in_signatures stage tr r) i home f s top given

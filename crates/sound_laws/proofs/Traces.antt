@@ -6,10 +6,14 @@ use Rattle.core_scope.specs.Functions.{LabelledFunction}
 use Rattle.type_lattice_model.specs.Values.{Value, closure, Values, no_value, and_value, Env, count}
 use Rattle.core_meaning.specs.Programs.{Program, function_at}
 use Rattle.core_meaning.specs.Environments.{with_variables}
-use Rattle.core_meaning.specs.Meaning.{Failure, Outcome, gives, fails, Event, made, chosen, applied, entered, gave, back, Trace, back_by, AllGive, give_none, give_next, OneFails, fail_here, fail_later, Chained, chain_ends, let_gives, let_fails, do_gives, do_fails}
-use Rattle.core_meaning.specs.Meaning.{Choose, choose_none, choose_missed, choose_refused, choose_raised, choose_failed, choose_this, Enter, enter_gives, enter_fails, Called, call_built_in, call_enters, call_outside, call_raises, Apply, apply_closure, apply_external, apply_foreign, apply_raises}
-use Rattle.core_meaning.specs.Meaning.{Step, step_variable, step_literal, step_function, step_name, step_external, step_part_fails, step_list, step_tuple, step_values, step_new_map, step_new_map_raises, step_map, step_map_raises, step_binary, step_binary_raises, step_chain, step_case, step_case_fails}
-use Rattle.core_meaning.specs.Meaning.{step_letrec, step_apply_name, step_apply_name_raises, step_apply, step_call, step_call_raises, step_primop, step_primop_raises, step_try, step_handle, step_try_stops, step_catch, step_caught, step_catch_stops, step_receive, step_timeout, step_waits, step_receive_fails}
+use Rattle.core_meaning.specs.Meaning.{Failure, Outcome, gives, fails, Event, made, chosen, applied, entered, gave, back, Trace, back_by, AllGive}
+use Rattle.core_meaning.specs.Meaning.{give_none, give_next, OneFails, fail_here, fail_later, Chained, chain_ends, let_gives, let_fails, do_gives, do_fails}
+use Rattle.core_meaning.specs.Meaning.{Choose, choose_none, choose_missed, choose_refused, choose_raised, choose_failed, choose_this, Enter, enter_gives, enter_fails}
+use Rattle.core_meaning.specs.Meaning.{Called, call_built_in, call_enters, call_outside, call_raises, Apply, apply_closure, apply_external, apply_foreign, apply_raises}
+use Rattle.core_meaning.specs.Meaning.{Step, step_variable, step_literal, step_function, step_name, step_external, step_part_fails, step_list, step_tuple, step_values}
+use Rattle.core_meaning.specs.Meaning.{step_new_map, step_new_map_raises, step_map, step_map_raises, step_binary, step_binary_raises, step_chain, step_case, step_case_fails}
+use Rattle.core_meaning.specs.Meaning.{step_letrec, step_apply_name, step_apply_name_raises, step_apply, step_call, step_call_raises, step_primop, step_primop_raises, step_try}
+use Rattle.core_meaning.specs.Meaning.{step_handle, step_try_stops, step_catch, step_caught, step_catch_stops, step_receive, step_timeout, step_waits, step_receive_fails}
 use Rattle.core_meaning.specs.Runs.{EvalWith}
 use Rattle.sound_laws.specs.Knowledge.{EachEvent}
 
@@ -31,7 +35,8 @@ module _ (U : Program) (W : Value → Type 0) (Q : Event → Type 0) (others : I
   Everywhere E = (home : Atom) (env : Env) (t : m.Tree) (o : Outcome) (tr : Trace) → E home env t o tr → EachEvent Q tr
 
   abbrev pub IsKept : (Atom → Env → m.Tree → Outcome → Trace → Type 0) → Type 0
-  IsKept E = (home : Atom) (label : ℕ) (arity : ℕ) (c : LabelledFunction) (env : Env) (vs : Values) (v : Value) (tr : Trace) → function_at U home label ≡ Some c → length c.parameters ≡ count vs → E home (with_variables c.parameters vs env) c.body (gives (and_value v no_value)) tr → EachEvent Q tr → Q (gave (closure home label arity env) vs v)
+  IsKept E = (home : Atom) (label : ℕ) (arity : ℕ) (c : LabelledFunction) (env : Env) (vs : Values) (v : Value) (tr : Trace) → function_at U home label ≡ Some c → length c.parameters ≡ count vs
+      → E home (with_variables c.parameters vs env) c.body (gives (and_value v no_value)) tr → EachEvent Q tr → Q (gave (closure home label arity env) vs v)
 
   module _ (E : Atom → Env → m.Tree → Outcome → Trace → Type 0) (all : Everywhere E) (is_kept : IsKept E) where
     all_given : {home : Atom} {env : Env} {ts : m.Trees} {vs : Values} {tr : Trace} → AllGive (E home) env ts vs tr → EachEvent Q tr
@@ -101,9 +106,11 @@ module _ (U : Program) (W : Value → Type 0) (Q : Event → Type 0) (others : I
     stepping home env _ _ _ (step_case {tr = tr} {more = more} x n c) = both_traces Q tr more (all _ _ _ _ _ x) (choosing c)
     stepping home env _ _ _ (step_case_fails x) = all _ _ _ _ _ x
     stepping home env _ _ _ (step_letrec h x) = all _ _ _ _ _ x
-    stepping home env _ _ _ (step_apply_name {k = k} {o = o} {tr = tr} {more = more} n h xs x) = both_traces Q tr (more ++ back_by home k.label o) (all_given xs) (both_traces Q more (back_by home k.label o) (entering x) (coming_back home k.label o))
+    stepping home env _ _ _ (step_apply_name {k = k} {o = o} {tr = tr} {more = more} n h xs x) =
+        both_traces Q tr (more ++ back_by home k.label o) (all_given xs) (both_traces Q more (back_by home k.label o) (entering x) (coming_back home k.label o))
     stepping home env _ _ _ (step_apply_name_raises xs) = all_given xs
-    stepping home env _ _ _ (step_apply {k = k} {c = c} {o = o} {tr = tr} {more = more} n xs x) = both_traces Q tr (applied home k.label c ∷ (more ++ back_by home k.label o)) (all_given xs) (others.of_applied home k.label c, both_traces Q more (back_by home k.label o) (applying x) (coming_back home k.label o))
+    stepping home env _ _ _ (step_apply {k = k} {c = c} {o = o} {tr = tr} {more = more} n xs x) =
+        both_traces Q tr (applied home k.label c ∷ (more ++ back_by home k.label o)) (all_given xs) (others.of_applied home k.label c, both_traces Q more (back_by home k.label o) (applying x) (coming_back home k.label o))
     stepping home env _ _ _ (step_call {k = k} {o = o} {tr = tr} {more = more} xs x) = both_traces Q tr (more ++ back_by home k.label o) (all_given xs) (both_traces Q more (back_by home k.label o) (calling x) (coming_back home k.label o))
     stepping home env _ _ _ (step_call_raises xs) = all_given xs
     stepping home env _ _ _ (step_primop n xs w) = all_given xs

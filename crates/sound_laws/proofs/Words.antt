@@ -86,7 +86,8 @@ pub behind_count : (vs : Values) (w : Value) → count (cells_behind vs w) ≡ i
 behind_count no_value w = refl
 behind_count (and_value v vs) w = cells_count vs w
 
-cell_satisfied : (ss : List ℕ) (es : Values) (w : Value) (r next element tail : ℕ) (b : Assignment) → values_of b ss ≡ es → b tail ≡ w → b r ≡ cons (b element) (linked es w) → values_of b (slots_from next (count (cells es w))) ≡ cells es w → SatRows (cell_rows r next element ss tail) b
+cell_satisfied : (ss : List ℕ) (es : Values) (w : Value) (r next element tail : ℕ) (b : Assignment) → values_of b ss ≡ es → b tail ≡ w → b r ≡ cons (b element) (linked es w)
+    → values_of b (slots_from next (count (cells es w))) ≡ cells es w → SatRows (cell_rows r next element ss tail) b
 cell_satisfied [] no_value w r next element tail b e t h g = (h ∙ ap (cons (b element)) (sym t), tt)
 cell_satisfied [] (and_value v es) w r next element tail b e t h g = absurd cc
 cell_satisfied (s ∷ ss) no_value w r next element tail b e t h g = absurd cc
@@ -95,7 +96,8 @@ cell_satisfied (s ∷ ss) (and_value v es) w r next element tail b e t h g = (
   cell_satisfied ss es w next (next + 1) s tail b (later_values e) t (first_value g ∙ ap (λ z. cons z (linked es w)) (sym (first_value e))) (later_values g),
 )
 
-pub list_satisfied : (ss : List ℕ) (es : Values) (w : Value) (r next tail : ℕ) (b : Assignment) → values_of b ss ≡ es → b tail ≡ w → b r ≡ linked es w → values_of b (slots_from next (count (cells_behind es w))) ≡ cells_behind es w → SatRows (list_rows r next ss tail) b
+pub list_satisfied : (ss : List ℕ) (es : Values) (w : Value) (r next tail : ℕ) (b : Assignment) → values_of b ss ≡ es → b tail ≡ w → b r ≡ linked es w
+    → values_of b (slots_from next (count (cells_behind es w))) ≡ cells_behind es w → SatRows (list_rows r next ss tail) b
 list_satisfied [] no_value w r next tail b e t h g = (h ∙ sym t, tt)
 list_satisfied [] (and_value v es) w r next tail b e t h g = absurd cc
 list_satisfied (s ∷ ss) no_value w r next tail b e t h g = absurd cc

@@ -17,7 +17,8 @@ use sound_laws_whole::known_is_whole;
 /// that is found never to be called isn't entered, in every run of every stage with any fuel. The modules are
 /// accepted, and their names differ.
 pub fn findings_hold()
-    ensures { (xs : List m.Module) (known : Callees) (x : m.Module) → AreAccepted xs → Distinct (module_names xs) → IsWholeOf xs known → Contains xs x → NothingFalse xs known x }
+    ensures { (xs : List m.Module) (known : Callees) (x : m.Module) → AreAccepted xs → Distinct (module_names xs) → IsWholeOf xs known → Contains xs x
+        → NothingFalse xs known x }
 {
     known_is_whole();
     nothing_is_false();

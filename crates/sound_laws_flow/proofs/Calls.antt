@@ -80,7 +80,8 @@ module _ (F : Facts) (T : TypeFacts) (R : SolutionFacts) where
       let given : BifMay name (values_of x.at (slots_from 1 (length ts))) (x.at 0) = subst (λ z. BifMay name z (x.at 0)) (sym x.args) (subst (λ z. BifMay name vs z) (sym x.result) may) in
       part_gives (part_of_row bif 0 (slots_from 1 (length ts)) quiet) v vs ts x (F.built_in name bif 0 (slots_from 1 (length ts)) quiet x.at (ap (looked_up name) many ∙ known) given)
 
-  callee_gives : (P : Knowledge) (c : Callee) (v : Value) (vs : Values) (ts : List Type4) → Allows exported c → HasTypes vs ts → ((s : Summary) → summary_of c ≡ Some s → Within (signature P s) vs v) → GivesOne (by_callee P c ts) v
+  callee_gives : (P : Knowledge) (c : Callee) (v : Value) (vs : Values) (ts : List Type4) → Allows exported c → HasTypes vs ts → ((s : Summary) → summary_of c ≡ Some s → Within (signature P s) vs v)
+      → GivesOne (by_callee P c ts) v
   callee_gives P (Known s) v vs ts a h k = signature_gives (signature P s) v vs ts h (k s refl)
   callee_gives P (Local s) v vs ts a h k = absurd a
   callee_gives P Undefined v vs ts a h k = absurd a
@@ -94,11 +95,13 @@ module _ (F : Facts) (T : TypeFacts) (R : SolutionFacts) where
 
   module _ (U : Program) (W : Value → Type 0) (E : Atom → Env → m.Tree → Outcome → Trace → Type 0) where
     -- a call by a module and a name
-    pub called_gives : {home name : Atom} {vs : Values} {v : Value} {tr : Trace} (P : Knowledge) (ts : List Type4) → IsHonest P U → ((h : Atom) (f : FunName) → P.own h f ≡ false) → Called U W E home name vs (gives (and_value v no_value)) tr → AllBearOut P U tr → HasTypes vs ts → GivesOne (called P home name ts) v
+    pub called_gives : {home name : Atom} {vs : Values} {v : Value} {tr : Trace} (P : Knowledge) (ts : List Type4) → IsHonest P U → ((h : Atom) (f : FunName) → P.own h f ≡ false)
+        → Called U W E home name vs (gives (and_value v no_value)) tr → AllBearOut P U tr → HasTypes vs ts → GivesOne (called P home name ts) v
     called_gives {home} {name} {vs} {v} P ts honest asks x g h =
         subst (λ n. GivesOne (if same_atom home erlang then by_row P.lenient (looked_up name n) ts else by_callee P (P.callee home (function_name name n)) ts) v) (has_length vs ts h) (by x g)
       where
-        by : {tr : Trace} → Called U W E home name vs (gives (and_value v no_value)) tr → AllBearOut P U tr → GivesOne (if same_atom home erlang then by_row P.lenient (looked_up name (count vs)) ts else by_callee P (P.callee home (function_name name (count vs))) ts) v
+        by : {tr : Trace} → Called U W E home name vs (gives (and_value v no_value)) tr → AllBearOut P U tr
+            → GivesOne (if same_atom home erlang then by_row P.lenient (looked_up name (count vs)) ts else by_callee P (P.callee home (function_name name (count vs))) ts) v
         by (call_built_in found_is may w) g =
             subst (λ c. GivesOne (if c then by_row P.lenient (looked_up name (count vs)) ts else by_callee P (P.callee home (function_name name (count vs))) ts) v)
             (sym (is_erlang F P U W honest E (module_named U home) (function_name name (count vs)) (same_atom home erlang) found_is))

@@ -9,7 +9,8 @@ use Rattle.module_flow_state.specs.Scopes.{WalkScope, with_variables}
 use Rattle.module_flow_walk.specs.Walk.{see_given, see_steps, walk}
 use Rattle.module_flow_state.specs.World.{World}
 
-kept_by : (o : Given) (f : List Type4 → Option WalkScope) (inner : WalkScope) (fs : List FunName) (ls : List ℕ) → ((ts : List Type4) → f ts ≡ Some inner → (inner.functions ≡ fs) × (inner.labels ≡ ls)) → see_given o f ≡ Some inner → (inner.functions ≡ fs) × (inner.labels ≡ ls)
+kept_by : (o : Given) (f : List Type4 → Option WalkScope) (inner : WalkScope) (fs : List FunName) (ls : List ℕ) → ((ts : List Type4) → f ts ≡ Some inner → (inner.functions ≡ fs) × (inner.labels ≡ ls))
+    → see_given o f ≡ Some inner → (inner.functions ≡ fs) × (inner.labels ≡ ls)
 kept_by None f inner fs ls h e = absurd cc
 kept_by (Some ts) f inner fs ls h e = h ts e
 

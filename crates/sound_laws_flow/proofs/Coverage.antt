@@ -91,7 +91,8 @@ module _ (U : Program) (callee : Atom → FunName → Callee) (states : Atom →
     pub framed : around ≡ no_variable → ⊥
     pub fine : (ps : List Type4) → parameters_of (states home) label ≡ Some ps → Borne home label walk_scope ps × Results home label walk_scope ps
 
-  pub of_functions : (home : Atom) (sc : WalkScope) (ds : m.Defs) (f : FunName) (d : Local) (ps : List Type4) → FineFunctions (world_of U callee states home) (DeadClause home) (DeadCall home) sc ds → AreAtLabels U home ds → function_named (locals_of ds) f ≡ Some d → parameters_of (states home) d.label ≡ Some ps → Borne home d.label sc ps × Results home d.label sc ps
+  pub of_functions : (home : Atom) (sc : WalkScope) (ds : m.Defs) (f : FunName) (d : Local) (ps : List Type4) → FineFunctions (world_of U callee states home) (DeadClause home) (DeadCall home) sc ds → AreAtLabels U home ds
+      → function_named (locals_of ds) f ≡ Some d → parameters_of (states home) d.label ≡ Some ps → Borne home d.label sc ps × Results home d.label sc ps
   of_functions home sc m.no_def f d ps fine at e p = absurd cc
   of_functions home sc (m.and_def g k xs t ds) f d ps fine at e p = by (same_atom g.name f.name && nat_eq g.arity f.arity) (λ q. of_functions home sc ds f d ps fine.1 at.1 q p) e
     where
@@ -107,7 +108,8 @@ module _ (U : Program) (callee : Atom → FunName → Callee) (states : Atom →
                 subst (λ l. Below (first ts) (result_of (states home) l)) label given,
           )
 
-      by : (b : Bool) → (function_named (locals_of ds) f ≡ Some d → Borne home d.label sc ps × Results home d.label sc ps) → (if b then Some (record { name = g.name; arity = g.arity; label = k.label }) else function_named (locals_of ds) f) ≡ Some d → Borne home d.label sc ps × Results home d.label sc ps
+      by : (b : Bool) → (function_named (locals_of ds) f ≡ Some d → Borne home d.label sc ps × Results home d.label sc ps)
+          → (if b then Some (record { name = g.name; arity = g.arity; label = k.label }) else function_named (locals_of ds) f) ≡ Some d → Borne home d.label sc ps × Results home d.label sc ps
       by true more q = here (ap (λ z. z.label) (same_Some _ _ q))
       by false more q = more q
 
@@ -117,7 +119,8 @@ module _ (U : Program) (callee : Atom → FunName → Callee) (states : Atom →
     of_frame home (and_variable x v env) f c h e = of_frame home env f c h.1 e
     of_frame home (and_frame ls env) f c h e = by (function_named ls f) refl (of_frame home env f c h.0) e
       where
-        by : (o : Option Local) → function_named ls f ≡ o → (local_function home env f ≡ Some c → IsOfFrame home c) → run.or_outer (closure_of home (and_frame ls env) o) (local_function home env f) ≡ Some c → IsOfFrame home c
+        by : (o : Option Local) → function_named ls f ≡ o → (local_function home env f ≡ Some c → IsOfFrame home c) → run.or_outer (closure_of home (and_frame ls env) o) (local_function home env f) ≡ Some c
+            → IsOfFrame home c
         by None q more i = more i
         by (Some d) q more i =
             let ds = h.1.0 in

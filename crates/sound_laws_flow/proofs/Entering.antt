@@ -12,7 +12,8 @@ use Rattle.type_lattice_model.specs.Values.{Value, nil, closure, Values, no_valu
 use Rattle.type_lattice.specs.Types.{Type4, HasType, HasTypes, any}
 use Rattle.bif_types.specs.Results.{BifMay, is_exact}
 use Rattle.cons_tree.specs.Facts.{TypeFacts}
-use Rattle.core_meaning.specs.Meaning.{Outcome, gives, fails, gave, entered, Trace, Enter, enter_gives, enter_fails, Called, call_built_in, call_enters, call_outside, call_raises, Apply, apply_closure, apply_external, apply_foreign, apply_raises}
+use Rattle.core_meaning.specs.Meaning.{Outcome, gives, fails, gave, entered, Trace, Enter, enter_gives, enter_fails, Called, call_built_in}
+use Rattle.core_meaning.specs.Meaning.{call_enters, call_outside, call_raises, Apply, apply_closure, apply_external, apply_foreign, apply_raises}
 use Rattle.core_meaning.specs.Programs.{module_named, function_at, function_named, closure_of, locals_of, top_of_module, top_function, is_exported, exports_in, built_in, exported, hidden, found, found_in}
 use Rattle.module_flow_calls.specs.Functions.{defined_labels, label_named}
 use Rattle.module_flow_state.specs.Scopes.{WalkScope, outermost}
@@ -56,22 +57,27 @@ outermost_seen T home = record {
 module _ (Z : Setting) (E : Atom → Env → m.Tree → Outcome → Trace → Type 0) (each : Invariant Z E) where
   -- a value came back, covered, and of the type that the walk of the body gives
   abbrev pub Came : Atom → ℕ → WalkScope → List Type4 → Outcome → Type 0
-  Came home l sc ps (gives vs) = (v : Value) × ((vs ≡ and_value v no_value) × (IsCov Z v × ((c : LabelledFunction) × ((function_at Z.program home l ≡ Some c) × ((ts : List Type4) × ((walk (V Z home) (see.with_variables sc c.parameters ps) (Exactly 1) c.body ≡ Some ts) × HasType v (first ts)))))))
+  Came home l sc ps (gives vs) = (v : Value) × ((vs ≡ and_value v no_value) × (IsCov Z v
+      × ((c : LabelledFunction) × ((function_at Z.program home l ≡ Some c) × ((ts : List Type4) × ((walk (V Z home) (see.with_variables sc c.parameters ps) (Exactly 1) c.body ≡ Some ts) × HasType v (first ts)))))))
   Came home l sc ps (fails f) = Unit {0}
 
   -- a closure is entered where this is seen around it, with parameters of these types
-  pub entered_with : {home : Atom} {l n : ℕ} {env : Env} {vs : Values} {o : Outcome} {tr : Trace} (sc : WalkScope) (ps : List Type4) → Enter Z.program Z.from E (closure home l n env) vs o tr → IsKnown Z tr → IsCovEnv Z home env → IsSeen home sc env → AreCov Z vs → HasTypes vs (as_many (count vs) ps) → Borne Z home l sc ps → Ok Z (entered (closure home l n env) vs) → AllOk Z tr × Came home l sc ps o
+  pub entered_with : {home : Atom} {l n : ℕ} {env : Env} {vs : Values} {o : Outcome} {tr : Trace} (sc : WalkScope) (ps : List Type4) → Enter Z.program Z.from E (closure home l n env) vs o tr → IsKnown Z tr → IsCovEnv Z home env
+      → IsSeen home sc env → AreCov Z vs → HasTypes vs (as_many (count vs) ps) → Borne Z home l sc ps → Ok Z (entered (closure home l n env) vs) → AllOk Z tr × Came home l sc ps o
   entered_with {home} {l} {n} {env} sc ps (enter_gives {c = c} {vs = vs} {v = v} {tr = tr} a at many x) k ce s cv h f ok =
       let known : IsKnown Z tr = known_front Z tr (gave (closure home l n env) vs v ∷ []) (k.0.1, k.1.1) in
-      let i = each home _ (see.with_variables sc c.parameters ps) _ _ _ (Exactly 1) x known (bound_covered Z.program Z.callee Z.states Z.dead_clause Z.dead_call home c.parameters vs env cv ce) (seen_with Z.types c.parameters vs ps s many (subst (λ j. HasTypes vs (as_many j ps)) (sym many) h)) (f c at) in
+      let i = each home _ (see.with_variables sc c.parameters ps) _ _ _ (Exactly 1) x known (bound_covered Z.program Z.callee Z.states Z.dead_clause Z.dead_call home c.parameters vs env cv ce)
+      (seen_with Z.types c.parameters vs ps s many (subst (λ j. HasTypes vs (as_many j ps)) (sym many) h)) (f c at) in
       let j = i.1.1 refl in
       ((ok, both_ok Z tr (gave (closure home l n env) vs v ∷ []) i.0 (tt, tt)), (v, (refl, (i.1.0.0, (c, (at, (j.0, (j.1.0, first_has v j.0 j.1.1))))))))
   entered_with {home} {l} {n} {env} sc ps (enter_fails {c = c} {vs = vs} {tr = tr} a at many x) k ce s cv h f ok =
-      let i = each home _ (see.with_variables sc c.parameters ps) _ _ _ (Exactly 1) x (k.0.1, k.1.1) (bound_covered Z.program Z.callee Z.states Z.dead_clause Z.dead_call home c.parameters vs env cv ce) (seen_with Z.types c.parameters vs ps s many (subst (λ j. HasTypes vs (as_many j ps)) (sym many) h)) (f c at) in
+      let i = each home _ (see.with_variables sc c.parameters ps) _ _ _ (Exactly 1) x (k.0.1, k.1.1) (bound_covered Z.program Z.callee Z.states Z.dead_clause Z.dead_call home c.parameters vs env cv ce)
+      (seen_with Z.types c.parameters vs ps s many (subst (λ j. HasTypes vs (as_many j ps)) (sym many) h)) (f c at) in
       ((ok, i.0), tt)
 
   -- what comes back is of the state's result
-  pub came_result : (home : Atom) (l : ℕ) (sc : WalkScope) (ps : List Type4) (vs : Values) → Came home l sc ps (gives vs) → Results Z home l sc ps → (v : Value) × ((vs ≡ and_value v no_value) × (IsCov Z v × HasType v (result_of (Z.states home) l)))
+  pub came_result : (home : Atom) (l : ℕ) (sc : WalkScope) (ps : List Type4) (vs : Values) → Came home l sc ps (gives vs) → Results Z home l sc ps
+      → (v : Value) × ((vs ≡ and_value v no_value) × (IsCov Z v × HasType v (result_of (Z.states home) l)))
   came_result home l sc ps vs k r =
       let at = k.1.1.1 in
       let walked = at.1.1 in
@@ -92,7 +98,8 @@ module _ (Z : Setting) (E : Atom → Env → m.Tree → Outcome → Trace → Ty
   enter_arity (enter_fails a at many x) = a
 
   -- a function that its module defines, entered with values of the state's parameters
-  pub top_allowed : (home : Atom) (l n : ℕ) (env : Env) (vs : Values) → ((f : FunName) → top_function Z.program home f ≡ Some (closure home l n env) → (ps : List Type4) × ((parameters_of (Z.states home) l ≡ Some ps) × HasTypes vs ps)) → Ok Z (entered (closure home l n env) vs)
+  pub top_allowed : (home : Atom) (l n : ℕ) (env : Env) (vs : Values) → ((f : FunName) → top_function Z.program home f ≡ Some (closure home l n env)
+      → (ps : List Type4) × ((parameters_of (Z.states home) l ≡ Some ps) × HasTypes vs ps)) → Ok Z (entered (closure home l n env) vs)
   top_allowed home l n env vs h other f label arity around e is =
       let of = of_module Z.program other f home l n env Z.stand is in
       let labels : l ≡ label = ap label_of e in
@@ -100,7 +107,8 @@ module _ (Z : Setting) (E : Atom → Env → m.Tree → Outcome → Trace → Ty
       let r = h f (subst (λ z. top_function Z.program z f ≡ Some (closure home l n env)) (sym homes) is) in
       (r.0, (subst (λ z. parameters_of (Z.states z) label ≡ Some r.0) homes (subst (λ z. parameters_of (Z.states home) z ≡ Some r.0) labels r.1.0), r.1.1))
 
-  closure_entered : {home : Atom} {l n : ℕ} {env : Env} {vs : Values} {o : Outcome} {tr : Trace} → Enter Z.program Z.from E (closure home l n env) vs o tr → IsKnown Z tr → IsCov Z (closure home l n env) → AreCov Z vs → AllOk Z tr × CameOne o
+  closure_entered : {home : Atom} {l n : ℕ} {env : Env} {vs : Values} {o : Outcome} {tr : Trace} → Enter Z.program Z.from E (closure home l n env) vs o tr → IsKnown Z tr → IsCov Z (closure home l n env) → AreCov Z vs
+      → AllOk Z tr × CameOne o
   closure_entered {home} {l} {n} {env} {vs} {o} x k cw cv =
       let position = cw.1.0 in
       let sc = position.0 in
@@ -128,7 +136,8 @@ module _ (Z : Setting) (E : Atom → Env → m.Tree → Outcome → Trace → Ty
       at_name p e None q k = absurd cc
       at_name p e (Some d) q k =
           let once = (Z.settled home).names f in
-          let here : label_named (defined_names (defs_in (module_named Z.program home))) (defined_labels (defs_in (module_named Z.program home))) f ≡ label_found (function_named (locals_of (defs_in (Some p))) f) = subst (λ o. label_named (defined_names (defs_in (module_named Z.program home))) (defined_labels (defs_in (module_named Z.program home))) f ≡ label_found (function_named (locals_of (defs_in o)) f)) e once in
+          let here : label_named (defined_names (defs_in (module_named Z.program home))) (defined_labels (defs_in (module_named Z.program home))) f ≡ label_found (function_named (locals_of (defs_in (Some p))) f) =
+          subst (λ o. label_named (defined_names (defs_in (module_named Z.program home))) (defined_labels (defs_in (module_named Z.program home))) f ≡ label_found (function_named (locals_of (defs_in o)) f)) e once in
           record { label = d.label; arity = d.arity; is = sym (same_Some _ _ k); named = here ∙ ap label_found q }
 
       by : (o : Option m.Module) → module_named Z.program home ≡ o → top_of_module home o f ≡ Some c → IsTop home f c
@@ -136,7 +145,8 @@ module _ (Z : Setting) (E : Atom → Env → m.Tree → Outcome → Trace → Ty
       by (Some p) e k = at_name p e (function_named (locals_of p.defs) f) refl k
 
   -- an exported function may be entered with anything
-  pub export_entered : {w : Value} {vs : Values} {o : Outcome} {tr : Trace} (home : Atom) (f : FunName) → is_exported Z.program home f ≡ true → top_function Z.program home f ≡ Some w → Enter Z.program Z.from E w vs o tr → IsKnown Z tr → AreCov Z vs → AllOk Z tr × CameOne o
+  pub export_entered : {w : Value} {vs : Values} {o : Outcome} {tr : Trace} (home : Atom) (f : FunName) → is_exported Z.program home f ≡ true → top_function Z.program home f ≡ Some w → Enter Z.program Z.from E w vs o tr
+      → IsKnown Z tr → AreCov Z vs → AllOk Z tr × CameOne o
   export_entered {w} {vs} {o} {tr} home f exp is x k cv =
       let t = is_top home f w is in
       let top : top_function Z.program home f ≡ Some (closure home t.label t.arity no_variable) = is ∙ ap Some t.is in

@@ -46,7 +46,9 @@ open_right opens (l ∷ a) b h = open_right opens a b h.1
 
 -- opens: the labels that are open; Has l n: the function at the label l is known to have n parameters; W: what the walk
 -- knows; x: the module
-module _ (opens : List ℕ) (Has : ℕ → ℕ → Type 0) (W : World) (D : ℕ → Type 0) (x : m.Module) (opened : (l n : ℕ) → Has l n → has_label opens l ≡ true → parameters_of W.state l ≡ Some (replicate n any)) (tops : NamesFit Has W.names W.labels) (inner : (s : Scope) (j : Ask) (i : Mark) (ds : m.Defs) (t : m.Tree) → StandsInModule x (expression s j (m.letrec i ds t)) → NamesFit Has (defined_names ds) (defined_labels ds)) (once : (s : Scope) (j : Ask) (i : Mark) (ds : m.Defs) (t : m.Tree) → StandsInModule x (expression s j (m.letrec i ds t)) → NamesOnce ds) where
+module _ (opens : List ℕ) (Has : ℕ → ℕ → Type 0) (W : World) (D : ℕ → Type 0) (x : m.Module) (opened : (l n : ℕ) → Has l n → has_label opens l ≡ true
+    → parameters_of W.state l ≡ Some (replicate n any)) (tops : NamesFit Has W.names W.labels) (inner : (s : Scope) (j : Ask) (i : Mark) (ds : m.Defs) (t : m.Tree) → StandsInModule x (expression s j (m.letrec i ds t))
+    → NamesFit Has (defined_names ds) (defined_labels ds)) (once : (s : Scope) (j : Ask) (i : Mark) (ds : m.Defs) (t : m.Tree) → StandsInModule x (expression s j (m.letrec i ds t)) → NamesOnce ds) where
   -- what is defined where names are looked for as values: the functions of the module, and those of the `letrec`s around
   pub record Sees (es : Defined) (fs : List FunName) (ls : List ℕ) : Type 0 where
     pub paired : length es.names ≡ length es.labels
@@ -100,7 +102,10 @@ module _ (opens : List ℕ) (Has : ℕ → ℕ → Type 0) (W : World) (D : ℕ 
     named (m.listed i ts t) es fs ls h v a = (named_all ts es fs ls (deeper h listed_items) v (left (escapes_all es ts) (escapes es t) a), named t es fs ls (deeper h listed_rest) v (right (escapes_all es ts) (escapes es t) a))
     named (m.tuple i ts) es fs ls h v a = named_all ts es fs ls (deeper h tuple_items) v a
     named (m.new_map i ps) es fs ls h v a = named_pairs ps es fs ls (deeper h new_map_pairs) v a
-    named (m.updated_map i ps t) es fs ls h v a = (named_pairs ps es fs ls (deeper h updated_map_pairs) v (left (escapes_pairs es ps) (escapes es t) a), named t es fs ls (deeper h updated_map_itself) v (right (escapes_pairs es ps) (escapes es t) a))
+    named (m.updated_map i ps t) es fs ls h v a = (
+      named_pairs ps es fs ls (deeper h updated_map_pairs) v (left (escapes_pairs es ps) (escapes es t) a),
+      named t es fs ls (deeper h updated_map_itself) v (right (escapes_pairs es ps) (escapes es t) a),
+    )
     named (m.binary i ss) es fs ls h v a = named_segments ss es fs ls (deeper h binary_segments) v a
     named (m.values i ts) es fs ls h v a = named_all ts es fs ls (deeper h values_items) v a
     named (m.chain i ss t) es fs ls h v a = (named_steps ss es fs ls (deeper h chain_steps) v (left (escapes_steps es ss) (escapes es t) a), named t es fs ls (deeper h chain_end) v (right (escapes_steps es ss) (escapes es t) a))
@@ -108,22 +113,33 @@ module _ (opens : List ℕ) (Has : ℕ → ℕ → Type 0) (W : World) (D : ℕ 
     named (m.letrec i ds t) es fs ls h v a =
         let to = more_seen es fs ls ds (inner _ _ i ds t h) v in
         let a_defs = left (escapes_defs (defining es ds) ds) (escapes (defining es ds) t) a in
-        let a_body = right (escapes_defs (defining es ds) ds) (escapes (defining es ds) t) a in
-        (once _ _ i ds t h, (named_defs ds (defining es ds) (fs ++ defined_names ds) (ls ++ defined_labels ds) (deeper h letrec_definitions) to a_defs, named t (defining es ds) (fs ++ defined_names ds) (ls ++ defined_labels ds) (deeper h letrec_body) to a_body))
+        let a_body = right (escapes_defs (defining es ds) ds) (escapes (defining es ds) t) a in (
+          once _ _ i ds t h,
+          (
+            named_defs ds (defining es ds) (fs ++ defined_names ds) (ls ++ defined_labels ds) (deeper h letrec_definitions) to a_defs,
+            named t (defining es ds) (fs ++ defined_names ds) (ls ++ defined_labels ds) (deeper h letrec_body) to a_body,
+          ),
+        )
     named (m.apply i t ts) es fs ls h v a =
-        let e = unless_name (local_name t) (escapes es t) in
-        (unless_named (local_name t) (escapes es t) (Named W D fs ls t) (λ b. named t es fs ls (deeper h apply_function) v b) (left e (escapes_all es ts) a), named_all ts es fs ls (deeper h apply_arguments) v (right e (escapes_all es ts) a))
+        let e = unless_name (local_name t) (escapes es t) in (
+          unless_named (local_name t) (escapes es t) (Named W D fs ls t) (λ b. named t es fs ls (deeper h apply_function) v b) (left e (escapes_all es ts) a),
+          named_all ts es fs ls (deeper h apply_arguments) v (right e (escapes_all es ts) a),
+        )
     named (m.call i t u ts) es fs ls h v a =
         let b = left (escapes es t ++ escapes es u) (escapes_all es ts) a in
         let both : Named W D fs ls t × Named W D fs ls u = (named t es fs ls (deeper h call_module) v (left (escapes es t) (escapes es u) b), named u es fs ls (deeper h call_name) v (right (escapes es t) (escapes es u) b)) in
         (unless_called (call_names t u) (Named W D fs ls t × Named W D fs ls u) both, named_all ts es fs ls (deeper h call_arguments) v (right (escapes es t ++ escapes es u) (escapes_all es ts) a))
     named (m.primop i x ts) es fs ls h v a = named_all ts es fs ls (deeper h primop_arguments) v a
     named (m.try i t xs u ys w) es fs ls h v a =
-        let b = left (escapes es t ++ escapes es u) (escapes es w) a in
-        (named t es fs ls (deeper h try_argument) v (left (escapes es t) (escapes es u) b), (named u es fs ls (deeper h try_body) v (right (escapes es t) (escapes es u) b), named w es fs ls (deeper h try_handler) v (right (escapes es t ++ escapes es u) (escapes es w) a)))
+        let b = left (escapes es t ++ escapes es u) (escapes es w) a in (
+          named t es fs ls (deeper h try_argument) v (left (escapes es t) (escapes es u) b),
+          (named u es fs ls (deeper h try_body) v (right (escapes es t) (escapes es u) b), named w es fs ls (deeper h try_handler) v (right (escapes es t ++ escapes es u) (escapes es w) a)),
+        )
     named (m.receive i cs t u) es fs ls h v a =
-        let b = left (escapes_clauses es cs ++ escapes es t) (escapes es u) a in
-        (named_clauses cs es fs ls (deeper h receive_clauses) v (left (escapes_clauses es cs) (escapes es t) b), (named t es fs ls (deeper h receive_timeout) v (right (escapes_clauses es cs) (escapes es t) b), named u es fs ls (deeper h receive_action) v (right (escapes_clauses es cs ++ escapes es t) (escapes es u) a)))
+        let b = left (escapes_clauses es cs ++ escapes es t) (escapes es u) a in (
+          named_clauses cs es fs ls (deeper h receive_clauses) v (left (escapes_clauses es cs) (escapes es t) b),
+          (named t es fs ls (deeper h receive_timeout) v (right (escapes_clauses es cs) (escapes es t) b), named u es fs ls (deeper h receive_action) v (right (escapes_clauses es cs ++ escapes es t) (escapes es u) a)),
+        )
     named (m.catch i t) es fs ls h v a = named t es fs ls (deeper h catch_argument) v a
 
     named_all : (ts : m.Trees) (es : Defined) (fs : List FunName) (ls : List ℕ) {s : Scope} → StandsInModule x (expressions s ts) → Sees es fs ls → Open (escapes_all es ts) → NamedAll W D fs ls ts
@@ -133,14 +149,18 @@ module _ (opens : List ℕ) (Has : ℕ → ℕ → Type 0) (W : World) (D : ℕ 
     named_pairs : (ps : m.Pairs) (es : Defined) (fs : List FunName) (ls : List ℕ) {s : Scope} → StandsInModule x (pairs s ps) → Sees es fs ls → Open (escapes_pairs es ps) → NamedPairs W D fs ls ps
     named_pairs m.no_pair es fs ls h v a = tt
     named_pairs (m.and_pair exact t u ps) es fs ls h v a =
-        let b = left (escapes es t ++ escapes es u) (escapes_pairs es ps) a in
-        (named t es fs ls (deeper h first_key) v (left (escapes es t) (escapes es u) b), (named u es fs ls (deeper h first_value) v (right (escapes es t) (escapes es u) b), named_pairs ps es fs ls (deeper h other_pairs) v (right (escapes es t ++ escapes es u) (escapes_pairs es ps) a)))
+        let b = left (escapes es t ++ escapes es u) (escapes_pairs es ps) a in (
+          named t es fs ls (deeper h first_key) v (left (escapes es t) (escapes es u) b),
+          (named u es fs ls (deeper h first_value) v (right (escapes es t) (escapes es u) b), named_pairs ps es fs ls (deeper h other_pairs) v (right (escapes es t ++ escapes es u) (escapes_pairs es ps) a)),
+        )
 
     named_segments : (ss : m.Segments) (es : Defined) (fs : List FunName) (ls : List ℕ) {s : Scope} → StandsInModule x (segments s ss) → Sees es fs ls → Open (escapes_segments es ss) → NamedSegments W D fs ls ss
     named_segments m.no_segment es fs ls h v a = tt
     named_segments (m.and_segment t ts ss) es fs ls h v a =
-        let b = left (escapes es t ++ escapes_all es ts) (escapes_segments es ss) a in
-        (named t es fs ls (deeper h first_segment) v (left (escapes es t) (escapes_all es ts) b), (named_all ts es fs ls (deeper h segment_arguments) v (right (escapes es t) (escapes_all es ts) b), named_segments ss es fs ls (deeper h other_segments) v (right (escapes es t ++ escapes_all es ts) (escapes_segments es ss) a)))
+        let b = left (escapes es t ++ escapes_all es ts) (escapes_segments es ss) a in (
+          named t es fs ls (deeper h first_segment) v (left (escapes es t) (escapes_all es ts) b),
+          (named_all ts es fs ls (deeper h segment_arguments) v (right (escapes es t) (escapes_all es ts) b), named_segments ss es fs ls (deeper h other_segments) v (right (escapes es t ++ escapes_all es ts) (escapes_segments es ss) a)),
+        )
 
     named_steps : (ss : m.Steps) (es : Defined) (fs : List FunName) (ls : List ℕ) {s : Scope} → StandsInModule x (steps s ss) → Sees es fs ls → Open (escapes_steps es ss) → NamedSteps W D fs ls ss
     named_steps m.no_step es fs ls h v a = tt
@@ -153,9 +173,15 @@ module _ (opens : List ℕ) (Has : ℕ → ℕ → Type 0) (W : World) (D : ℕ 
         let b = left (escapes_patterns es ps ++ escapes es g ++ escapes es t) (escapes_clauses es cs) a in
         let c = left (escapes_patterns es ps ++ escapes es g) (escapes es t) b in (
           named g es fs ls (deeper h clause_guard) v (right (escapes_patterns es ps) (escapes es g) c),
-          (named t es fs ls (deeper h clause_body) v (right (escapes_patterns es ps ++ escapes es g) (escapes es t) b), named_clauses cs es fs ls (deeper h other_clauses) v (right (escapes_patterns es ps ++ escapes es g ++ escapes es t) (escapes_clauses es cs) a)),
+          (
+            named t es fs ls (deeper h clause_body) v (right (escapes_patterns es ps ++ escapes es g) (escapes es t) b),
+            named_clauses cs es fs ls (deeper h other_clauses) v (right (escapes_patterns es ps ++ escapes es g ++ escapes es t) (escapes_clauses es cs) a),
+          ),
         )
 
     pub named_defs : (ds : m.Defs) (es : Defined) (fs : List FunName) (ls : List ℕ) {s : Scope} → StandsInModule x (definitions s ds) → Sees es fs ls → Open (escapes_defs es ds) → NamedDefs W D fs ls ds
     named_defs m.no_def es fs ls h v a = tt
-    named_defs (m.and_def f i xs t ds) es fs ls h v a = (named t es fs ls (deeper h definition_body) v (left (escapes es t) (escapes_defs es ds) a), named_defs ds es fs ls (deeper h other_definitions) v (right (escapes es t) (escapes_defs es ds) a))
+    named_defs (m.and_def f i xs t ds) es fs ls h v a = (
+      named t es fs ls (deeper h definition_body) v (left (escapes es t) (escapes_defs es ds) a),
+      named_defs ds es fs ls (deeper h other_definitions) v (right (escapes es t) (escapes_defs es ds) a),
+    )

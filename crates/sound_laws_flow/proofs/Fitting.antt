@@ -28,7 +28,8 @@ use Rattle.module_flow_calls.specs.TypeLists.{Given, where_given, first}
 use Rattle.module_flow_state.specs.Applications.{inner_or, enters_resolved, enters}
 use Rattle.module_flow_walk.specs.Clauses.{patterns_solved, head_solved, inside}
 use Rattle.module_flow_calls.specs.Functions.{defined_labels, label_named}
-use Rattle.module_flow_walk.specs.Contributions.{listed_by, where_entered, where_limited, where_seen, where_solved, contributions, contributions_of_all, contributions_of_pairs, contributions_of_segments, contributions_of_steps, contributions_of_clauses, contributions_of_functions}
+use Rattle.module_flow_walk.specs.Contributions.{listed_by, where_entered, where_limited, where_seen, where_solved, contributions, contributions_of_all, contributions_of_pairs}
+use Rattle.module_flow_walk.specs.Contributions.{contributions_of_segments, contributions_of_steps, contributions_of_clauses, contributions_of_functions}
 use Rattle.module_flow_state.specs.States.{returns, parameters_of}
 use Rattle.module_flow_state.specs.Scopes.{WalkScope, with_functions, with_variables}
 use Rattle.module_flow_walk.specs.Walk.{matched_slots, seen_by_clauses, seen_by_messages, see_steps, walk, walk_all}
@@ -117,7 +118,8 @@ module _ (Has : ℕ → ℕ → Type 0) where
 
 -- Has l n: the function at the label l is known to have n parameters; W: what the walk knows; x: the module, all of
 -- whose functions are known, those of `letrec`s too
-module _ (Has : ℕ → ℕ → Type 0) (W : World) (x : m.Module) (tops : NamesFit Has W.names W.labels) (inner : (s : Scope) (j : Ask) (i : Mark) (ds : m.Defs) (t : m.Tree) → StandsInModule x (expression s j (m.letrec i ds t)) → NamesFit Has (defined_names ds) (defined_labels ds)) where
+module _ (Has : ℕ → ℕ → Type 0) (W : World) (x : m.Module) (tops : NamesFit Has W.names W.labels) (inner : (s : Scope) (j : Ask) (i : Mark) (ds : m.Defs) (t : m.Tree) → StandsInModule x (expression s j (m.letrec i ds t))
+    → NamesFit Has (defined_names ds) (defined_labels ds)) where
   abbrev Fit : List Contribution → Type 0
   Fit gs = AllFit Has gs
 
@@ -136,7 +138,8 @@ module _ (Has : ℕ → ℕ → Type 0) (W : World) (x : m.Module) (tops : Names
   enters_fit sc f ts s = by (eqb f.arity (length ts)) refl
     where
       by : (b : Bool) → eqb f.arity (length ts) ≡ b → Fit (cond b (enters_resolved (inner_or (label_named sc.functions sc.labels f) (label_named W.names W.labels f)) ts) [])
-      by true e = resolved_fits f ts (label_named sc.functions sc.labels f) (label_named W.names W.labels f) (λ l q. named_fits Has sc.functions sc.labels f l s q) (λ l q. named_fits Has W.names W.labels f l tops q) (eqb-true f.arity (length ts) e)
+      by true e = resolved_fits f ts (label_named sc.functions sc.labels f) (label_named W.names W.labels f) (λ l q. named_fits Has sc.functions sc.labels f l s q) (λ l q. named_fits Has W.names W.labels f l tops q)
+          (eqb-true f.arity (length ts) e)
       by false e = tt
 
   returns_fit : (l n : ℕ) (g : Given) → Has l n → Fit (returns l g)
@@ -161,12 +164,14 @@ module _ (Has : ℕ → ℕ → Type 0) (W : World) (x : m.Module) (tops : Names
         let kept = steps_keep W sc ss to e in
         fit t to k (deeper h chain_end) (subst (λ z. NamesFit Has z to.labels) (sym kept.0) (subst (λ z. NamesFit Has sc.functions z) (sym kept.1) s))))
     fit (m.case i t cs) sc k h s =
-        both (contributions W sc (Exactly (width cs)) t) (where_given (walk W sc (Exactly (width cs)) t) (λ ts. contributions_of_clauses W (seen_by_clauses sc cs ts) k (matched_slots sc t cs) cs)) (fit t sc (Exactly (width cs)) (deeper h case_argument) s)
+        both (contributions W sc (Exactly (width cs)) t) (where_given (walk W sc (Exactly (width cs)) t) (λ ts. contributions_of_clauses W (seen_by_clauses sc cs ts) k (matched_slots sc t cs) cs))
+        (fit t sc (Exactly (width cs)) (deeper h case_argument) s)
         (fit_given Has (walk W sc (Exactly (width cs)) t) _ (λ ts. fit_clauses cs (seen_by_clauses sc cs ts) k (matched_slots sc t cs) (deeper h case_clauses) s))
     fit (m.letrec i ds t) sc k h s =
         let defined = inner _ _ i ds t h in
         let seen = fit_behind Has sc.functions (defined_names ds) sc.labels (defined_labels ds) s defined in
-        both (contributions_of_functions W (with_functions sc ds) ds) (contributions W (with_functions sc ds) k t) (fit_functions ds (with_functions sc ds) (deeper h letrec_definitions) seen defined) (fit t (with_functions sc ds) k (deeper h letrec_body) seen)
+        both (contributions_of_functions W (with_functions sc ds) ds) (contributions W (with_functions sc ds) k t) (fit_functions ds (with_functions sc ds) (deeper h letrec_definitions) seen defined)
+        (fit t (with_functions sc ds) k (deeper h letrec_body) seen)
     fit (m.apply i t ts) sc k h s =
         fit_listed Has (local_name t) (λ f. contributions_of_all W sc ts ++ where_given (walk_all W sc ts) (λ us. enters W sc f us)) (contributions W sc one_value t ++ contributions_of_all W sc ts)
         (λ f. both (contributions_of_all W sc ts) (where_given (walk_all W sc ts) (λ us. enters W sc f us)) (fit_all ts sc (deeper h apply_arguments) s) (fit_given Has (walk_all W sc ts) _ (λ us. enters_fit sc f us s)))
@@ -174,15 +179,19 @@ module _ (Has : ℕ → ℕ → Type 0) (W : World) (x : m.Module) (tops : Names
     fit (m.call i t u ts) sc k h s =
         fit_listed Has (call_names t u) (λ names. contributions_of_all W sc ts) (contributions W sc one_value t ++ contributions W sc one_value u ++ contributions_of_all W sc ts)
         (λ names. fit_all ts sc (deeper h call_arguments) s)
-        (both (contributions W sc one_value t ++ contributions W sc one_value u) (contributions_of_all W sc ts) (both (contributions W sc one_value t) (contributions W sc one_value u) (fit t sc one_value (deeper h call_module) s) (fit u sc one_value (deeper h call_name) s)) (fit_all ts sc (deeper h call_arguments) s))
+        (both (contributions W sc one_value t ++ contributions W sc one_value u) (contributions_of_all W sc ts)
+        (both (contributions W sc one_value t) (contributions W sc one_value u) (fit t sc one_value (deeper h call_module) s) (fit u sc one_value (deeper h call_name) s)) (fit_all ts sc (deeper h call_arguments) s))
     fit (m.primop i x ts) sc k h s = fit_all ts sc (deeper h primop_arguments) s
     fit (m.try i t xs u ys w) sc k h s =
         both (contributions W sc (Exactly (length xs)) t ++ where_given (walk W sc (Exactly (length xs)) t) (λ ts. contributions W (with_variables sc xs ts) k u)) (contributions W (with_variables sc ys []) k w)
-        (both (contributions W sc (Exactly (length xs)) t) (where_given (walk W sc (Exactly (length xs)) t) (λ ts. contributions W (with_variables sc xs ts) k u)) (fit t sc (Exactly (length xs)) (deeper h try_argument) s) (fit_given Has (walk W sc (Exactly (length xs)) t) _ (λ ts. fit u (with_variables sc xs ts) k (deeper h try_body) s)))
+        (both (contributions W sc (Exactly (length xs)) t) (where_given (walk W sc (Exactly (length xs)) t) (λ ts. contributions W (with_variables sc xs ts) k u)) (fit t sc (Exactly (length xs)) (deeper h try_argument) s)
+        (fit_given Has (walk W sc (Exactly (length xs)) t) _ (λ ts. fit u (with_variables sc xs ts) k (deeper h try_body) s)))
         (fit w (with_variables sc ys []) k (deeper h try_handler) s)
     fit (m.receive i cs t u) sc k h s =
-        both (contributions W sc one_value t) (where_given (walk W sc one_value t) (λ limit. contributions_of_clauses W (seen_by_messages sc) k (length sc.types ∷ []) cs ++ where_limited limit (contributions W sc k u))) (fit t sc one_value (deeper h receive_timeout) s)
-        (fit_given Has (walk W sc one_value t) _ (λ limit. both (contributions_of_clauses W (seen_by_messages sc) k (length sc.types ∷ []) cs) (where_limited limit (contributions W sc k u)) (fit_clauses cs (seen_by_messages sc) k (length sc.types ∷ []) (deeper h receive_clauses) s) (fit_limited Has limit (contributions W sc k u) (fit u sc k (deeper h receive_action) s))))
+        both (contributions W sc one_value t) (where_given (walk W sc one_value t) (λ limit. contributions_of_clauses W (seen_by_messages sc) k (length sc.types ∷ []) cs ++ where_limited limit (contributions W sc k u)))
+        (fit t sc one_value (deeper h receive_timeout) s)
+        (fit_given Has (walk W sc one_value t) _ (λ limit. both (contributions_of_clauses W (seen_by_messages sc) k (length sc.types ∷ []) cs) (where_limited limit (contributions W sc k u))
+        (fit_clauses cs (seen_by_messages sc) k (length sc.types ∷ []) (deeper h receive_clauses) s) (fit_limited Has limit (contributions W sc k u) (fit u sc k (deeper h receive_action) s))))
     fit (m.catch i t) sc k h s = fit t sc one_value (deeper h catch_argument) s
 
     fit_all : (ts : m.Trees) (sc : WalkScope) {s : Scope} → StandsInModule x (expressions s ts) → Seen sc → Fit (contributions_of_all W sc ts)
@@ -192,12 +201,14 @@ module _ (Has : ℕ → ℕ → Type 0) (W : World) (x : m.Module) (tops : Names
     fit_pairs : (ps : m.Pairs) (sc : WalkScope) {s : Scope} → StandsInModule x (pairs s ps) → Seen sc → Fit (contributions_of_pairs W sc ps)
     fit_pairs m.no_pair sc h s = tt
     fit_pairs (m.and_pair exact t u ps) sc h s =
-        both (contributions W sc one_value t ++ contributions W sc one_value u) (contributions_of_pairs W sc ps) (both (contributions W sc one_value t) (contributions W sc one_value u) (fit t sc one_value (deeper h first_key) s) (fit u sc one_value (deeper h first_value) s)) (fit_pairs ps sc (deeper h other_pairs) s)
+        both (contributions W sc one_value t ++ contributions W sc one_value u) (contributions_of_pairs W sc ps)
+        (both (contributions W sc one_value t) (contributions W sc one_value u) (fit t sc one_value (deeper h first_key) s) (fit u sc one_value (deeper h first_value) s)) (fit_pairs ps sc (deeper h other_pairs) s)
 
     fit_segments : (ss : m.Segments) (sc : WalkScope) {s : Scope} → StandsInModule x (segments s ss) → Seen sc → Fit (contributions_of_segments W sc ss)
     fit_segments m.no_segment sc h s = tt
     fit_segments (m.and_segment t ts ss) sc h s =
-        both (contributions W sc one_value t ++ contributions_of_all W sc ts) (contributions_of_segments W sc ss) (both (contributions W sc one_value t) (contributions_of_all W sc ts) (fit t sc one_value (deeper h first_segment) s) (fit_all ts sc (deeper h segment_arguments) s)) (fit_segments ss sc (deeper h other_segments) s)
+        both (contributions W sc one_value t ++ contributions_of_all W sc ts) (contributions_of_segments W sc ss)
+        (both (contributions W sc one_value t) (contributions_of_all W sc ts) (fit t sc one_value (deeper h first_segment) s) (fit_all ts sc (deeper h segment_arguments) s)) (fit_segments ss sc (deeper h other_segments) s)
 
     fit_steps : (ss : m.Steps) (sc : WalkScope) {s : Scope} → StandsInModule x (steps s ss) → Seen sc → Fit (contributions_of_steps W sc ss)
     fit_steps m.no_step sc h s = tt
@@ -205,12 +216,14 @@ module _ (Has : ℕ → ℕ → Type 0) (W : World) (x : m.Module) (tops : Names
         both (contributions W sc (Exactly (length xs)) u) (where_given (walk W sc (Exactly (length xs)) u) (λ us. contributions_of_steps W (with_variables sc xs us) ss)) (fit u sc (Exactly (length xs)) (deeper h let_argument) s)
         (fit_given Has (walk W sc (Exactly (length xs)) u) _ (λ us. fit_steps ss (with_variables sc xs us) (deeper h after_let) s))
     fit_steps (m.and_do i u ss) sc h s =
-        both (contributions W sc AnyNumber u) (where_given (walk W sc AnyNumber u) (λ us. contributions_of_steps W sc ss)) (fit u sc AnyNumber (deeper h do_argument) s) (fit_given Has (walk W sc AnyNumber u) _ (λ us. fit_steps ss sc (deeper h after_do) s))
+        both (contributions W sc AnyNumber u) (where_given (walk W sc AnyNumber u) (λ us. contributions_of_steps W sc ss)) (fit u sc AnyNumber (deeper h do_argument) s)
+        (fit_given Has (walk W sc AnyNumber u) _ (λ us. fit_steps ss sc (deeper h after_do) s))
 
     fit_clauses : (cs : m.Clauses) (sc : WalkScope) (k : Ask) (qs : List ℕ) {s : Scope} {j : Ask} {n : ℕ} → StandsInModule x (clauses s j n cs) → Seen sc → Fit (contributions_of_clauses W sc k qs cs)
     fit_clauses m.no_clause sc k qs h s = tt
     fit_clauses (m.and_clause i ps g t cs) sc k qs h s =
-        both (where_solved (patterns_solved sc qs ps g) (λ solved. contributions W (inside sc ps solved) one_value g) ++ where_solved (head_solved W sc qs ps g) (λ solved. contributions W (inside sc ps solved) k t)) (contributions_of_clauses W sc k qs cs)
+        both (where_solved (patterns_solved sc qs ps g) (λ solved. contributions W (inside sc ps solved) one_value g) ++ where_solved (head_solved W sc qs ps g) (λ solved. contributions W (inside sc ps solved) k t))
+        (contributions_of_clauses W sc k qs cs)
         (both (where_solved (patterns_solved sc qs ps g) (λ solved. contributions W (inside sc ps solved) one_value g)) (where_solved (head_solved W sc qs ps g) (λ solved. contributions W (inside sc ps solved) k t))
         (fit_solved Has (patterns_solved sc qs ps g) _ (λ solved. fit g (inside sc ps solved) one_value (deeper h clause_guard) s))
         (fit_solved Has (head_solved W sc qs ps g) _ (λ solved. fit t (inside sc ps solved) k (deeper h clause_body) s)))
@@ -220,5 +233,6 @@ module _ (Has : ℕ → ℕ → Type 0) (W : World) (x : m.Module) (tops : Names
     fit_functions m.no_def sc h s d = tt
     fit_functions (m.and_def f i xs t ds) sc h s d =
         both (where_entered (parameters_of W.state i.label) (λ ts. contributions W (with_variables sc xs ts) one_value t ++ returns i.label (walk W (with_variables sc xs ts) one_value t))) (contributions_of_functions W sc ds)
-        (fit_entered Has (parameters_of W.state i.label) _ (λ ts. both (contributions W (with_variables sc xs ts) one_value t) (returns i.label (walk W (with_variables sc xs ts) one_value t)) (fit t (with_variables sc xs ts) one_value (deeper h definition_body) s) (returns_fit i.label f.arity (walk W (with_variables sc xs ts) one_value t) d.0)))
+        (fit_entered Has (parameters_of W.state i.label) _ (λ ts. both (contributions W (with_variables sc xs ts) one_value t) (returns i.label (walk W (with_variables sc xs ts) one_value t))
+        (fit t (with_variables sc xs ts) one_value (deeper h definition_body) s) (returns_fit i.label f.arity (walk W (with_variables sc xs ts) one_value t) d.0)))
         (fit_functions ds sc (deeper h other_definitions) s d.1)

@@ -22,7 +22,8 @@ use Rattle.cons_tree.specs.Named.{naturals}
 use Rattle.core_meaning.specs.Programs.{AreAtLabels, IsAtLabel, locals_of, top_function}
 use Rattle.core_meaning.specs.Environments.{value_of, local_function, function_of, or_outer, with_variables}
 use Rattle.core_meaning.specs.Matching.{LiteralIs}
-use Rattle.core_meaning.specs.Meaning.{Failure, raised, stopped, Outcome, gives, fails, Trace, chosen, applied, with_last, in_pairs, in_segments, list_value, IsMadeOf, AreOutside, back_by, AllGive, give_next, Chained, chain_ends, let_gives, let_fails, do_gives, do_fails}
+use Rattle.core_meaning.specs.Meaning.{Failure, raised, stopped, Outcome, gives, fails, Trace, chosen, applied, with_last, in_pairs, in_segments, list_value}
+use Rattle.core_meaning.specs.Meaning.{IsMadeOf, AreOutside, back_by, AllGive, give_next, Chained, chain_ends, let_gives, let_fails, do_gives, do_fails}
 use Rattle.core_meaning.specs.Meaning.{Choose, choose_none, choose_missed, choose_refused, choose_raised, choose_failed, choose_this, Apply, Called}
 use Rattle.cons_gen_rows.specs.Counts.{whatever_asked, call_names}
 use Rattle.cons_gen_rows.specs.Words.{function_type, literal_type}
@@ -82,11 +83,13 @@ module _ (Z : Setting) where
   module _ (E : Atom → Env → m.Tree → Outcome → Trace → Type 0) (each : Invariant Z E) (home : Atom) where
     -- ---- forms without parts
 
-    pub variable_inv : {env : Env} (i : Mark) (x : Atom) (v : Value) (sc : WalkScope) (k : Ask) → value_of env x ≡ Some v → IsCovEnv Z home env → IsSeen home sc env → Result Z k (walk (V Z home) sc k (m.variable i x)) (gives (and_value v no_value))
+    pub variable_inv : {env : Env} (i : Mark) (x : Atom) (v : Value) (sc : WalkScope) (k : Ask) → value_of env x ≡ Some v → IsCovEnv Z home env → IsSeen home sc env
+        → Result Z k (walk (V Z home) sc k (m.variable i x)) (gives (and_value v no_value))
     variable_inv {env} i x v sc k e c s =
         let at = s.stands.variables x v e in
         let t = type_at sc.types at.0 in
-        gives_one k t (of_variable (type_of sc x)) v (value_covered Z.program Z.callee Z.states Z.dead_clause Z.dead_call home env x v c e) (subst (λ z. HasType z t) at.1.1.1 (s.inside at.0)) (ap (λ o. of_variable (type_of_slot sc.types o)) at.1.0)
+        gives_one k t (of_variable (type_of sc x)) v (value_covered Z.program Z.callee Z.states Z.dead_clause Z.dead_call home env x v c e) (subst (λ z. HasType z t) at.1.1.1 (s.inside at.0))
+        (ap (λ o. of_variable (type_of_slot sc.types o)) at.1.0)
 
     literal_covered : (l : Literal) (v : Value) → LiteralIs l v → IsCov Z v
     literal_covered (l.Int n) v h = subst (IsCov Z) (sym h) tt
@@ -97,7 +100,8 @@ module _ (Z : Setting) where
     pub literal_inv : (i : Mark) (l : Literal) (v : Value) (sc : WalkScope) (k : Ask) → LiteralIs l v → Result Z k (walk (V Z home) sc k (m.literal i l)) (gives (and_value v no_value))
     literal_inv i l v sc k h = gives_one k (literal_type l) (value (literal_type l)) v (literal_covered l v h) (literal_in Z.facts l v h) refl
 
-    pub function_inv : {env : Env} (i : Mark) (xs : List VarName) (t : m.Tree) (sc : WalkScope) (k : Ask) → IsAtLabel Z.program home i None xs t → IsCovEnv Z home env → IsSeen home sc env → FineAt Z home sc k (m.function i xs t) → IsCov Z (closure home i.label (length xs) env)
+    pub function_inv : {env : Env} (i : Mark) (xs : List VarName) (t : m.Tree) (sc : WalkScope) (k : Ask) → IsAtLabel Z.program home i None xs t → IsCovEnv Z home env → IsSeen home sc env → FineAt Z home sc k (m.function i xs t)
+        → IsCov Z (closure home i.label (length xs) env)
     function_inv {env} i xs t sc k at c s fine = (
       c,
       (
@@ -108,9 +112,11 @@ module _ (Z : Setting) where
 
     -- the name of a function, as a value
     open_borne : (l n : ℕ) (sc : WalkScope) → Borne Z home l sc (replicate n any) → Borne Z home l sc []
-    open_borne l n sc h d at = subst (λ ts. FineAt Z home (record { variables = (see.with_variables sc d.parameters []).variables; functions = sc.functions; labels = sc.labels; types = sc.types ++ ts }) (Exactly 1) d.body) (as_many_open (length d.parameters) n) (h d at)
+    open_borne l n sc h d at = subst (λ ts. FineAt Z home (record { variables = (see.with_variables sc d.parameters []).variables; functions = sc.functions; labels = sc.labels; types = sc.types ++ ts }) (Exactly 1) d.body)
+        (as_many_open (length d.parameters) n) (h d at)
 
-    pub name_inv : {env : Env} (f : FunName) (c : Value) (sc : WalkScope) → function_of Z.program home env f ≡ Some c → IsCovEnv Z home env → IsSeen home sc env → FineName (V Z home) (Z.dead_clause home) (Z.dead_call home) (resolved_name (V Z home) sc f) f → IsCov Z c
+    pub name_inv : {env : Env} (f : FunName) (c : Value) (sc : WalkScope) → function_of Z.program home env f ≡ Some c → IsCovEnv Z home env → IsSeen home sc env
+        → FineName (V Z home) (Z.dead_clause home) (Z.dead_call home) (resolved_name (V Z home) sc f) f → IsCov Z c
     name_inv {env} f c sc is ce s fine = by (local_function home env f) refl is
       where
         by : (z : Option Value) → local_function home env f ≡ z → or_outer z (top_function Z.program home f) ≡ Some c → IsCov Z c
@@ -135,30 +141,42 @@ module _ (Z : Setting) where
 
     -- ---- forms that give one value of their parts
 
-    pub list_inv : {env : Env} {vs : Values} {tr : Trace} (i : Mark) (ts : m.Trees) (t : m.Tree) (sc : WalkScope) (k : Ask) → AllGive (E home) env (with_last ts t) vs tr → IsKnown Z tr → IsCovEnv Z home env → IsSeen home sc env → FineAt Z home sc k (m.listed i ts t) → AllOk Z tr × Result Z k (walk (V Z home) sc k (m.listed i ts t)) (gives (and_value (list_value vs) no_value))
+    pub list_inv : {env : Env} {vs : Values} {tr : Trace} (i : Mark) (ts : m.Trees) (t : m.Tree) (sc : WalkScope) (k : Ask) → AllGive (E home) env (with_last ts t) vs tr → IsKnown Z tr → IsCovEnv Z home env → IsSeen home sc env
+        → FineAt Z home sc k (m.listed i ts t) → AllOk Z tr × Result Z k (walk (V Z home) sc k (m.listed i ts t)) (gives (and_value (list_value vs) no_value))
     list_inv {vs = vs} i ts t sc k xs kn c s fine =
         let g = all_given Z E each home sc xs kn c s (fine_last (V Z home) (Z.dead_clause home) (Z.dead_call home) sc ts t fine.0 fine.1) in
         let w = last_walked (V Z home) sc ts t g.1.1.0 g.1.1.1.0 in
         let u = list_type w.elements (first w.last) in (
           g.0,
-          gives_one k u (walk (V Z home) sc k (m.listed i ts t)) (list_value vs) (list_covered Z.program Z.callee Z.states Z.dead_clause Z.dead_call vs g.1.0) (list_has Z.types w.elements (first w.last) vs (subst (HasTypes vs) w.are g.1.1.1.1))
+          gives_one k u (walk (V Z home) sc k (m.listed i ts t)) (list_value vs) (list_covered Z.program Z.callee Z.states Z.dead_clause Z.dead_call vs g.1.0)
+              (list_has Z.types w.elements (first w.last) vs (subst (HasTypes vs) w.are g.1.1.1.1))
               (then_is (walk_all (V Z home) sc ts) w.elements (λ hs. then (walk (V Z home) sc (Exactly 1) t) (λ us. value (list_type hs (first us)))) (Some (u ∷ [])) w.walked
               (then_is (walk (V Z home) sc (Exactly 1) t) w.last (λ us. value (list_type w.elements (first us))) (Some (u ∷ [])) w.walked_last refl)),
         )
 
-    pub tuple_inv : {env : Env} {vs : Values} {tr : Trace} (i : Mark) (ts : m.Trees) (sc : WalkScope) (k : Ask) → AllGive (E home) env ts vs tr → IsKnown Z tr → IsCovEnv Z home env → IsSeen home sc env → FineTrees Z home sc ts → AllOk Z tr × Result Z k (walk (V Z home) sc k (m.tuple i ts)) (gives (and_value (tuple_value vs) no_value))
+    pub tuple_inv : {env : Env} {vs : Values} {tr : Trace} (i : Mark) (ts : m.Trees) (sc : WalkScope) (k : Ask) → AllGive (E home) env ts vs tr → IsKnown Z tr → IsCovEnv Z home env → IsSeen home sc env → FineTrees Z home sc ts
+        → AllOk Z tr × Result Z k (walk (V Z home) sc k (m.tuple i ts)) (gives (and_value (tuple_value vs) no_value))
     tuple_inv {vs = vs} i ts sc k xs kn c s fine =
         let g = all_given Z E each home sc xs kn c s fine in
-        let us = g.1.1.0 in
-        (g.0, gives_one k (tuple us) (walk (V Z home) sc k (m.tuple i ts)) (tuple_value vs) g.1.0 (Z.types.tuple_has us vs g.1.1.1.1) (then_is (walk_all (V Z home) sc ts) us (λ us. value (tuple us)) (Some (tuple us ∷ [])) g.1.1.1.0 refl))
+        let us = g.1.1.0 in (
+          g.0,
+          gives_one k (tuple us) (walk (V Z home) sc k (m.tuple i ts)) (tuple_value vs) g.1.0 (Z.types.tuple_has us vs g.1.1.1.1)
+              (then_is (walk_all (V Z home) sc ts) us (λ us. value (tuple us)) (Some (tuple us ∷ [])) g.1.1.1.0 refl),
+        )
 
-    pub new_map_inv : {env : Env} {vs : Values} {tr : Trace} (i : Mark) (ps : m.Pairs) (qs : ValuePairs) (sc : WalkScope) (k : Ask) → AllGive (E home) env (in_pairs ps) vs tr → IsMadeOf vs no_pair qs → IsKnown Z tr → IsCovEnv Z home env → IsSeen home sc env → FineAt Z home sc k (m.new_map i ps) → AllOk Z tr × Result Z k (walk (V Z home) sc k (m.new_map i ps)) (gives (and_value (map_value qs) no_value))
+    pub new_map_inv : {env : Env} {vs : Values} {tr : Trace} (i : Mark) (ps : m.Pairs) (qs : ValuePairs) (sc : WalkScope) (k : Ask) → AllGive (E home) env (in_pairs ps) vs tr → IsMadeOf vs no_pair qs → IsKnown Z tr
+        → IsCovEnv Z home env → IsSeen home sc env → FineAt Z home sc k (m.new_map i ps) → AllOk Z tr × Result Z k (walk (V Z home) sc k (m.new_map i ps)) (gives (and_value (map_value qs) no_value))
     new_map_inv {vs = vs} i ps qs sc k xs of kn c s fine =
         let g = all_given Z E each home sc xs kn c s (fine_pairs (V Z home) (Z.dead_clause home) (Z.dead_call home) sc ps fine) in
-        let w = pairs_walked (V Z home) sc ps g.1.1.0 g.1.1.1.0 in
-        (g.0, gives_one k (of_kind Map) (walk (V Z home) sc k (m.new_map i ps)) (map_value qs) (made_covered Z.program Z.callee Z.states Z.dead_clause Z.dead_call vs no_pair qs g.1.0 tt of) (map_in Z.facts qs) (then_is (walk_pairs (V Z home) sc ps) [] (λ us. value (of_kind Map)) (Some (of_kind Map ∷ [])) w refl))
+        let w = pairs_walked (V Z home) sc ps g.1.1.0 g.1.1.1.0 in (
+          g.0,
+          gives_one k (of_kind Map) (walk (V Z home) sc k (m.new_map i ps)) (map_value qs) (made_covered Z.program Z.callee Z.states Z.dead_clause Z.dead_call vs no_pair qs g.1.0 tt of) (map_in Z.facts qs)
+              (then_is (walk_pairs (V Z home) sc ps) [] (λ us. value (of_kind Map)) (Some (of_kind Map ∷ [])) w refl),
+        )
 
-    pub updated_map_inv : {env : Env} {vs : Values} {tr more : Trace} (i : Mark) (ps : m.Pairs) (t : m.Tree) (old qs : ValuePairs) (sc : WalkScope) (k : Ask) → AllGive (E home) env (in_pairs ps) vs tr → E home env t (gives (and_value (map_value old) no_value)) more → IsMadeOf vs old qs → IsKnown Z (tr ++ more) → IsCovEnv Z home env → IsSeen home sc env → FineAt Z home sc k (m.updated_map i ps t) → AllOk Z (tr ++ more) × Result Z k (walk (V Z home) sc k (m.updated_map i ps t)) (gives (and_value (map_value qs) no_value))
+    pub updated_map_inv : {env : Env} {vs : Values} {tr more : Trace} (i : Mark) (ps : m.Pairs) (t : m.Tree) (old qs : ValuePairs) (sc : WalkScope) (k : Ask) → AllGive (E home) env (in_pairs ps) vs tr
+        → E home env t (gives (and_value (map_value old) no_value)) more → IsMadeOf vs old qs → IsKnown Z (tr ++ more) → IsCovEnv Z home env → IsSeen home sc env → FineAt Z home sc k (m.updated_map i ps t)
+        → AllOk Z (tr ++ more) × Result Z k (walk (V Z home) sc k (m.updated_map i ps t)) (gives (and_value (map_value qs) no_value))
     updated_map_inv {vs = vs} {tr = tr} {more = more} i ps t old qs sc k xs x of kn c s fine =
         let g = all_given Z E each home sc xs (known_front Z tr more kn) c s (fine_pairs (V Z home) (Z.dead_clause home) (Z.dead_call home) sc ps fine.0) in
         let h = one_given Z E each home sc x (known_back Z tr more kn) c s fine.1 in
@@ -167,16 +185,22 @@ module _ (Z : Setting) where
           both_ok Z tr more g.0 h.0,
           gives_one k (of_kind Map) (walk (V Z home) sc k (m.updated_map i ps t)) (map_value qs) (made_covered Z.program Z.callee Z.states Z.dead_clause Z.dead_call vs old qs g.1.0 h.1.0.0 of) (map_in Z.facts qs)
               (then_is (walk_pairs (V Z home) sc ps) [] (λ us. then (walk (V Z home) sc (Exactly 1) t) (λ old. where_meets (first old) (of_kind Map) (value (of_kind Map)))) (Some (of_kind Map ∷ [])) w
-              (then_is (walk (V Z home) sc (Exactly 1) t) us (λ old. where_meets (first old) (of_kind Map) (value (of_kind Map))) (Some (of_kind Map ∷ [])) h.1.1.1.0 (meets_is Z.types (map_value old) (first us) (of_kind Map) (value (of_kind Map)) (first_has (map_value old) us h.1.1.1.1) (map_in Z.facts old)))),
+              (then_is (walk (V Z home) sc (Exactly 1) t) us (λ old. where_meets (first old) (of_kind Map) (value (of_kind Map))) (Some (of_kind Map ∷ [])) h.1.1.1.0
+              (meets_is Z.types (map_value old) (first us) (of_kind Map) (value (of_kind Map)) (first_has (map_value old) us h.1.1.1.1) (map_in Z.facts old)))),
         )
 
-    pub binary_inv : {env : Env} {vs : Values} {tr : Trace} (i : Mark) (ss : m.Segments) (bs : List Bool) (sc : WalkScope) (k : Ask) → AllGive (E home) env (in_segments ss) vs tr → IsKnown Z tr → IsCovEnv Z home env → IsSeen home sc env → FineAt Z home sc k (m.binary i ss) → AllOk Z tr × Result Z k (walk (V Z home) sc k (m.binary i ss)) (gives (and_value (bits bs) no_value))
+    pub binary_inv : {env : Env} {vs : Values} {tr : Trace} (i : Mark) (ss : m.Segments) (bs : List Bool) (sc : WalkScope) (k : Ask) → AllGive (E home) env (in_segments ss) vs tr → IsKnown Z tr → IsCovEnv Z home env
+        → IsSeen home sc env → FineAt Z home sc k (m.binary i ss) → AllOk Z tr × Result Z k (walk (V Z home) sc k (m.binary i ss)) (gives (and_value (bits bs) no_value))
     binary_inv i ss bs sc k xs kn c s fine =
         let g = all_given Z E each home sc xs kn c s (fine_segments (V Z home) (Z.dead_clause home) (Z.dead_call home) sc ss fine) in
-        let w = segments_walked (V Z home) sc ss g.1.1.0 g.1.1.1.0 in
-        (g.0, gives_one k (of_kind Bitstring) (walk (V Z home) sc k (m.binary i ss)) (bits bs) tt (bits_in Z.facts (bits bs) (bs, refl)) (then_is (walk_segments (V Z home) sc ss) [] (λ us. value (of_kind Bitstring)) (Some (of_kind Bitstring ∷ [])) w refl))
+        let w = segments_walked (V Z home) sc ss g.1.1.0 g.1.1.1.0 in (
+          g.0,
+          gives_one k (of_kind Bitstring) (walk (V Z home) sc k (m.binary i ss)) (bits bs) tt (bits_in Z.facts (bits bs) (bs, refl))
+              (then_is (walk_segments (V Z home) sc ss) [] (λ us. value (of_kind Bitstring)) (Some (of_kind Bitstring ∷ [])) w refl),
+        )
 
-    pub values_inv : {env : Env} {vs : Values} {tr : Trace} (i : Mark) (ts : m.Trees) (sc : WalkScope) (k : Ask) → AllGive (E home) env ts vs tr → IsKnown Z tr → IsCovEnv Z home env → IsSeen home sc env → FineTrees Z home sc ts → AllOk Z tr × Result Z k (walk (V Z home) sc k (m.values i ts)) (gives vs)
+    pub values_inv : {env : Env} {vs : Values} {tr : Trace} (i : Mark) (ts : m.Trees) (sc : WalkScope) (k : Ask) → AllGive (E home) env ts vs tr → IsKnown Z tr → IsCovEnv Z home env → IsSeen home sc env → FineTrees Z home sc ts
+        → AllOk Z tr × Result Z k (walk (V Z home) sc k (m.values i ts)) (gives vs)
     values_inv {vs = vs} i ts sc k xs kn c s fine =
         let g = all_given Z E each home sc xs kn c s fine in
         (g.0, gives_passed k (walk_all (V Z home) sc ts) (gives vs) (held k g.1.0 g.1.1))
@@ -188,10 +212,16 @@ module _ (Z : Setting) where
     anys_have : (n : ℕ) (vs : Values) → count vs ≡ n → HasTypes vs (replicate n any)
     anys_have n vs e = open_have Z.types vs n e
 
-    pub primop_inv : {env : Env} {vs : Values} {tr : Trace} (ws : Values) (i : Mark) (x : Atom) (ts : m.Trees) (sc : WalkScope) (k : Ask) → (is_raising x ≡ true → ⊥) → AllGive (E home) env ts vs tr → AreOutside Z.from ws → IsKnown Z tr → IsCovEnv Z home env → IsSeen home sc env → FineTrees Z home sc ts → AllOk Z tr × Result Z k (walk (V Z home) sc k (m.primop i x ts)) (gives ws)
+    pub primop_inv : {env : Env} {vs : Values} {tr : Trace} (ws : Values) (i : Mark) (x : Atom) (ts : m.Trees) (sc : WalkScope) (k : Ask) → (is_raising x ≡ true → ⊥) → AllGive (E home) env ts vs tr → AreOutside Z.from ws
+        → IsKnown Z tr → IsCovEnv Z home env → IsSeen home sc env → FineTrees Z home sc ts → AllOk Z tr × Result Z k (walk (V Z home) sc k (m.primop i x ts)) (gives ws)
     primop_inv {vs = vs} ws i x ts sc k calm xs from kn c s fine =
-        let g = all_given Z E each home sc xs kn c s fine in
-        (g.0, gives_then k (walk_all (V Z home) sc ts) g.1.1.0 (λ us. by_primop k x) (gives ws) g.1.1.1.0 (outside_covered Z.program Z.callee Z.states Z.dead_clause Z.dead_call Z.from Z.world home ws from, λ z. (replicate (whatever_asked k) any, (by (is_raising x) calm, held k z))))
+        let g = all_given Z E each home sc xs kn c s fine in (
+          g.0,
+          gives_then k (walk_all (V Z home) sc ts) g.1.1.0 (λ us. by_primop k x) (gives ws) g.1.1.1.0 (
+            outside_covered Z.program Z.callee Z.states Z.dead_clause Z.dead_call Z.from Z.world home ws from,
+            λ z. (replicate (whatever_asked k) any, (by (is_raising x) calm, held k z)),
+          ),
+        )
       where
         by : (b : Bool) → (b ≡ true → ⊥) → cond b None (Some (replicate (whatever_asked k) any)) ≡ Some (replicate (whatever_asked k) any)
         by true h = absurd (h refl)
@@ -203,7 +233,9 @@ module _ (Z : Setting) where
 
     -- ---- forms that bind
 
-    pub steps_inv : {env : Env} {ss : m.Steps} {t : m.Tree} {o : Outcome} {tr : Trace} (sc : WalkScope) (k : Ask) → Chained (E home) env ss t o tr → IsKnown Z tr → IsCovEnv Z home env → IsSeen home sc env → FineStepsAt Z home sc ss → ((at : WalkScope) → see_steps (V Z home) sc ss ≡ Some at → FineAt Z home at k t) → AllOk Z tr × Result Z k (then_seen (see_steps (V Z home) sc ss) (λ at. passed k (walk (V Z home) at k t))) o
+    pub steps_inv : {env : Env} {ss : m.Steps} {t : m.Tree} {o : Outcome} {tr : Trace} (sc : WalkScope) (k : Ask) → Chained (E home) env ss t o tr → IsKnown Z tr → IsCovEnv Z home env → IsSeen home sc env
+        → FineStepsAt Z home sc ss → ((at : WalkScope) → see_steps (V Z home) sc ss ≡ Some at → FineAt Z home at k t)
+        → AllOk Z tr × Result Z k (then_seen (see_steps (V Z home) sc ss) (λ at. passed k (walk (V Z home) at k t))) o
     steps_inv sc k (chain_ends {t = t} {o = o} x) kn c s fine last =
         let h = each home _ sc _ _ _ k x kn c s (last sc refl) in
         (h.0, gives_passed k (walk (V Z home) sc k t) o h.1)
@@ -224,12 +256,15 @@ module _ (Z : Setting) where
         (both_ok Z tr more h.0 r.0, subst (λ z. Result Z k (then_seen z (λ at. passed k (walk (V Z home) at k t))) o) (sym there) r.1)
     steps_inv sc k (do_fails x) kn c s fine last = ((each home _ sc _ _ _ AnyNumber x kn c s fine.0).0, tt)
 
-    pub letrec_inv : {env : Env} {o : Outcome} {tr : Trace} (i : Mark) (ds : m.Defs) (t : m.Tree) (sc : WalkScope) (k : Ask) → AreAtLabels Z.program home ds → E home (and_frame (locals_of ds) env) t o tr → IsKnown Z tr → IsCovEnv Z home env → IsSeen home sc env → FineAt Z home sc k (m.letrec i ds t) → AllOk Z tr × Result Z k (walk (V Z home) sc k (m.letrec i ds t)) o
+    pub letrec_inv : {env : Env} {o : Outcome} {tr : Trace} (i : Mark) (ds : m.Defs) (t : m.Tree) (sc : WalkScope) (k : Ask) → AreAtLabels Z.program home ds → E home (and_frame (locals_of ds) env) t o tr → IsKnown Z tr
+        → IsCovEnv Z home env → IsSeen home sc env → FineAt Z home sc k (m.letrec i ds t) → AllOk Z tr × Result Z k (walk (V Z home) sc k (m.letrec i ds t)) o
     letrec_inv {o = o} i ds t sc k at x kn c s fine =
         let h = each home _ (with_functions sc ds) _ _ _ k x kn (c, (ds, (refl, (at, (sc, (s, (fine.0, fine.1.0))))))) (seen_framed Z.types ds fine.0 s) fine.1.1 in
         (h.0, gives_passed k (walk (V Z home) (with_functions sc ds) k t) o h.1)
 
-    pub try_inv : {env : Env} {vs : Values} {o : Outcome} {tr more : Trace} (i : Mark) (t : m.Tree) (xs : List VarName) (u : m.Tree) (ys : List VarName) (w : m.Tree) (sc : WalkScope) (k : Ask) → E home env t (gives vs) tr → length xs ≡ count vs → E home (with_variables xs vs env) u o more → IsKnown Z (tr ++ more) → IsCovEnv Z home env → IsSeen home sc env → FineAt Z home sc k (m.try i t xs u ys w) → AllOk Z (tr ++ more) × Result Z k (walk (V Z home) sc k (m.try i t xs u ys w)) o
+    pub try_inv : {env : Env} {vs : Values} {o : Outcome} {tr more : Trace} (i : Mark) (t : m.Tree) (xs : List VarName) (u : m.Tree) (ys : List VarName) (w : m.Tree) (sc : WalkScope) (k : Ask) → E home env t (gives vs) tr
+        → length xs ≡ count vs → E home (with_variables xs vs env) u o more → IsKnown Z (tr ++ more) → IsCovEnv Z home env → IsSeen home sc env → FineAt Z home sc k (m.try i t xs u ys w)
+        → AllOk Z (tr ++ more) × Result Z k (walk (V Z home) sc k (m.try i t xs u ys w)) o
     try_inv {env} {vs} {o} {tr} {more} i t xs u ys w sc k x n y kn c s fine =
         let h = each home _ sc _ _ _ (Exactly (length xs)) x (known_front Z tr more kn) c s fine.0 in
         let j = h.1.1 (sym n) in
@@ -237,11 +272,14 @@ module _ (Z : Setting) where
         let g = each home _ (see.with_variables sc xs j.0) _ _ _ k y (known_back Z tr more kn) (bound_covered Z.program Z.callee Z.states Z.dead_clause Z.dead_call home xs vs env h.1.0 c) seen (fine.1.0 j.0 j.1.0) in (
           both_ok Z tr more h.0 g.0,
           gives_left k (then (walk (V Z home) sc (Exactly (length xs)) t) (λ ts. passed k (walk (V Z home) (see.with_variables sc xs ts) k u))) (passed k (walk (V Z home) (see.with_variables sc ys []) k w)) o
-              (then_sized k (walk (V Z home) sc (Exactly (length xs)) t) (λ ts. passed k (walk (V Z home) (see.with_variables sc xs ts) k u)) (λ ts. passed_sized k (walk (V Z home) (see.with_variables sc xs ts) k u))) (passed_sized k (walk (V Z home) (see.with_variables sc ys []) k w))
+              (then_sized k (walk (V Z home) sc (Exactly (length xs)) t) (λ ts. passed k (walk (V Z home) (see.with_variables sc xs ts) k u)) (λ ts. passed_sized k (walk (V Z home) (see.with_variables sc xs ts) k u)))
+              (passed_sized k (walk (V Z home) (see.with_variables sc ys []) k w))
               (gives_then k (walk (V Z home) sc (Exactly (length xs)) t) j.0 (λ ts. passed k (walk (V Z home) (see.with_variables sc xs ts) k u)) o j.1.0 (gives_passed k (walk (V Z home) (see.with_variables sc xs j.0) k u) o g.1)),
         )
 
-    pub handler_inv : {env : Env} {o : Outcome} {tr more : Trace} (vs : Values) (i : Mark) (t : m.Tree) (xs : List VarName) (u : m.Tree) (ys : List VarName) (w : m.Tree) (sc : WalkScope) (k : Ask) → E home env t (fails raised) tr → length ys ≡ count vs → AreOutside Z.from vs → E home (with_variables ys vs env) w o more → IsKnown Z (tr ++ more) → IsCovEnv Z home env → IsSeen home sc env → FineAt Z home sc k (m.try i t xs u ys w) → AllOk Z (tr ++ more) × Result Z k (walk (V Z home) sc k (m.try i t xs u ys w)) o
+    pub handler_inv : {env : Env} {o : Outcome} {tr more : Trace} (vs : Values) (i : Mark) (t : m.Tree) (xs : List VarName) (u : m.Tree) (ys : List VarName) (w : m.Tree) (sc : WalkScope) (k : Ask) → E home env t (fails raised) tr
+        → length ys ≡ count vs → AreOutside Z.from vs → E home (with_variables ys vs env) w o more → IsKnown Z (tr ++ more) → IsCovEnv Z home env → IsSeen home sc env → FineAt Z home sc k (m.try i t xs u ys w)
+        → AllOk Z (tr ++ more) × Result Z k (walk (V Z home) sc k (m.try i t xs u ys w)) o
     handler_inv {env} {o} {tr} {more} vs i t xs u ys w sc k x n from y kn c s fine =
         let h = each home _ sc _ _ _ (Exactly (length xs)) x (known_front Z tr more kn) c s fine.0 in
         let seen = seen_with Z.types ys vs [] s n (subst (λ q. HasTypes vs (as_many q [])) (sym n) (any_have Z.types vs)) in
@@ -249,7 +287,8 @@ module _ (Z : Setting) where
         let g = each home _ (see.with_variables sc ys []) _ _ _ k y (known_back Z tr more kn) (bound_covered Z.program Z.callee Z.states Z.dead_clause Z.dead_call home ys vs env covered c) seen fine.1.1 in (
           both_ok Z tr more h.0 g.0,
           gives_right k (then (walk (V Z home) sc (Exactly (length xs)) t) (λ ts. passed k (walk (V Z home) (see.with_variables sc xs ts) k u))) (passed k (walk (V Z home) (see.with_variables sc ys []) k w)) o
-              (then_sized k (walk (V Z home) sc (Exactly (length xs)) t) (λ ts. passed k (walk (V Z home) (see.with_variables sc xs ts) k u)) (λ ts. passed_sized k (walk (V Z home) (see.with_variables sc xs ts) k u))) (passed_sized k (walk (V Z home) (see.with_variables sc ys []) k w))
+              (then_sized k (walk (V Z home) sc (Exactly (length xs)) t) (λ ts. passed k (walk (V Z home) (see.with_variables sc xs ts) k u)) (λ ts. passed_sized k (walk (V Z home) (see.with_variables sc xs ts) k u)))
+              (passed_sized k (walk (V Z home) (see.with_variables sc ys []) k w))
               (gives_passed k (walk (V Z home) (see.with_variables sc ys []) k w) o g.1),
         )
 
@@ -266,10 +305,12 @@ module _ (Z : Setting) where
           by None = tt
           by (Some ts) = passed_sized k (walk (V Z home) (inside sc ps ts) k t)
 
-      passed_over : (sc : WalkScope) (k : Ask) (qs : List ℕ) (i : Mark) (ps : m.Patterns) (g t : m.Tree) (cs : m.Clauses) (o : Outcome) → Result Z k (walk_clauses (V Z home) sc k qs cs) o → Result Z k (walk_clauses (V Z home) sc k qs (m.and_clause i ps g t cs)) o
+      passed_over : (sc : WalkScope) (k : Ask) (qs : List ℕ) (i : Mark) (ps : m.Patterns) (g t : m.Tree) (cs : m.Clauses) (o : Outcome) → Result Z k (walk_clauses (V Z home) sc k qs cs) o
+          → Result Z k (walk_clauses (V Z home) sc k qs (m.and_clause i ps g t cs)) o
       passed_over sc k qs i ps g t cs o h = gives_right k (Body sc k qs ps g t) (walk_clauses (V Z home) sc k qs cs) o (body_sized sc k qs ps g t) (clauses_sized (V Z home) sc k qs cs) h
 
-      pub clauses_inv : {none : Failure} {env : Env} {vs : Values} {cs : m.Clauses} {o : Outcome} {tr : Trace} (sc : WalkScope) (k : Ask) (qs : List ℕ) → Choose (E home) Z.from none home env vs cs o tr → IsKnown Z tr → IsCovEnv Z home env → AreCov Z vs → IsReady Z.types home sc env vs qs → FineClausesAt Z home sc k qs cs → AllOk Z tr × Result Z k (walk_clauses (V Z home) sc k qs cs) o
+      pub clauses_inv : {none : Failure} {env : Env} {vs : Values} {cs : m.Clauses} {o : Outcome} {tr : Trace} (sc : WalkScope) (k : Ask) (qs : List ℕ) → Choose (E home) Z.from none home env vs cs o tr → IsKnown Z tr
+          → IsCovEnv Z home env → AreCov Z vs → IsReady Z.types home sc env vs qs → FineClausesAt Z home sc k qs cs → AllOk Z tr × Result Z k (walk_clauses (V Z home) sc k qs cs) o
       clauses_inv sc k qs choose_none kn c cv r fine = (tt, tt)
       clauses_inv sc k qs (choose_missed {k = i} {ps = ps} {g = g} {t = t} {cs = cs} {o = o} miss x) kn c cv r fine =
           let h = clauses_inv sc k qs x kn c cv r fine.1.1 in (h.0, passed_over sc k qs i ps g t cs o h.1)
@@ -303,7 +344,9 @@ module _ (Z : Setting) where
                 (subst (λ q. Result Z k (then_inside q (λ solved. passed k (walk (V Z home) (inside sc ps solved) k t))) o) (sym z.is) (gives_passed k (walk (V Z home) (inside sc ps z.types) k t) o body.1)),
           )
 
-      pub case_inv : {env : Env} {vs : Values} {o : Outcome} {tr more : Trace} (i : Mark) (t : m.Tree) (cs : m.Clauses) (sc : WalkScope) (k : Ask) → E home env t (gives vs) tr → count vs ≡ width cs → Choose (E home) Z.from raised home env vs cs o more → IsKnown Z (tr ++ more) → IsCovEnv Z home env → IsSeen home sc env → FineAt Z home sc k (m.case i t cs) → AllOk Z (tr ++ more) × Result Z k (walk (V Z home) sc k (m.case i t cs)) o
+      pub case_inv : {env : Env} {vs : Values} {o : Outcome} {tr more : Trace} (i : Mark) (t : m.Tree) (cs : m.Clauses) (sc : WalkScope) (k : Ask) → E home env t (gives vs) tr → count vs ≡ width cs
+          → Choose (E home) Z.from raised home env vs cs o more → IsKnown Z (tr ++ more) → IsCovEnv Z home env → IsSeen home sc env → FineAt Z home sc k (m.case i t cs)
+          → AllOk Z (tr ++ more) × Result Z k (walk (V Z home) sc k (m.case i t cs)) o
       case_inv {env} {vs} {o} {tr} {more} i t cs sc k x n ch kn c s fine =
           let h = each home _ sc _ _ _ (Exactly (width cs)) x (known_front Z tr more kn) c s fine.0 in
           let j = h.1.1 n in
@@ -316,18 +359,23 @@ module _ (Z : Setting) where
       abbrev Action : WalkScope → Ask → m.Tree → List Type4 → Given
       Action sc k u limit = where_meets (first limit) naturals (passed k (walk (V Z home) sc k u))
 
-      pub receive_inv : {env : Env} {limit v : Value} {o : Outcome} {tr more : Trace} (i : Mark) (cs : m.Clauses) (t u : m.Tree) (sc : WalkScope) (k : Ask) → E home env t (gives (and_value limit no_value)) tr → Z.from v → Choose (E home) Z.from stopped home env (and_value v no_value) cs o more → IsKnown Z (tr ++ more) → IsCovEnv Z home env → IsSeen home sc env → FineAt Z home sc k (m.receive i cs t u) → AllOk Z (tr ++ more) × Result Z k (walk (V Z home) sc k (m.receive i cs t u)) o
+      pub receive_inv : {env : Env} {limit v : Value} {o : Outcome} {tr more : Trace} (i : Mark) (cs : m.Clauses) (t u : m.Tree) (sc : WalkScope) (k : Ask) → E home env t (gives (and_value limit no_value)) tr → Z.from v
+          → Choose (E home) Z.from stopped home env (and_value v no_value) cs o more → IsKnown Z (tr ++ more) → IsCovEnv Z home env → IsSeen home sc env → FineAt Z home sc k (m.receive i cs t u)
+          → AllOk Z (tr ++ more) × Result Z k (walk (V Z home) sc k (m.receive i cs t u)) o
       receive_inv {env} {limit} {v} {o} {tr} {more} i cs t u sc k x from ch kn c s fine =
           let h = one_given Z E each home sc x (known_front Z tr more kn) c s fine.0 in
           let us = h.1.1.0 in
           let r = ready Z.types {vs = and_value v no_value} (any ∷ []) (None ∷ []) s (Z.types.every v, tt) (tt, tt) in
           let g = clauses_inv (seen_by_messages sc) k (length sc.types ∷ []) ch (known_back Z tr more kn) c (Z.world v from, tt) r (fine.1 us h.1.1.1.0).0 in (
             both_ok Z tr more h.0 g.0,
-            gives_then k (walk (V Z home) sc (Exactly 1) t) us (λ limit. either (walk_clauses (V Z home) (seen_by_messages sc) k (length sc.types ∷ []) cs) (where_meets (first limit) naturals (passed k (walk (V Z home) sc k u)))) o h.1.1.1.0
-                (gives_left k (walk_clauses (V Z home) (seen_by_messages sc) k (length sc.types ∷ []) cs) (Action sc k u us) o (clauses_sized (V Z home) (seen_by_messages sc) k (length sc.types ∷ []) cs) (meets_sized k (first us) naturals (passed k (walk (V Z home) sc k u)) (passed_sized k (walk (V Z home) sc k u))) g.1),
+            gives_then k (walk (V Z home) sc (Exactly 1) t) us (λ limit. either (walk_clauses (V Z home) (seen_by_messages sc) k (length sc.types ∷ []) cs) (where_meets (first limit) naturals (passed k (walk (V Z home) sc k u)))) o
+                h.1.1.1.0
+                (gives_left k (walk_clauses (V Z home) (seen_by_messages sc) k (length sc.types ∷ []) cs) (Action sc k u us) o (clauses_sized (V Z home) (seen_by_messages sc) k (length sc.types ∷ []) cs)
+                (meets_sized k (first us) naturals (passed k (walk (V Z home) sc k u)) (passed_sized k (walk (V Z home) sc k u))) g.1),
           )
 
-      pub timeout_inv : {env : Env} {n : ℕ} {o : Outcome} {tr more : Trace} (i : Mark) (cs : m.Clauses) (t u : m.Tree) (sc : WalkScope) (k : Ask) → E home env t (gives (and_value (int (pos n)) no_value)) tr → E home env u o more → IsKnown Z (tr ++ more) → IsCovEnv Z home env → IsSeen home sc env → FineAt Z home sc k (m.receive i cs t u) → AllOk Z (tr ++ more) × Result Z k (walk (V Z home) sc k (m.receive i cs t u)) o
+      pub timeout_inv : {env : Env} {n : ℕ} {o : Outcome} {tr more : Trace} (i : Mark) (cs : m.Clauses) (t u : m.Tree) (sc : WalkScope) (k : Ask) → E home env t (gives (and_value (int (pos n)) no_value)) tr → E home env u o more
+          → IsKnown Z (tr ++ more) → IsCovEnv Z home env → IsSeen home sc env → FineAt Z home sc k (m.receive i cs t u) → AllOk Z (tr ++ more) × Result Z k (walk (V Z home) sc k (m.receive i cs t u)) o
       timeout_inv {env} {n} {o} {tr} {more} i cs t u sc k x y kn c s fine =
           let h = one_given Z E each home sc x (known_front Z tr more kn) c s fine.0 in
           let us = h.1.1.0 in
@@ -336,8 +384,10 @@ module _ (Z : Setting) where
           let g = each home _ sc _ _ _ k y (known_back Z tr more kn) c s ((fine.1 us h.1.1.1.0).1 (both_have Z.types (int (pos n)) (first us) naturals limit natural)) in
           let follows = gives_passed k (walk (V Z home) sc k u) o g.1 in (
             both_ok Z tr more h.0 g.0,
-            gives_then k (walk (V Z home) sc (Exactly 1) t) us (λ limit. either (walk_clauses (V Z home) (seen_by_messages sc) k (length sc.types ∷ []) cs) (where_meets (first limit) naturals (passed k (walk (V Z home) sc k u)))) o h.1.1.1.0
-                (gives_right k (walk_clauses (V Z home) (seen_by_messages sc) k (length sc.types ∷ []) cs) (Action sc k u us) o (clauses_sized (V Z home) (seen_by_messages sc) k (length sc.types ∷ []) cs) (meets_sized k (first us) naturals (passed k (walk (V Z home) sc k u)) (passed_sized k (walk (V Z home) sc k u)))
+            gives_then k (walk (V Z home) sc (Exactly 1) t) us (λ limit. either (walk_clauses (V Z home) (seen_by_messages sc) k (length sc.types ∷ []) cs) (where_meets (first limit) naturals (passed k (walk (V Z home) sc k u)))) o
+                h.1.1.1.0
+                (gives_right k (walk_clauses (V Z home) (seen_by_messages sc) k (length sc.types ∷ []) cs) (Action sc k u us) o (clauses_sized (V Z home) (seen_by_messages sc) k (length sc.types ∷ []) cs)
+                (meets_sized k (first us) naturals (passed k (walk (V Z home) sc k u)) (passed_sized k (walk (V Z home) sc k u)))
                 (subst (λ z. Result Z k z o) (sym (meets_is Z.types (int (pos n)) (first us) naturals (passed k (walk (V Z home) sc k u)) limit natural)) follows)),
           )
 
@@ -351,10 +401,15 @@ module _ (Z : Setting) where
     back_ok label (fails f) h d = tt
     back_ok label (gives vs) h d = subst (λ z. AllOk Z (back_by home label (gives z))) (sym h.1.0) (d vs refl, tt)
 
-    pub apply_inv : {env : Env} {v : Value} {vs : Values} {o : Outcome} {tr more : Trace} (i : Mark) (t : m.Tree) (ts : m.Trees) (sc : WalkScope) (k : Ask) → local_name t ≡ None → AllGive (E home) env (m.and_tree t ts) (and_value v vs) tr → Apply Z.program Z.from E v vs o more → IsKnown Z (tr ++ (applied home i.label v ∷ (more ++ back_by home i.label o))) → IsCovEnv Z home env → IsSeen home sc env → FineAt Z home sc k (m.apply i t ts) → AllOk Z (tr ++ (applied home i.label v ∷ (more ++ back_by home i.label o))) × Result Z k (walk (V Z home) sc k (m.apply i t ts)) o
+    pub apply_inv : {env : Env} {v : Value} {vs : Values} {o : Outcome} {tr more : Trace} (i : Mark) (t : m.Tree) (ts : m.Trees) (sc : WalkScope) (k : Ask) → local_name t ≡ None
+        → AllGive (E home) env (m.and_tree t ts) (and_value v vs) tr → Apply Z.program Z.from E v vs o more → IsKnown Z (tr ++ (applied home i.label v ∷ (more ++ back_by home i.label o))) → IsCovEnv Z home env
+        → IsSeen home sc env → FineAt Z home sc k (m.apply i t ts) → AllOk Z (tr ++ (applied home i.label v ∷ (more ++ back_by home i.label o))) × Result Z k (walk (V Z home) sc k (m.apply i t ts)) o
     apply_inv {env} {v} {vs} {o} {tr} {more} i t ts sc k unnamed (give_next {tr = tr1} {more = tr2} y ys) x kn c s fine =
         let back = back_by home i.label o in
-        let f = subst (λ z. ByName z (λ f. FineTrees Z home sc ts × ((us : List Type4) → walk_all (V Z home) sc ts ≡ Some us → f.arity ≡ length us → FineApplied (V Z home) (Z.dead_clause home) (Z.dead_call home) (resolved_name (V Z home) sc f) f i.label us)) (FineAt Z home sc (Exactly 1) t × (FineTrees Z home sc ts × ((os us : List Type4) → walk (V Z home) sc (Exactly 1) t ≡ Some os → walk_all (V Z home) sc ts ≡ Some us → is_none (meet (first os) (function_type (length us))) ≡ false → Z.dead_call home i.label → ⊥)))) unnamed fine in
+        let f = subst (λ z. ByName z (λ f. FineTrees Z home sc ts × ((us : List Type4) → walk_all (V Z home) sc ts ≡ Some us → f.arity ≡ length us
+        → FineApplied (V Z home) (Z.dead_clause home) (Z.dead_call home) (resolved_name (V Z home) sc f) f i.label us)) (FineAt Z home sc (Exactly 1) t
+        × (FineTrees Z home sc ts × ((os us : List Type4) → walk (V Z home) sc (Exactly 1) t ≡ Some os → walk_all (V Z home) sc ts ≡ Some us → is_none (meet (first os) (function_type (length us))) ≡ false
+        → Z.dead_call home i.label → ⊥)))) unnamed fine in
         let front = known_front Z (tr1 ++ tr2) (applied home i.label v ∷ (more ++ back)) kn in
         let kb = known_back Z (tr1 ++ tr2) (applied home i.label v ∷ (more ++ back)) kn in
         let rest : IsKnown Z (more ++ back) = (kb.0.1, kb.1.1) in
@@ -364,19 +419,25 @@ module _ (Z : Setting) where
         let us = h.1.1.0 in
         let r = applied_covered Z E each x (known_front Z more back rest) g.1.0.0 h.1.0 in
         let operator = first_has v os g.1.1.1.1 in
-        let is_function : (ws : Values) → o ≡ gives ws → HasType v (function_type (length us)) = λ ws e. subst (λ n. HasType v (function_type n)) (has_length vs us h.1.1.1.1) (function_in Z.facts (count vs) v (applied_function Z.facts (strict (V Z [])) Z.program Z.from Z.honest_strict E (subst (λ z. Apply Z.program Z.from E v vs z more) e x))) in
+        let is_function : (ws : Values) → o ≡ gives ws → HasType v (function_type (length us)) =
+        λ ws e. subst (λ n. HasType v (function_type n)) (has_length vs us h.1.1.1.1)
+        (function_in Z.facts (count vs) v (applied_function Z.facts (strict (V Z [])) Z.program Z.from Z.honest_strict E (subst (λ z. Apply Z.program Z.from E v vs z more) e x))) in
         let alive : (ws : Values) → o ≡ gives ws → Z.dead_call home i.label → ⊥ = λ ws e. f.1.1 os us g.1.1.1.0 h.1.1.1.0 (both_have Z.types v (first os) (function_type (length us)) operator (is_function ws e)) in (
           both_ok Z (tr1 ++ tr2) (applied home i.label v ∷ (more ++ back)) (both_ok Z tr1 tr2 g.0 h.0) (tt, both_ok Z more back r.0 (back_ok i.label o r.1 alive)),
-          subst (λ z. Result Z k (if_named z (λ f. then (walk_all (V Z home) sc ts) (λ us. name_applied (V Z home) sc f us)) (then (walk (V Z home) sc (Exactly 1) t) (λ operator. then (walk_all (V Z home) sc ts) (λ us. where_meets (first operator) (function_type (length us)) (value any))))) o) (sym unnamed)
+          subst (λ z. Result Z k (if_named z (λ f. then (walk_all (V Z home) sc ts) (λ us. name_applied (V Z home) sc f us))
+              (then (walk (V Z home) sc (Exactly 1) t) (λ operator. then (walk_all (V Z home) sc ts) (λ us. where_meets (first operator) (function_type (length us)) (value any))))) o) (sym unnamed)
               (gives_then k (walk (V Z home) sc (Exactly 1) t) os (λ operator. then (walk_all (V Z home) sc ts) (λ us. where_meets (first operator) (function_type (length us)) (value any))) o g.1.1.1.0
-              (gives_then k (walk_all (V Z home) sc ts) us (λ us. where_meets (first os) (function_type (length us)) (value any)) o h.1.1.1.0 (by o r.1 (λ ws e. meets_is Z.types v (first os) (function_type (length us)) (value any) operator (is_function ws e))))),
+              (gives_then k (walk_all (V Z home) sc ts) us (λ us. where_meets (first os) (function_type (length us)) (value any)) o h.1.1.1.0
+              (by o r.1 (λ ws e. meets_is Z.types v (first os) (function_type (length us)) (value any) operator (is_function ws e))))),
         )
       where
         by : {g : Given} (o : Outcome) → CameOne Z E each o → ((ws : Values) → o ≡ gives ws → g ≡ Some (any ∷ [])) → Result Z k g o
         by (fails f) came e = tt
         by {g} (gives ws) came e = back_any k g (gives ws) (e ws refl) came
 
-    named_call : {x name : Atom} {vs : Values} {o : Outcome} {more : Trace} (label : ℕ) (t u : m.Tree) (ts : m.Trees) (sc : WalkScope) (k : Ask) (us : List Type4) → walk_all (V Z home) sc ts ≡ Some us → HasTypes vs us → Called Z.program Z.from E x name vs o more → IsKnown Z more → CameOne Z E each o → ((ws : List Type4) → called (lenient (V Z home)) x name us ≡ Some ws → Z.dead_call home label → ⊥) → ((ws : Values) → o ≡ gives ws → Z.dead_call home label → ⊥) × Result Z k (then (walk_all (V Z home) sc ts) (λ us. called (strict (V Z home)) x name us)) o
+    named_call : {x name : Atom} {vs : Values} {o : Outcome} {more : Trace} (label : ℕ) (t u : m.Tree) (ts : m.Trees) (sc : WalkScope) (k : Ask) (us : List Type4) → walk_all (V Z home) sc ts ≡ Some us → HasTypes vs us
+        → Called Z.program Z.from E x name vs o more → IsKnown Z more → CameOne Z E each o → ((ws : List Type4) → called (lenient (V Z home)) x name us ≡ Some ws → Z.dead_call home label → ⊥)
+        → ((ws : Values) → o ≡ gives ws → Z.dead_call home label → ⊥) × Result Z k (then (walk_all (V Z home) sc ts) (λ us. called (strict (V Z home)) x name us)) o
     named_call {o = fails f} label t u ts sc k us e h x kn came alive = (λ ws q. absurd (no_gives q), tt)
       where
         no_gives : {f : Failure} {ws : Values} → fails f ≡ gives ws → ⊥
@@ -387,14 +448,17 @@ module _ (Z : Setting) where
         let may = called_gives Z.facts Z.types Z.solutions Z.program Z.from E (lenient (V Z [])) us Z.honest_lenient (λ h f. refl) z kn.1 h in (
           λ ws q. alive (may.0 ∷ []) may.1.0,
           subst (λ q. Result Z k (then (walk_all (V Z home) sc ts) (λ us. called (strict (V Z home)) y name us)) (gives q)) (sym came.1.0)
-              (gives_one k given.0 (then (walk_all (V Z home) sc ts) (λ us. called (strict (V Z home)) y name us)) came.0 came.1.1 given.1.1 (then_is (walk_all (V Z home) sc ts) us (λ us. called (strict (V Z home)) y name us) (Some (given.0 ∷ [])) e given.1.0)),
+              (gives_one k given.0 (then (walk_all (V Z home) sc ts) (λ us. called (strict (V Z home)) y name us)) came.0 came.1.1 given.1.1
+              (then_is (walk_all (V Z home) sc ts) us (λ us. called (strict (V Z home)) y name us) (Some (given.0 ∷ [])) e given.1.0)),
         )
 
     -- the values of the literal names of a call
     abbrev pub Literals : (Atom → Env → m.Tree → Outcome → Trace → Type 0) → Type 0
     Literals E = (home : Atom) (env : Env) (t : m.Tree) (x y : Atom) (tr : Trace) → literal_atom t ≡ Some x → E home env t (gives (and_value (atom y) no_value)) tr → y ≡ x
 
-    pub call_inv : {env : Env} {x name : Atom} {vs : Values} {o : Outcome} {tr more : Trace} (literals : Literals E) (i : Mark) (t u : m.Tree) (ts : m.Trees) (sc : WalkScope) (k : Ask) → AllGive (E home) env (m.and_tree t (m.and_tree u ts)) (and_value (atom x) (and_value (atom name) vs)) tr → Called Z.program Z.from E x name vs o more → IsKnown Z (tr ++ (more ++ back_by home i.label o)) → IsCovEnv Z home env → IsSeen home sc env → FineAt Z home sc k (m.call i t u ts) → AllOk Z (tr ++ (more ++ back_by home i.label o)) × Result Z k (walk (V Z home) sc k (m.call i t u ts)) o
+    pub call_inv : {env : Env} {x name : Atom} {vs : Values} {o : Outcome} {tr more : Trace} (literals : Literals E) (i : Mark) (t u : m.Tree) (ts : m.Trees) (sc : WalkScope) (k : Ask)
+        → AllGive (E home) env (m.and_tree t (m.and_tree u ts)) (and_value (atom x) (and_value (atom name) vs)) tr → Called Z.program Z.from E x name vs o more → IsKnown Z (tr ++ (more ++ back_by home i.label o))
+        → IsCovEnv Z home env → IsSeen home sc env → FineAt Z home sc k (m.call i t u ts) → AllOk Z (tr ++ (more ++ back_by home i.label o)) × Result Z k (walk (V Z home) sc k (m.call i t u ts)) o
     call_inv {env} {x} {name} {vs} {o} {tr} {more} literals i t u ts sc k (give_next {tr = tr1} {more = rest} y1 (give_next {tr = tr2} {more = tr3} y2 ys)) ch kn c s fine =
         let back = back_by home i.label o in
         let front = known_front Z (tr1 ++ (tr2 ++ tr3)) (more ++ back) kn in
@@ -409,7 +473,13 @@ module _ (Z : Setting) where
         let d = by (call_names t u) refl fine g1.1.1.1.0 g2.1.1.1.0 g3.1.1.1.0 g3.1.1.1.1 km r.1 in
         (both_ok Z (tr1 ++ (tr2 ++ tr3)) (more ++ back) (both_ok Z tr1 (tr2 ++ tr3) g1.0 (both_ok Z tr2 tr3 g2.0 g3.0)) (both_ok Z more back r.0 (back_ok i.label o r.1 d.0)), d.1)
       where
-        by : {us1 us2 us : List Type4} (z : Option (Atom × Atom)) → call_names t u ≡ z → ByName z (λ names. FineTrees Z home sc ts × ((us ws : List Type4) → walk_all (V Z home) sc ts ≡ Some us → called (lenient (V Z home)) names.0 names.1 us ≡ Some ws → Z.dead_call home i.label → ⊥)) (FineAt Z home sc (Exactly 1) t × (FineAt Z home sc (Exactly 1) u × (FineTrees Z home sc ts × (Z.dead_call home i.label → ⊥)))) → walk (V Z home) sc (Exactly 1) t ≡ Some us1 → walk (V Z home) sc (Exactly 1) u ≡ Some us2 → walk_all (V Z home) sc ts ≡ Some us → HasTypes vs us → IsKnown Z more → CameOne Z E each o → ((ws : Values) → o ≡ gives ws → Z.dead_call home i.label → ⊥) × Result Z k (if_named z (λ names. then (walk_all (V Z home) sc ts) (λ us. called (strict (V Z home)) names.0 names.1 us)) (then (walk (V Z home) sc (Exactly 1) t) (λ h. then (walk (V Z home) sc (Exactly 1) u) (λ n. then (walk_all (V Z home) sc ts) (λ us. value any))))) o
+        by : {us1 us2 us : List Type4} (z : Option (Atom × Atom)) → call_names t u ≡ z
+            → ByName z (λ names. FineTrees Z home sc ts × ((us ws : List Type4) → walk_all (V Z home) sc ts ≡ Some us → called (lenient (V Z home)) names.0 names.1 us ≡ Some ws → Z.dead_call home i.label → ⊥))
+            (FineAt Z home sc (Exactly 1) t × (FineAt Z home sc (Exactly 1) u × (FineTrees Z home sc ts × (Z.dead_call home i.label → ⊥)))) → walk (V Z home) sc (Exactly 1) t ≡ Some us1
+            → walk (V Z home) sc (Exactly 1) u ≡ Some us2 → walk_all (V Z home) sc ts ≡ Some us → HasTypes vs us → IsKnown Z more → CameOne Z E each o
+            → ((ws : Values) → o ≡ gives ws → Z.dead_call home i.label → ⊥) × Result Z k
+            (if_named z (λ names. then (walk_all (V Z home) sc ts) (λ us. called (strict (V Z home)) names.0 names.1 us))
+            (then (walk (V Z home) sc (Exactly 1) t) (λ h. then (walk (V Z home) sc (Exactly 1) u) (λ n. then (walk_all (V Z home) sc ts) (λ us. value any))))) o
         by {us1} {us2} {us} None e f w1 w2 w3 h km came = (
           λ ws q. f.1.1.1,
           back_any k (then (walk (V Z home) sc (Exactly 1) t) (λ h. then (walk (V Z home) sc (Exactly 1) u) (λ n. then (walk_all (V Z home) sc ts) (λ us. value any)))) o

@@ -90,7 +90,8 @@ module _ (callees : Callees) (x : m.Module) (st : FlowState) where
 
   own : (ds : m.Defs) (f : Finding) → Has f (functions_reported (world callees x st) (around_module callees x) ds) → IsOwn ds f
   own m.no_def f h = absurd h
-  own (m.and_def g i xs t ds) f h = of_three (own ds f) (split f (cond (gives_nothing (callees x.name g)) (at_node (under (around_module callees x) i.note) i (NoReturn g)) [] ++ unless_entered (parameters_of st i.label) (at_node (under (around_module callees x) i.note) i (NeverCalled g))) (functions_reported (world callees x st) (around_module callees x) ds) h)
+  own (m.and_def g i xs t ds) f h = of_three (own ds f) (split f (cond (gives_nothing (callees x.name g)) (at_node (under (around_module callees x) i.note) i (NoReturn g)) []
+      ++ unless_entered (parameters_of st i.label) (at_node (under (around_module callees x) i.note) i (NeverCalled g))) (functions_reported (world callees x st) (around_module callees x) ds) h)
     where
       of_first : (b : Bool) → gives_nothing (callees x.name g) ≡ b → Has f (cond b (at_node (under (around_module callees x) i.note) i (NoReturn g)) []) → IsOwn (m.and_def g i xs t ds) f
       of_first true e k =
@@ -104,12 +105,17 @@ module _ (callees : Callees) (x : m.Module) (st : FlowState) where
           record { name = g; defined = inl (refl, r.0); why = inr (r.1, ap (parameters_of st) r.0 ∙ e) }
       of_second (Some ts) e k = absurd k
 
-      of_two : Has f (cond (gives_nothing (callees x.name g)) (at_node (under (around_module callees x) i.note) i (NoReturn g)) []) ⊎ Has f (unless_entered (parameters_of st i.label) (at_node (under (around_module callees x) i.note) i (NeverCalled g))) → IsOwn (m.and_def g i xs t ds) f
+      of_two : Has f (cond (gives_nothing (callees x.name g)) (at_node (under (around_module callees x) i.note) i (NoReturn g)) [])
+          ⊎ Has f (unless_entered (parameters_of st i.label) (at_node (under (around_module callees x) i.note) i (NeverCalled g))) → IsOwn (m.and_def g i xs t ds) f
       of_two (inl k) = of_first (gives_nothing (callees x.name g)) refl k
       of_two (inr k) = of_second (parameters_of st i.label) refl k
 
-      of_three : (Has f (functions_reported (world callees x st) (around_module callees x) ds) → IsOwn ds f) → Has f (cond (gives_nothing (callees x.name g)) (at_node (under (around_module callees x) i.note) i (NoReturn g)) [] ++ unless_entered (parameters_of st i.label) (at_node (under (around_module callees x) i.note) i (NeverCalled g))) ⊎ Has f (functions_reported (world callees x st) (around_module callees x) ds) → IsOwn (m.and_def g i xs t ds) f
-      of_three more (inl k) = of_two (split f (cond (gives_nothing (callees x.name g)) (at_node (under (around_module callees x) i.note) i (NoReturn g)) []) (unless_entered (parameters_of st i.label) (at_node (under (around_module callees x) i.note) i (NeverCalled g))) k)
+      of_three : (Has f (functions_reported (world callees x st) (around_module callees x) ds) → IsOwn ds f)
+          → Has f (cond (gives_nothing (callees x.name g)) (at_node (under (around_module callees x) i.note) i (NoReturn g)) []
+          ++ unless_entered (parameters_of st i.label) (at_node (under (around_module callees x) i.note) i (NeverCalled g))) ⊎ Has f (functions_reported (world callees x st) (around_module callees x) ds)
+          → IsOwn (m.and_def g i xs t ds) f
+      of_three more (inl k) = of_two (split f (cond (gives_nothing (callees x.name g)) (at_node (under (around_module callees x) i.note) i (NoReturn g)) [])
+          (unless_entered (parameters_of st i.label) (at_node (under (around_module callees x) i.note) i (NeverCalled g))) k)
       of_three more (inr k) = let r = more k in record { name = r.name; defined = inr r.defined; why = r.why }
 
   abbrev pub Walked : List Finding
@@ -125,7 +131,8 @@ module _ (callees : Callees) (x : m.Module) (st : FlowState) where
       more (inl k) = inl k
       more (inr k) = inr (inl k)
 
-      by : Has f (functions_reported (world callees x st) (around_module callees x) x.defs ++ Walked) ⊎ Has f Unknowns → Has f (functions_reported (world callees x st) (around_module callees x) x.defs) ⊎ (Has f Walked ⊎ Has f Unknowns)
+      by : Has f (functions_reported (world callees x st) (around_module callees x) x.defs ++ Walked) ⊎ Has f Unknowns
+          → Has f (functions_reported (world callees x st) (around_module callees x) x.defs) ⊎ (Has f Walked ⊎ Has f Unknowns)
       by (inl k) = more (split f (functions_reported (world callees x st) (around_module callees x) x.defs) Walked k)
       by (inr k) = inr (inr k)
 
@@ -183,7 +190,8 @@ found_by_name (m.and_def g k xs t ds) f l d (inl e) =
     ∙ (λ i. Some (record { name = (sym e.0 i).name; arity = (sym e.0 i).arity; label = sym e.1 i }))
 found_by_name (m.and_def g k xs t ds) f l d (inr h) = by (found_by_name ds f l d.1 h) (same_function g f) refl
   where
-    by : function_named (locals_of ds) f ≡ Some (record { name = f.name; arity = f.arity; label = l }) → (b : Bool) → same_function g f ≡ b → (if b then Some (record { name = g.name; arity = g.arity; label = k.label }) else function_named (locals_of ds) f) ≡ Some (record { name = f.name; arity = f.arity; label = l })
+    by : function_named (locals_of ds) f ≡ Some (record { name = f.name; arity = f.arity; label = l }) → (b : Bool) → same_function g f ≡ b
+        → (if b then Some (record { name = g.name; arity = g.arity; label = k.label }) else function_named (locals_of ds) f) ≡ Some (record { name = f.name; arity = f.arity; label = l })
     by more true e = absurd (d.0 (subst (λ z. Contains (defined_names ds) z) (sym (functions_same g f e)) (is_named ds f l h)))
     by more false e = more
 

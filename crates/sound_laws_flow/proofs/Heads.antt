@@ -82,7 +82,8 @@ module _ (F : Facts) (T : TypeFacts) (R : SolutionFacts) where
           };
         }
 
-    pub head_ready : {sc : WalkScope} {env to : Env} {vs : Values} {qs : List ℕ} {ps : m.Patterns} {g : m.Tree} {tr : Trace} (U : Program) (V : World) (E : Atom → Env → m.Tree → Outcome → Trace → Type 0) → V.home ≡ home → Extends (strict V) U E → IsReady T home sc env vs qs → MatchEach W ps vs env to → E home to g (gives (and_value true_value no_value)) tr → AllBearOut (strict V) U tr → IsInside home sc ps (head_solved V sc qs ps g) to
+    pub head_ready : {sc : WalkScope} {env to : Env} {vs : Values} {qs : List ℕ} {ps : m.Patterns} {g : m.Tree} {tr : Trace} (U : Program) (V : World) (E : Atom → Env → m.Tree → Outcome → Trace → Type 0) → V.home ≡ home
+        → Extends (strict V) U E → IsReady T home sc env vs qs → MatchEach W ps vs env to → E home to g (gives (and_value true_value no_value)) tr → AllBearOut (strict V) U tr → IsInside home sc ps (head_solved V sc qs ps g) to
     head_ready {sc} {env} {to} {vs} {qs} {ps} {g} U V E here each r mt ev bears =
         let start = length sc.types in
         let guard = start + outer_span ps in

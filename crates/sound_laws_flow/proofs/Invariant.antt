@@ -11,8 +11,10 @@ use Rattle.core_scope.specs.declared.ask.Ask.{Ask}
 use Rattle.core_scope.specs.declared.ask.Ask.TheVariants.{Exactly}
 use Rattle.core_meaning.specs.Environments.{value_of}
 use Rattle.core_meaning.specs.Meaning.{Outcome, gives, Trace, AllGive, give_none, give_next}
-use Rattle.core_meaning.specs.Meaning.{Step, step_variable, step_literal, step_function, step_name, step_external, step_part_fails, step_list, step_tuple, step_values, step_new_map, step_new_map_raises, step_map, step_map_raises, step_binary, step_binary_raises, step_chain, step_case, step_case_fails}
-use Rattle.core_meaning.specs.Meaning.{step_letrec, step_apply_name, step_apply_name_raises, step_apply, step_call, step_call_raises, step_primop, step_primop_raises, step_try, step_handle, step_try_stops, step_catch, step_caught, step_catch_stops, step_receive, step_timeout, step_waits, step_receive_fails}
+use Rattle.core_meaning.specs.Meaning.{Step, step_variable, step_literal, step_function, step_name, step_external, step_part_fails, step_list, step_tuple, step_values}
+use Rattle.core_meaning.specs.Meaning.{step_new_map, step_new_map_raises, step_map, step_map_raises, step_binary, step_binary_raises, step_chain, step_case, step_case_fails}
+use Rattle.core_meaning.specs.Meaning.{step_letrec, step_apply_name, step_apply_name_raises, step_apply, step_call, step_call_raises, step_primop, step_primop_raises, step_try}
+use Rattle.core_meaning.specs.Meaning.{step_handle, step_try_stops, step_catch, step_caught, step_catch_stops, step_receive, step_timeout, step_waits, step_receive_fails}
 use Rattle.core_meaning.specs.Runs.{EvalWith}
 use Rattle.core_scope.specs.Asks.{width}
 use Rattle.cons_gen_rows.specs.Words.{function_type}
@@ -34,17 +36,23 @@ use Rattle.sound_laws_flow.proofs.Setting.{Setting, V, IsCovEnv, AllOk, IsKnown,
 use Rattle.sound_laws_flow.proofs.WalkScopes.{NameIs, NamesAre}
 
 module _ (Z : Setting) where
-  module _ (E : Atom → Env → m.Tree → Outcome → Trace → Type 0) (each : Invariant Z E) (extends : Extends (strict (V Z [])) Z.program E) (names : f.Names Z E) (literals : (home : Atom) (env : Env) (t : m.Tree) (x y : Atom) (tr : Trace) → literal_atom t ≡ Some x → E home env t (gives (and_value (atom y) no_value)) tr → y ≡ x) where
-    pub step_inv : (home : Atom) (env : Env) (sc : WalkScope) (t : m.Tree) (o : Outcome) (tr : Trace) (k : Ask) → Step Z.program Z.from E home env t o tr → IsKnown Z tr → IsCovEnv Z home env → IsSeen home sc env → FineAt Z home sc k t → AllOk Z tr × Result Z k (walk (V Z home) sc k t) o
+  module _ (E : Atom → Env → m.Tree → Outcome → Trace → Type 0) (each : Invariant Z E) (extends : Extends (strict (V Z [])) Z.program E) (names : f.Names Z E)
+      (literals : (home : Atom) (env : Env) (t : m.Tree) (x y : Atom) (tr : Trace) → literal_atom t ≡ Some x → E home env t (gives (and_value (atom y) no_value)) tr → y ≡ x) where
+    pub step_inv : (home : Atom) (env : Env) (sc : WalkScope) (t : m.Tree) (o : Outcome) (tr : Trace) (k : Ask) → Step Z.program Z.from E home env t o tr → IsKnown Z tr → IsCovEnv Z home env → IsSeen home sc env
+        → FineAt Z home sc k t → AllOk Z tr × Result Z k (walk (V Z home) sc k t) o
     step_inv home env sc _ _ _ k (step_variable {k = i} {x = x} {v = v} e) kn c s fine = (tt, f.variable_inv Z E each home i x v sc k e c s)
     step_inv home env sc _ _ _ k (step_literal {k = i} {c = d} {v = v} is) kn c s fine = (tt, f.literal_inv Z E each home i d v sc k is)
     step_inv home env sc _ _ _ k (step_function {k = i} {xs = xs} {t = t} at) kn c s fine =
         let covered = f.function_inv Z E each home i xs t sc k at c s fine in
         ((covered, tt), res_one Z.types Z.program Z.callee Z.states Z.dead_clause Z.dead_call k (function_type (length xs)) (value (function_type (length xs))) _ covered (function_in Z.facts (length xs) _ refl) refl)
     step_inv home env sc _ _ _ k (step_name {k = i} {f = g} {c = w} e) kn c s fine =
-        let covered = f.name_inv Z E each home g w sc e c s fine in
-        ((covered, tt), res_one Z.types Z.program Z.callee Z.states Z.dead_clause Z.dead_call k (function_type g.arity) (value (function_type g.arity)) w covered (function_in Z.facts g.arity w (function_arity Z.program home env g w e)) refl)
-    step_inv home env sc _ _ _ k (step_external {f = g}) kn c s fine = (tt, res_one Z.types Z.program Z.callee Z.states Z.dead_clause Z.dead_call k (function_type g.arity) (value (function_type g.arity)) _ tt (function_in Z.facts g.arity _ refl) refl)
+        let covered = f.name_inv Z E each home g w sc e c s fine in (
+          (covered, tt),
+          res_one Z.types Z.program Z.callee Z.states Z.dead_clause Z.dead_call k (function_type g.arity) (value (function_type g.arity)) w covered
+              (function_in Z.facts g.arity w (function_arity Z.program home env g w e)) refl,
+        )
+    step_inv home env sc _ _ _ k (step_external {f = g}) kn c s fine =
+        (tt, res_one Z.types Z.program Z.callee Z.states Z.dead_clause Z.dead_call k (function_type g.arity) (value (function_type g.arity)) _ tt (function_in Z.facts g.arity _ refl) refl)
     step_inv home env sc t _ _ k (step_part_fails x) kn c s fine = (one_failed Z E each home sc x kn c s (fine_operands (V Z home) (Z.dead_clause home) (Z.dead_call home) sc k t fine), tt)
     step_inv home env sc _ _ _ k (step_list {k = i} {ts = ts} {t = t} xs) kn c s fine = f.list_inv Z E each home i ts t sc k xs kn c s fine
     step_inv home env sc _ _ _ k (step_tuple {k = i} {ts = ts} xs) kn c s fine = f.tuple_inv Z E each home i ts sc k xs kn c s fine
@@ -63,14 +71,16 @@ module _ (Z : Setting) where
     step_inv home env sc _ _ _ k (step_apply_name_raises xs) kn c s fine = ((all_given Z E each home sc xs kn c s fine.0).0, tt)
     step_inv home env sc _ _ _ k (step_apply {k = i} {t = t} {ts = ts} n xs x) kn c s fine = f.apply_inv Z E each home i t ts sc k n xs x kn c s fine
     step_inv home env sc _ _ _ k (step_call {k = i} {t = t} {u = u} {ts = ts} xs x) kn c s fine = f.call_inv Z E each home literals i t u ts sc k xs x kn c s fine
-    step_inv home env sc _ _ _ k (step_call_raises {k = i} {t = t} {u = u} {ts = ts} xs) kn c s fine = ((all_given Z E each home sc xs kn c s (fine_operands (V Z home) (Z.dead_clause home) (Z.dead_call home) sc k (m.call i t u ts) fine)).0, tt)
+    step_inv home env sc _ _ _ k (step_call_raises {k = i} {t = t} {u = u} {ts = ts} xs) kn c s fine =
+        ((all_given Z E each home sc xs kn c s (fine_operands (V Z home) (Z.dead_clause home) (Z.dead_call home) sc k (m.call i t u ts) fine)).0, tt)
     step_inv home env sc _ _ _ k (step_primop {k = i} {x = x} {ts = ts} {ws = ws} calm xs from) kn c s fine = f.primop_inv Z E each home ws i x ts sc k calm xs from kn c s fine
     step_inv home env sc _ _ _ k (step_primop_raises xs) kn c s fine = ((all_given Z E each home sc xs kn c s fine).0, tt)
     step_inv home env sc _ _ _ k (step_try {k = i} {t = t} {u = u} {w = w} {xs = xs} {ys = ys} x n y) kn c s fine = f.try_inv Z E each home i t xs u ys w sc k x n y kn c s fine
     step_inv home env sc _ _ _ k (step_handle {k = i} {t = t} {u = u} {w = w} {xs = xs} {ys = ys} vs x n from y) kn c s fine = f.handler_inv Z E each home vs i t xs u ys w sc k x n from y kn c s fine
     step_inv home env sc _ _ _ k (step_try_stops {xs = xs} x) kn c s fine = ((each home env sc _ _ _ (Exactly (length xs)) x kn c s fine.0).0, tt)
     step_inv home env sc _ _ _ k (step_catch {v = v} x) kn c s fine = let h = each home env sc _ _ _ (Exactly 1) x kn c s fine in (h.0, res_any Z.types Z.program Z.callee Z.states Z.dead_clause Z.dead_call k (value any) v h.1.0.0 refl)
-    step_inv home env sc _ _ _ k (step_caught {v = v} x from) kn c s fine = let h = each home env sc _ _ _ (Exactly 1) x kn c s fine in (h.0, res_any Z.types Z.program Z.callee Z.states Z.dead_clause Z.dead_call k (value any) v (Z.world v from) refl)
+    step_inv home env sc _ _ _ k (step_caught {v = v} x from) kn c s fine = let h =
+        each home env sc _ _ _ (Exactly 1) x kn c s fine in (h.0, res_any Z.types Z.program Z.callee Z.states Z.dead_clause Z.dead_call k (value any) v (Z.world v from) refl)
     step_inv home env sc _ _ _ k (step_catch_stops x) kn c s fine = ((each home env sc _ _ _ (Exactly 1) x kn c s fine).0, tt)
     step_inv home env sc _ _ _ k (step_receive {k = i} {cs = cs} {t = t} {u = u} x from ch) kn c s fine = f.receive_inv Z E each home extends names i cs t u sc k x from ch kn c s fine
     step_inv home env sc _ _ _ k (step_timeout {k = i} {cs = cs} {t = t} {u = u} x y) kn c s fine = f.timeout_inv Z E each home extends names i cs t u sc k x y kn c s fine

@@ -100,7 +100,8 @@ module _ (L : LastFacts) (callees : Callees) (x : m.Module) (X : IsText x) where
         (escaping_open x)
 
   -- what is exported
-  last_exports : (home : Atom) (f : FunName) (label arity : ℕ) → has_function x.exports f ≡ true → closure_of home no_variable (function_named (locals_of x.defs) f) ≡ Some (closure home label arity no_variable) → parameters_of Last label ≡ Some (replicate arity any)
+  last_exports : (home : Atom) (f : FunName) (label arity : ℕ) → has_function x.exports f ≡ true → closure_of home no_variable (function_named (locals_of x.defs) f) ≡ Some (closure home label arity no_variable)
+      → parameters_of Last label ≡ Some (replicate arity any)
   last_exports home f label arity h e = by (function_named (locals_of x.defs) f) refl e
     where
       by : (o : Option Local) → function_named (locals_of x.defs) f ≡ o → closure_of home no_variable o ≡ Some (closure home label arity no_variable) → parameters_of Last label ≡ Some (replicate arity any)
@@ -109,7 +110,8 @@ module _ (L : LastFacts) (callees : Callees) (x : m.Module) (X : IsText x) where
           let same : closure home d.label d.arity no_variable ≡ closure home label arity no_variable = same_Some _ _ w in
           let labels : d.label ≡ label = cc in
           let arities : d.arity ≡ arity = cc in
-          subst (λ l. parameters_of Last l ≡ Some (replicate arity any)) labels (subst (λ n. parameters_of Last d.label ≡ Some (replicate n any)) arities (opened d.label d.arity (found_named x x.defs f d X.tops_at q) (exported_open x f d h q)))
+          subst (λ l. parameters_of Last l ≡ Some (replicate arity any)) labels (subst (λ n. parameters_of Last d.label ≡ Some (replicate n any)) arities
+          (opened d.label d.arity (found_named x x.defs f d X.tops_at q) (exported_open x f d h q)))
 
 -- ---- every module of a program
 

@@ -32,7 +32,8 @@ module _ (F : TextFacts) where
         tops_at = at_labels x x.defs (F.definitions c (x ∷ []) (alone x)) (F.top_arities c);
         tops_once = F.once c;
         letrecs_at = λ s k i ds t h. at_labels x ds (F.letrecs c (x ∷ []) s k i ds t (alone x) h) (F.arities c s k i ds t h);
-        letrecs_once = λ s k i ds t h. defined_once [] ds (open_four (degree k i (m.letrec i ds t)) (new_functions [] ds) (def_breaks (with_functions s (defined_names ds)) ds) (breaks (with_functions s (defined_names ds)) k t) (F.unbroken c (expression s k (m.letrec i ds t)) h)).1;
+        letrecs_once = λ s k i ds t h. defined_once [] ds (open_four (degree k i (m.letrec i ds t)) (new_functions [] ds) (def_breaks (with_functions s (defined_names ds)) ds) (breaks (with_functions s (defined_names ds)) k t)
+            (F.unbroken c (expression s k (m.letrec i ds t)) h)).1;
         labels_once = F.labels c;
         functions_once = F.functions c;
       }

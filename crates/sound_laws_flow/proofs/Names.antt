@@ -42,7 +42,8 @@ module _ (Z : Setting) (E : Atom → Env → m.Tree → Outcome → Trace → Ty
   no_back : (sc : WalkScope) (f : FunName) (label : ℕ) (us : List Type4) (tr : Trace) (g : Failure) → AllOk Z tr → IsDone sc f label us (fails g) tr
   no_back sc f label us tr g h = (h, (tt, λ k. tt))
 
-  in_frame : {env : Env} {c : Value} {vs : Values} {o : Outcome} {tr : Trace} (sc : WalkScope) (f : FunName) (label : ℕ) (us : List Type4) → local_function home env f ≡ Some c → Enter Z.program Z.from E c vs o tr → IsKnown Z tr → IsCovEnv Z home env → IsSeen home sc env → AreCov Z vs → HasTypes vs us → FineApplied (V Z home) (Z.dead_clause home) (Z.dead_call home) (resolved_name (V Z home) sc f) f label us → IsDone sc f label us o tr
+  in_frame : {env : Env} {c : Value} {vs : Values} {o : Outcome} {tr : Trace} (sc : WalkScope) (f : FunName) (label : ℕ) (us : List Type4) → local_function home env f ≡ Some c → Enter Z.program Z.from E c vs o tr → IsKnown Z tr
+      → IsCovEnv Z home env → IsSeen home sc env → AreCov Z vs → HasTypes vs us → FineApplied (V Z home) (Z.dead_clause home) (Z.dead_call home) (resolved_name (V Z home) sc f) f label us → IsDone sc f label us o tr
   in_frame {env} {c} {vs} {o} {tr} sc f label us e x k ce s cv h fine =
       let frame = of_frame Z.program Z.callee Z.states Z.dead_clause Z.dead_call Z.types home env f c ce e in
       let named = s.functions.inner f frame.label frame.arity frame.around (e ∙ ap Some frame.is) in
@@ -56,15 +57,24 @@ module _ (Z : Setting) (E : Atom → Env → m.Tree → Outcome → Trace → Ty
       let r = entered_with Z E each frame.walk_scope ps y k frame.covered frame.seen cv (as_many_have vs ps have) b.0 allowed in
       finish frame ps o means it.1 r.0 r.1 b.1
     where
-      finish : (frame : IsOfFrame Z.program Z.callee Z.states Z.dead_clause Z.dead_call home c) (ps : List Type4) (o : Outcome) → resolved_name (V Z home) sc f ≡ Inner frame.label → (Z.dead_call home label → ⊥) → AllOk Z tr → Came Z E each home frame.label frame.walk_scope ps o → Results Z home frame.label frame.walk_scope ps → IsDone sc f label us o tr
+      finish : (frame : IsOfFrame Z.program Z.callee Z.states Z.dead_clause Z.dead_call home c) (ps : List Type4) (o : Outcome) → resolved_name (V Z home) sc f ≡ Inner frame.label → (Z.dead_call home label → ⊥) → AllOk Z tr
+          → Came Z E each home frame.label frame.walk_scope ps o → Results Z home frame.label frame.walk_scope ps → IsDone sc f label us o tr
       finish frame ps (fails g) means alive done came r = no_back sc f label us tr g done
       finish frame ps (gives ws) means alive done came r =
           let w = came_result Z E each home frame.label frame.walk_scope ps ws came r in
           let t = result_of (Z.states home) frame.label in
-          subst (λ z. IsDone sc f label us (gives z) tr) (sym w.1.0)
-          (done, ((alive, tt), λ k. res_one Z.types Z.program Z.callee Z.states Z.dead_clause Z.dead_call k t (by_meaning (V Z home) f (resolved_name (V Z home) sc f) us) w.0 w.1.1.0 w.1.1.1 (ap (λ z. by_meaning (V Z home) f z us) means ∙ one_is Z.types w.0 t w.1.1.1)))
+          subst (λ z. IsDone sc f label us (gives z) tr) (sym w.1.0) (
+            done,
+            (
+              (alive, tt),
+              λ k. res_one Z.types Z.program Z.callee Z.states Z.dead_clause Z.dead_call k t (by_meaning (V Z home) f (resolved_name (V Z home) sc f) us) w.0 w.1.1.0 w.1.1.1
+                  (ap (λ z. by_meaning (V Z home) f z us) means ∙ one_is Z.types w.0 t w.1.1.1),
+            ),
+          )
 
-  of_its_module : {env : Env} {c : Value} {vs : Values} {o : Outcome} {tr : Trace} (sc : WalkScope) (f : FunName) (label : ℕ) (us : List Type4) → local_function home env f ≡ None → top_function Z.program home f ≡ Some c → Enter Z.program Z.from E c vs o tr → IsKnown Z tr → IsCovEnv Z home env → IsSeen home sc env → AreCov Z vs → HasTypes vs us → FineApplied (V Z home) (Z.dead_clause home) (Z.dead_call home) (resolved_name (V Z home) sc f) f label us → IsDone sc f label us o tr
+  of_its_module : {env : Env} {c : Value} {vs : Values} {o : Outcome} {tr : Trace} (sc : WalkScope) (f : FunName) (label : ℕ) (us : List Type4) → local_function home env f ≡ None → top_function Z.program home f ≡ Some c
+      → Enter Z.program Z.from E c vs o tr → IsKnown Z tr → IsCovEnv Z home env → IsSeen home sc env → AreCov Z vs → HasTypes vs us
+      → FineApplied (V Z home) (Z.dead_clause home) (Z.dead_call home) (resolved_name (V Z home) sc f) f label us → IsDone sc f label us o tr
   of_its_module {env} {c} {vs} {o} {tr} sc f label us e is x k ce s cv h fine =
       let t = is_top Z E each home f c is in
       let unnamed = s.functions.others f e in
@@ -79,7 +89,8 @@ module _ (Z : Setting) (E : Atom → Env → m.Tree → Outcome → Trace → Ty
       let r = entered_with Z E each outermost ps y k tt (outermost_seen Z.types home) cv (as_many_have vs ps have) b.0 allowed in
       finish t ps o means it.1 x r.0 r.1 b.1
     where
-      finish : (t : IsTop Z E each home f c) (ps : List Type4) (o : Outcome) → resolved_name (V Z home) sc f ≡ Top t.label → ((ws : List Type4) → may_return (Z.callee home f) us ≡ Some ws → Z.dead_call home label → ⊥) → Enter Z.program Z.from E c vs o tr → AllOk Z tr → Came Z E each home t.label outermost ps o → Results Z home t.label outermost ps → IsDone sc f label us o tr
+      finish : (t : IsTop Z E each home f c) (ps : List Type4) (o : Outcome) → resolved_name (V Z home) sc f ≡ Top t.label → ((ws : List Type4) → may_return (Z.callee home f) us ≡ Some ws → Z.dead_call home label → ⊥)
+          → Enter Z.program Z.from E c vs o tr → AllOk Z tr → Came Z E each home t.label outermost ps o → Results Z home t.label outermost ps → IsDone sc f label us o tr
       finish t ps (fails g) means alive x done came r = no_back sc f label us tr g done
       finish t ps (gives ws) means alive x done came r =
           let w = came_result Z E each home t.label outermost ps ws came r in
@@ -87,10 +98,18 @@ module _ (Z : Setting) (E : Atom → Env → m.Tree → Outcome → Trace → Ty
           let result = result_of (Z.states home) t.label in
           let given = state_gives Z.facts Z.types Z.solutions result (Z.callee home f) w.0 vs us w.1.1.1 h (λ s known. within Z.facts (strict (V Z [])) Z.program Z.from Z.honest_strict E home f is y k.0 s refl known) in
           let may = may_give Z.facts Z.types Z.solutions (Z.callee home f) w.0 vs us h (λ s known. within Z.facts (lenient (V Z [])) Z.program Z.from Z.honest_lenient E home f is y k.1 s refl known) in
-          subst (λ z. IsDone sc f label us (gives z) tr) (sym w.1.0)
-          (done, ((alive (may.0 ∷ []) may.1.0, tt), λ k. res_one Z.types Z.program Z.callee Z.states Z.dead_clause Z.dead_call k given.0 (by_meaning (V Z home) f (resolved_name (V Z home) sc f) us) w.0 w.1.1.0 given.1.1 (ap (λ z. by_meaning (V Z home) f z us) means ∙ given.1.0)))
+          subst (λ z. IsDone sc f label us (gives z) tr) (sym w.1.0) (
+            done,
+            (
+              (alive (may.0 ∷ []) may.1.0, tt),
+              λ k. res_one Z.types Z.program Z.callee Z.states Z.dead_clause Z.dead_call k given.0 (by_meaning (V Z home) f (resolved_name (V Z home) sc f) us) w.0 w.1.1.0 given.1.1
+                  (ap (λ z. by_meaning (V Z home) f z us) means ∙ given.1.0),
+            ),
+          )
 
-  name_applied : {env : Env} {c : Value} {vs : Values} {o : Outcome} {tr : Trace} (sc : WalkScope) (f : FunName) (label : ℕ) (us : List Type4) → function_of Z.program home env f ≡ Some c → Enter Z.program Z.from E c vs o tr → IsKnown Z tr → IsCovEnv Z home env → IsSeen home sc env → AreCov Z vs → HasTypes vs us → FineApplied (V Z home) (Z.dead_clause home) (Z.dead_call home) (resolved_name (V Z home) sc f) f label us → IsDone sc f label us o tr
+  name_applied : {env : Env} {c : Value} {vs : Values} {o : Outcome} {tr : Trace} (sc : WalkScope) (f : FunName) (label : ℕ) (us : List Type4) → function_of Z.program home env f ≡ Some c → Enter Z.program Z.from E c vs o tr
+      → IsKnown Z tr → IsCovEnv Z home env → IsSeen home sc env → AreCov Z vs → HasTypes vs us → FineApplied (V Z home) (Z.dead_clause home) (Z.dead_call home) (resolved_name (V Z home) sc f) f label us
+      → IsDone sc f label us o tr
   name_applied {env} {c} {vs} {o} {tr} sc f label us is x k ce s cv h fine = by (local_function home env f) refl is
     where
       by : (z : Option Value) → local_function home env f ≡ z → or_outer z (top_function Z.program home f) ≡ Some c → IsDone sc f label us o tr
@@ -98,7 +117,9 @@ module _ (Z : Setting) (E : Atom → Env → m.Tree → Outcome → Trace → Ty
       by (Some w) e q = in_frame sc f label us (e ∙ q) x k ce s cv h fine
 
   -- the whole application
-  pub apply_name_inv : {env : Env} {c : Value} {vs : Values} {o : Outcome} {tr more : Trace} (i j : Mark) (f : FunName) (ts : m.Trees) (sc : WalkScope) (k : Ask) → f.arity ≡ how_many ts → function_of Z.program home env f ≡ Some c → AllGive (E home) env ts vs tr → Enter Z.program Z.from E c vs o more → IsKnown Z (tr ++ (more ++ back_by home i.label o)) → IsCovEnv Z home env → IsSeen home sc env → FineAt Z home sc k (m.apply i (m.local j f) ts) → AllOk Z (tr ++ (more ++ back_by home i.label o)) × Result Z k (walk (V Z home) sc k (m.apply i (m.local j f) ts)) o
+  pub apply_name_inv : {env : Env} {c : Value} {vs : Values} {o : Outcome} {tr more : Trace} (i j : Mark) (f : FunName) (ts : m.Trees) (sc : WalkScope) (k : Ask) → f.arity ≡ how_many ts → function_of Z.program home env f ≡ Some c
+      → AllGive (E home) env ts vs tr → Enter Z.program Z.from E c vs o more → IsKnown Z (tr ++ (more ++ back_by home i.label o)) → IsCovEnv Z home env → IsSeen home sc env → FineAt Z home sc k (m.apply i (m.local j f) ts)
+      → AllOk Z (tr ++ (more ++ back_by home i.label o)) × Result Z k (walk (V Z home) sc k (m.apply i (m.local j f) ts)) o
   apply_name_inv {env} {c} {vs} {o} {tr} {more} i j f ts sc k arity is xs x kn ce s fine =
       let back = back_by home i.label o in
       let g = all_given Z E each home sc xs (known_front Z tr (more ++ back) kn) ce s fine.0 in

@@ -41,7 +41,8 @@ last_walked X sc (m.and_tree u ts) t us h =
     record {
       elements = first a.0 ∷ r.elements;
       last = r.last;
-      walked = then_is (walk X sc (Exactly 1) u) a.0 (λ ls. then (walk_all X sc ts) (λ more. Some (first ls ∷ more))) (Some (first a.0 ∷ r.elements)) a.1.0 (then_is (walk_all X sc ts) r.elements (λ more. Some (first a.0 ∷ more)) (Some (first a.0 ∷ r.elements)) r.walked refl);
+      walked = then_is (walk X sc (Exactly 1) u) a.0 (λ ls. then (walk_all X sc ts) (λ more. Some (first ls ∷ more))) (Some (first a.0 ∷ r.elements)) a.1.0
+          (then_is (walk_all X sc ts) r.elements (λ more. Some (first a.0 ∷ more)) (Some (first a.0 ∷ r.elements)) r.walked refl);
       walked_last = r.walked_last;
       are = sym (same_Some _ _ b.1.1) ∙ ap (λ xs. first a.0 ∷ xs) r.are;
     }
@@ -56,13 +57,20 @@ pairs_walked X sc (m.and_pair exact t u ps) us h =
     then_is (walk X sc (Exactly 1) t) a.0 (λ key. then (walk X sc (Exactly 1) u) (λ held. walk_pairs X sc ps)) (Some []) a.1.0
     (then_is (walk X sc (Exactly 1) u) d.0 (λ held. walk_pairs X sc ps) (Some []) d.1.0 (pairs_walked X sc ps e.0 e.1.0))
 
-both_walked : (X : World) (sc : WalkScope) (ts us : m.Trees) (ws : List Type4) → walk_all X sc (both_rows ts us) ≡ Some ws → ((xs : List Type4) × (walk_all X sc ts ≡ Some xs)) × ((ys : List Type4) × (walk_all X sc us ≡ Some ys))
+both_walked : (X : World) (sc : WalkScope) (ts us : m.Trees) (ws : List Type4) → walk_all X sc (both_rows ts us) ≡ Some ws
+    → ((xs : List Type4) × (walk_all X sc ts ≡ Some xs)) × ((ys : List Type4) × (walk_all X sc us ≡ Some ys))
 both_walked X sc m.no_tree us ws h = (([], refl), (ws, h))
 both_walked X sc (m.and_tree t ts) us ws h =
     let a = then_parts (walk X sc (Exactly 1) t) (λ ls. then (walk_all X sc (both_rows ts us)) (λ more. Some (first ls ∷ more))) ws h in
     let b = then_parts (walk_all X sc (both_rows ts us)) (λ more. Some (first a.0 ∷ more)) ws a.1.1 in
-    let r = both_walked X sc ts us b.0 b.1.0 in
-    ((first a.0 ∷ r.0.0, then_is (walk X sc (Exactly 1) t) a.0 (λ ls. then (walk_all X sc ts) (λ more. Some (first ls ∷ more))) (Some (first a.0 ∷ r.0.0)) a.1.0 (then_is (walk_all X sc ts) r.0.0 (λ more. Some (first a.0 ∷ more)) (Some (first a.0 ∷ r.0.0)) r.0.1 refl)), r.1)
+    let r = both_walked X sc ts us b.0 b.1.0 in (
+      (
+        first a.0 ∷ r.0.0,
+        then_is (walk X sc (Exactly 1) t) a.0 (λ ls. then (walk_all X sc ts) (λ more. Some (first ls ∷ more))) (Some (first a.0 ∷ r.0.0)) a.1.0
+            (then_is (walk_all X sc ts) r.0.0 (λ more. Some (first a.0 ∷ more)) (Some (first a.0 ∷ r.0.0)) r.0.1 refl),
+      ),
+      r.1,
+    )
 
 pub segments_walked : (X : World) (sc : WalkScope) (ss : m.Segments) (us : List Type4) → walk_all X sc (in_segments ss) ≡ Some us → walk_segments X sc ss ≡ Some []
 segments_walked X sc m.no_segment us h = refl
@@ -106,7 +114,8 @@ module _ (X : World) (DeadClause DeadCall : ℕ → Type 0) (sc : WalkScope) whe
   fine_applied None t ts G H h = (h.0, h.1.0)
   fine_applied (Some f) t ts G H h = h.0
 
-  pub fine_called : (t u : m.Tree) (ts : m.Trees) (G : (Atom × Atom) → Type 0) (H : Type 0) → ByName (call_names t u) (λ names. FineEach ts × G names) (FineOne t × (FineOne u × (FineEach ts × H))) → FineEach (m.and_tree t (m.and_tree u ts))
+  pub fine_called : (t u : m.Tree) (ts : m.Trees) (G : (Atom × Atom) → Type 0) (H : Type 0) → ByName (call_names t u) (λ names. FineEach ts × G names) (FineOne t × (FineOne u × (FineEach ts × H)))
+      → FineEach (m.and_tree t (m.and_tree u ts))
   fine_called t u ts G H h = by (call_names t u) refl h
     where
       by : (o : Option (Atom × Atom)) → call_names t u ≡ o → ByName o (λ names. FineEach ts × G names) (FineOne t × (FineOne u × (FineEach ts × H))) → FineEach (m.and_tree t (m.and_tree u ts))
@@ -142,10 +151,12 @@ module _ (X : World) (DeadClause DeadCall : ℕ → Type 0) (sc : WalkScope) whe
 
 module _ (Z : Setting) (E : Atom → Env → m.Tree → Outcome → Trace → Type 0) (each : Invariant Z E) (home : Atom) where
   -- a part of which one value is asked
-  pub one_given : {env : Env} {t : m.Tree} {v : Value} {tr : Trace} (sc : WalkScope) → E home env t (gives (and_value v no_value)) tr → IsKnown Z tr → IsCovEnv Z home env → IsSeen home sc env → FineAt Z home sc (Exactly 1) t → AllOk Z tr × (AreCov Z (and_value v no_value) × ((us : List Type4) × ((walk (V Z home) sc (Exactly 1) t ≡ Some us) × HasTypes (and_value v no_value) us)))
+  pub one_given : {env : Env} {t : m.Tree} {v : Value} {tr : Trace} (sc : WalkScope) → E home env t (gives (and_value v no_value)) tr → IsKnown Z tr → IsCovEnv Z home env → IsSeen home sc env → FineAt Z home sc (Exactly 1) t
+      → AllOk Z tr × (AreCov Z (and_value v no_value) × ((us : List Type4) × ((walk (V Z home) sc (Exactly 1) t ≡ Some us) × HasTypes (and_value v no_value) us)))
   one_given sc x k c s f = let h = each _ _ sc _ _ _ (Exactly 1) x k c s f in (h.0, (h.1.0, h.1.1 refl))
 
-  pub all_given : {env : Env} {ts : m.Trees} {vs : Values} {tr : Trace} (sc : WalkScope) → AllGive (E home) env ts vs tr → IsKnown Z tr → IsCovEnv Z home env → IsSeen home sc env → FineTrees Z home sc ts → AllOk Z tr × (AreCov Z vs × ((us : List Type4) × ((walk_all (V Z home) sc ts ≡ Some us) × HasTypes vs us)))
+  pub all_given : {env : Env} {ts : m.Trees} {vs : Values} {tr : Trace} (sc : WalkScope) → AllGive (E home) env ts vs tr → IsKnown Z tr → IsCovEnv Z home env → IsSeen home sc env → FineTrees Z home sc ts
+      → AllOk Z tr × (AreCov Z vs × ((us : List Type4) × ((walk_all (V Z home) sc ts ≡ Some us) × HasTypes vs us)))
   all_given sc give_none k c s f = (tt, (tt, ([], (refl, tt))))
   all_given sc (give_next {t = t} {ts = ts} {v = v} {tr = tr} {more = more} x xs) k c s f =
       let h = one_given sc x (known_front Z tr more k) c s f.0 in
@@ -158,7 +169,8 @@ module _ (Z : Setting) (E : Atom → Env → m.Tree → Outcome → Trace → Ty
           (
             first i.0 ∷ j.0,
             (
-              then_is (walk (V Z home) sc (Exactly 1) t) i.0 (λ ls. then (walk_all (V Z home) sc ts) (λ more. Some (first ls ∷ more))) (Some (first i.0 ∷ j.0)) i.1.0 (then_is (walk_all (V Z home) sc ts) j.0 (λ more. Some (first i.0 ∷ more)) (Some (first i.0 ∷ j.0)) j.1.0 refl),
+              then_is (walk (V Z home) sc (Exactly 1) t) i.0 (λ ls. then (walk_all (V Z home) sc ts) (λ more. Some (first ls ∷ more))) (Some (first i.0 ∷ j.0)) i.1.0
+                  (then_is (walk_all (V Z home) sc ts) j.0 (λ more. Some (first i.0 ∷ more)) (Some (first i.0 ∷ j.0)) j.1.0 refl),
               (first_has v i.0 i.1.1, j.1.1),
             ),
           ),

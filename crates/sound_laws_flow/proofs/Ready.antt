@@ -45,10 +45,12 @@ standing U home p (m.and_def f k xs t ds) e h = (ap (λ o. in_module o k.label) 
 
 -- the calls that a run made are of the signatures that are known
 abbrev pub StrictTypings : Program → Callees → Type 0
-StrictTypings U K = (stage : ℕ) (tr : Trace) → Run U stage tr → (home : Atom) (f : FunName) (s : Summary) (c : Value) (vs : Values) (v : Value) → summary_of (K home f) ≡ Some s → top_function U home f ≡ Some c → Among (gave c vs v) tr → Within s.strict vs v
+StrictTypings U K = (stage : ℕ) (tr : Trace) → Run U stage tr → (home : Atom) (f : FunName) (s : Summary) (c : Value) (vs : Values) (v : Value) → summary_of (K home f) ≡ Some s → top_function U home f ≡ Some c
+    → Among (gave c vs v) tr → Within s.strict vs v
 
 abbrev pub LenientTypings : Program → Callees → Type 0
-LenientTypings U K = (stage : ℕ) (tr : Trace) → Run U stage tr → (home : Atom) (f : FunName) (s : Summary) (c : Value) (vs : Values) (v : Value) → summary_of (K home f) ≡ Some s → top_function U home f ≡ Some c → Among (gave c vs v) tr → Within s.lenient vs v
+LenientTypings U K = (stage : ℕ) (tr : Trace) → Run U stage tr → (home : Atom) (f : FunName) (s : Summary) (c : Value) (vs : Values) (v : Value) → summary_of (K home f) ≡ Some s → top_function U home f ≡ Some c
+    → Among (gave c vs v) tr → Within s.lenient vs v
 
 -- what the laws rest on
 pub record Grounds : Type 0 where
@@ -131,7 +133,8 @@ module _ (G : Grounds) (U : Program) (K : Callees) (accepted : AreAccepted U) (k
         o : Own (NoReturn f) l h.0
         o = of_no_return f l h
 
-        by : ((NoReturn f ≡ NoReturn o.name) × (gives_nothing (K x.name o.name) ≡ true)) ⊎ ((NoReturn f ≡ NeverCalled o.name) × (parameters_of (last_state K x) l ≡ None)) → (top_function U x.name f ≡ Some (defined_at x f l)) × (gives_nothing (K x.name f) ≡ true)
+        by : ((NoReturn f ≡ NoReturn o.name) × (gives_nothing (K x.name o.name) ≡ true)) ⊎ ((NoReturn f ≡ NeverCalled o.name) × (parameters_of (last_state K x) l ≡ None))
+            → (top_function U x.name f ≡ Some (defined_at x f l)) × (gives_nothing (K x.name f) ≡ true)
         by (inl k) =
             let same : o.name ≡ f = cc in
             subst (λ g. (top_function U x.name g ≡ Some (defined_at x g l)) × (gives_nothing (K x.name g) ≡ true)) same (is_top U x o.name l has text.tops_once o.defined, k.1)
@@ -143,7 +146,8 @@ module _ (G : Grounds) (U : Program) (K : Callees) (accepted : AreAccepted U) (k
         o : Own (NeverCalled f) l h.0
         o = of_never_called f l h
 
-        by : ((NeverCalled f ≡ NoReturn o.name) × (gives_nothing (K x.name o.name) ≡ true)) ⊎ ((NeverCalled f ≡ NeverCalled o.name) × (parameters_of (last_state K x) l ≡ None)) → (top_function U x.name f ≡ Some (defined_at x f l)) × (parameters_of (last_state K x) l ≡ None)
+        by : ((NeverCalled f ≡ NoReturn o.name) × (gives_nothing (K x.name o.name) ≡ true)) ⊎ ((NeverCalled f ≡ NeverCalled o.name) × (parameters_of (last_state K x) l ≡ None))
+            → (top_function U x.name f ≡ Some (defined_at x f l)) × (parameters_of (last_state K x) l ≡ None)
         by (inl k) = absurd cc
         by (inr k) =
             let same : o.name ≡ f = cc in

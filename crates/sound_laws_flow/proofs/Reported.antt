@@ -155,7 +155,8 @@ module _ (W : World) where
         below i.label (in_both (steps_at (under a i.note) sc ss) (if_seen (see_steps W sc ss) (λ inner. found W (under_steps (under a i.note) ss) inner k t) (λ inner. found_at (under_steps (under a i.note) ss) inner k t)))
     found_at a sc k (m.case i t cs) =
         below i.label (in_both (found_at (under a i.note) sc (Exactly (width cs)) t)
-        (if_given (walk W sc (Exactly (width cs)) t) (λ ts. found_in_clauses W (under a i.note) (seen_by_clauses sc cs ts) k (matched_slots sc t cs) cs) (λ ts. clauses_at (under a i.note) (seen_by_clauses sc cs ts) k (matched_slots sc t cs) cs)))
+        (if_given (walk W sc (Exactly (width cs)) t) (λ ts. found_in_clauses W (under a i.note) (seen_by_clauses sc cs ts) k (matched_slots sc t cs) cs)
+        (λ ts. clauses_at (under a i.note) (seen_by_clauses sc cs ts) k (matched_slots sc t cs) cs)))
     found_at a sc k (m.letrec i ds t) = below i.label (in_both (functions_at (under a i.note) (with_functions sc ds) ds) (found_at (under a i.note) (with_functions sc ds) k t))
     found_at a sc k (m.apply i t ts) =
         if_listed (local_name t) _ _

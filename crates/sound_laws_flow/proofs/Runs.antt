@@ -70,8 +70,12 @@ module _ (U : Program) (callee : Atom → FunName → Callee) (states : Atom →
       by args r.begins
     where
       by : AreCovered U callee states DeadClause DeadCall r.args → ((home : Atom) × ((f : FunName) × ((is_exported U home f ≡ true) × (top_function U home f ≡ Some r.start)))) ⊎ WasMade U stage r.start → EachEvent Ok tr
-      by args (inl b) = (export_entered (setting stage covered) (EvalWith U (λ v. IsOutside U stage v) r.fuel) (every_inv (setting stage covered) r.fuel) b.0 b.1.0 b.1.1.0 b.1.1.1 r.enters (X.known_strict stage tr r, X.known_lenient stage tr r) args).0
-      by args (inr b) = (value_entered (setting stage covered) (EvalWith U (λ v. IsOutside U stage v) r.fuel) (every_inv (setting stage covered) r.fuel) r.enters (X.known_strict stage tr r, X.known_lenient stage tr r) (covered r.start b) args).0
+      by args (inl b) = (export_entered (setting stage covered) (EvalWith U (λ v. IsOutside U stage v) r.fuel) (every_inv (setting stage covered) r.fuel) b.0 b.1.0 b.1.1.0 b.1.1.1 r.enters (
+        X.known_strict stage tr r,
+        X.known_lenient stage tr r,
+      ) args).0
+      by args (inr b) = (value_entered (setting stage covered) (EvalWith U (λ v. IsOutside U stage v) r.fuel) (every_inv (setting stage covered) r.fuel) r.enters (X.known_strict stage tr r, X.known_lenient stage tr r)
+          (covered r.start b) args).0
 
   among : (x : Event) (tr : Trace) → EachEvent Ok tr → Among x tr → Ok x
   among x [] h i = absurd i
@@ -95,7 +99,8 @@ module _ (U : Program) (callee : Atom → FunName → Callee) (states : Atom →
   no_some : {ps : List Type4} → None ≡ Some ps → ⊥
   no_some e = cc
 
-  pub not_entered : (stage : ℕ) (tr : Trace) (home : Atom) (f : FunName) (label arity : ℕ) (env : Env) (vs : Values) → Run U stage tr → top_function U home f ≡ Some (closure home label arity env) → parameters_of (states home) label ≡ None → Among (entered (closure home label arity env) vs) tr → ⊥
+  pub not_entered : (stage : ℕ) (tr : Trace) (home : Atom) (f : FunName) (label arity : ℕ) (env : Env) (vs : Values) → Run U stage tr → top_function U home f ≡ Some (closure home label arity env)
+      → parameters_of (states home) label ≡ None → Among (entered (closure home label arity env) vs) tr → ⊥
   not_entered stage tr home f label arity env vs r top none i =
       let h = among (entered (closure home label arity env) vs) tr (run_allowed stage tr r) i home f label arity env refl top in
       no_some (sym none ∙ h.1.0)

@@ -91,7 +91,8 @@ module _ (Z : Setting) where
   -- In a covered environment that has the types that are seen, where the walk is borne out, each event is allowed, and the outcome
   -- is in what the walk gives.
   abbrev pub Invariant : (Atom → Env → m.Tree → Outcome → Trace → Type 0) → Type 0
-  Invariant E = (home : Atom) (env : Env) (sc : WalkScope) (t : m.Tree) (o : Outcome) (tr : Trace) (k : Ask) → E home env t o tr → IsKnown tr → IsCovEnv home env → IsSeen home sc env → FineAt home sc k t → AllOk tr × Result k (walk (V home) sc k t) o
+  Invariant E = (home : Atom) (env : Env) (sc : WalkScope) (t : m.Tree) (o : Outcome) (tr : Trace) (k : Ask) → E home env t o tr → IsKnown tr → IsCovEnv home env → IsSeen home sc env → FineAt home sc k t
+      → AllOk tr × Result k (walk (V home) sc k t) o
 
   pub known_front : (tr more : Trace) → IsKnown (tr ++ more) → IsKnown tr
   known_front tr more h = (front_bears (strict (V [])) Z.program tr more h.0, front_bears (lenient (V [])) Z.program tr more h.1)

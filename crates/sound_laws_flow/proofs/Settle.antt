@@ -27,7 +27,8 @@ use Rattle.module_flow_state.specs.Applications.{resolved_name, may_by_meaning, 
 use Rattle.module_flow_calls.specs.Calls.{called}
 use Rattle.module_flow_walk.specs.Clauses.{patterns_solved, head_solved, inside}
 use Rattle.module_flow_walk.specs.Findings.{either_found, found, found_in_all, found_in_pairs, found_in_segments, found_in_steps, found_in_clauses, found_in_functions}
-use Rattle.module_flow_walk.specs.Contributions.{listed_by, where_entered, where_limited, where_seen, where_solved, contributions, contributions_of_all, contributions_of_pairs, contributions_of_segments, contributions_of_steps, contributions_of_clauses, contributions_of_functions}
+use Rattle.module_flow_walk.specs.Contributions.{listed_by, where_entered, where_limited, where_seen, where_solved, contributions, contributions_of_all, contributions_of_pairs}
+use Rattle.module_flow_walk.specs.Contributions.{contributions_of_segments, contributions_of_steps, contributions_of_clauses, contributions_of_functions}
 use Rattle.module_flow_state.specs.States.{returns, parameters_of}
 use Rattle.module_flow_state.specs.Scopes.{WalkScope, with_functions, with_variables}
 use Rattle.module_flow_walk.specs.Walk.{matched_slots, seen_by_clauses, seen_by_messages, see_steps, walk, walk_all}
@@ -36,7 +37,8 @@ use Rattle.sound_laws_flow.specs.steps.Fine.{ByName, FineApplied, Fine, FineAll,
 use Rattle.sound_laws_flow.specs.steps.Named.{Named, NamedAll, NamedPairs, NamedSegments, NamedSteps, NamedClauses, NamedDefs}
 use Rattle.sound_laws_flow.specs.steps.Taken.{Member, Distinct, Reports, AreAt, AreTaken, Takes}
 use Rattle.sound_laws_flow.proofs.Chains.{steps_keep}
-use Rattle.sound_laws_flow.proofs.Reported.{member_left, member_right, member_split, reports_split, if_given, if_seen, if_entered, if_limited, to_right, in_both, found_at, all_at, pairs_at, segments_at, steps_at, clauses_at, functions_at, call_own, clause_own, own_in, below, if_unless, if_function, if_either}
+use Rattle.sound_laws_flow.proofs.Reported.{member_left, member_right, member_split, reports_split, if_given, if_seen, if_entered, if_limited, to_right, in_both, found_at, all_at}
+use Rattle.sound_laws_flow.proofs.Reported.{pairs_at, segments_at, steps_at, clauses_at, functions_at, call_own, clause_own, own_in, below, if_unless, if_function, if_either}
 
 -- ---- labels
 
@@ -121,7 +123,8 @@ module _ (W : World) (D : ℕ → Type 0) where
       back l (inr h) = back_more l (member_split l a c h)
 
   -- what is reported of the node itself
-  of_node : {i : ℕ} {ls : List ℕ} {fs : List Finding} (own : List Finding) (gs gs' : List Contribution) → AreAt fs ls → ((l : ℕ) → Reports l own → l ≡ i) → Takes W D (i ∷ ls) (fs ++ own) (gs ++ gs') → Takes W D ls fs gs × ((D i → Reports i own) × AreTaken W D gs')
+  of_node : {i : ℕ} {ls : List ℕ} {fs : List Finding} (own : List Finding) (gs gs' : List Contribution) → AreAt fs ls → ((l : ℕ) → Reports l own → l ≡ i) → Takes W D (i ∷ ls) (fs ++ own) (gs ++ gs')
+      → Takes W D ls fs gs × ((D i → Reports i own) × AreTaken W D gs')
   of_node {i} {ls} {fs} own gs gs' at mine x = (
     record { distinct = x.distinct.1; only = λ l h d. parts l h (reports_split l fs own (x.only l (inr h) d)); taken = taken_left gs gs' x.taken },
     (λ d. self (reports_split i fs own (x.only i (inl refl) d)), taken_right gs gs' x.taken),
@@ -135,7 +138,8 @@ module _ (W : World) (D : ℕ → Type 0) where
       self (inl r) = absurd (x.distinct.0 (at.at i r))
       self (inr r) = r
 
-  alone : {i : ℕ} {ls : List ℕ} {fs : List Finding} {gs : List Contribution} (own : List Finding) → AreAt fs ls → ((l : ℕ) → Reports l own → l ≡ i) → Takes W D (i ∷ ls) (fs ++ own) gs → Takes W D ls fs gs × (D i → Reports i own)
+  alone : {i : ℕ} {ls : List ℕ} {fs : List Finding} {gs : List Contribution} (own : List Finding) → AreAt fs ls → ((l : ℕ) → Reports l own → l ≡ i) → Takes W D (i ∷ ls) (fs ++ own) gs
+      → Takes W D ls fs gs × (D i → Reports i own)
   alone {i} {ls} {fs} {gs} own at mine x = let s = of_node own gs [] at mine (subst (λ z. Takes W D (i ∷ ls) (fs ++ own) z) (sym (append-nil gs)) x) in (s.0, s.1.0)
 
   at_given : {ls : List ℕ} (o : Given) (ts : List Type4) (f : List Type4 → List Finding) (g : List Type4 → List Contribution) → Takes W D ls (where_given o f) (where_given o g) → o ≡ Some ts → Takes W D ls (f ts) (g ts)
@@ -144,7 +148,8 @@ module _ (W : World) (D : ℕ → Type 0) where
   at_seen : {ls : List ℕ} (o : Option WalkScope) (sc : WalkScope) (f : WalkScope → List Finding) (g : WalkScope → List Contribution) → Takes W D ls (where_seen o f) (where_seen o g) → o ≡ Some sc → Takes W D ls (f sc) (g sc)
   at_seen {ls} o sc f g x e = subst (λ z. Takes W D ls (where_seen z f) (where_seen z g)) e x
 
-  at_entered : {ls : List ℕ} (o : Option (List Type4)) (ts : List Type4) (f : List Type4 → List Finding) (g : List Type4 → List Contribution) → Takes W D ls (where_entered o f) (where_entered o g) → o ≡ Some ts → Takes W D ls (f ts) (g ts)
+  at_entered : {ls : List ℕ} (o : Option (List Type4)) (ts : List Type4) (f : List Type4 → List Finding) (g : List Type4 → List Contribution) → Takes W D ls (where_entered o f) (where_entered o g) → o ≡ Some ts
+      → Takes W D ls (f ts) (g ts)
   at_entered {ls} o ts f g x e = subst (λ z. Takes W D ls (where_entered z f) (where_entered z g)) e x
 
   at_limit : {ls : List ℕ} (limit : List Type4) (fs : List Finding) (gs : List Contribution) → Takes W D ls (where_limited limit fs) (where_limited limit gs) → is_none (meet (first limit) naturals) ≡ false → Takes W D ls fs gs
@@ -160,11 +165,16 @@ module _ (W : World) (D : ℕ → Type 0) where
     body : Takes W D (i ∷ lb) fh bodies
     others : Takes W D lc fc rest
 
-  of_clause : (i : ℕ) (lh lb lc : List ℕ) (fh fc : List Finding) (guards bodies rest : List Contribution) → AreAt fh (i ∷ lb) → AreAt fc lc → Takes W D (i ∷ (lh ++ lb ++ lc)) (fh ++ fc) (guards ++ bodies ++ rest) → ClauseTakes i lh lb lc fh fc bodies rest
+  of_clause : (i : ℕ) (lh lb lc : List ℕ) (fh fc : List Finding) (guards bodies rest : List Contribution) → AreAt fh (i ∷ lb) → AreAt fc lc → Takes W D (i ∷ (lh ++ lb ++ lc)) (fh ++ fc) (guards ++ bodies ++ rest)
+      → ClauseTakes i lh lb lc fh fc bodies rest
   of_clause i lh lb lc fh fc guards bodies rest in_body in_rest x = record {
     heads = distinct_left lh lb hb;
     silent = λ l h d. silent_at l h (reports_split l fh fc (x.only l (inr (member_left l (lh ++ lb) lc (member_left l lh lb h))) d));
-    body = record { distinct = ((λ h. x.distinct.0 (member_left i (lh ++ lb) lc (member_right i lh lb h))), distinct_right lh lb hb); only = λ l h d. body_at l h (reports_split l fh fc (x.only l (into l h) d)); taken = taken_right guards bodies (taken_left (guards ++ bodies) rest x.taken) };
+    body = record {
+      distinct = ((λ h. x.distinct.0 (member_left i (lh ++ lb) lc (member_right i lh lb h))), distinct_right lh lb hb);
+      only = λ l h d. body_at l h (reports_split l fh fc (x.only l (into l h) d));
+      taken = taken_right guards bodies (taken_left (guards ++ bodies) rest x.taken);
+    };
     others = record { distinct = distinct_right (lh ++ lb) lc x.distinct.1; only = λ l h d. rest_at l h (reports_split l fh fc (x.only l (inr (member_right l (lh ++ lb) lc h)) d)); taken = taken_right (guards ++ bodies) rest x.taken };
   }
     where
@@ -204,7 +214,8 @@ module _ (W : World) (D : ℕ → Type 0) where
       one (inl e) = e
       one (inr n) = absurd n
 
-  applied_fine : (M : ResolvedName) (f : FunName) (label : ℕ) (us : List Type4) (own : List Finding) → AreTaken W D (enters_resolved M us) → (D label → Reports label (unless_given (may_by_meaning W f M us) own)) → FineApplied W D D M f label us
+  applied_fine : (M : ResolvedName) (f : FunName) (label : ℕ) (us : List Type4) (own : List Finding) → AreTaken W D (enters_resolved M us) → (D label → Reports label (unless_given (may_by_meaning W f M us) own))
+      → FineApplied W D D M f label us
   applied_fine (Inner l) f label us own x h = (x.0, λ d. h d)
   applied_fine (Top l) f label us own x h = (x.0, λ ws e d. subst (λ z. Reports label (unless_given z own)) e (h d))
   applied_fine Nothing f label us own x h = tt
@@ -246,7 +257,8 @@ module _ (W : World) (D : ℕ → Type 0) where
         let s = both (contributions W sc (Exactly (width cs)) t) (where_given o g) (found_at W c sc (Exactly (width cs)) t) (if_given o f (λ ts. clauses_at W c (seen_by_clauses sc cs ts) k (matched_slots sc t cs) cs)) (under_mark r) in
         (fine t c sc (Exactly (width cs)) s.0 n.0, λ ts e. fine_clauses cs c (seen_by_clauses sc cs ts) k (matched_slots sc t cs) (at_given o ts f g s.1 e) n.1)
     fine (m.letrec i ds t) a sc k r n =
-        let s = both (contributions_of_functions W (with_functions sc ds) ds) (contributions W (with_functions sc ds) k t) (functions_at W (under a i.note) (with_functions sc ds) ds) (found_at W (under a i.note) (with_functions sc ds) k t) (under_mark r) in
+        let s = both (contributions_of_functions W (with_functions sc ds) ds) (contributions W (with_functions sc ds) k t) (functions_at W (under a i.note) (with_functions sc ds) ds) (found_at W (under a i.note) (with_functions sc ds) k t)
+        (under_mark r) in
         (n.0, (fine_functions ds (under a i.note) (with_functions sc ds) s.0 n.1.0, fine t (under a i.note) (with_functions sc ds) k s.1 n.1.1))
     fine (m.apply i t ts) a sc k r n = by (local_name t) (fine t (under a i.note) sc one_value) (fine_all ts (under a i.note) sc) r n.0 n.1
       where
@@ -265,16 +277,20 @@ module _ (W : World) (D : ℕ → Type 0) where
         value_found : List Type4 → List Type4 → List Finding
         value_found os us = unless_function (first os) (length us) (value_own us)
 
-        by : (o : Option FunName) → (Takes W D (labels t) (found W c sc one_value t) (contributions W sc one_value t) → Named W D sc.functions sc.labels t → Fine W D D sc one_value t) → (Takes W D (labels_of_all ts) (found_in_all W c sc ts) (contributions_of_all W sc ts) → NamedAll W D sc.functions sc.labels ts → FineAll W D D sc ts)
+        by : (o : Option FunName) → (Takes W D (labels t) (found W c sc one_value t) (contributions W sc one_value t) → Named W D sc.functions sc.labels t → Fine W D D sc one_value t)
+            → (Takes W D (labels_of_all ts) (found_in_all W c sc ts) (contributions_of_all W sc ts) → NamedAll W D sc.functions sc.labels ts → FineAll W D D sc ts)
             → Takes W D (i.label ∷ (labels t ++ labels_of_all ts))
             (listed_by o (λ f. found_in_all W c sc ts ++ where_given (walk_all W sc ts) (named_found f))
             (found W c sc one_value t ++ found_in_all W c sc ts ++ where_given (walk W sc one_value t) (λ os. where_given (walk_all W sc ts) (value_found os))))
             (listed_by o (λ f. contributions_of_all W sc ts ++ where_given (walk_all W sc ts) (λ us. enters W sc f us)) (contributions W sc one_value t ++ contributions_of_all W sc ts))
             → ByName o (λ f. Unit {0}) (Named W D sc.functions sc.labels t) → NamedAll W D sc.functions sc.labels ts
             → ByName o (λ f. FineAll W D D sc ts × ((us : List Type4) → walk_all W sc ts ≡ Some us → f.arity ≡ length us → FineApplied W D D (resolved_name W sc f) f i.label us))
-            (Fine W D D sc one_value t × (FineAll W D D sc ts × ((os us : List Type4) → walk W sc one_value t ≡ Some os → walk_all W sc ts ≡ Some us → is_none (meet (first os) (function_type (length us))) ≡ false → D i.label → ⊥)))
+            (Fine W D D sc one_value t × (FineAll W D D sc ts × ((os us : List Type4) → walk W sc one_value t ≡ Some os → walk_all W sc ts ≡ Some us → is_none (meet (first os) (function_type (length us))) ≡ false → D i.label
+            → ⊥)))
         by None ft fts r n ns =
-            let mine : AreAt (where_given (walk W sc one_value t) (λ os. where_given (walk_all W sc ts) (value_found os))) (i.label ∷ []) = if_given (walk W sc one_value t) (λ os. where_given (walk_all W sc ts) (value_found os)) (λ os. if_given (walk_all W sc ts) (value_found os) (λ us. if_function (first os) (length us) (call_own c i (Value (length us))))) in
+            let mine : AreAt (where_given (walk W sc one_value t) (λ os. where_given (walk_all W sc ts) (value_found os))) (i.label ∷ []) =
+            if_given (walk W sc one_value t) (λ os. where_given (walk_all W sc ts) (value_found os))
+            (λ os. if_given (walk_all W sc ts) (value_found os) (λ us. if_function (first os) (length us) (call_own c i (Value (length us))))) in
             let s = alone (where_given (walk W sc one_value t) (λ os. where_given (walk_all W sc ts) (value_found os))) (in_both (found_at W c sc one_value t) (all_at W c sc ts)) (only_one mine) r in
             let p = both (contributions W sc one_value t) (contributions_of_all W sc ts) (found_at W c sc one_value t) (all_at W c sc ts) s.0 in (
               ft p.0 n,
@@ -289,7 +305,8 @@ module _ (W : World) (D : ℕ → Type 0) where
             )
         by (Some f) ft fts r n ns =
             let mine : AreAt (where_given (walk_all W sc ts) (named_found f)) (i.label ∷ []) = if_given (walk_all W sc ts) (named_found f) (λ us. if_unless (may_apply W sc f us) (call_own c i (Local f))) in
-            let s = of_node (where_given (walk_all W sc ts) (named_found f)) (contributions_of_all W sc ts) (where_given (walk_all W sc ts) (λ us. enters W sc f us)) (to_right (labels t) (labels_of_all ts) (all_at W c sc ts)) (only_one mine) r in (
+            let s = of_node (where_given (walk_all W sc ts) (named_found f)) (contributions_of_all W sc ts) (where_given (walk_all W sc ts) (λ us. enters W sc f us)) (to_right (labels t) (labels_of_all ts) (all_at W c sc ts))
+            (only_one mine) r in (
               fts (drop_left (labels t) (labels_of_all ts) s.0) ns,
               λ us e same.
                   let here : D i.label → Reports i.label (named_found f us) = λ d. subst (λ o. Reports i.label (where_given o (named_found f))) e (s.1.0 d) in
@@ -307,7 +324,9 @@ module _ (W : World) (D : ℕ → Type 0) where
         named_found : Atom × Atom → List Type4 → List Finding
         named_found names us = unless_given (called (lenient W) names.0 names.1 us) (at_node c i (DeadCall (Remote names.0 (function_name names.1 (length us)))))
 
-        by : (o : Option (Atom × Atom)) → (Takes W D (labels t) (found W c sc one_value t) (contributions W sc one_value t) → Named W D sc.functions sc.labels t → Fine W D D sc one_value t) → (Takes W D (labels u) (found W c sc one_value u) (contributions W sc one_value u) → Named W D sc.functions sc.labels u → Fine W D D sc one_value u) → (Takes W D (labels_of_all ts) (found_in_all W c sc ts) (contributions_of_all W sc ts) → NamedAll W D sc.functions sc.labels ts → FineAll W D D sc ts)
+        by : (o : Option (Atom × Atom)) → (Takes W D (labels t) (found W c sc one_value t) (contributions W sc one_value t) → Named W D sc.functions sc.labels t → Fine W D D sc one_value t)
+            → (Takes W D (labels u) (found W c sc one_value u) (contributions W sc one_value u) → Named W D sc.functions sc.labels u → Fine W D D sc one_value u)
+            → (Takes W D (labels_of_all ts) (found_in_all W c sc ts) (contributions_of_all W sc ts) → NamedAll W D sc.functions sc.labels ts → FineAll W D D sc ts)
             → Takes W D (i.label ∷ (labels t ++ labels u ++ labels_of_all ts))
             (listed_by o (λ names. found_in_all W c sc ts ++ where_given (walk_all W sc ts) (named_found names))
             (found W c sc one_value t ++ found W c sc one_value u ++ found_in_all W c sc ts))
@@ -320,7 +339,8 @@ module _ (W : World) (D : ℕ → Type 0) where
             let p = both (contributions W sc one_value t) (contributions W sc one_value u) (found_at W c sc one_value t) (found_at W c sc one_value u) s.0 in
             (ft p.0 n.0, (fu p.1 n.1, (fts s.1 ns, unmarked (in_both (in_both (found_at W c sc one_value t) (found_at W c sc one_value u)) (all_at W c sc ts)) r)))
         by (Some names) ft fu fts r n ns =
-            let mine : AreAt (where_given (walk_all W sc ts) (named_found names)) (i.label ∷ []) = if_given (walk_all W sc ts) (named_found names) (λ us. if_unless (called (lenient W) names.0 names.1 us) (call_own c i (Remote names.0 (function_name names.1 (length us))))) in
+            let mine : AreAt (where_given (walk_all W sc ts) (named_found names)) (i.label ∷ []) =
+            if_given (walk_all W sc ts) (named_found names) (λ us. if_unless (called (lenient W) names.0 names.1 us) (call_own c i (Remote names.0 (function_name names.1 (length us))))) in
             let s = alone (where_given (walk_all W sc ts) (named_found names)) (to_right (labels t ++ labels u) (labels_of_all ts) (all_at W c sc ts)) (only_one mine) r in (
               fts (drop_left (labels t ++ labels u) (labels_of_all ts) s.0) ns,
               λ us ws e q d.
@@ -334,7 +354,8 @@ module _ (W : World) (D : ℕ → Type 0) where
         let f : List Type4 → List Finding = λ ts. found W c (with_variables sc xs ts) k u in
         let g : List Type4 → List Contribution = λ ts. contributions W (with_variables sc xs ts) k u in
         let in_u = if_given o f (λ ts. found_at W c (with_variables sc xs ts) k u) in
-        let s = both (contributions W sc (Exactly (length xs)) t ++ where_given o g) (contributions W (with_variables sc ys []) k w) (in_both (found_at W c sc (Exactly (length xs)) t) in_u) (found_at W c (with_variables sc ys []) k w) (under_mark r) in
+        let s = both (contributions W sc (Exactly (length xs)) t ++ where_given o g) (contributions W (with_variables sc ys []) k w) (in_both (found_at W c sc (Exactly (length xs)) t) in_u) (found_at W c (with_variables sc ys []) k w)
+        (under_mark r) in
         let p = both (contributions W sc (Exactly (length xs)) t) (where_given o g) (found_at W c sc (Exactly (length xs)) t) in_u s.0 in
         (fine t c sc (Exactly (length xs)) p.0 n.0, ((λ ts e. fine u c (with_variables sc xs ts) k (at_given o ts f g p.1 e) n.1.0), fine w c (with_variables sc ys []) k s.1 n.1.1))
     fine (m.receive i cs t u) a sc k r n =
@@ -346,7 +367,8 @@ module _ (W : World) (D : ℕ → Type 0) where
         let f : List Type4 → List Finding = λ limit. fc ++ where_limited limit (found W c sc k u) in
         let g : List Type4 → List Contribution = λ limit. gc ++ where_limited limit (contributions W sc k u) in
         let in_cs = clauses_at W c (seen_by_messages sc) k qs cs in
-        let s = both (contributions W sc one_value t) (where_given o g) (found_at W c sc one_value t) (if_given o f (λ limit. in_both in_cs (if_limited limit (found_at W c sc k u)))) (swapped (labels_of_clauses cs) (labels t) (labels u) (under_mark r)) in (
+        let s = both (contributions W sc one_value t) (where_given o g) (found_at W c sc one_value t) (if_given o f (λ limit. in_both in_cs (if_limited limit (found_at W c sc k u))))
+        (swapped (labels_of_clauses cs) (labels t) (labels u) (under_mark r)) in (
           fine t c sc one_value s.0 n.1.0,
           λ limit e.
               let p = both gc (where_limited limit (contributions W sc k u)) in_cs (if_limited limit (found_at W c sc k u)) (at_given o limit f g s.1 e) in
@@ -367,7 +389,8 @@ module _ (W : World) (D : ℕ → Type 0) where
         let p = both (contributions W sc one_value t) (contributions W sc one_value u) (found_at W a sc one_value t) (found_at W a sc one_value u) s.0 in
         (fine t a sc one_value p.0 n.0, (fine u a sc one_value p.1 n.1.0, fine_pairs ps a sc s.1 n.1.1))
 
-    fine_segments : (ss : m.Segments) (a : NodeContext) (sc : WalkScope) → Takes W D (labels_of_segments ss) (found_in_segments W a sc ss) (contributions_of_segments W sc ss) → NamedSegments W D sc.functions sc.labels ss → FineSegments W D D sc ss
+    fine_segments : (ss : m.Segments) (a : NodeContext) (sc : WalkScope) → Takes W D (labels_of_segments ss) (found_in_segments W a sc ss) (contributions_of_segments W sc ss) → NamedSegments W D sc.functions sc.labels ss
+        → FineSegments W D D sc ss
     fine_segments m.no_segment a sc r n = tt
     fine_segments (m.and_segment t ts ss) a sc r n =
         let s = both (contributions W sc one_value t ++ contributions_of_all W sc ts) (contributions_of_segments W sc ss) (in_both (found_at W a sc one_value t) (all_at W a sc ts)) (segments_at W a sc ss) r in
@@ -391,7 +414,8 @@ module _ (W : World) (D : ℕ → Type 0) where
         let s = both (contributions W sc AnyNumber u) (where_given o g) (found_at W c sc AnyNumber u) (if_given o f (λ us. steps_at W c sc ss)) (under_mark r) in
         (fine u c sc AnyNumber s.0 n.0, λ us e. fine_steps ss c sc (at_given o us f g s.1 e) n.1)
 
-    fine_clauses : (cs : m.Clauses) (a : NodeContext) (sc : WalkScope) (k : Ask) (qs : List ℕ) → Takes W D (labels_of_clauses cs) (found_in_clauses W a sc k qs cs) (contributions_of_clauses W sc k qs cs) → NamedClauses W D sc.functions sc.labels cs → FineClauses W D D sc k qs cs
+    fine_clauses : (cs : m.Clauses) (a : NodeContext) (sc : WalkScope) (k : Ask) (qs : List ℕ) → Takes W D (labels_of_clauses cs) (found_in_clauses W a sc k qs cs) (contributions_of_clauses W sc k qs cs)
+        → NamedClauses W D sc.functions sc.labels cs → FineClauses W D D sc k qs cs
     fine_clauses m.no_clause a sc k qs r n = tt
     fine_clauses (m.and_clause i ps g t cs) a sc k qs r n =
         let c = under a i.note in
@@ -407,7 +431,11 @@ module _ (W : World) (D : ℕ → Type 0) where
         let mine = if_either head (at_node c i DeadClause) fb (own_in i.label (labels t) (clause_own c i)) (λ solved. below i.label (found_at W c (inside sc ps solved) k t)) in
         let x = of_clause i.label lh (labels t) (labels_of_clauses cs) (either_found head (at_node c i DeadClause) fb) fcs guards bodies rest mine (clauses_at W a sc k qs cs) r in (
           λ solved e. fine g c (inside sc ps solved) one_value
-              (record { distinct = distinct_right (labels_of_patterns ps) (labels g) x.heads; only = λ l h d. absurd (x.silent l (member_right l (labels_of_patterns ps) (labels g) h) d); taken = subst (λ o. AreTaken W D (where_solved o gg)) e (taken_left guards bodies (taken_left (guards ++ bodies) rest r.taken)) })
+              (record {
+                distinct = distinct_right (labels_of_patterns ps) (labels g) x.heads;
+                only = λ l h d. absurd (x.silent l (member_right l (labels_of_patterns ps) (labels g) h) d);
+                taken = subst (λ o. AreTaken W D (where_solved o gg)) e (taken_left guards bodies (taken_left (guards ++ bodies) rest r.taken));
+              })
               n.0,
           (
             (λ solved e.
@@ -417,7 +445,8 @@ module _ (W : World) (D : ℕ → Type 0) where
           ),
         )
 
-    pub fine_functions : (ds : m.Defs) (a : NodeContext) (sc : WalkScope) → Takes W D (labels_of_defs ds) (found_in_functions W a sc ds) (contributions_of_functions W sc ds) → NamedDefs W D sc.functions sc.labels ds → FineFunctions W D D sc ds
+    pub fine_functions : (ds : m.Defs) (a : NodeContext) (sc : WalkScope) → Takes W D (labels_of_defs ds) (found_in_functions W a sc ds) (contributions_of_functions W sc ds) → NamedDefs W D sc.functions sc.labels ds
+        → FineFunctions W D D sc ds
     fine_functions m.no_def a sc r n = tt
     fine_functions (m.and_def f i xs t ds) a sc r n =
         let c = under a i.note in

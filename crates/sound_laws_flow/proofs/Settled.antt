@@ -32,7 +32,9 @@ module _ (U : Program) (callee : Atom → FunName → Callee) (states : Atom →
   abbrev Both : Atom → ℕ → List Type4 → Type 0
   Both home l ps = IsBorneOut U callee states Dead Dead home l outermost ps × HasResult U callee states Dead Dead home l outermost ps
 
-  body_at : LabelsStand U → (home : Atom) (f : FunName) (label arity : ℕ) (ps : List Type4) (o : Option m.Module) → module_named U home ≡ o → FineFunctions (world_of U callee states home) (Dead home) (Dead home) outermost (defs_in o) → top_of_module home o f ≡ Some (closure home label arity no_variable) → parameters_of (states home) label ≡ Some ps → Both home label ps
+  body_at : LabelsStand U → (home : Atom) (f : FunName) (label arity : ℕ) (ps : List Type4) (o : Option m.Module) → module_named U home ≡ o
+      → FineFunctions (world_of U callee states home) (Dead home) (Dead home) outermost (defs_in o) → top_of_module home o f ≡ Some (closure home label arity no_variable) → parameters_of (states home) label ≡ Some ps
+      → Both home label ps
   body_at stand home f label arity ps None e fine top q = absurd cc
   body_at stand home f label arity ps (Some p) e fine top q = by (function_named (locals_of p.defs) f) refl top
     where

@@ -1,6 +1,7 @@
 -- What holds of the text of an accepted module, and of the state in which its flow begins: a function that is defined stands there
 -- under its label, with as many parameters as its name says, and names are defined once.
-use Rattle.std.proofs.Common.{◌≡◌, ℕ, zero, suc, Bool, true, false, ◌||◌, nat_eq, cond, if◌then◌else◌, List, [], ◌∷◌, ◌++◌, length, replicate, Contains, Option, Some, None, IsTrue, eqb-true, eq-eqb, refl, sym, ap, ◌∙◌, subst, arith}
+use Rattle.std.proofs.Common.{◌≡◌, ℕ, zero, suc, Bool, true, false, ◌||◌, nat_eq, cond, if◌then◌else◌, List, [], ◌∷◌, ◌++◌, length}
+use Rattle.std.proofs.Common.{replicate, Contains, Option, Some, None, IsTrue, eqb-true, eq-eqb, refl, sym, ap, ◌∙◌, subst, arith}
 use Rattle.std.proofs.lemmas.List.{length-replicate}
 use Rattle.std.proofs.lemmas.Bool.{or_right, or_left}
 use Rattle.std.proofs.lemmas.Option.{same_Some, none-some}
@@ -82,7 +83,9 @@ names_once (m.and_def g k xs t ds) d f = by (names_once ds d.1 f) (same_function
     at_end None = refl
     at_end (Some l) = refl
 
-    by : label_named (defined_names ds) (defined_labels ds) f ≡ label_found (function_named (locals_of ds) f) → (b : Bool) → same_function g f ≡ b → or_outer (label_named (defined_names ds) (defined_labels ds) f) (if b then Some k.label else None) ≡ label_found (if b then Some (record { name = g.name; arity = g.arity; label = k.label }) else function_named (locals_of ds) f)
+    by : label_named (defined_names ds) (defined_labels ds) f ≡ label_found (function_named (locals_of ds) f) → (b : Bool) → same_function g f ≡ b
+        → or_outer (label_named (defined_names ds) (defined_labels ds) f) (if b then Some k.label else None)
+        ≡ label_found (if b then Some (record { name = g.name; arity = g.arity; label = k.label }) else function_named (locals_of ds) f)
     by rest true e = ap (λ o. or_outer o (Some k.label)) (absent ds f (λ c. d.0 (subst (λ z. Contains (defined_names ds) z) (sym (functions_same g f e)) c)))
     by rest false e = at_end (label_named (defined_names ds) (defined_labels ds) f) ∙ rest
 
@@ -95,7 +98,8 @@ pub found_named : (x : m.Module) (ds : m.Defs) (f : FunName) (d : Local) → Def
 found_named x m.no_def f d h e = absurd (none-some _ e)
 found_named x (m.and_def g k xs t ds) f d h e = by (found_named x ds f d h.1.1) (same_function g f) e
   where
-    by : (function_named (locals_of ds) f ≡ Some d → IsDefined x d.label d.arity) → (b : Bool) → (if b then Some (record { name = g.name; arity = g.arity; label = k.label }) else function_named (locals_of ds) f) ≡ Some d → IsDefined x d.label d.arity
+    by : (function_named (locals_of ds) f ≡ Some d → IsDefined x d.label d.arity) → (b : Bool) → (if b then Some (record { name = g.name; arity = g.arity; label = k.label }) else function_named (locals_of ds) f) ≡ Some d
+        → IsDefined x d.label d.arity
     by more true q =
         let is = same_Some _ _ q in
         record { function = labelled_function k (Some g) xs t; name = g; found = ap (with_label (functions_of x)) (sym (ap (λ z. z.label) is)) ∙ h.0; named = refl; many = h.1.0 ∙ ap (λ z. z.arity) is }
@@ -108,18 +112,21 @@ stands_begun : (opens : List ℕ) (fs : List LabelledFunction) (l : ℕ) (g : La
 stands_begun opens [] l g f e named = absurd (none-some _ e)
 stands_begun opens (h ∷ fs) l g f e named = by (λ q. stands_begun opens fs l g f q named) (nat_eq h.label l) refl h.name refl e
   where
-    by : (with_label fs l ≡ Some g → stands (begins opens fs) l ≡ true) → (b : Bool) → nat_eq h.label l ≡ b → (o : Option FunName) → h.name ≡ o → (if b then Some h else with_label fs l) ≡ Some g → stands (begins_one opens h o ++ begins opens fs) l ≡ true
+    by : (with_label fs l ≡ Some g → stands (begins opens fs) l ≡ true) → (b : Bool) → nat_eq h.label l ≡ b → (o : Option FunName) → h.name ≡ o → (if b then Some h else with_label fs l) ≡ Some g
+        → stands (begins_one opens h o ++ begins opens fs) l ≡ true
     by more true q None r w = absurd (none-some _ (sym r ∙ ap (λ z. z.name) (same_Some _ _ w) ∙ named))
     by more true q (Some name) r w = ap (λ b. b || stands (begins opens fs) l) q
     by more false q None r w = more w
     by more false q (Some name) r w = ap (λ b. b || stands (begins opens fs) l) q ∙ more w
 
 -- and if it is open, it may be entered with anything
-open_begun : (opens : List ℕ) (fs : List LabelledFunction) (l : ℕ) (g : LabelledFunction) (f : FunName) → with_label fs l ≡ Some g → g.name ≡ Some f → has_label opens l ≡ true → parameters_of (begins opens fs) l ≡ Some (replicate (length g.parameters) any)
+open_begun : (opens : List ℕ) (fs : List LabelledFunction) (l : ℕ) (g : LabelledFunction) (f : FunName) → with_label fs l ≡ Some g → g.name ≡ Some f → has_label opens l ≡ true
+    → parameters_of (begins opens fs) l ≡ Some (replicate (length g.parameters) any)
 open_begun opens [] l g f e named open_label = absurd (none-some _ e)
 open_begun opens (h ∷ fs) l g f e named open_label = by (λ q. open_begun opens fs l g f q named open_label) (nat_eq h.label l) refl h.name refl e
   where
-    by : (with_label fs l ≡ Some g → parameters_of (begins opens fs) l ≡ Some (replicate (length g.parameters) any)) → (b : Bool) → nat_eq h.label l ≡ b → (o : Option FunName) → h.name ≡ o → (if b then Some h else with_label fs l) ≡ Some g → parameters_of (begins_one opens h o ++ begins opens fs) l ≡ Some (replicate (length g.parameters) any)
+    by : (with_label fs l ≡ Some g → parameters_of (begins opens fs) l ≡ Some (replicate (length g.parameters) any)) → (b : Bool) → nat_eq h.label l ≡ b → (o : Option FunName) → h.name ≡ o
+        → (if b then Some h else with_label fs l) ≡ Some g → parameters_of (begins_one opens h o ++ begins opens fs) l ≡ Some (replicate (length g.parameters) any)
     by more true q None r w = absurd (none-some _ (sym r ∙ ap (λ z. z.name) (same_Some _ _ w) ∙ named))
     by more true q (Some name) r w =
         let here : has_label opens h.label ≡ true = ap (has_label opens) (eqb-true h.label l q) ∙ open_label in
@@ -187,7 +194,9 @@ exported_among exports (m.and_def g k xs t ds) f d h e = by (exported_among expo
     keeps true q = or_right (nat_eq d.label k.label) (has_label (exported_labels exports ds) d.label) q
     keeps false q = q
 
-    by : (function_named (locals_of ds) f ≡ Some d → has_label (exported_labels exports ds) d.label ≡ true) → (b : Bool) → same_function g f ≡ b → (if b then Some (record { name = g.name; arity = g.arity; label = k.label }) else function_named (locals_of ds) f) ≡ Some d → has_label (cond (has_function exports g) (k.label ∷ exported_labels exports ds) (exported_labels exports ds)) d.label ≡ true
+    by : (function_named (locals_of ds) f ≡ Some d → has_label (exported_labels exports ds) d.label ≡ true) → (b : Bool) → same_function g f ≡ b
+        → (if b then Some (record { name = g.name; arity = g.arity; label = k.label }) else function_named (locals_of ds) f) ≡ Some d
+        → has_label (cond (has_function exports g) (k.label ∷ exported_labels exports ds) (exported_labels exports ds)) d.label ≡ true
     by more true q w =
         let label : k.label ≡ d.label = ap (λ z. z.label) (same_Some _ _ w) in
         let named : has_function exports g ≡ true = ap (has_function exports) (functions_same g f q) ∙ h in

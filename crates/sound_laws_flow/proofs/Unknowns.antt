@@ -14,7 +14,8 @@ use Rattle.warn_list.specs.declared.finding.FindingKind.{FindingKind}
 use Rattle.warn_list.specs.declared.finding.FindingKind.TheVariants.{NoReturn, DeadCall, DeadClause, NeverCalled, UnknownFunction}
 use Rattle.module_flow_calls.specs.declared.node_context.NodeContext.{NodeContext}
 use Rattle.module_flow_calls.specs.NodeContext.{under, under_steps, at_node}
-use Rattle.module_flow_calls.specs.Unknown.{Naming, naming, namings, all_namings, pair_namings, segment_namings, step_namings, clause_namings, def_namings, pattern_namings, patterns_namings, pat_pair_namings, pat_segment_namings, is_unknown, is_named, found_first, unknown_functions}
+use Rattle.module_flow_calls.specs.Unknown.{Naming, naming, namings, all_namings, pair_namings, segment_namings, step_namings, clause_namings, def_namings}
+use Rattle.module_flow_calls.specs.Unknown.{pattern_namings, patterns_namings, pat_pair_namings, pat_segment_namings, is_unknown, is_named, found_first, unknown_functions}
 
 abbrev pub IsOfUnknown : FindingKind → Type 0
 IsOfUnknown (NoReturn f) = ⊥
@@ -77,7 +78,8 @@ mutual
   in_tree a (m.apply i t ts) = both (namings (under a i.note) t) (all_namings (under a i.note) ts) (in_tree (under a i.note) t) (in_all (under a i.note) ts)
   in_tree a (m.call i t u ts) =
       let c = under a i.note in
-      both (naming c i (call_names t u) (how_many ts) ++ namings c t ++ namings c u) (all_namings c ts) (three (naming c i (call_names t u) (how_many ts)) (namings c t) (namings c u) (name c i (call_names t u) (how_many ts)) (in_tree c t) (in_tree c u)) (in_all c ts)
+      both (naming c i (call_names t u) (how_many ts) ++ namings c t ++ namings c u) (all_namings c ts)
+      (three (naming c i (call_names t u) (how_many ts)) (namings c t) (namings c u) (name c i (call_names t u) (how_many ts)) (in_tree c t) (in_tree c u)) (in_all c ts)
   in_tree a (m.primop i x ts) = in_all (under a i.note) ts
   in_tree a (m.try i t xs u ys w) = three (namings (under a i.note) t) (namings (under a i.note) u) (namings (under a i.note) w) (in_tree (under a i.note) t) (in_tree (under a i.note) u) (in_tree (under a i.note) w)
   in_tree a (m.receive i cs t u) = three (clause_namings (under a i.note) cs) (namings (under a i.note) t) (namings (under a i.note) u) (in_clauses (under a i.note) cs) (in_tree (under a i.note) t) (in_tree (under a i.note) u)
@@ -135,7 +137,8 @@ mutual
 first_unknown : (before : List Naming) (callees : Atom → FunName → Callee) (ns : List Naming) → Name ns → AreOfUnknown (found_first before callees ns)
 first_unknown before callees [] h = tt
 first_unknown before callees (n ∷ ns) h =
-    both_unknown (cond (is_unknown (callees n.home n.name) && not (same_atom n.home erlang) && not (is_named before n)) n.found []) (found_first (n ∷ before) callees ns) (by (is_unknown (callees n.home n.name) && not (same_atom n.home erlang) && not (is_named before n))) (first_unknown (n ∷ before) callees ns h.1)
+    both_unknown (cond (is_unknown (callees n.home n.name) && not (same_atom n.home erlang) && not (is_named before n)) n.found []) (found_first (n ∷ before) callees ns)
+    (by (is_unknown (callees n.home n.name) && not (same_atom n.home erlang) && not (is_named before n))) (first_unknown (n ∷ before) callees ns h.1)
   where
     by : (b : Bool) → AreOfUnknown (cond b n.found [])
     by true = h.0

@@ -1,5 +1,6 @@
 -- What is seen, while variables, functions and matched values come into it.
-use Rattle.std.proofs.Common.{◌≡◌, ℕ, zero, suc, ◌+◌, ◌<◌, ◌≤◌, Bool, true, false, if◌then◌else◌, List, [], ◌∷◌, ◌++◌, length, replicate, Option, Some, None, refl, sym, ap, ap₂, ◌∙◌, subst, arith, length-append}
+use Rattle.std.proofs.Common.{◌≡◌, ℕ, zero, suc, ◌+◌, ◌<◌, ◌≤◌, Bool, true, false, if◌then◌else◌, List, [], ◌∷◌, ◌++◌}
+use Rattle.std.proofs.Common.{length, replicate, Option, Some, None, refl, sym, ap, ap₂, ◌∙◌, subst, arith, length-append}
 use Rattle.type_kinds.specs.declared.atom.Atom.{Atom}
 use Rattle.core_ast.specs.Model as m
 use Rattle.core_ast.specs.declared.syntax.VarName.{VarName}
@@ -12,7 +13,8 @@ use Rattle.cons_tree.specs.Facts.{TypeFacts}
 use Rattle.cons_tree.specs.Satisfied.{values_of}
 use Rattle.core_meaning.specs.Environments as run
 use Rattle.core_meaning.specs.Environments.{value_of, local_function, with_variable}
-use Rattle.core_meaning.specs.Matching.{Match, match_variable, match_literal, match_list, match_tuple, match_map, match_binary, match_alias, MatchEach, match_none, match_next, MatchList, match_rest, match_head, MatchPairs, match_no_pair, match_pair, MatchSegments, match_no_segment, match_segment}
+use Rattle.core_meaning.specs.Matching.{Match, match_variable, match_literal, match_list, match_tuple, match_map, match_binary, match_alias, MatchEach, match_none}
+use Rattle.core_meaning.specs.Matching.{match_next, MatchList, match_rest, match_head, MatchPairs, match_no_pair, match_pair, MatchSegments, match_no_segment, match_segment}
 use Rattle.core_meaning.specs.Programs.{function_named, closure_of, locals_of}
 use Rattle.cons_gen_rows.specs.Scopes.{Binding, or_outer}
 use Rattle.cons_gen_rows.specs.Slots.{slots_from}
@@ -125,7 +127,8 @@ module _ (home : Atom) (W : Value → Type 0) where
     local_segments f match_no_segment = refl
     local_segments f (match_segment from is mt ms) = local_segments f ms ∙ local_matched f mt
 
-pub functions_kept : {home : Atom} {sc : WalkScope} {env : Env} (to : Env) (bs : List Binding) (ts : Types) → ((f : FunName) → local_function home to f ≡ local_function home env f) → FunctionsAre home sc env → FunctionsAre home (record { variables = bs; functions = sc.functions; labels = sc.labels; types = ts }) to
+pub functions_kept : {home : Atom} {sc : WalkScope} {env : Env} (to : Env) (bs : List Binding) (ts : Types) → ((f : FunName) → local_function home to f ≡ local_function home env f) → FunctionsAre home sc env
+    → FunctionsAre home (record { variables = bs; functions = sc.functions; labels = sc.labels; types = ts }) to
 functions_kept to bs ts same x = record { paired = x.paired; others = λ f e. x.others f (sym (same f) ∙ e); inner = λ f l n around e. x.inner f l n around (sym (same f) ∙ e) }
 
 pub named_behind : (fs gs : List FunName) (ls ms : List ℕ) (f : FunName) → length fs ≡ length ls → label_named (fs ++ gs) (ls ++ ms) f ≡ or_outer (label_named gs ms f) (label_named fs ls f)
@@ -159,11 +162,14 @@ functions_framed {home} {sc} {env} ds once x = record {
   inner = λ f l n around e. named_behind sc.functions (defined_names ds) sc.labels (defined_labels ds) f x.paired ∙ somewhere f l n around (function_named (locals_of ds) f) (once f) e;
 }
   where
-    nowhere : (f : FunName) (o : Option Local) → label_named (defined_names ds) (defined_labels ds) f ≡ label_found o → run.or_outer (closure_of home (and_frame (locals_of ds) env) o) (local_function home env f) ≡ None → or_outer (label_named (defined_names ds) (defined_labels ds) f) (label_named sc.functions sc.labels f) ≡ None
+    nowhere : (f : FunName) (o : Option Local) → label_named (defined_names ds) (defined_labels ds) f ≡ label_found o → run.or_outer (closure_of home (and_frame (locals_of ds) env) o) (local_function home env f) ≡ None
+        → or_outer (label_named (defined_names ds) (defined_labels ds) f) (label_named sc.functions sc.labels f) ≡ None
     nowhere f None h e = ap (λ o. or_outer o (label_named sc.functions sc.labels f)) h ∙ x.others f e
     nowhere f (Some d) h e = absurd cc
 
-    somewhere : (f : FunName) (l n : ℕ) (around : Env) (o : Option Local) → label_named (defined_names ds) (defined_labels ds) f ≡ label_found o → run.or_outer (closure_of home (and_frame (locals_of ds) env) o) (local_function home env f) ≡ Some (closure home l n around) → or_outer (label_named (defined_names ds) (defined_labels ds) f) (label_named sc.functions sc.labels f) ≡ Some l
+    somewhere : (f : FunName) (l n : ℕ) (around : Env) (o : Option Local) → label_named (defined_names ds) (defined_labels ds) f ≡ label_found o
+        → run.or_outer (closure_of home (and_frame (locals_of ds) env) o) (local_function home env f) ≡ Some (closure home l n around)
+        → or_outer (label_named (defined_names ds) (defined_labels ds) f) (label_named sc.functions sc.labels f) ≡ Some l
     somewhere f l n around None h e = ap (λ o. or_outer o (label_named sc.functions sc.labels f)) h ∙ x.inner f l n around e
     somewhere f l n around (Some d) h e = ap (λ o. or_outer o (label_named sc.functions sc.labels f)) h ∙ ap Some (label_is (closure home d.label d.arity (and_frame (locals_of ds) env)) (closure home l n around) e)
       where
@@ -174,7 +180,8 @@ functions_framed {home} {sc} {env} ds once x = record {
 
 module _ (T : TypeFacts) where
   -- variables with as many values of these types
-  pub seen_with : {home : Atom} {sc : WalkScope} {env : Env} (xs : List VarName) (vs : Values) (ts : List Type4) → IsSeen home sc env → length xs ≡ count vs → HasTypes vs (as_many (length xs) ts) → IsSeen home (with_variables sc xs ts) (run.with_variables xs vs env)
+  pub seen_with : {home : Atom} {sc : WalkScope} {env : Env} (xs : List VarName) (vs : Values) (ts : List Type4) → IsSeen home sc env → length xs ≡ count vs → HasTypes vs (as_many (length xs) ts)
+      → IsSeen home (with_variables sc xs ts) (run.with_variables xs vs env)
   seen_with {home} {sc} {env} xs vs ts s n h =
       let start = length sc.types in
       let x = bound_in_turn xs vs start (scope_in sc) env s.at n s.stands in
@@ -210,13 +217,15 @@ module _ (T : TypeFacts) where
     pub holds : values_of seen.at qs ≡ vs
     pub under : AreUnder (length sc.types) qs
 
-  slot_ready : (home : Atom) (n s : ℕ) (b : Assignment) (sc : WalkScope) (env : Env) (x : Option Atom) (v : Value) → StandsFor home n b (scope_in sc) env → s < n → b s ≡ v → NameIs env x v → (argument_slot sc.variables s x < n) × (b (argument_slot sc.variables s x) ≡ v)
+  slot_ready : (home : Atom) (n s : ℕ) (b : Assignment) (sc : WalkScope) (env : Env) (x : Option Atom) (v : Value) → StandsFor home n b (scope_in sc) env → s < n → b s ≡ v → NameIs env x v
+      → (argument_slot sc.variables s x < n) × (b (argument_slot sc.variables s x) ≡ v)
   slot_ready home n s b sc env None v st l e h = (l, e)
   slot_ready home n s b sc env (Some x) v st l e h =
       let k = st.variables x v h in
       subst (λ o. (slot_or o s < n) × (b (slot_or o s) ≡ v)) (sym k.1.0) (k.1.1.0, k.1.1.1)
 
-  slots_ready : (home : Atom) (n s : ℕ) (b : Assignment) (sc : WalkScope) (env : Env) (xs : List (Option Atom)) (vs : Values) → StandsFor home n b (scope_in sc) env → s + count vs ≤ n → values_of b (slots_from s (count vs)) ≡ vs → NamesAre env xs vs → AreUnder n (argument_slots sc.variables s xs) × (values_of b (argument_slots sc.variables s xs) ≡ vs)
+  slots_ready : (home : Atom) (n s : ℕ) (b : Assignment) (sc : WalkScope) (env : Env) (xs : List (Option Atom)) (vs : Values) → StandsFor home n b (scope_in sc) env → s + count vs ≤ n → values_of b (slots_from s (count vs)) ≡ vs
+      → NamesAre env xs vs → AreUnder n (argument_slots sc.variables s xs) × (values_of b (argument_slots sc.variables s xs) ≡ vs)
   slots_ready home n s b sc env [] no_value st l e h = (tt, refl)
   slots_ready home n s b sc env [] (and_value v vs) st l e h = absurd h
   slots_ready home n s b sc env (x ∷ xs) no_value st l e h = absurd h
@@ -225,7 +234,8 @@ module _ (T : TypeFacts) where
       let r = slots_ready home n (s + 1) b sc env xs vs st (omega (arith, l)) (later_values e) h.1 in
       ((k.0, r.0), ap₂ and_value k.1 r.1)
 
-  pub ready : {home : Atom} {sc : WalkScope} {env : Env} {vs : Values} (ts : List Type4) (xs : List (Option Atom)) → IsSeen home sc env → HasTypes vs ts → NamesAre env xs vs → IsReady home (matching sc ts) env vs (argument_slots sc.variables (length sc.types) xs)
+  pub ready : {home : Atom} {sc : WalkScope} {env : Env} {vs : Values} (ts : List Type4) (xs : List (Option Atom)) → IsSeen home sc env → HasTypes vs ts → NamesAre env xs vs
+      → IsReady home (matching sc ts) env vs (argument_slots sc.variables (length sc.types) xs)
   ready {home} {sc} {env} {vs} ts xs s h names =
       let start = length sc.types in
       let x = set_all vs start s.at in

@@ -33,5 +33,7 @@ pub record TextFacts : Type 0 where
 -- what is known of last states, each a clause of a law of `module_flow`
 pub record LastFacts : Type 0 where
   pub labels : (callees : Callees) (x : m.Module) → flow.labels_of (last_state callees x) ≡ flow.labels_of (first_state x)
-  pub wholly : (callees : Callees) (x : m.Module) (number : ℕ → ℕ) → AreCounted number (first_state x) → ((st : FlowState) → GiveCounted number (contributions_of_functions (world callees x st) outermost x.defs)) → AreWhollyTaken (last_state callees x) (contributions_of_functions (world callees x (last_state callees x)) outermost x.defs)
-  pub opens : (callees : Callees) (x : m.Module) (number : ℕ → ℕ) → AreCounted number (first_state x) → ((st : FlowState) → GiveCounted number (contributions_of_functions (world callees x st) outermost x.defs)) → (l : ℕ) → parameters_of (first_state x) l ≡ Some (replicate (number l) any) → parameters_of (last_state callees x) l ≡ Some (replicate (number l) any)
+  pub wholly : (callees : Callees) (x : m.Module) (number : ℕ → ℕ) → AreCounted number (first_state x) → ((st : FlowState) → GiveCounted number (contributions_of_functions (world callees x st) outermost x.defs))
+      → AreWhollyTaken (last_state callees x) (contributions_of_functions (world callees x (last_state callees x)) outermost x.defs)
+  pub opens : (callees : Callees) (x : m.Module) (number : ℕ → ℕ) → AreCounted number (first_state x) → ((st : FlowState) → GiveCounted number (contributions_of_functions (world callees x st) outermost x.defs)) → (l : ℕ)
+      → parameters_of (first_state x) l ≡ Some (replicate (number l) any) → parameters_of (last_state callees x) l ≡ Some (replicate (number l) any)

@@ -37,7 +37,9 @@ module _ (Z : Setting) where
 
   module _ (E : Atom → Env → m.Tree → Outcome → Trace → Type 0) (each : Invariant Z E) where
     -- a body whose text is among the rules
-    body_inv : (home : Atom) (label : ℕ) (xs : List VarName) (t : m.Tree) (sc : Scope) (env : Env) (vs : Values) (o : Outcome) (tr : Trace) → E home (run.with_variables xs vs env) t o tr → length xs ≡ count vs → CovEnv Z home env → Covs Z vs → Fits Z.program Z.rule sc env → AreArguments Z.program Z.rule home label 0 vs → AreRules Z.program Z.rule (body_rules Z.program Z.rule home label xs t sc) → AllOk Z tr × Result Z (places Z.program home (in_function Z.program home label xs sc) one_value t) o
+    body_inv : (home : Atom) (label : ℕ) (xs : List VarName) (t : m.Tree) (sc : Scope) (env : Env) (vs : Values) (o : Outcome) (tr : Trace) → E home (run.with_variables xs vs env) t o tr → length xs ≡ count vs → CovEnv Z home env
+        → Covs Z vs → Fits Z.program Z.rule sc env → AreArguments Z.program Z.rule home label 0 vs → AreRules Z.program Z.rule (body_rules Z.program Z.rule home label xs t sc)
+        → AllOk Z tr × Result Z (places Z.program home (in_function Z.program home label xs sc) one_value t) o
     body_inv home label xs t sc env vs o tr x n c cv fit ar a =
         each home (run.with_variables xs vs env) (in_function Z.program home label xs sc) t o tr one_value x
         (bound_covered (OfClosure Z.program Z.rule) (OfFrame Z.program Z.rule) home xs vs env cv c)
@@ -45,7 +47,8 @@ module _ (Z : Setting) where
         a.1
 
     -- a closure that stands in a scope is entered with arguments in the sets of its parameters
-    pub closure_entered : {home : Atom} {label arity : ℕ} {env : Env} {vs : Values} {o : Outcome} {tr : Trace} (sc : Scope) → Enter Z.program Z.from E (closure home label arity env) vs o tr → CovEnv Z home env → Fits Z.program Z.rule sc env → StandsAt Z.program Z.rule home label sc → Covs Z vs → AreArguments Z.program Z.rule home label 0 vs → AllOk Z tr × Came Z (returned home label) o
+    pub closure_entered : {home : Atom} {label arity : ℕ} {env : Env} {vs : Values} {o : Outcome} {tr : Trace} (sc : Scope) → Enter Z.program Z.from E (closure home label arity env) vs o tr → CovEnv Z home env
+        → Fits Z.program Z.rule sc env → StandsAt Z.program Z.rule home label sc → Covs Z vs → AreArguments Z.program Z.rule home label 0 vs → AllOk Z tr × Came Z (returned home label) o
     closure_entered {home} {label} {arity} {env} sc (enter_gives {c = c} {vs = vs} {v = v} {tr = tr} n at many x) cw fit stands cv ar =
         let text = stands c at in
         let i = body_inv home label c.parameters c.body sc env vs _ tr x many cw cv fit ar text in
@@ -74,7 +77,8 @@ module _ (Z : Setting) where
         closure_entered cw.1.0.0 (enter_fails n at many x) cw.0 cw.1.0.1.0 cw.1.0.1.1 cv (open_arguments Z.program Z.rule home label 0 arity vs n cw.1.1)
 
     -- so may a definition that is found
-    pub found_entered : {home : Atom} {c : Value} {d : Local} {vs : Values} {o : Outcome} {tr : Trace} → IsFound Z.program Z.rule home c d → Enter Z.program Z.from E c vs o tr → Covs Z vs → AreArguments Z.program Z.rule home d.label 0 vs → AllOk Z tr × Came Z (returned home d.label) o
+    pub found_entered : {home : Atom} {c : Value} {d : Local} {vs : Values} {o : Outcome} {tr : Trace} → IsFound Z.program Z.rule home c d → Enter Z.program Z.from E c vs o tr → Covs Z vs
+        → AreArguments Z.program Z.rule home d.label 0 vs → AllOk Z tr × Came Z (returned home d.label) o
     found_entered {home} {c} {d} {vs} {o} {tr} f x cv ar =
         closure_entered f.scope (subst (λ z. Enter Z.program Z.from E z vs o tr) f.is x) f.covered f.fits f.stands cv ar
 

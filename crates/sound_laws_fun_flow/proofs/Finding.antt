@@ -18,9 +18,11 @@ use Rattle.sound_laws_fun_flow.proofs.Lists.{all_left, all_right}
 
 module _ (U : Program) (R : Rule → Type 0) where
   -- of definitions whose texts are among the rules, one that is found
-  pub of_definitions : (home : Atom) (sc : Scope) (ds : m.Defs) (f : FunName) (d : Local) → AreRules U R (rules_of_definitions U home sc ds) → AreAtLabels U home ds → function_named (locals_of ds) f ≡ Some d → StandsAt U R home d.label sc
+  pub of_definitions : (home : Atom) (sc : Scope) (ds : m.Defs) (f : FunName) (d : Local) → AreRules U R (rules_of_definitions U home sc ds) → AreAtLabels U home ds → function_named (locals_of ds) f ≡ Some d
+      → StandsAt U R home d.label sc
   of_definitions home sc m.no_def f d a at e = absurd cc
-  of_definitions home sc (m.and_def g k xs t ds) f d a at e = by (same_atom g.name f.name && nat_eq g.arity f.arity) (of_definitions home sc ds f d (all_right U R (body_rules U R home k.label xs t sc) (rules_of_definitions U home sc ds) a) at.1) e
+  of_definitions home sc (m.and_def g k xs t ds) f d a at e = by (same_atom g.name f.name && nat_eq g.arity f.arity)
+      (of_definitions home sc ds f d (all_right U R (body_rules U R home k.label xs t sc) (rules_of_definitions U home sc ds) a) at.1) e
     where
       mine : AreRules U R (body_rules U R home k.label xs t sc)
       mine = all_left U R (body_rules U R home k.label xs t sc) (rules_of_definitions U home sc ds) a
@@ -30,7 +32,8 @@ module _ (U : Program) (R : Rule → Type 0) where
           let same : labelled_function k (Some g) xs t ≡ c = same_Some _ _ (sym at.0 ∙ ap (function_at U home) label ∙ q) in
           subst (λ z. AreRules U R (body_rules U R home d.label z.parameters z.body sc)) same (subst (λ l. AreRules U R (body_rules U R home l xs t sc)) label mine)
 
-      by : (b : Bool) → (function_named (locals_of ds) f ≡ Some d → StandsAt U R home d.label sc) → (if b then Some (record { name = g.name; arity = g.arity; label = k.label }) else function_named (locals_of ds) f) ≡ Some d → StandsAt U R home d.label sc
+      by : (b : Bool) → (function_named (locals_of ds) f ≡ Some d → StandsAt U R home d.label sc) → (if b then Some (record { name = g.name; arity = g.arity; label = k.label }) else function_named (locals_of ds) f) ≡ Some d
+          → StandsAt U R home d.label sc
       by true more q = here (ap (λ z. z.label) (same_Some _ _ q))
       by false more q = more q
 
@@ -49,16 +52,19 @@ module _ (U : Program) (R : Rule → Type 0) where
   local_none home f (fits_variable h r) e = local_none home f r e
   local_none home f (fits_frame {ls = ls} {sc = sc} {env = env} r) e = by (function_named ls f) (local_none home f r) e
     where
-      by : (o : Option Local) → (local_function home env f ≡ None → local_definition sc f ≡ None) → or_outer (closure_of home (and_frame ls env) o) (local_function home env f) ≡ None → or_else o (local_definition sc f) ≡ None
+      by : (o : Option Local) → (local_function home env f ≡ None → local_definition sc f ≡ None) → or_outer (closure_of home (and_frame ls env) o) (local_function home env f) ≡ None
+          → or_else o (local_definition sc f) ≡ None
       by None more q = more q
       by (Some d) more q = absurd cc
 
-  local_some : {sc : Scope} {env : Env} (home : Atom) (f : FunName) (c : Value) → Fits U R sc env → IsCovEnv U R home env → local_function home env f ≡ Some c → (d : Local) × ((local_definition sc f ≡ Some d) × IsFound home c d)
+  local_some : {sc : Scope} {env : Env} (home : Atom) (f : FunName) (c : Value) → Fits U R sc env → IsCovEnv U R home env → local_function home env f ≡ Some c
+      → (d : Local) × ((local_definition sc f ≡ Some d) × IsFound home c d)
   local_some home f c fits_nothing h e = absurd cc
   local_some home f c (fits_variable i r) h e = local_some home f c r h.1 e
   local_some home f c (fits_frame {ls = ls} {sc = sc} {env = env} r) h e = by (function_named ls f) refl (local_some home f c r h.0) e
     where
-      by : (o : Option Local) → function_named ls f ≡ o → (local_function home env f ≡ Some c → (d : Local) × ((local_definition sc f ≡ Some d) × IsFound home c d)) → or_outer (closure_of home (and_frame ls env) o) (local_function home env f) ≡ Some c → (d : Local) × ((or_else o (local_definition sc f) ≡ Some d) × IsFound home c d)
+      by : (o : Option Local) → function_named ls f ≡ o → (local_function home env f ≡ Some c → (d : Local) × ((local_definition sc f ≡ Some d) × IsFound home c d))
+          → or_outer (closure_of home (and_frame ls env) o) (local_function home env f) ≡ Some c → (d : Local) × ((or_else o (local_definition sc f) ≡ Some d) × IsFound home c d)
       by None q more i = more i
       by (Some d) q more i =
           let ds = h.1.0 in
@@ -105,7 +111,8 @@ module _ (U : Program) (R : Rule → Type 0) where
         by (Some p) q i = of_module p q (function_named (locals_of p.defs) f) refl i
 
     -- a name is found alike in the scope and in the environment
-    pub function_found : (home : Atom) (sc : Scope) (env : Env) (f : FunName) (c : Value) → Fits U R sc env → IsCovEnv U R home env → function_of U home env f ≡ Some c → (d : Local) × ((definition_of U home sc f ≡ Some d) × IsFound home c d)
+    pub function_found : (home : Atom) (sc : Scope) (env : Env) (f : FunName) (c : Value) → Fits U R sc env → IsCovEnv U R home env → function_of U home env f ≡ Some c
+        → (d : Local) × ((definition_of U home sc f ≡ Some d) × IsFound home c d)
     function_found home sc env f c r h e = by (local_function home env f) refl e
       where
         in_module : local_definition sc f ≡ None → (d : Local) × ((defined_at U home f ≡ Some d) × IsFound home c d) → (d : Local) × ((definition_of U home sc f ≡ Some d) × IsFound home c d)

@@ -8,7 +8,8 @@ use Rattle.core_scope.specs.Names.{same_atom, wildcard}
 use Rattle.type_lattice_model.specs.Values.{Value, Values, no_value, and_value, ValuePairs, Env, and_variable, count}
 use Rattle.core_meaning.specs.Environments as run
 use Rattle.core_meaning.specs.Environments.{value_of, with_variable}
-use Rattle.core_meaning.specs.Matching.{Match, match_variable, match_literal, match_list, match_tuple, match_map, match_binary, match_alias, MatchEach, match_none, match_next, MatchList, match_rest, match_head, MatchPairs, match_no_pair, match_pair, MatchSegments, match_no_segment, match_segment}
+use Rattle.core_meaning.specs.Matching.{Match, match_variable, match_literal, match_list, match_tuple, match_map, match_binary, match_alias, MatchEach, match_none}
+use Rattle.core_meaning.specs.Matching.{match_next, MatchList, match_rest, match_head, MatchPairs, match_no_pair, match_pair, MatchSegments, match_no_segment, match_segment}
 use Rattle.core_meaning.specs.Programs.{Program}
 use Rattle.core_meaning_values.proofs.Held.{value_held}
 use Rattle.fun_flow_sets.specs.Items.{Place, anywhere, Rule}

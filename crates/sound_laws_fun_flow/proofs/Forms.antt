@@ -11,10 +11,12 @@ use Rattle.core_scope.specs.declared.ask.Ask.TheVariants.{AnyNumber, Exactly}
 use Rattle.type_lattice_model.specs.Values.{Value, atom, Values, no_value, and_value, Env, count}
 use Rattle.bif_types.specs.Results as bif
 use Rattle.core_meaning.specs.Environments.{function_of}
-use Rattle.core_meaning.specs.Meaning.{Failure, Outcome, gives, fails, applied, chosen, Trace, back_by, AllGive, give_none, give_next, OneFails, fail_here, fail_later, Chained, chain_ends, let_gives, let_fails, do_gives, do_fails, Choose, choose_none, choose_missed, choose_refused, choose_raised, choose_failed, choose_this, Enter, Called, Apply}
+use Rattle.core_meaning.specs.Meaning.{Failure, Outcome, gives, fails, applied, chosen, Trace, back_by, AllGive, give_none, give_next, OneFails, fail_here, fail_later, Chained, chain_ends}
+use Rattle.core_meaning.specs.Meaning.{let_gives, let_fails, do_gives, do_fails, Choose, choose_none, choose_missed, choose_refused, choose_raised, choose_failed, choose_this, Enter, Called, Apply}
 use Rattle.core_meaning_values.proofs.Coverage.{bound_covered, matches_covered}
 use Rattle.fun_flow_sets.specs.Items.{Place, nowhere, part, Rule, applies}
-use Rattle.fun_flow_sets.specs.Rules.{kept, parts, places, places_of_all, after_steps, application_place, application_rules, argument_rules, into_parameters, call_place, call_rules, given_by, passed_to, rules, rules_of_all, rules_of_steps, rules_of_clauses, rules_of_heads}
+use Rattle.fun_flow_sets.specs.Rules.{kept, parts, places, places_of_all, after_steps, application_place, application_rules, argument_rules, into_parameters}
+use Rattle.fun_flow_sets.specs.Rules.{call_place, call_rules, given_by, passed_to, rules, rules_of_all, rules_of_steps, rules_of_clauses, rules_of_heads}
 use Rattle.fun_flow_sets.specs.Scopes.{Scope, first, with_places, with_heads, definition_of}
 use Rattle.sound_laws.proofs.Traces.{both_traces}
 use Rattle.sound_laws_fun_flow.specs.steps.Inside.{LieIn, LieInEach, Fits, AreRules, OfClosure, OfFrame}
@@ -60,7 +62,8 @@ module _ (Z : Setting) (E : Atom → Env → m.Tree → Outcome → Trace → Ty
     abbrev At : Scope → Ask → m.Tree → List Place
     At sc k t = places Z.program home sc k t
 
-    pub all_given : {env : Env} {ts : m.Trees} {vs : Values} {tr : Trace} (sc : Scope) → AllGive (E home) env ts vs tr → CovEnv Z home env → FitsAt sc env → Are (OfAll sc ts) → AllOk Z tr × (LieInEach Z.program Z.rule (places_of_all Z.program home sc ts) vs × Covs Z vs)
+    pub all_given : {env : Env} {ts : m.Trees} {vs : Values} {tr : Trace} (sc : Scope) → AllGive (E home) env ts vs tr → CovEnv Z home env → FitsAt sc env → Are (OfAll sc ts)
+        → AllOk Z tr × (LieInEach Z.program Z.rule (places_of_all Z.program home sc ts) vs × Covs Z vs)
     all_given sc give_none c r a = (tt, (tt, tt))
     all_given sc (give_next {t = t} {ts = ts} {v = v} {tr = tr} {more = more} x xs) c r a =
         let h = each home _ sc t _ tr one_value x c r (all_left Z.program Z.rule (Of sc one_value t) (OfAll sc ts) a) in
@@ -78,13 +81,15 @@ module _ (Z : Setting) (E : Atom → Env → m.Tree → Outcome → Trace → Ty
 
     -- ---- chains
 
-    pub chained : {env : Env} {ss : m.Steps} {t : m.Tree} {o : Outcome} {tr : Trace} (sc : Scope) (k : Ask) → Chained (E home) env ss t o tr → CovEnv Z home env → FitsAt sc env → Are (rules_of_steps Z.program home sc ss) → Are (Of (after_steps Z.program home sc ss) k t) → AllOk Z tr × Result Z (At (after_steps Z.program home sc ss) k t) o
+    pub chained : {env : Env} {ss : m.Steps} {t : m.Tree} {o : Outcome} {tr : Trace} (sc : Scope) (k : Ask) → Chained (E home) env ss t o tr → CovEnv Z home env → FitsAt sc env → Are (rules_of_steps Z.program home sc ss)
+        → Are (Of (after_steps Z.program home sc ss) k t) → AllOk Z tr × Result Z (At (after_steps Z.program home sc ss) k t) o
     chained sc k (chain_ends {env = env} {t = t} {o = o} {tr = tr} x) c r a b = each home env sc t o tr k x c r b
     chained sc k (let_gives {env = env} {xs = xs} {u = u} {ss = ss} {vs = vs} {tr = tr} {more = more} x n y) c r a b =
         let ps = At sc (Exactly (length xs)) u in
         let inner = with_places xs ps sc in
         let h = each home env sc u (gives vs) tr (Exactly (length xs)) x c r (all_left Z.program Z.rule (Of sc (Exactly (length xs)) u) (rules_of_steps Z.program home inner ss) a) in
-        let g = chained inner k y (bound_covered (OfClosure Z.program Z.rule) (OfFrame Z.program Z.rule) home xs vs env h.1.1 c) (fits_bound Z.program Z.rule xs vs ps sc env n h.1.0 r) (all_right Z.program Z.rule (Of sc (Exactly (length xs)) u) (rules_of_steps Z.program home inner ss) a) b in
+        let g = chained inner k y (bound_covered (OfClosure Z.program Z.rule) (OfFrame Z.program Z.rule) home xs vs env h.1.1 c) (fits_bound Z.program Z.rule xs vs ps sc env n h.1.0 r)
+        (all_right Z.program Z.rule (Of sc (Exactly (length xs)) u) (rules_of_steps Z.program home inner ss) a) b in
         (both tr more h.0 g.0, g.1)
     chained sc k (let_fails {env = env} {xs = xs} {u = u} {ss = ss} {tr = tr} x) c r a b =
         ((each home env sc u _ tr (Exactly (length xs)) x c r (all_left Z.program Z.rule (Of sc (Exactly (length xs)) u) (rules_of_steps Z.program home (with_places xs (At sc (Exactly (length xs)) u) sc) ss) a)).0, tt)
@@ -104,7 +109,9 @@ module _ (Z : Setting) (E : Atom → Env → m.Tree → Outcome → Trace → Ty
       body : Are (Of (with_heads qs ps sc) k t)
       others : Are (rules_of_clauses Z.program home sc k label qs cs)
 
-    opened : (sc : Scope) (k : Ask) (label : ℕ) (qs : List Place) (ps : m.Patterns) (g t : m.Tree) (cs : m.Clauses) → Are (rules_of_heads Z.program home sc qs ps ++ (Of (with_heads qs ps sc) one_value g ++ ((passed_to Z.program home label k (At (with_heads qs ps sc) k t) ++ Of (with_heads qs ps sc) k t) ++ rules_of_clauses Z.program home sc k label qs cs))) → FirstClause sc k label qs ps g t cs
+    opened : (sc : Scope) (k : Ask) (label : ℕ) (qs : List Place) (ps : m.Patterns) (g t : m.Tree) (cs : m.Clauses)
+        → Are (rules_of_heads Z.program home sc qs ps ++ (Of (with_heads qs ps sc) one_value g
+        ++ ((passed_to Z.program home label k (At (with_heads qs ps sc) k t) ++ Of (with_heads qs ps sc) k t) ++ rules_of_clauses Z.program home sc k label qs cs))) → FirstClause sc k label qs ps g t cs
     opened sc k label qs ps g t cs a =
         let heads = rules_of_heads Z.program home sc qs ps in
         let guards = Of (with_heads qs ps sc) one_value g in
@@ -121,7 +128,8 @@ module _ (Z : Setting) (E : Atom → Env → m.Tree → Outcome → Trace → Ty
           others = all_right Z.program Z.rule (passing ++ bodies) later d;
         }
 
-    pub clause_chosen : {none : Failure} {env : Env} {vs : Values} {cs : m.Clauses} {o : Outcome} {tr : Trace} (sc : Scope) (k : Ask) (label : ℕ) (qs : List Place) → Choose (E home) Z.from none home env vs cs o tr → CovEnv Z home env → Covs Z vs → LieAt qs vs → FitsAt sc env → Are (rules_of_clauses Z.program home sc k label qs cs) → AllOk Z tr × Result Z (parts home label 0 (kept k)) o
+    pub clause_chosen : {none : Failure} {env : Env} {vs : Values} {cs : m.Clauses} {o : Outcome} {tr : Trace} (sc : Scope) (k : Ask) (label : ℕ) (qs : List Place) → Choose (E home) Z.from none home env vs cs o tr → CovEnv Z home env
+        → Covs Z vs → LieAt qs vs → FitsAt sc env → Are (rules_of_clauses Z.program home sc k label qs cs) → AllOk Z tr × Result Z (parts home label 0 (kept k)) o
     clause_chosen sc k label qs choose_none c cv h r a = (tt, tt)
     clause_chosen sc k label qs (choose_missed {ps = ps} {g = g} {t = t} {cs = cs} mt x) c cv h r a = clause_chosen sc k label qs x c cv h r (opened sc k label qs ps g t cs a).others
     clause_chosen sc k label qs (choose_refused {ps = ps} {g = g} {t = t} {cs = cs} {tr = tr} {more = more} mt x n y) c cv h r a =
@@ -148,7 +156,9 @@ module _ (Z : Setting) (E : Atom → Env → m.Tree → Outcome → Trace → Ty
     -- ---- applications
 
     -- a name is applied to as many arguments as it has parameters
-    pub name_applied : {c : Value} {vs : Values} {o : Outcome} {more : Trace} (f : FunName) (sc : Scope) (env : Env) (label n : ℕ) (ps os : List Place) (rs : List Rule) → f.arity ≡ n → function_of Z.program home env f ≡ Some c → Enter Z.program Z.from E c vs o more → CovEnv Z home env → FitsAt sc env → Covs Z vs → LieInEach Z.program Z.rule ps vs → Are (application_rules Z.program home sc label (Some f) os rs n ps) → AllOk Z more × Came Z (application_place Z.program home sc label (Some f) n) o
+    pub name_applied : {c : Value} {vs : Values} {o : Outcome} {more : Trace} (f : FunName) (sc : Scope) (env : Env) (label n : ℕ) (ps os : List Place) (rs : List Rule) → f.arity ≡ n → function_of Z.program home env f ≡ Some c
+        → Enter Z.program Z.from E c vs o more → CovEnv Z home env → FitsAt sc env → Covs Z vs → LieInEach Z.program Z.rule ps vs → Are (application_rules Z.program home sc label (Some f) os rs n ps)
+        → AllOk Z more × Came Z (application_place Z.program home sc label (Some f) n) o
     name_applied {c} {vs} {o} f sc env label n ps os rs e is x cov fit cv h a =
         let t = function_found Z.program Z.rule Z.has home sc env f c fit cov is in
         let d = t.0 in
@@ -158,7 +168,10 @@ module _ (Z : Setting) (E : Atom → Env → m.Tree → Outcome → Trace → Ty
         (i.0, subst (λ b. Came Z (if b then given_by home (definition_of Z.program home sc f) else nowhere) o) (sym (eq-eqb f.arity n e)) (subst (λ z. Came Z (given_by home z) o) (sym t.1.0) i.1))
 
     -- another operator is applied
-    pub operator_applied : {env : Env} {t : m.Tree} {ts : m.Trees} {c : Value} {vs : Values} {o : Outcome} {tr more : Trace} (sc : Scope) (label : ℕ) → AllGive (E home) env (m.and_tree t ts) (and_value c vs) tr → Apply Z.program Z.from E c vs o more → CovEnv Z home env → FitsAt sc env → Are (application_rules Z.program home sc label None (At sc one_value t) (Of sc one_value t) (how_many ts) (places_of_all Z.program home sc ts) ++ OfAll sc ts) → AllOk Z (tr ++ (applied home label c ∷ (more ++ back_by home label o))) × Came Z (part home label 0) o
+    pub operator_applied : {env : Env} {t : m.Tree} {ts : m.Trees} {c : Value} {vs : Values} {o : Outcome} {tr more : Trace} (sc : Scope) (label : ℕ) → AllGive (E home) env (m.and_tree t ts) (and_value c vs) tr
+        → Apply Z.program Z.from E c vs o more → CovEnv Z home env → FitsAt sc env
+        → Are (application_rules Z.program home sc label None (At sc one_value t) (Of sc one_value t) (how_many ts) (places_of_all Z.program home sc ts) ++ OfAll sc ts)
+        → AllOk Z (tr ++ (applied home label c ∷ (more ++ back_by home label o))) × Came Z (part home label 0) o
     operator_applied {t = t} {ts = ts} {c = c} {vs = vs} {o = o} {tr = tr} {more = more} sc label xs x cov fit a =
         let own = applies (first (At sc one_value t)) (how_many ts) home label ∷ Of sc one_value t in
         let mine = all_left Z.program Z.rule own (OfAll sc ts) a in
@@ -180,7 +193,9 @@ module _ (Z : Setting) (E : Atom → Env → m.Tree → Outcome → Trace → Ty
     abbrev pub Literals : Type 0
     Literals = (env : Env) (t : m.Tree) (x y : Atom) (tr : Trace) → literal_atom t ≡ Some x → E home env t (gives (bif.one_value (atom y))) tr → y ≡ x
 
-    pub called : {env : Env} {t u : m.Tree} {x name : Atom} {vs : Values} {o : Outcome} {more : Trace} (literals : Literals) (label n : ℕ) (ps : List Place) (tr tr' : Trace) → E home env t (gives (bif.one_value (atom x))) tr → E home env u (gives (bif.one_value (atom name))) tr' → n ≡ count vs → Called Z.program Z.from E x name vs o more → Covs Z vs → LieInEach Z.program Z.rule ps vs → Are (call_rules Z.program home label (literal_atom t) (literal_atom u) n ps) → AllOk Z more × Came Z (call_place Z.program home label (literal_atom t) (literal_atom u) n) o
+    pub called : {env : Env} {t u : m.Tree} {x name : Atom} {vs : Values} {o : Outcome} {more : Trace} (literals : Literals) (label n : ℕ) (ps : List Place) (tr tr' : Trace) → E home env t (gives (bif.one_value (atom x))) tr
+        → E home env u (gives (bif.one_value (atom name))) tr' → n ≡ count vs → Called Z.program Z.from E x name vs o more → Covs Z vs → LieInEach Z.program Z.rule ps vs
+        → Are (call_rules Z.program home label (literal_atom t) (literal_atom u) n ps) → AllOk Z more × Came Z (call_place Z.program home label (literal_atom t) (literal_atom u) n) o
     called {env} {t} {u} {x} {name} {vs} {o} {more} literals label n ps tr tr' gt gu e y cv h a = by (literal_atom t) refl (literal_atom u) refl a
       where
         by : (p : Option Atom) → literal_atom t ≡ p → (q : Option Atom) → literal_atom u ≡ q → Are (call_rules Z.program home label p q n ps) → AllOk Z more × Came Z (call_place Z.program home label p q n) o
@@ -191,7 +206,8 @@ module _ (Z : Setting) (E : Atom → Env → m.Tree → Outcome → Trace → Ty
             let too : name ≡ q = literals env u q name tr' j gu in
             at_names p q (subst (λ w. Called Z.program Z.from E x w vs o more) too y) same e b
           where
-            at_names : (p q : Atom) → Called Z.program Z.from E x q vs o more → x ≡ p → n ≡ count vs → Are (call_rules Z.program home label (Some p) (Some q) n ps) → AllOk Z more × Came Z (call_place Z.program home label (Some p) (Some q) n) o
+            at_names : (p q : Atom) → Called Z.program Z.from E x q vs o more → x ≡ p → n ≡ count vs → Are (call_rules Z.program home label (Some p) (Some q) n ps)
+                → AllOk Z more × Came Z (call_place Z.program home label (Some p) (Some q) n) o
             at_names p q w same e b =
                 subst (λ k. AllOk Z more × Came Z (call_place Z.program home label (Some p) (Some q) k) o) (sym e)
                 (called_by_name Z E each home label ps (subst (λ k. Called Z.program Z.from E k q vs o more) same w) cv h (subst (λ k. Are (call_rules Z.program home label (Some p) (Some q) k ps)) e b))

@@ -56,7 +56,8 @@ module _ (U : Program) (R : Rule → Type 0) (home : Atom) where
       (both_rules sc ts (in_segments ss) (all_left U R (OfAll sc ts) (rules_of_segments U home sc ss) b) (segments_rules sc ss (all_right U R (OfAll sc ts) (rules_of_segments U home sc ss) b)))
 
   -- the operator's rules and those of the arguments
-  applied_rules : (sc : Scope) (label : ℕ) (o : Option FunName) (t : m.Tree) (ts : m.Trees) (n : ℕ) → Are (application_rules U home sc label o (places U home sc one_value t) (Of sc t) n (places_of_all U home sc ts) ++ OfAll sc ts) → Are (OfAll sc (in_application o t ts))
+  applied_rules : (sc : Scope) (label : ℕ) (o : Option FunName) (t : m.Tree) (ts : m.Trees) (n : ℕ) → Are (application_rules U home sc label o (places U home sc one_value t) (Of sc t) n (places_of_all U home sc ts) ++ OfAll sc ts)
+      → Are (OfAll sc (in_application o t ts))
   applied_rules sc label None t ts n a =
       let own = application_rules U home sc label None (places U home sc one_value t) (Of sc t) n (places_of_all U home sc ts) in
       all_both U R (Of sc t) (OfAll sc ts) (all_left U R own (OfAll sc ts) a).1 (all_right U R own (OfAll sc ts) a)

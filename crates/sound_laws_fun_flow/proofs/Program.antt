@@ -25,7 +25,8 @@ accepted_at : (ps : Program) → AreAccepted ps → (home : Atom) (p : m.Module)
 accepted_at [] h home p e = absurd cc
 accepted_at (q ∷ ps) h home p e = by (same_atom q.name home) refl (accepted_at ps h.1 home p) e
   where
-    by : (b : Bool) → same_atom q.name home ≡ b → (module_named ps home ≡ Some p → ((c : Checked) × (tree_of c ≡ p)) × (p.name ≡ home)) → (if b then Some q else module_named ps home) ≡ Some p → ((c : Checked) × (tree_of c ≡ p)) × (p.name ≡ home)
+    by : (b : Bool) → same_atom q.name home ≡ b → (module_named ps home ≡ Some p → ((c : Checked) × (tree_of c ≡ p)) × (p.name ≡ home)) → (if b then Some q else module_named ps home) ≡ Some p
+        → ((c : Checked) × (tree_of c ≡ p)) × (p.name ≡ home)
     by true n more w =
         let same : q ≡ p = same_Some _ _ w in
         ((h.0.0, h.0.1 ∙ same), subst (λ z. z.name ≡ home) same ((bytes_decides q.name home).0 n))

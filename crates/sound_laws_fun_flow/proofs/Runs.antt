@@ -70,12 +70,14 @@ module _ (H : HandOn) (U : Program) (P : HasProgram U (IsRule U)) where
       by p n s (inr k) = inr (p, (n, (s, k)))
 
 -- a closure of another arity isn't entered
-pub other_arity : (U : Program) (stage fuel : ℕ) (home : Atom) (label arity : ℕ) (env : Env) (vs : Values) (o : Outcome) (tr : Trace) → ApplyAt U stage fuel (closure home label arity env) vs o tr → (arity ≡ count vs → ⊥) → (o ≡ fails raised) × (tr ≡ [])
+pub other_arity : (U : Program) (stage fuel : ℕ) (home : Atom) (label arity : ℕ) (env : Env) (vs : Values) (o : Outcome) (tr : Trace) → ApplyAt U stage fuel (closure home label arity env) vs o tr → (arity ≡ count vs → ⊥)
+    → (o ≡ fails raised) × (tr ≡ [])
 other_arity U stage fuel home label arity env vs _ _ (apply_closure (enter_gives n at many x)) e = absurd (e n)
 other_arity U stage fuel home label arity env vs _ _ (apply_closure (enter_fails n at many x)) e = absurd (e n)
 other_arity U stage fuel home label arity env vs _ _ apply_raises e = (refl, refl)
 
-pub other_external : (U : Program) (stage fuel : ℕ) (home name : Atom) (arity : ℕ) (vs : Values) (o : Outcome) (tr : Trace) → ApplyAt U stage fuel (external home name arity) vs o tr → (arity ≡ count vs → ⊥) → (o ≡ fails raised) × (tr ≡ [])
+pub other_external : (U : Program) (stage fuel : ℕ) (home name : Atom) (arity : ℕ) (vs : Values) (o : Outcome) (tr : Trace) → ApplyAt U stage fuel (external home name arity) vs o tr → (arity ≡ count vs → ⊥)
+    → (o ≡ fails raised) × (tr ≡ [])
 other_external U stage fuel home name arity vs _ _ (apply_closure x) e = elim x [ ]
 other_external U stage fuel home name arity vs _ _ (apply_external n y) e = absurd (e n)
 other_external U stage fuel home name arity vs _ _ apply_raises e = (refl, refl)

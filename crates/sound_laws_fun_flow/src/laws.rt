@@ -23,11 +23,17 @@ use core_meaning_values::handed_on;
 /// - `arities`, `external_arities`: a closure, or an external function, that is applied to another number of
 ///   arguments than its arity isn't entered: the application raises, and nothing happens before.
 pub fn only_listed_are_entered()
-    ensures closures { (U : Program) (stage : ℕ) (tr : Trace) → AreAccepted U → Run U stage tr → (home : Atom) (label : ℕ) (x : Atom) (l n : ℕ) (env : Env) → Among (applied home label (closure x l n env)) tr → MayEnter U home label anything ⊎ MayEnter U home label (closure_at x l n) }
-    ensures externals { (U : Program) (stage : ℕ) (tr : Trace) → AreAccepted U → Run U stage tr → (home : Atom) (label : ℕ) (x name : Atom) (n : ℕ) → Among (applied home label (external x name n)) tr → MayEnter U home label anything ⊎ MayEnter U home label (external_function x name n) }
-    ensures foreigners { (U : Program) (stage : ℕ) (tr : Trace) → AreAccepted U → Run U stage tr → (home : Atom) (label : ℕ) (x n : ℕ) → Among (applied home label (foreign x n)) tr → MayEnter U home label anything }
-    ensures arities { (U : Program) (stage fuel : ℕ) (x : Atom) (l n : ℕ) (env : Env) (vs : Values) (o : Outcome) (tr : Trace) → ApplyAt U stage fuel (closure x l n env) vs o tr → (n ≡ count vs → ⊥) → (o ≡ fails raised) × (tr ≡ []) }
-    ensures external_arities { (U : Program) (stage fuel : ℕ) (x name : Atom) (n : ℕ) (vs : Values) (o : Outcome) (tr : Trace) → ApplyAt U stage fuel (external x name n) vs o tr → (n ≡ count vs → ⊥) → (o ≡ fails raised) × (tr ≡ []) }
+    ensures closures { (U : Program) (stage : ℕ) (tr : Trace) → AreAccepted U → Run U stage tr
+        → (home : Atom) (label : ℕ) (x : Atom) (l n : ℕ) (env : Env) → Among (applied home label (closure x l n env)) tr
+        → MayEnter U home label anything ⊎ MayEnter U home label (closure_at x l n) }
+    ensures externals { (U : Program) (stage : ℕ) (tr : Trace) → AreAccepted U → Run U stage tr → (home : Atom) (label : ℕ) (x name : Atom) (n : ℕ)
+        → Among (applied home label (external x name n)) tr → MayEnter U home label anything ⊎ MayEnter U home label (external_function x name n) }
+    ensures foreigners { (U : Program) (stage : ℕ) (tr : Trace) → AreAccepted U → Run U stage tr → (home : Atom) (label : ℕ) (x n : ℕ)
+        → Among (applied home label (foreign x n)) tr → MayEnter U home label anything }
+    ensures arities { (U : Program) (stage fuel : ℕ) (x : Atom) (l n : ℕ) (env : Env) (vs : Values) (o : Outcome) (tr : Trace)
+        → ApplyAt U stage fuel (closure x l n env) vs o tr → (n ≡ count vs → ⊥) → (o ≡ fails raised) × (tr ≡ []) }
+    ensures external_arities { (U : Program) (stage fuel : ℕ) (x name : Atom) (n : ℕ) (vs : Values) (o : Outcome) (tr : Trace)
+        → ApplyAt U stage fuel (external x name n) vs o tr → (n ≡ count vs → ⊥) → (o ≡ fails raised) × (tr ≡ []) }
 {
     builtin_laws();
     label_laws();

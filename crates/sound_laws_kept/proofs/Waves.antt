@@ -1,5 +1,6 @@
 -- Groups that are decided in waves are decided as they are one after another.
-use Rattle.std.proofs.Common.{◌≡◌, ℕ, zero, suc, ◌-◌, ◌<◌, ◌≤◌, Bool, true, false, cond, ◌||◌, ◌&&◌, List, [], ◌∷◌, ◌++◌, ◌⊎◌, inl, inr, Option, Some, None, refl, sym, ap, ap₂, ◌∙◌, subst, arith}
+use Rattle.std.proofs.Common.{◌≡◌, ℕ, zero, suc, ◌-◌, ◌<◌, ◌≤◌, Bool, true, false, cond, ◌||◌, ◌&&◌, List, []}
+use Rattle.std.proofs.Common.{◌∷◌, ◌++◌, ◌⊎◌, inl, inr, Option, Some, None, refl, sym, ap, ap₂, ◌∙◌, subst, arith}
 use Rattle.std.specs.Cmp.Lexicographic.{pointwise}
 use Rattle.std.proofs.lemmas.Bool.{and_cases, and_left, and_right, cases_lt, or_left, or_right, or_cases, or_parts, false_from_ne_true}
 use Rattle.std.proofs.lemmas.List.Folds.{list_any-append}
@@ -242,7 +243,8 @@ module _ (R : Results) (T : List Entry) (M : List Source) (sources : AreSources 
   next_one : (w : Wave) → (with_group T M g w).next ≡ suc w.next
   next_one w = by (unchanged T M (g.members w.next) w.known)
     where
-      by : (b : Bool) → (cond {A = Wave} b (record { next = suc w.next; known = with_entries T (g.members w.next) w.known; todo = w.todo }) (record { next = suc w.next; known = w.known; todo = w.todo ++ g.members w.next })).next ≡ suc w.next
+      by : (b : Bool) → (cond {A = Wave} b (record { next = suc w.next; known = with_entries T (g.members w.next) w.known; todo = w.todo }) (record { next = suc w.next; known = w.known; todo = w.todo ++ g.members w.next })).next
+          ≡ suc w.next
       by true = refl
       by false = refl
 

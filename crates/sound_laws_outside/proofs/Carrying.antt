@@ -20,7 +20,8 @@ carried xs ys outside around known other same agree is equal beyond = record {
   number = is.number;
   component = is.component;
   out = λ h f e. beyond h f (not_home h e);
-  none = λ h f e lacks. sym (equal h f (back_home h e)) ∙ is.none h f (back_home h e) (false_from_ne_true (is_member (all_functions xs) h f) (λ t. clash (is_member (all_functions ys) h f) (member_over (all_functions xs) (all_functions ys) there h f t) lacks));
+  none = λ h f e lacks. sym (equal h f (back_home h e)) ∙ is.none h f (back_home h e)
+      (false_from_ne_true (is_member (all_functions xs) h f) (λ t. clash (is_member (all_functions ys) h f) (member_over (all_functions xs) (all_functions ys) there h f t) lacks));
   within = λ n g has. there g (is.within n g has);
   numbered = is.numbered;
   all = λ g has. is.all g (back g has);

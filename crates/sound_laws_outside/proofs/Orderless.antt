@@ -7,7 +7,8 @@ use Rattle.type_kinds.specs.declared.atom.Atom.{Atom}
 use Rattle.core_ast.specs.declared.syntax.FunName.{FunName}
 use Rattle.cons_tree.specs.declared.parts.Sig.{Sig}
 use Rattle.cons_tree.specs.declared.parts.Summary.{Summary}
-use Rattle.comp_rounds.specs.Rounds.{Callees, Function, arity, is_named, is_member, callee_of, with_function, with_summaries, with_signatures, of_one, inferred, strict_pass, lenient_pass, next_signature, all_next, given, after_rounds, last_round, strict_signatures, lenient_signatures, paired, summaries}
+use Rattle.comp_rounds.specs.Rounds.{Callees, Function, arity, is_named, is_member, callee_of, with_function, with_summaries, with_signatures, of_one, inferred, strict_pass}
+use Rattle.comp_rounds.specs.Rounds.{lenient_pass, next_signature, all_next, given, after_rounds, last_round, strict_signatures, lenient_signatures, paired, summaries}
 use Rattle.comp_rounds.specs.Signatures.{nothing}
 use Rattle.sound_laws_whole.specs.Once.{NamedOnce}
 use Rattle.sound_laws_whole.proofs.Named.{Positioned, search_named, named_itself, member_at}

@@ -69,7 +69,8 @@ allowed_alike x g s t h = by g.exported h
     by : (b : Bool) → Allows x (cond b (Known s) (Local s)) → Allows x (cond b (Known t) (Local t))
     by b k = at x b k
 
-module _ (T : TypeFacts) (alive : (c : Cons Part) (xs ys : Types) → has_none xs ≡ false → solution c xs ≡ Some ys → has_none ys ≡ false) (settles : (around : Callees) (gs : List Function) → all_below (given around gs (strict_signatures around gs)) (strict_signatures around gs) ≡ true) (U : Program) (K : Callees) (whole : IsWhole U K) where
+module _ (T : TypeFacts) (alive : (c : Cons Part) (xs ys : Types) → has_none xs ≡ false → solution c xs ≡ Some ys → has_none ys ≡ false) (settles : (around : Callees) (gs : List Function)
+    → all_below (given around gs (strict_signatures around gs)) (strict_signatures around gs) ≡ true) (U : Program) (K : Callees) (whole : IsWhole U K) where
   -- ---- honest
 
   honest_members : (gs : List Function) (ss ls : List Sig) (home : Atom) (f : FunName) → AreKnown K gs (paired ss ls) → EachNamed (Allows (found U home f)) home f gs ss
@@ -114,7 +115,8 @@ module _ (T : TypeFacts) (alive : (c : Cons Part) (xs ys : Types) → has_none x
   no_members Q (g ∷ gs) [] home f e = tt
   no_members Q (g ∷ gs) (s ∷ ss) home f e = by (is_named g home f) refl e (no_members Q gs ss home f)
     where
-      by : (b : Bool) → is_named g home f ≡ b → (b || is_member gs home f) ≡ false → (is_member gs home f ≡ false → EachNamed Q home f gs ss) → (is_named g home f ≡ true → Q (callee_of g (of_one s))) × EachNamed Q home f gs ss
+      by : (b : Bool) → is_named g home f ≡ b → (b || is_member gs home f) ≡ false → (is_member gs home f ≡ false → EachNamed Q home f gs ss)
+          → (is_named g home f ≡ true → Q (callee_of g (of_one s))) × EachNamed Q home f gs ss
       by true q k more = absurd (true≢false k)
       by false q k more = ((λ z. absurd (true≢false (sym z ∙ q))), more k)
 
@@ -131,7 +133,8 @@ module _ (T : TypeFacts) (alive : (c : Cons Part) (xs ys : Types) → has_none x
     below : is_below (inferred P function) strict ≡ true
     is : lenient ≡ inferred L function
 
-  find : (P L : Knowledge) (gs : List Function) (ss : List Sig) (home : Atom) (f : FunName) → is_member gs home f ≡ true → AreKnown K gs (paired ss (map (inferred L) gs)) → AreFunctionsOf U gs → all_below (map (inferred P) gs) ss ≡ true → IsFound P L home f
+  find : (P L : Knowledge) (gs : List Function) (ss : List Sig) (home : Atom) (f : FunName) → is_member gs home f ≡ true → AreKnown K gs (paired ss (map (inferred L) gs)) → AreFunctionsOf U gs
+      → all_below (map (inferred P) gs) ss ≡ true → IsFound P L home f
   find P L [] ss home f e k u b = absurd (true≢false (sym e))
   find P L (g ∷ gs) [] home f e k u b = absurd k
   find P L (g ∷ gs) (s ∷ ss) home f e k u b =
@@ -168,7 +171,8 @@ module _ (T : TypeFacts) (alive : (c : Cons Part) (xs ys : Types) → has_none x
   found_at home f t e = find (Strict home f) (Lenient home f) (Component home f) (strict_signatures K (Component home f)) home f (whole.member home f t e) (whole.known home f) (whole.functions home f) (settles K (Component home f))
 
   -- the definition of the member is that of the name, and its summary the one that is known
-  at_definition : (P : Knowledge) (home : Atom) (f : FunName) (g : Function) (d : Definition) (s : Sig) → home ≡ g.home → f ≡ g.name → IsFunctionOf U g → definition_of U home f ≡ Some d → IsWithin (length g.parameters) (laws.solved P g.home g.parameters g.body) s → IsWithin (length d.parameters) (laws.solved P home d.parameters d.body) s
+  at_definition : (P : Knowledge) (home : Atom) (f : FunName) (g : Function) (d : Definition) (s : Sig) → home ≡ g.home → f ≡ g.name → IsFunctionOf U g → definition_of U home f ≡ Some d
+      → IsWithin (length g.parameters) (laws.solved P g.home g.parameters g.body) s → IsWithin (length d.parameters) (laws.solved P home d.parameters d.body) s
   at_definition P home f g d s homes names of e h =
       let same : record { parameters = g.parameters; body = g.body } ≡ d = same_Some _ _ (sym of.defined ∙ sym (ap₂ (definition_of U) homes names) ∙ e) in
       subst (λ z. IsWithin (length d.parameters) (laws.solved P z d.parameters d.body) s) (sym homes) (subst (λ z. IsWithin (length z.parameters) (laws.solved P g.home z.parameters z.body) s) same h)
@@ -178,7 +182,8 @@ module _ (T : TypeFacts) (alive : (c : Cons Part) (xs ys : Types) → has_none x
     strict = record {
       pass = Strict;
       honest = λ home f other g. honest_by (Component home f) other g (whole.known home f);
-      takes = λ home f other g s own known. by_members (TakesStrict other g) K (Component home f) (strict_signatures K (Component home f)) other g (λ t q. ap strict_of q) (strict_members (Component home f) (strict_signatures K (Component home f)) (lenient_signatures K (Component home f)) other g (whole.known home f)) s known;
+      takes = λ home f other g s own known. by_members (TakesStrict other g) K (Component home f) (strict_signatures K (Component home f)) other g (λ t q. ap strict_of q)
+          (strict_members (Component home f) (strict_signatures K (Component home f)) (lenient_signatures K (Component home f)) other g (whole.known home f)) s known;
       above = λ home f d s e k.
           let t = some_summary (summary_of (K home f)) s k in
           let it = found_at home f t.0 t.1 in
@@ -189,12 +194,14 @@ module _ (T : TypeFacts) (alive : (c : Cons Part) (xs ys : Types) → has_none x
     lenient = record {
       pass = Lenient;
       honest = λ home f other g. honest_by (Component home f) other g (whole.known home f);
-      takes = λ home f other g s own known. by_members (TakesLenient other g) K (Component home f) (strict_signatures K (Component home f)) other g (λ t q. ap lenient_of q) (no_members (TakesLenient other g) (Component home f) (strict_signatures K (Component home f)) other g own) s known;
+      takes = λ home f other g s own known. by_members (TakesLenient other g) K (Component home f) (strict_signatures K (Component home f)) other g (λ t q. ap lenient_of q)
+          (no_members (TakesLenient other g) (Component home f) (strict_signatures K (Component home f)) other g own) s known;
       above = λ home f d s e k.
           let t = some_lenient (summary_of (K home f)) s k in
           let it = found_at home f t.0 t.1 in
           let same : K home f ≡ callee_of it.function (record { strict = it.strict; lenient = it.lenient }) = ap₂ K it.homes it.names ∙ it.known in
           let is : it.lenient ≡ s = same_Some _ _ (sym (ap (λ c. lenient_of (summary_of c)) same ∙ ap lenient_of (summary_is it.function (record { strict = it.strict; lenient = it.lenient }))) ∙ k) in
-          at_definition (Lenient home f) home f it.function d s it.homes it.names it.of e (inferred_within T alive (Lenient home f) it.function s (subst (λ z. is_below (inferred (Lenient home f) it.function) z ≡ true) (sym it.is ∙ is) (same_below T alive (inferred (Lenient home f) it.function))));
+          at_definition (Lenient home f) home f it.function d s it.homes it.names it.of e
+          (inferred_within T alive (Lenient home f) it.function s (subst (λ z. is_below (inferred (Lenient home f) it.function) z ≡ true) (sym it.is ∙ is) (same_below T alive (inferred (Lenient home f) it.function))));
     };
   }

@@ -33,8 +33,12 @@ pub fn whole_is_closed()
 /// each call of a function that a module defines are of the strict and of the lenient signature of its
 /// summary, in every run of every stage with any fuel.
 pub fn whole_holds()
-    ensures strict { (U : Program) (K : Callees) → AreAccepted U → IsWhole U K → (stage : ℕ) (tr : Trace) → Run U stage tr → (home : Atom) (f : FunName) (s : Summary) (c : Value) (vs : Values) (v : Value) → summary_of (K home f) ≡ Some s → top_function U home f ≡ Some c → Among (gave c vs v) tr → Within s.strict vs v }
-    ensures lenient { (U : Program) (K : Callees) → AreAccepted U → IsWhole U K → (stage : ℕ) (tr : Trace) → Run U stage tr → (home : Atom) (f : FunName) (s : Summary) (c : Value) (vs : Values) (v : Value) → summary_of (K home f) ≡ Some s → top_function U home f ≡ Some c → Among (gave c vs v) tr → Within s.lenient vs v }
+    ensures strict { (U : Program) (K : Callees) → AreAccepted U → IsWhole U K → (stage : ℕ) (tr : Trace) → Run U stage tr
+        → (home : Atom) (f : FunName) (s : Summary) (c : Value) (vs : Values) (v : Value) → summary_of (K home f) ≡ Some s
+        → top_function U home f ≡ Some c → Among (gave c vs v) tr → Within s.strict vs v }
+    ensures lenient { (U : Program) (K : Callees) → AreAccepted U → IsWhole U K → (stage : ℕ) (tr : Trace) → Run U stage tr
+        → (home : Atom) (f : FunName) (s : Summary) (c : Value) (vs : Values) (v : Value) → summary_of (K home f) ≡ Some s
+        → top_function U home f ≡ Some c → Among (gave c vs v) tr → Within s.lenient vs v }
 {
     whole_is_closed();
     success_typings();

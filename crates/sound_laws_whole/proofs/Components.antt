@@ -11,7 +11,8 @@ use Rattle.call_graph.specs.Targets.{CallTarget, targets}
 use Rattle.cons_tree.specs.declared.parts.Callee.{Callee}
 use Rattle.cons_tree.specs.declared.parts.Sig.{Sig}
 use Rattle.cons_tree.specs.declared.parts.Summary.{Summary}
-use Rattle.comp_rounds.specs.Rounds.{Callees, Function, is_named, is_member, callee_of, with_function, with_summaries, with_signatures, of_one, inferred, lenient_pass, all_next, given, after_rounds, last_round, strict_signatures, lenient_signatures, paired, summaries}
+use Rattle.comp_rounds.specs.Rounds.{Callees, Function, is_named, is_member, callee_of, with_function, with_summaries, with_signatures, of_one, inferred}
+use Rattle.comp_rounds.specs.Rounds.{lenient_pass, all_next, given, after_rounds, last_round, strict_signatures, lenient_signatures, paired, summaries}
 use Rattle.cons_gen_frame.specs.Agreement.{AreAlike, Agrees, EachAgrees}
 use Rattle.comp_rounds.proofs.Framed.{inferred_same}
 

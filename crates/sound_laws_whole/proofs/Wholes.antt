@@ -1,5 +1,6 @@
 -- What is known of modules' functions in the end: each function has the summary that its component's rounds give by all that is known.
-use Rattle.std.proofs.Common.{◌≡◌, ◌≢◌, ◌↔◌, ℕ, suc, ◌<◌, ◌≤◌, Bool, true, false, cond, ◌||◌, List, [], ◌∷◌, length, ◌⊎◌, inl, inr, Option, Some, None, Contains, refl, sym, ap, ap₂, ◌∙◌, subst, true≢false, arith}
+use Rattle.std.proofs.Common.{◌≡◌, ◌≢◌, ◌↔◌, ℕ, suc, ◌<◌, ◌≤◌, Bool, true, false, cond, ◌||◌, List, [], ◌∷◌, length, ◌⊎◌}
+use Rattle.std.proofs.Common.{inl, inr, Option, Some, None, Contains, refl, sym, ap, ap₂, ◌∙◌, subst, true≢false, arith}
 use Rattle.std.specs.Prelude.{slice_get, option_map, if◌then◌else◌}
 use Rattle.std.specs.List.{list_any}
 use Rattle.std.proofs.lemmas.Bool.{cases_lt}
@@ -58,7 +59,8 @@ accepted_sound (x ∷ xs) h p has =
 
 pub exports_defined : (p : m.Module) → module_breaks p ≡ [] → (f : FunName) → has_function p.exports f ≡ true → Contains (defined_names p.defs) f
 exports_defined p sound f e =
-    exports_stand (defined_names p.defs) p.exports p.export_places (open_three (new_functions [] p.defs) (export_breaks (defined_names p.defs) p.exports p.export_places) (def_breaks (module_scope p) p.defs) sound).1 f (contained_has p.exports f e)
+    exports_stand (defined_names p.defs) p.exports p.export_places (open_three (new_functions [] p.defs) (export_breaks (defined_names p.defs) p.exports p.export_places) (def_breaks (module_scope p) p.defs) sound).1 f
+    (contained_has p.exports f e)
 
 -- ---- what is known before any component is solved
 

@@ -28,8 +28,12 @@ pub fn known_is_whole()
 /// So the summaries are success typings: the arguments and the value of each call of a function of the modules are of
 /// the strict and of the lenient signature of its summary, in every run of every stage with any fuel.
 pub fn known_holds()
-    ensures strict { (xs : List m.Module) (known : Callees) → AreAccepted xs → Distinct (module_names xs) → IsWholeOf xs known → (stage : ℕ) (tr : Trace) → Run xs stage tr → (home : Atom) (f : FunName) (s : Summary) (c : Value) (vs : Values) (v : Value) → summary_of (known home f) ≡ Some s → top_function xs home f ≡ Some c → Among (gave c vs v) tr → Within s.strict vs v }
-    ensures lenient { (xs : List m.Module) (known : Callees) → AreAccepted xs → Distinct (module_names xs) → IsWholeOf xs known → (stage : ℕ) (tr : Trace) → Run xs stage tr → (home : Atom) (f : FunName) (s : Summary) (c : Value) (vs : Values) (v : Value) → summary_of (known home f) ≡ Some s → top_function xs home f ≡ Some c → Among (gave c vs v) tr → Within s.lenient vs v }
+    ensures strict { (xs : List m.Module) (known : Callees) → AreAccepted xs → Distinct (module_names xs) → IsWholeOf xs known
+        → (stage : ℕ) (tr : Trace) → Run xs stage tr → (home : Atom) (f : FunName) (s : Summary) (c : Value) (vs : Values) (v : Value)
+        → summary_of (known home f) ≡ Some s → top_function xs home f ≡ Some c → Among (gave c vs v) tr → Within s.strict vs v }
+    ensures lenient { (xs : List m.Module) (known : Callees) → AreAccepted xs → Distinct (module_names xs) → IsWholeOf xs known
+        → (stage : ℕ) (tr : Trace) → Run xs stage tr → (home : Atom) (f : FunName) (s : Summary) (c : Value) (vs : Values) (v : Value)
+        → summary_of (known home f) ≡ Some s → top_function xs home f ≡ Some c → Among (gave c vs v) tr → Within s.lenient vs v }
 {
     known_is_whole();
     whole_holds();

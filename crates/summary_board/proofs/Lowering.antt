@@ -1,5 +1,6 @@
 -- Lists of callers as they are made, and counts as they are lowered.
-use Rattle.std.proofs.Common.{◌≡◌, inl, inr, ℕ, ◌+◌, ◌<◌, ◌≤◌, Bool, true, false, cond, List, [], ◌∷◌, ◌++◌, All, length, drop, set, slice_index, refl, sym, ap, ◌∙◌, subst, arith, nat_eq, drop-cons, add-one}
+use Rattle.std.proofs.Common.{◌≡◌, inl, inr, ℕ, ◌+◌, ◌<◌, ◌≤◌, Bool, true, false, cond, List, [], ◌∷◌, ◌++◌, All, length}
+use Rattle.std.proofs.Common.{drop, set, slice_index, refl, sym, ap, ◌∙◌, subst, arith, nat_eq, drop-cons, add-one}
 use Rattle.std.proofs.lemmas.List.{get_or-set_same, get_or-set_other, length-set}
 use Rattle.std.proofs.lemmas.List.Elements.{All-weaker}
 use Rattle.summary_board.specs.Machine.{called}

@@ -1,4 +1,5 @@
-ghost use Rattle.std.specs.Prelude.{◌≡◌, ◌≢◌, ◌↔◌, ◌⊎◌, ◌++◌, ◌∷◌, [], ℕ, ◌+◌, ◌*◌, ◌^◌, ◌<◌, ◌≤◌, All, IsTrue, IfOk, OnOk, MatchOption, cond, map, nat_eq, length, replicate};
+ghost use Rattle.std.specs.Prelude.{◌≡◌, ◌≢◌, ◌↔◌, ◌⊎◌, ◌++◌, ◌∷◌, [], ℕ, ◌+◌, ◌*◌, ◌^◌, ◌<◌, ◌≤◌};
+ghost use Rattle.std.specs.Prelude.{All, IsTrue, IfOk, OnOk, MatchOption, cond, map, nat_eq, length, replicate};
 ghost use Rattle.summary_board.specs.Machine.{called, waiting};
 ghost use Rattle.summary_board.specs.steps.Agenda.{times, count_at, AreCallers, Tracks, Lowered};
 ghost use Rattle.summary_board.specs.steps.Rows.{IsMarked, IsLeastMarked};
@@ -124,7 +125,8 @@ fn callers_of(alloc: Global, callees: &List<List<u32>>) -> Result<List<List<u32>
 // Adds a caller to the lists of all that it calls.
 fn add_caller(callers: &mut List<List<u32>>, numbers: &[u32], c: u32) -> Result<(), Memory>
     requires { All (λ d. d < length callers.old) numbers.now }
-    ensures added { OnOk result ((b d : ℕ) → times b (called callers.new d) ≡ times b (called callers.old d) + cond (nat_eq b c) (times d numbers.now) 0) }
+    ensures added { OnOk result ((b d : ℕ) → times b (called callers.new d)
+        ≡ times b (called callers.old d) + cond (nat_eq b c) (times d numbers.now) 0) }
     ensures as_many { OnOk result (length callers.new ≡ length callers.old) }
 {
     for d in numbers {

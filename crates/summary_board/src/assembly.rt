@@ -67,7 +67,8 @@ pub fn assemble<W: Work>(
 ) -> Result<List<Shared<W::Out>>, Memory>
     ensures all { IfOk result (λ outputs. outputs ≡ solved W.written (W.part_of work.now) (W.callees_of work.now) (W.count_of work.now)) }
     ensures count { IfOk result (λ outputs. length outputs ≡ W.count_of work.now) }
-    ensures each { IfOk result (λ outputs. (c : ℕ) → c < W.count_of work.now → slice_get outputs c ≡ Some (W.written (W.part_of work.now c) (picked outputs (W.callees_of work.now c)))) }
+    ensures each { IfOk result (λ outputs. (c : ℕ) → c < W.count_of work.now
+        → slice_get outputs c ≡ Some (W.written (W.part_of work.now c) (picked outputs (W.callees_of work.now c)))) }
 {
     let mut outputs: List<Shared<W::Out>> = List::new(alloc);
     for c in 0..work.count() {

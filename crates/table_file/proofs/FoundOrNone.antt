@@ -22,7 +22,8 @@ use Rattle.table_file.specs.Stored.{is_stored}
 use Rattle.table_file.specs.declared.used.Used.{Used}
 use Rattle.table_file.specs.steps.Reads.{anything, Found, NoneFirst, Once, SoFar}
 use Rattle.table_file.specs.steps.Tests.{are_types, is_sig, is_summary, is_callee, has_short_callee, is_short_export}
-use Rattle.table_file.proofs.CalleeReading.{known_none, known_found, undefined_found, unknown_found, no_tag, other_tag, used_no_home, used_no_name, used_no_arity, used_no_callee, used_found, export_no_name, export_no_arity, export_no_summary, export_found}
+use Rattle.table_file.proofs.CalleeReading.{known_none, known_found, undefined_found, unknown_found, no_tag, other_tag, used_no_home, used_no_name}
+use Rattle.table_file.proofs.CalleeReading.{used_no_arity, used_no_callee, used_found, export_no_name, export_no_arity, export_no_summary, export_found}
 use Rattle.table_file.proofs.FieldLaws.{so_far_none, so_far_more, listed_none, listed_found, uncounted, counted_none, counted_found}
 use Rattle.table_file.proofs.LeafLaws.{number_found, number_none, text_uncounted, text_cut, text_found}
 use Rattle.table_file.proofs.SigReading.{sig_no_args, sig_no_result, sig_disagrees, sig_found, summary_no_strict, summary_no_lenient, summary_found}

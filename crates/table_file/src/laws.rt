@@ -18,8 +18,10 @@ use type_bytes::bytes_laws;
 /// Bytes are those of one table, or they have one first fault. The laws speak of tables whose types
 /// can be written; those that `write_table` wrote and `read_table` read are such.
 pub fn table_laws()
-    ensures once { (s t : Table) → IsTrue (list_all has_short_types s.entries) → IsTrue (list_all has_short_types t.entries) → table_bytes s ≡ table_bytes t → s ≡ t }
-    ensures fault_once { (f g : TableFault) (bytes : List ℕ) → (f ≡ Memory → ⊥) → (g ≡ Memory → ⊥) → IsFirst f bytes → IsFirst g bytes → f ≡ g }
+    ensures once { (s t : Table) → IsTrue (list_all has_short_types s.entries) → IsTrue (list_all has_short_types t.entries)
+        → table_bytes s ≡ table_bytes t → s ≡ t }
+    ensures fault_once { (f g : TableFault) (bytes : List ℕ) → (f ≡ Memory → ⊥) → (g ≡ Memory → ⊥) → IsFirst f bytes → IsFirst g bytes
+        → f ≡ g }
     ensures no_fault { (f : TableFault) (t : Table) → IsTrue (list_all has_short_types t.entries) → IsFirst f (table_bytes t) → f ≡ Memory }
     ensures short { (t : Table) → IsTrue (is_short_table t) → IsTrue (list_all has_short_types t.entries) }
 {
@@ -28,7 +30,9 @@ pub fn table_laws()
 
 /// Bytes are those of a table whose types can be written, or have a first fault.
 pub fn table_or_fault()
-    ensures { (bytes : List ℕ) → All (λ b. b < 256) bytes → ((t : Table) × (bytes ≡ table_bytes t) × IsTrue (list_all has_short_types t.entries)) ⊎ ((fault : TableFault) × (fault ≢ Memory) × IsFirst fault bytes) }
+    ensures { (bytes : List ℕ) → All (λ b. b < 256) bytes
+        → ((t : Table) × (bytes ≡ table_bytes t) × IsTrue (list_all has_short_types t.entries))
+        ⊎ ((fault : TableFault) × (fault ≢ Memory) × IsFirst fault bytes) }
 {
     spelling_laws();
 }

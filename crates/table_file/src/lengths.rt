@@ -1,7 +1,8 @@
 // Whether counts and lengths fit into four bytes.
 ghost use Rattle.std.specs.Prelude.{◌≡◌};
 ghost use Rattle.std.specs.List.{list_all};
-ghost use Rattle.table_file.specs.Lengths.{is_short, are_short, is_short_sig, is_short_summary, is_short_callee, is_short_used, is_short_export, is_short_entry, is_short_table};
+ghost use Rattle.table_file.specs.Lengths.{is_short, are_short, is_short_sig, is_short_summary, is_short_callee};
+ghost use Rattle.table_file.specs.Lengths.{is_short_used, is_short_export, is_short_entry, is_short_table};
 ghost use Rattle.type_bytes.specs.ShortNames as short;
 
 use crate::entries::Entry;

@@ -1,8 +1,10 @@
 //! Tables as bytes.
 ghost use Rattle.std.specs.Prelude.{◌≡◌, ◌++◌, ◌<◌, ◌^◌, true, false, Err, IsTrue, IfOk, OnOk};
 ghost use Rattle.std.specs.List.{flat_map, list_all};
-ghost use Rattle.table_file.specs.Lengths.{is_short, are_short, is_short_sig, is_short_summary, is_short_callee, is_short_used, is_short_export, is_short_entry, is_short_table};
-ghost use Rattle.table_file.specs.Spelling.{four_bytes, counted, text_bytes, sig_bytes, summary_bytes, callee_bytes, used_bytes, export_bytes, entry_bytes, table_bytes};
+ghost use Rattle.table_file.specs.Lengths.{is_short, are_short, is_short_sig, is_short_summary, is_short_callee};
+ghost use Rattle.table_file.specs.Lengths.{is_short_used, is_short_export, is_short_entry, is_short_table};
+ghost use Rattle.table_file.specs.Spelling.{four_bytes, counted, text_bytes, sig_bytes, summary_bytes};
+ghost use Rattle.table_file.specs.Spelling.{callee_bytes, used_bytes, export_bytes, entry_bytes, table_bytes};
 ghost use Rattle.table_file.specs.declared.faults.WriteFault.TheVariants.{TooLong};
 ghost use Rattle.table_file.specs.Rules.{is_export};
 ghost use Rattle.type_bytes.specs.ShortNames as short;

@@ -31,7 +31,8 @@ pub modules_called : (x : model.Module) (fs : List Called) → fs ≡ called_fun
 unfolding called_modules
 modules_called x fs is = ap (λ l. merged name_cmp [] (homes l)) is
 
-pub called_by_source : (sources : List Source) (at : ℕ) (s : Source) (p : Option ℕ) (e : Option Entry) → p ≡ Some at → IsWithin sources p → s ≡ get_or sources at s → calls_by (found_at (sources_so sources) p) e ≡ called_modules (tree_of s.checked)
+pub called_by_source : (sources : List Source) (at : ℕ) (s : Source) (p : Option ℕ) (e : Option Entry) → p ≡ Some at → IsWithin sources p → s ≡ get_or sources at s
+    → calls_by (found_at (sources_so sources) p) e ≡ called_modules (tree_of s.checked)
 called_by_source sources at s p e is within there =
     let low : at < length sources = subst (IsWithin sources) is within in
     ap (λ r. calls_by (found_at (sources_so sources) r) e) is ∙ ap (λ r. calls_by r e) (named_at source_so sources at s (slice_get-get_or sources at s low ∙ ap Some (sym there)))
@@ -106,7 +107,8 @@ graph_round names out new old place added kept i j = (there, back)
       | inr above ↦ (let is : i ≡ place = omega (arith, above, p.0) in (added i j).1 (inr (is, subst (λ k. NameLeads names out k j) is p.1)))
     ]
 
-pub graph_ends : (names : List Atom) (out : Atom → List Atom) (graph : List (List ℕ)) (place : ℕ) → length graph ≡ length names → length names ≤ place → ((i j : ℕ) → Leads graph i j ↔ FromFirst names out place i j) → IsGraphOf names out graph
+pub graph_ends : (names : List Atom) (out : Atom → List Atom) (graph : List (List ℕ)) (place : ℕ) → length graph ≡ length names → length names ≤ place → ((i j : ℕ) → Leads graph i j ↔ FromFirst names out place i j)
+    → IsGraphOf names out graph
 graph_ends names out graph place counted past kept = record {
   counted = counted;
   pairs = λ i j. (λ l. ((kept i j).0 l).1, λ n. (kept i j).1 (within i j n, n));

@@ -56,7 +56,8 @@ module _ (table : Table) (sources : List Source) (es : List (Atom × Positions))
   names_of_group : (n : ℕ) → group_at (lists_of list) n ≡ member_names (slice_index_or list.groups n [])
   names_of_group n = names_of list.groups n
 
-  pub groups_law : (graph : List (List ℕ)) → IsGraphOf (keys_of es) (calls_of (entries_so table) (sources_so sources)) graph → NumberingNodes graph c → NumberingTogether graph c → NumberingDownward graph c → NumberingMembers graph c → IsNumbering c
+  pub groups_law : (graph : List (List ℕ)) → IsGraphOf (keys_of es) (calls_of (entries_so table) (sources_so sources)) graph → NumberingNodes graph c → NumberingTogether graph c → NumberingDownward graph c
+      → NumberingMembers graph c → IsNumbering c
       → IsGroups (is_candidate (entries_so table) (sources_so sources)) (calls_of (entries_so table) (sources_so sources)) (groups_in (lists_of list))
   groups_law graph is nodes together downward members kept =
       subst (λ some. IsGroups some (calls_of (entries_so table) (sources_so sources)) (groups_in (lists_of list))) (candidates_are table sources es stands)

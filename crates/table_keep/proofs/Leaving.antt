@@ -43,7 +43,8 @@ module _ (x : m.Module) where
   one_leaving (inner f n) = refl
   one_leaving (remote home name) = by (same_atom home erlang) (same_atom home x.name) refl (list_any (is_exported_as home name) (functions_of (x ∷ []))) (none_of home name)
     where
-      by : (b own : Bool) → same_atom home x.name ≡ own → (c : Bool) → (same_atom home x.name ≡ false → c ≡ false) → others x.name (if b || c then [] else (home, name) ∷ []) ≡ (if b || own then [] else (home, name) ∷ [])
+      by : (b own : Bool) → same_atom home x.name ≡ own → (c : Bool) → (same_atom home x.name ≡ false → c ≡ false)
+          → others x.name (if b || c then [] else (home, name) ∷ []) ≡ (if b || own then [] else (home, name) ∷ [])
       by true own e c f = refl
       by false true e true f = refl
       by false true e false f = grind (arith, e)

@@ -91,7 +91,8 @@ module _ (group : List Atom) (K : Standing) where
       ∙ ascending-filter called_total called_same (λ c. not (has group c.0)) (called_functions x) (called_rise x))
 
   -- their modules are called, and outside of the group
-  all_outside : (calls : List Atom) (cs : List Called) → ((c : Called) → Contains cs c → has calls c.0 ≡ true) → list_all (λ (u : Called × Callee). has_name calls u.0.0 && not (has_name group u.0.0)) (used_of group K cs) ≡ true
+  all_outside : (calls : List Atom) (cs : List Called) → ((c : Called) → Contains cs c → has calls c.0 ≡ true)
+      → list_all (λ (u : Called × Callee). has_name calls u.0.0 && not (has_name group u.0.0)) (used_of group K cs) ≡ true
   all_outside calls [] h = refl
   all_outside calls (c ∷ cs) h = by (has group c.0) refl (all_outside calls cs (λ d t. h d (contains_later c d cs t)))
     where

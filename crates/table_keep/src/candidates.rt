@@ -63,7 +63,8 @@ fn add_sources(alloc: Global, found: &mut Candidates, sources: &[Source]) -> Res
 // Adds those that have an entry.
 fn add_entries(alloc: Global, found: &mut Candidates, entries: &[Entry]) -> Result<(), Memory>
     requires { IsTrue (rises is_name_before (entry_names entries.now)) }
-    ensures { (sources : List Name) → ((q : Name) → get same_atom found.old q ≡ standing sources [] q) → OnOk result ((q : Name) → get same_atom found.new q ≡ standing sources (entry_names entries.now) q) }
+    ensures { (sources : List Name) → ((q : Name) → get same_atom found.old q ≡ standing sources [] q)
+        → OnOk result ((q : Name) → get same_atom found.new q ≡ standing sources (entry_names entries.now) q) }
 {
     if entries.len() > u32::MAX as usize {
         return Err(Memory);
@@ -76,7 +77,9 @@ fn add_entries(alloc: Global, found: &mut Candidates, entries: &[Entry]) -> Resu
 
 // Puts the position of an entry under its name.
 fn put_entry(alloc: Global, found: &mut Candidates, name: &Atom, at: u32) -> Result<(), Memory>
-    ensures { OnOk result ((q : Name) → get same_atom found.new q ≡ cond (same_atom name.now q) (Some (record { source = source_in (get same_atom found.old name.now); entry = Some at })) (get same_atom found.old q)) }
+    ensures { OnOk result ((q : Name) → get same_atom found.new q
+        ≡ cond (same_atom name.now q) (Some (record { source = source_in (get same_atom found.old name.now); entry = Some at }))
+        (get same_atom found.old q)) }
 {
     let source = match found.get(name) {
         Some(positions) => positions.source,

@@ -41,7 +41,8 @@ impl GroupList {
 /// its entry. `Memory`: allocation failed, or there are 2^32 of them or more.
 pub fn groups(alloc: Global, table: &Table, sources: &[Source]) -> Result<GroupList, Memory>
     requires distinct { (j : ℕ) → j < length sources.now → StandsEarlier (map (λ s. (module_of s.checked).name) sources.now) j → ⊥ }
-    ensures groups { IfOk result (λ list. IsGroups (is_candidate (entries_so table.now) (sources_so sources.now)) (calls_of (entries_so table.now) (sources_so sources.now)) (groups_in (lists_of list))) }
+    ensures groups { IfOk result (λ list. IsGroups (is_candidate (entries_so table.now) (sources_so sources.now))
+        (calls_of (entries_so table.now) (sources_so sources.now)) (groups_in (lists_of list))) }
     ensures made_for { IfOk result (IsListOf table.now sources.now) }
 {
     let found = candidates(alloc, table, sources)?;

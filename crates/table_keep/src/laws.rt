@@ -36,7 +36,8 @@ pub fn spelled_laws()
 
 /// Where the nodes are some names, they have groups, whatever each of them calls.
 pub fn some_groups()
-    ensures { (nodes : Atom → Bool) (out : Atom → List Atom) (names : List Atom) → ((a : Atom) → (nodes a ≡ true) ↔ Contains names a) → (g : Groups) × IsGroups nodes out g }
+    ensures { (nodes : Atom → Bool) (out : Atom → List Atom) (names : List Atom) → ((a : Atom) → (nodes a ≡ true) ↔ Contains names a)
+        → (g : Groups) × IsGroups nodes out g }
 {
     a_numbering();
 }

@@ -38,8 +38,10 @@ pub fn entry_from(
     requires rising { IsTrue (rises is_name_before group.now) }
     requires own { has group.now (tree_of source.now.checked).name ≡ true }
     requires known { (f : FunName) → Contains (tree_of source.now.checked).exports f → IsKnown (found known.now (tree_of source.now.checked).name f) }
-    ensures made { IfOk result (λ entry. entry_so entry ≡ made (source_so source.now) group.now (λ h f. as_called (found known.now h f)) (entry_so entry).result) }
-    ensures exports { IfOk result (λ entry. AreSummarized (found known.now) (tree_of source.now.checked).name (exported (tree_of source.now.checked)) entry.exports) }
+    ensures made { IfOk result (λ entry. entry_so entry
+        ≡ made (source_so source.now) group.now (λ h f. as_called (found known.now h f)) (entry_so entry).result) }
+    ensures exports { IfOk result (λ entry. AreSummarized (found known.now) (tree_of source.now.checked).name
+        (exported (tree_of source.now.checked)) entry.exports) }
     ensures lines { IfOk result (λ entry. entry.lines ≡ lines) }
 {
     checked_laws();

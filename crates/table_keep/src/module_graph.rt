@@ -51,7 +51,8 @@ fn add_calls_of(
     requires size { length graph.old ≡ length (keys found.now) }
     requires place { place < length graph.old }
     requires standing { (q : Name) → get same_atom found.now q ≡ standing (source_names sources.now) (entry_names table.now.entries) q }
-    ensures pairs { OnOk result ((i j : ℕ) → Leads graph.new i j ↔ (Leads graph.old i j ⊎ ((i ≡ place) × NameLeads (keys found.now) (calls_of (entries_so table.now) (sources_so sources.now)) place j))) }
+    ensures pairs { OnOk result ((i j : ℕ) → Leads graph.new i j
+        ↔ (Leads graph.old i j ⊎ ((i ≡ place) × NameLeads (keys found.now) (calls_of (entries_so table.now) (sources_so sources.now)) place j))) }
     ensures size { OnOk result (length graph.new ≡ length graph.old) }
 {
     match found.get_index(place as usize) {
@@ -76,7 +77,9 @@ fn add_calls_at(
     requires from { from < length graph.old }
     requires source { IsWithin sources.now positions.source }
     requires entry { IsWithin table.now.entries positions.entry }
-    ensures pairs { OnOk result ((i j : ℕ) → Leads graph.new i j ↔ (Leads graph.old i j ⊎ ((i ≡ from) × IsNamed (keys found.now) (calls_by (found_at (sources_so sources.now) positions.source) (found_at (entries_so table.now) positions.entry)) j))) }
+    ensures pairs { OnOk result ((i j : ℕ) → Leads graph.new i j
+        ↔ (Leads graph.old i j ⊎ ((i ≡ from) × IsNamed (keys found.now)
+        (calls_by (found_at (sources_so sources.now) positions.source) (found_at (entries_so table.now) positions.entry)) j))) }
     ensures size { OnOk result (length graph.new ≡ length graph.old) }
 {
     if let Some(at) = positions.source {
@@ -101,7 +104,8 @@ fn add_calls_by(
 ) -> Result<(), Memory>
     requires size { length graph.old ≡ length (keys found.now) }
     requires from { from < length graph.old }
-    ensures pairs { OnOk result ((i j : ℕ) → Leads graph.new i j ↔ (Leads graph.old i j ⊎ ((i ≡ from) × IsNamed (keys found.now) (calls.called_modules (tree_of source.now.checked)) j))) }
+    ensures pairs { OnOk result ((i j : ℕ) → Leads graph.new i j
+        ↔ (Leads graph.old i j ⊎ ((i ≡ from) × IsNamed (keys found.now) (calls.called_modules (tree_of source.now.checked)) j))) }
     ensures size { OnOk result (length graph.new ≡ length graph.old) }
 {
     let functions = called_functions(alloc, &source.checked)?;
@@ -126,7 +130,8 @@ fn add_calls(graph: &mut Graph, found: &Candidates, from: u32, names: &[Atom]) -
 fn add_call(graph: &mut Graph, found: &Candidates, from: u32, name: &Atom) -> Result<(), Memory>
     requires size { length graph.old ≡ length (keys found.now) }
     requires from { from < length graph.old }
-    ensures pairs { OnOk result ((i j : ℕ) → Leads graph.new i j ↔ (Leads graph.old i j ⊎ ((i ≡ from) × (slice_get (keys found.now) j ≡ Some name.now)))) }
+    ensures pairs { OnOk result ((i j : ℕ) → Leads graph.new i j
+        ↔ (Leads graph.old i j ⊎ ((i ≡ from) × (slice_get (keys found.now) j ≡ Some name.now)))) }
     ensures size { OnOk result (length graph.new ≡ length graph.old) }
 {
     let _ = graph.count();

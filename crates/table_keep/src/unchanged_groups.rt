@@ -28,7 +28,8 @@ pub fn unchanged(
 ) -> bool
     requires made_for { IsListOf table.now sources.now list.now }
     requires below { group < length (lists_of list.now) }
-    ensures { result ≡ unchanged (entries_so table.now) (sources_so sources.now) (group_at (lists_of list.now) group) (λ h f. as_called (found known.now h f)) }
+    ensures { result ≡ unchanged (entries_so table.now) (sources_so sources.now) (group_at (lists_of list.now) group)
+        (λ h f. as_called (found known.now h f)) }
 {
     let members = list.members(group).as_slice();
     for member in members {
@@ -48,7 +49,8 @@ fn member_stands(
     known: &Summaries,
 ) -> bool
     requires { IsMemberOf table.now sources.now member.now }
-    ensures { result ≡ entry_stands (member_names group.now) (λ h f. as_called (found known.now h f)) (source_of (sources_so sources.now) member.now.name) (entry_of (entries_so table.now) member.now.name) }
+    ensures { result ≡ entry_stands (member_names group.now) (λ h f. as_called (found known.now h f)) (source_of (sources_so sources.now) member.now.name)
+        (entry_of (entries_so table.now) member.now.name) }
 {
     match member.entry {
         Some(at) => {
@@ -69,7 +71,8 @@ fn entry_stands(
     known: &Summaries,
 ) -> bool
     requires { IsWithin sources.now at }
-    ensures { result ≡ entry_stands (member_names group.now) (λ h f. as_called (found known.now h f)) (found_at (sources_so sources.now) at) (Some (entry_so entry.now)) }
+    ensures { result ≡ entry_stands (member_names group.now) (λ h f. as_called (found known.now h f)) (found_at (sources_so sources.now) at)
+        (Some (entry_so entry.now)) }
 {
     if !entry_may_stand(sources, at, entry, group) {
         return false;

@@ -127,10 +127,12 @@ module _ {words : List (List ℕ)} {status : RunStatus} where
           let long = most.many in
           absurd (omega arith)
 
-pub usage_it : (words : List (List ℕ)) (told after : Option Files) (rb rn n k : ℕ) (status : RunStatus) (output : List ℕ) → Intended words told rb rn n k status output after → IsAnswer status → (status ≡ Usage) ↔ IsNoCommand words
+pub usage_it : (words : List (List ℕ)) (told after : Option Files) (rb rn n k : ℕ) (status : RunStatus) (output : List ℕ) → Intended words told rb rn n k status output after → IsAnswer status
+    → (status ≡ Usage) ↔ IsNoCommand words
 usage_it words told after rb rn n k status output h answer = usage_both (asked (outcome_of answer h))
 
-pub many_it : (words : List (List ℕ)) (told after : Option Files) (rb rn n k : ℕ) (status : RunStatus) (output : List ℕ) → Intended words told rb rn n k status output after → IsAnswer status → (status ≡ too_many) ↔ NamesTooMany words
+pub many_it : (words : List (List ℕ)) (told after : Option Files) (rb rn n k : ℕ) (status : RunStatus) (output : List ℕ) → Intended words told rb rn n k status output after → IsAnswer status
+    → (status ≡ too_many) ↔ NamesTooMany words
 many_it words told after rb rn n k status output h answer = many_both (asked (outcome_of answer h))
 
 -- ---- the cause of an answer

@@ -147,7 +147,8 @@ module _ (one_list : OneList) (one_refusal : OneRefusal) (none_refused : NoneRef
   one_files_course start files Next Then s u next (reads_all M read more) (reads_all N also rest) =
       next M read more (subst Then (one_reading one_list also.read read.read) rest)
 
-  pub certificates_fit : {files : List (List ℕ)} {M : List Source} (cert other : Table) → ReadsModules (Some held) files M → IsCertificate M (entries_so cert) → IsCertificate M (entries_so other) → is_short_table cert ≡ is_short_table other
+  pub certificates_fit : {files : List (List ℕ)} {M : List Source} (cert other : Table) → ReadsModules (Some held) files M → IsCertificate M (entries_so cert) → IsCertificate M (entries_so other)
+      → is_short_table cert ≡ is_short_table other
   certificates_fit {M = M} cert other read h k = same_short cert other (one_certificate M (entries_so cert) (entries_so other) (are_sources held read) h k)
 
   one_made : {files : List (List ℕ)} (s u : RunStatus) (M : List Source) → ReadsModules (Some held) files M → MadeOf s M → MadeOf u M → s ≡ u

@@ -69,7 +69,8 @@ says_twice words start ss first second a long h s o =
 -- ---- a check
 
 pub twice_judged : (words : List (Bor (List ℕ))) (T C : List Entry) (ss : List HandedIn) (fault : SetFault) (first second : ℕ) (r : Result RunAnswer Memory) → 3 + length ss ≡ length words
-    → (i : ℕ) × (j : ℕ) × (fault ≡ DuplicateModule i j) × FirstDuplicate (names ss) i j → ((i j : ℕ) → fault ≡ DuplicateModule i j → (first ≡ i) × (second ≡ j)) → IfOk r (λ a. a.status ≡ duplicate (3 + second) (3 + first))
+    → (i : ℕ) × (j : ℕ) × (fault ≡ DuplicateModule i j) × FirstDuplicate (names ss) i j → ((i j : ℕ) → fault ≡ DuplicateModule i j → (first ≡ i) × (second ≡ j))
+    → IfOk r (λ a. a.status ≡ duplicate (3 + second) (3 + first))
     → IfOk r (λ a. (file other : List ℕ) → slice_get (texts words) (3 + second) ≡ Some file → slice_get (texts words) (3 + first) ≡ Some other → a.output ≡ duplicate_line file other)
     → IfOk r (λ a. IsJudged (texts words) T C (sources_so ss) a.status a.output)
 twice_judged words T C ss fault first second (Err e) long h is s o = tt
@@ -86,7 +87,8 @@ pub rejected_judged : (T C : List Entry) (ss : List HandedIn) (number n : ℕ) (
 rejected_judged T C ss number n home here (Err e) own h at is s o = tt
 rejected_judged T C ss number n home here (Ok a) own h at is s o = λ words. rejecting h.0 home (s h.0 (at ∙ h.1)) (o h.0 (at ∙ h.1) ∙ ap (rejected_line h.0) is) (own_so ss own) h.2
 
-pub any_words : (words : List (List ℕ)) (T C : List Entry) (M : List Source) (r : Result RunAnswer Memory) → IfOk r (λ a. (ws : List (List ℕ)) → IsJudged ws T C M a.status a.output) → IfOk r (λ a. IsJudged words T C M a.status a.output)
+pub any_words : (words : List (List ℕ)) (T C : List Entry) (M : List Source) (r : Result RunAnswer Memory) → IfOk r (λ a. (ws : List (List ℕ)) → IsJudged ws T C M a.status a.output)
+    → IfOk r (λ a. IsJudged words T C M a.status a.output)
 any_words words T C M (Err e) h = tt
 any_words words T C M (Ok a) h = h words
 

@@ -29,13 +29,15 @@ answers (made name cert a b c is short) = subst IsAnswer (sym a) tt
 answers (accepts table cert M a b c judges kept) = subst IsAnswer (sym a) tt
 answers (rejects table cert M r home a b c judges broken) = subst IsAnswer (sym a) tt
 
-pub outcome_of : {words : List (List ℕ)} {told after : Option Files} {rb rn n k : ℕ} {status : RunStatus} {output : List ℕ} → IsAnswer status → Intended words told rb rn n k status output after → Outcome words told status output after
+pub outcome_of : {words : List (List ℕ)} {told after : Option Files} {rb rn n k : ℕ} {status : RunStatus} {output : List ℕ} → IsAnswer status → Intended words told rb rn n k status output after
+    → Outcome words told status output after
 outcome_of h (answered o) = o
 outcome_of h (unread word name a b c d rose) = absurd (subst IsAnswer a h)
 outcome_of h (unreplaced word name a b d rose) = absurd (subst IsAnswer a h)
 
 -- the headline
-pub answers_it : (words : List (List ℕ)) (told after : Option Files) (rb rn n k : ℕ) (status : RunStatus) (output : List ℕ) (before now : Option (List ℕ)) → Intended words told rb rn n k status output after → now ≡ appended before output
+pub answers_it : (words : List (List ℕ)) (told after : Option Files) (rb rn n k : ℕ) (status : RunStatus) (output : List ℕ) (before now : Option (List ℕ)) → Intended words told rb rn n k status output after
+    → now ≡ appended before output
     → IsAnswer status → IfSome told (λ held. Answers words held after status before now)
 answers_it words None after rb rn n k status output before now h w a = tt
 answers_it words (Some held) after rb rn n k status output before now h w a = record { output = output; outcome = outcome_of a h; written = w }

@@ -82,7 +82,8 @@ module _ (ws : List (List ℕ)) (told : Option Files) (rb rn n k : ℕ) (status 
       (ap (λ fs. slice_get fs h.first) same ∙ sym (word_of ws start h.first) ∙ h.other_there)
       (record { sources = M; read = read; is = h.is }))
 
-  module _ (table_name cert_name : List ℕ) (files : List (List ℕ)) (checks : Checks ws table_name cert_name files) (table cert : Table) (one : IsTableRead told table_name table) (other : IsTableRead told cert_name cert) (M : List Source)
+  module _ (table_name cert_name : List ℕ) (files : List (List ℕ)) (checks : Checks ws table_name cert_name files) (table cert : Table) (one : IsTableRead told table_name table) (other : IsTableRead told cert_name cert)
+      (M : List Source)
       (read : ReadsAll told files M) (accepted : AreAccepted (trees M)) where
     judges : HaveOwnNames (trees M) → Judges ws told table cert M
     judges own = record {
@@ -127,12 +128,14 @@ module _ (ws : List (List ℕ)) (told after : Option Files) (rb rn n k : ℕ) (n
 -- ---- what was read before
 
 -- a failed read is one of a longer time too
-since : (ws : List (List ℕ)) (told after : Option Files) (early rb rn n k : ℕ) (status : RunStatus) (output : List ℕ) → early ≤ rb → Intended ws told rb rn n k status output after → Intended ws told early rn n k status output after
+since : (ws : List (List ℕ)) (told after : Option Files) (early rb rn n k : ℕ) (status : RunStatus) (output : List ℕ) → early ≤ rb → Intended ws told rb rn n k status output after
+    → Intended ws told early rn n k status output after
 since ws told after early rb rn n k status output h (answered o) = answered o
 since ws told after early rb rn n k status output h (unread word name a b c d rose) = unread word name a b c d (rose_since early rb rn h rose)
 since ws told after early rb rn n k status output h (unreplaced word name a b d rose) = unreplaced word name a b d rose
 
-pub after_reading : (ws : List (List ℕ)) (told mid after : Option Files) (early rb rn n m k : ℕ) (r : Result RunAnswer Memory) → mid ≡ told → early ≤ rb → m ≡ n → IfOk r (λ a. Intended ws mid rb rn m k a.status a.output after)
+pub after_reading : (ws : List (List ℕ)) (told mid after : Option Files) (early rb rn n m k : ℕ) (r : Result RunAnswer Memory) → mid ≡ told → early ≤ rb → m ≡ n
+    → IfOk r (λ a. Intended ws mid rb rn m k a.status a.output after)
     → IfOk r (λ a. Intended ws told early rn n k a.status a.output after)
 after_reading ws told mid after early rb rn n m k (Err e) same h also is = tt
 after_reading ws told mid after early rb rn n m k (Ok a) same h also is =
@@ -155,14 +158,16 @@ module _ (words : List (Bor (List ℕ))) (told mid : Option Files) (rb rn : ℕ)
       subst (λ o. IsTableRead o cert C) (sym same)
       (subst (λ name. IsTableRead told name C) (cert_called words d checks) (subst (reads.IsReadAs told 2 (get_or words 2 d).now rb rn) is h))
 
-  pub table_says : (n k : ℕ) (d : Bor (List ℕ)) (t : TableRead) (a : RunAnswer) → t ≡ r.Says a → mid ≡ told → k ≡ n → reads.IsReadAs told 1 (get_or words 1 d).now rb rn t → Intended (texts words) told rb rn n k a.status a.output mid
+  pub table_says : (n k : ℕ) (d : Bor (List ℕ)) (t : TableRead) (a : RunAnswer) → t ≡ r.Says a → mid ≡ told → k ≡ n → reads.IsReadAs told 1 (get_or words 1 d).now rb rn t
+      → Intended (texts words) told rb rn n k a.status a.output mid
   table_says n k d t a is same also h =
       subst (λ o. Intended (texts words) told rb rn n k a.status a.output o) (sym same)
       (table_ends (texts words) told rb rn n k a.status a.output 1 table (to_table cert (drop 3 (texts words)) refl checks)
       (subst (λ name. reads.IsTableFault told 1 name rb rn a.status a.output) (table_called words d checks) (subst (reads.IsReadAs told 1 (get_or words 1 d).now rb rn) is h)))
 
   module _ (T : Table) (one : IsTableRead told table T) where
-    pub cert_says : (n k : ℕ) (d : Bor (List ℕ)) (t : TableRead) (a : RunAnswer) → t ≡ r.Says a → mid ≡ told → reads.IsReadAs told 2 (get_or words 2 d).now rb rn t → Intended (texts words) told rb rn n k a.status a.output mid
+    pub cert_says : (n k : ℕ) (d : Bor (List ℕ)) (t : TableRead) (a : RunAnswer) → t ≡ r.Says a → mid ≡ told → reads.IsReadAs told 2 (get_or words 2 d).now rb rn t
+        → Intended (texts words) told rb rn n k a.status a.output mid
     cert_says n k d t a is same h =
         subst (λ o. Intended (texts words) told rb rn n k a.status a.output o) (sym same)
         (table_ends (texts words) told rb rn n k a.status a.output 2 cert (to_certificate table (drop 3 (texts words)) T refl checks one)
@@ -191,7 +196,8 @@ module _ (words : List (Bor (List ℕ))) (told mid : Option Files) (rb rn : ℕ)
       subst (λ o. Intended (texts words) told rb rn n k a.status a.output o) (sym same)
       (files_end (texts words) told rb rn n k a.status a.output 2 (drop 2 (texts words)) (by_make cert refl makes) (subst (reads.AreReadFrom told (drop 2 (texts words)) 2 rb rn) is h))
 
-  pub stored_answer : (d : Bor (List ℕ)) (after : Option Files) (n m k late : ℕ) (t : FilesRead) (ss : List HandedIn) (plan : CertificatePlan) (a : Result RunAnswer Memory) → t ≡ f.Reads ss → mid ≡ told → m ≡ n → late ≡ rn
+  pub stored_answer : (d : Bor (List ℕ)) (after : Option Files) (n m k late : ℕ) (t : FilesRead) (ss : List HandedIn) (plan : CertificatePlan) (a : Result RunAnswer Memory) → t ≡ f.Reads ss → mid ≡ told → m ≡ n
+      → late ≡ rn
       → reads.AreReadFrom told (drop 2 (texts words)) 2 rb rn t → ((name : List ℕ) → slice_get (texts words) 1 ≡ Some name → IsPlanned (texts words) (sources_so ss) name plan)
       → IfOk a (λ b. IsStored (get_or words 1 d).now mid after m k plan b) → IfOk a (λ b. Intended (texts words) told rb late n k b.status b.output after)
   stored_answer d after n m k late t ss plan (Err e) is same also reading h planned stored = tt

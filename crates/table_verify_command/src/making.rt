@@ -70,7 +70,8 @@ fn plan_of<R: Threads + Wait + Sync, G: Gate + Sync>(
     requires some { 1 < length words.now }
     requires whole { 2 + length sources ≡ length words.now }
     requires few { length words.now < 2 ^ 32 }
-    ensures { IfOk result (λ p. (name : ListOf ℕ) → slice_get (texts words.now) 1 ≡ Some name → IsPlanned (texts words.now) (sources_so sources) name p) }
+    ensures { IfOk result (λ p. (name : ListOf ℕ) → slice_get (texts words.now) 1 ≡ Some name
+        → IsPlanned (texts words.now) (sources_so sources) name p) }
 {
     let plan = planned(rt, alloc, words, sources.as_slice(), gate);
     discard_sources(sources);
@@ -88,7 +89,8 @@ fn planned<R: Threads + Wait + Sync, G: Gate + Sync>(
     requires some { 1 < length words.now }
     requires whole { 2 + length sources.now ≡ length words.now }
     requires few { length words.now < 2 ^ 32 }
-    ensures { IfOk result (λ p. (name : ListOf ℕ) → slice_get (texts words.now) 1 ≡ Some name → IsPlanned (texts words.now) (sources_so sources.now) name p) }
+    ensures { IfOk result (λ p. (name : ListOf ℕ) → slice_get (texts words.now) 1 ≡ Some name
+        → IsPlanned (texts words.now) (sources_so sources.now) name p) }
 {
     match whole(rt, alloc, sources, 1, gate) {
         Ok(cert) => spelled(alloc, words[1], &cert),

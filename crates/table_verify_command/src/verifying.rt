@@ -83,7 +83,8 @@ pub fn table_verify<R: Threads + Wait + Sync, F: Shelf, K: Sink, G: Gate + Sync>
         → (result ≡ refused word fault) ↔ NamesFaulty (texts words.now) held word fault) }
     ensures duplicate { IsAnswer result → IfSome (F.held shelf.old)
         (λ held. (word other : ℕ) → (result ≡ duplicate word other) ↔ NamesTwice (texts words.now) held word other) }
-    ensures rejected { IsAnswer result → IfSome (F.held shelf.old) (λ held. (r : TableRule) → (result ≡ rejected r) ↔ NamesBroken (texts words.now) held r) }
+    ensures rejected { IsAnswer result → IfSome (F.held shelf.old) (λ held. (r : TableRule)
+        → (result ≡ rejected r) ↔ NamesBroken (texts words.now) held r) }
     ensures done { IsAnswer result → IfSome (F.held shelf.old)
         (λ held. (result ≡ RunStatus.Done) ↔ (NamesGood (texts words.now) held ⊎ NamesCertificate (texts words.now) held)) }
     ensures read { (word : ℕ) → result ≡ RunStatus.DeviceFault (Device.Read word)

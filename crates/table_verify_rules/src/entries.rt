@@ -44,7 +44,8 @@ pub fn least_breaking(
     requires rising { IsTrue (rises is_name_before names.now) }
     requires table { entry_names (entries_so table.now) ≡ names.now }
     requires cert { entry_names (entries_so cert.now) ≡ names.now }
-    ensures { IfOk result (λ least. IsLeastBreaking rule (entries_so table.now) (entries_so cert.now) (sources_so sources.now) (sources_so sources.now) least) }
+    ensures { IfOk result (λ least. IsLeastBreaking rule (entries_so table.now) (entries_so cert.now) (sources_so sources.now)
+        (sources_so sources.now) least) }
 {
     let mut least = None;
     for source in sources {
@@ -66,7 +67,8 @@ fn keeps(
     requires rising { IsTrue (rises is_name_before names.now) }
     requires table { entry_names (entries_so table.now) ≡ names.now }
     requires cert { entry_names (entries_so cert.now) ≡ names.now }
-    ensures { IfOk result (λ b. (M : ListOf TheSource) → source_of M (source_so source.now).tree.name ≡ Some (source_so source.now) → IsTrue b ↔ KeepsAsked rule (entries_so table.now) (entries_so cert.now) M (source_so source.now).tree.name) }
+    ensures { IfOk result (λ b. (M : ListOf TheSource) → source_of M (source_so source.now).tree.name ≡ Some (source_so source.now)
+        → IsTrue b ↔ KeepsAsked rule (entries_so table.now) (entries_so cert.now) M (source_so source.now).tree.name) }
 {
     match position(names, &source.checked.module().name) {
         Some(at) => is_so(

@@ -72,7 +72,8 @@ fn with_component(
     least: Option<Atom>,
 ) -> Result<Option<Atom>, Memory>
     requires { AreComponent (map function_of members.now) numbers.now }
-    ensures { IfOk result (λ name. let fs = map function_of members.now in (before : ListOf Function) → IsLeastOpen fs (found known.now) before least → IsLeastOpen fs (found known.now) (before ++ picked fs numbers.now) name) }
+    ensures { IfOk result (λ name. let fs = map function_of members.now in (before : ListOf Function) → IsLeastOpen fs (found known.now) before least
+        → IsLeastOpen fs (found known.now) (before ++ picked fs numbers.now) name) }
 {
     let lenient = Pass::Lenient(own_functions(alloc, members, numbers)?);
     with_members(alloc, members, numbers, known, &lenient, least)
@@ -89,7 +90,8 @@ fn with_members(
 ) -> Result<Option<Atom>, Memory>
     requires component { AreComponent (map function_of members.now) numbers.now }
     requires lenient { knowledge lenient.now known.now ≡ lenient_pass (picked (map function_of members.now) numbers.now) (found known.now) }
-    ensures { IfOk result (λ name. let fs = map function_of members.now in (before : ListOf Function) → IsLeastOpen fs (found known.now) before least → IsLeastOpen fs (found known.now) (before ++ picked fs numbers.now) name) }
+    ensures { IfOk result (λ name. let fs = map function_of members.now in (before : ListOf Function) → IsLeastOpen fs (found known.now) before least
+        → IsLeastOpen fs (found known.now) (before ++ picked fs numbers.now) name) }
 {
     let mut least = least;
     for number in numbers {

@@ -43,7 +43,8 @@ pub fn gives_below(
 // The same of what was made.
 fn solves_below(alloc: Global, made: &Made, sig: &Sig) -> Result<bool, Memory>
     requires { length sig.now.args ≤ made.now.slots }
-    ensures { IfOk result (λ b. IsTrue b ↔ IsWithin (length sig.now.args) (solution (constraint made.now.constraint) (replicate made.now.slots any)) sig.now) }
+    ensures { IfOk result (λ b. IsTrue b ↔ IsWithin (length sig.now.args)
+        (solution (constraint made.now.constraint) (replicate made.now.slots any)) sig.now) }
 {
     let mut slots = Slots::new(alloc, anys(alloc, made.slots)?);
     let alive = settle(alloc, &made.constraint, &mut slots)?;

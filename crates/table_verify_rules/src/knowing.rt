@@ -79,7 +79,8 @@ fn enter_module(
 ) -> Result<(), Memory>
     requires rising { IsTrue (rises is_name_before names.now) }
     requires cert { entry_names (entries_so cert.now) ≡ names.now }
-    ensures { OnOk result (found known.new ≡ with_entry_of (source_so source.now) (entry_of (entries_so cert.now) (source_so source.now).tree.name) (found known.old)) }
+    ensures { OnOk result (found known.new ≡ with_entry_of (source_so source.now) (entry_of (entries_so cert.now) (source_so source.now).tree.name)
+        (found known.old)) }
 {
     match position(names, &source.checked.module().name) {
         Some(at) => enter_entry(alloc, cert.entries.at(at), source, known),
@@ -94,7 +95,8 @@ fn enter_entry(
     source: &Source,
     known: &mut Summaries,
 ) -> Result<(), Memory>
-    ensures { OnOk result (found known.new ≡ with_listed (tree_of source.now.checked).name (tree_of source.now.checked).exports entry.now.exports (found known.old)) }
+    ensures { OnOk result (found known.new ≡ with_listed (tree_of source.now.checked).name (tree_of source.now.checked).exports entry.now.exports
+        (found known.old)) }
 {
     let module = source.checked.module();
     let exports = names_of(alloc, module.exports.as_slice())?;
@@ -116,7 +118,8 @@ fn enter_at(
     known: &mut Summaries,
 ) -> Result<(), Memory>
     requires { at < length entry.now.exports }
-    ensures { OnOk result ((x : TheName × TheSummary) → slice_get entry.now.exports at ≡ Some x → found known.new ≡ with_callee (found known.old) home.now x.0 (standing (has_function exports.now x.0) x.1)) }
+    ensures { OnOk result ((x : TheName × TheSummary) → slice_get entry.now.exports at ≡ Some x
+        → found known.new ≡ with_callee (found known.old) home.now x.0 (standing (has_function exports.now x.0) x.1)) }
 {
     let listed = entry.exports.at(at);
     let callee = callee_of(alloc, exports.has(&listed.0), &listed.1)?;

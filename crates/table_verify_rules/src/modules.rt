@@ -20,7 +20,8 @@ pub fn other_module(
     cert: &Table,
     names: &[Atom],
 ) -> Result<Option<Atom>, Memory>
-    ensures { IfOk result (λ other. let T = entries_so table.now in let C = entries_so cert.now in (M : ListOf TheSource) → AreModuleNames M names.now → MatchOption other ((entry_names T ≡ names.now) × (entry_names C ≡ names.now)) (λ h. IsFirstBroken T C M same_modules h)) }
+    ensures { IfOk result (λ other. let T = entries_so table.now in let C = entries_so cert.now in (M : ListOf TheSource) → AreModuleNames M names.now
+        → MatchOption other ((entry_names T ≡ names.now) × (entry_names C ≡ names.now)) (λ h. IsFirstBroken T C M same_modules h)) }
 {
     names_tell();
     let entries = table.entries.as_slice();

@@ -50,7 +50,8 @@ pub fn verify(
     ensures accepted { OnOk result (KeepsRules (entries_so table.now) (entries_so cert.now) (sources_so sources.now)) }
     ensures rejected { IfErr result (IsRejected (entries_so table.now) (entries_so cert.now) (sources_so sources.now)) }
     ensures sound { OnOk result (AreSuccessTypings (sources_so sources.now) (entries_so table.now)) }
-    ensures complete { (reports : ListOf (ListOf ℕ)) → IsWritten [] (sources_so sources.now) reports (entries_so table.now) → IsCertificate (sources_so sources.now) (entries_so cert.now) → IfErr result IsWantOfMemory }
+    ensures complete { (reports : ListOf (ListOf ℕ)) → IsWritten [] (sources_so sources.now) reports (entries_so table.now)
+        → IsCertificate (sources_so sources.now) (entries_so cert.now) → IfErr result IsWantOfMemory }
 {
     rules_are_sound();
     rules_are_complete();

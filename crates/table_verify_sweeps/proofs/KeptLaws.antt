@@ -79,21 +79,24 @@ right_longer (and_cons c cs) (k ∷ ks) xs r = (r.0, right_longer cs ks xs r.1)
 
 -- ---- a member of a list
 
-pub right_at : (cs : List Constraint) (ks : List Kept) (i : ℕ) (x : Constraint) (k : Kept) (xs : Types) → AreRight (constraints cs) (memos ks) xs → i < length cs → x ≡ get_or cs i x → k ≡ get_or ks i v.Blank → IsRight (constraint x) (memo k) xs
+pub right_at : (cs : List Constraint) (ks : List Kept) (i : ℕ) (x : Constraint) (k : Kept) (xs : Types) → AreRight (constraints cs) (memos ks) xs → i < length cs → x ≡ get_or cs i x → k ≡ get_or ks i v.Blank
+    → IsRight (constraint x) (memo k) xs
 right_at [] ks i x k xs r l e f = absurd (omega (arith, l))
 right_at (c ∷ cs) [] i x k xs r l e f = of_blank (constraint x) k xs f
 right_at (c ∷ cs) (q ∷ ks) zero x k xs r l e f =
     subst (λ y. IsRight (constraint y) (memo k) xs) (sym e) (subst (λ y. IsRight (constraint c) (memo y) xs) (sym f) r.0)
 right_at (c ∷ cs) (q ∷ ks) (suc i) x k xs r l e f = right_at cs ks i x k xs r.1 (omega (arith, l)) e f
 
-right_set : (cs : List Constraint) (ks : List Kept) (i : ℕ) (x : Constraint) (k : Kept) (xs : Types) → AreRight (constraints cs) (memos ks) xs → x ≡ get_or cs i x → IsRight (constraint x) (memo k) xs → AreRight (constraints cs) (memos (set ks i k)) xs
+right_set : (cs : List Constraint) (ks : List Kept) (i : ℕ) (x : Constraint) (k : Kept) (xs : Types) → AreRight (constraints cs) (memos ks) xs → x ≡ get_or cs i x → IsRight (constraint x) (memo k) xs
+    → AreRight (constraints cs) (memos (set ks i k)) xs
 right_set [] ks i x k xs r e h = tt
 right_set (c ∷ cs) [] i x k xs r e h = r
 right_set (c ∷ cs) (q ∷ ks) zero x k xs r e h = (subst (λ y. IsRight (constraint y) (memo k) xs) e h, r.1)
 right_set (c ∷ cs) (q ∷ ks) (suc i) x k xs r e h = (r.0, right_set cs ks i x k xs r.1 e h)
 
 -- what was kept of it was taken out, and other put there
-pub right_again : (cs : List Constraint) (ps qs rs : List Kept) (i : ℕ) (x : Constraint) (b k : Kept) (xs : Types) → qs ≡ set ps i b → rs ≡ set qs i k → AreRight (constraints cs) (memos ps) xs → x ≡ get_or cs i x → IsRight (constraint x) (memo k) xs → AreRight (constraints cs) (memos rs) xs
+pub right_again : (cs : List Constraint) (ps qs rs : List Kept) (i : ℕ) (x : Constraint) (b k : Kept) (xs : Types) → qs ≡ set ps i b → rs ≡ set qs i k → AreRight (constraints cs) (memos ps) xs → x ≡ get_or cs i x
+    → IsRight (constraint x) (memo k) xs → AreRight (constraints cs) (memos rs) xs
 right_again cs ps qs rs i x b k xs d f r e h =
     subst (λ l. AreRight (constraints cs) (memos l) xs) (sym (f ∙ ap (λ l. set l i k) d ∙ set-set ps i b k)) (right_set cs ps i x k xs r e h)
 
@@ -131,7 +134,8 @@ module _ (facts : TypeFacts) (laws : W.Laws environments) where
   pub opened_solves : (c : Cons Part) (lows : List TrailEntry) (ms : MemoList) (xs : Types) → IsRight c (solved lows ms) xs → solution c (fallen lows xs) ≡ solution c xs
   opened_solves c lows ms xs r = kept_solves facts laws c lows (MembersRight c ms) xs (right_by c (solved lows ms) xs r)
 
-  pub right_new : (c : Cons Part) (ms : MemoList) (fs : List TrailEntry) (begin xs : Types) (alive : Bool) → solution c begin ≡ answer alive xs → laid fs xs ≡ begin → Within (length xs) fs → length begin ≡ length xs → (alive ≡ true → MembersRight c ms xs) → IsRight c (cond alive (solved (map (now_of xs) fs) ms) dead) begin
+  pub right_new : (c : Cons Part) (ms : MemoList) (fs : List TrailEntry) (begin xs : Types) (alive : Bool) → solution c begin ≡ answer alive xs → laid fs xs ≡ begin → Within (length xs) fs → length begin ≡ length xs
+      → (alive ≡ true → MembersRight c ms xs) → IsRight c (cond alive (solved (map (now_of xs) fs) ms) dead) begin
   right_new c ms fs begin xs true h e w l g =
       by_right c (solved (map (now_of xs) fs) ms) begin (kept_new facts laws c (MembersRight c ms) fs begin xs true (Some (map (now_of xs) fs)) (λ us ws b q. members_fall c ms us ws b q) h e w l g refl)
   right_new c ms fs begin xs false h e w l g =

@@ -33,7 +33,8 @@ no_longer r s t h k e =
 abbrev pub Stay : Bool → List Constraint → ℕ → Types → Type 0
 Stay forward ms n xs = (j : ℕ) → j < n → (x : Constraint) → solution (constraint (get_or ms (position_of forward (length ms) j) x)) xs ≡ Some xs
 
-pub stay_on : (forward : Bool) (ms : List Constraint) (n i : ℕ) (x : Constraint) (r s t : Slots) → Trailed r s → Trailed s t → i ≡ position_of forward (length ms) n → i < length ms → x ≡ get_or ms i x → solution (constraint x) s.types ≡ Some t.types → (length s.trail ≡ length r.trail → Stay forward ms n s.types) → length t.trail ≡ length r.trail → Stay forward ms (n + 1) t.types
+pub stay_on : (forward : Bool) (ms : List Constraint) (n i : ℕ) (x : Constraint) (r s t : Slots) → Trailed r s → Trailed s t → i ≡ position_of forward (length ms) n → i < length ms → x ≡ get_or ms i x
+    → solution (constraint x) s.types ≡ Some t.types → (length s.trail ≡ length r.trail → Stay forward ms n s.types) → length t.trail ≡ length r.trail → Stay forward ms (n + 1) t.types
 stay_on forward ms n i x r s t h k e l is q stay d j low y =
     let both = no_longer r s t h k d in
     let same : t.types ≡ s.types = trailed_same s t k both.1 in
@@ -47,4 +48,5 @@ stay_on forward ms n i x r s t h k e l is q stay d j low y =
 module _ (laws : W.Laws environments) where
   pub all_stay : (forward : Bool) (ms : List Constraint) (n : ℕ) (xs : Types) → length ms ≤ n → Stay forward ms n xs → solution (all_of (constraints ms)) xs ≡ Some xs
   all_stay forward ms n xs l stay =
-      members_stay laws ms xs (λ i low x. subst (λ p. solution (constraint (get_or ms p x)) xs ≡ Some xs) (position_twice forward (length ms) i low) (stay (position_of forward (length ms) i) (let p = position_low forward (length ms) i low in omega (arith, p, l)) x))
+      members_stay laws ms xs (λ i low x. subst (λ p. solution (constraint (get_or ms p x)) xs ≡ Some xs) (position_twice forward (length ms) i low)
+      (stay (position_of forward (length ms) i) (let p = position_low forward (length ms) i low in omega (arith, p, l)) x))

@@ -66,7 +66,8 @@ pub fn gather(
     requires below { IsTrue alive → AreBelow slots.now.types (laid (drop checkpoint slots.now.trail) slots.now.types) }
     requires kept { Kept best (laid (drop checkpoint slots.now.trail) slots.now.types) }
     ensures kept { IfOk result (λ new. Kept new (laid (drop checkpoint slots.now.trail) slots.now.types)) }
-    ensures value { let begin = laid (drop checkpoint slots.now.trail) slots.now.types in IfOk result (λ new. joined environments (best_of best begin) (answer alive slots.now.types) ≡ best_of new begin) }
+    ensures value { let begin = laid (drop checkpoint slots.now.trail) slots.now.types in IfOk result
+        (λ new. joined environments (best_of best begin) (answer alive slots.now.types) ≡ best_of new begin) }
 {
     type_facts();
     if !alive {

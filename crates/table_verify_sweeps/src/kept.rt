@@ -89,7 +89,9 @@ pub fn close(
     checkpoint: usize,
 ) -> Result<Kept, Memory>
     requires { checkpoint ≤ length slots.now.trail }
-    ensures { IfOk result (λ kept. (c : Cons Part) (xs : Types) → IsRight c (cond alive (solved (map (now_of slots.now.types) (drop checkpoint slots.now.trail)) (memos inner)) dead) xs → IsRight c (memo kept) xs) }
+    ensures { IfOk result (λ kept. (c : Cons Part) (xs : Types)
+        → IsRight c (cond alive (solved (map (now_of slots.now.types) (drop checkpoint slots.now.trail)) (memos inner)) dead) xs
+        → IsRight c (memo kept) xs) }
 {
     if !alive {
         discard_each(inner);

@@ -143,8 +143,10 @@ fn sweep(
     slots: &mut Slots,
 ) -> Result<bool, Memory>
     requires { AreRight (constraints members.now) (memos kept.old) slots.old.types }
-    ensures value { IfOk result (λ alive. on_types (answer alive slots.new.types) (solution (all_of (constraints members.now))) ≡ solution (all_of (constraints members.now)) slots.old.types) }
-    ensures settled { IfOk result (λ alive. IsTrue alive → length slots.new.trail ≡ length slots.old.trail → solution (all_of (constraints members.now)) slots.new.types ≡ Some slots.new.types) }
+    ensures value { IfOk result (λ alive. on_types (answer alive slots.new.types) (solution (all_of (constraints members.now)))
+        ≡ solution (all_of (constraints members.now)) slots.old.types) }
+    ensures settled { IfOk result (λ alive. IsTrue alive → length slots.new.trail ≡ length slots.old.trail
+        → solution (all_of (constraints members.now)) slots.new.types ≡ Some slots.new.types) }
     ensures trailed { IfOk result (λ _. Trailed slots.old slots.new) }
     ensures right { IfOk result (λ alive. IsTrue alive → AreRight (constraints members.now) (memos kept.new) slots.new.types) }
 {

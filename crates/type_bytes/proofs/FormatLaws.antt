@@ -1,5 +1,6 @@
 -- What it says that things are read as they are spelled, and nothing else.
-use Rattle.std.proofs.Common.{◌≡◌, ◌⊎◌, inl, inr, ℕ, zero, suc, ◌<◌, ◌^◌, Bool, true, false, cond, List, [], ◌∷◌, ◌++◌, Option, Some, None, length, take, drop, get_or, refl, sym, ap, ◌∙◌, subst, arith, append_assoc}
+use Rattle.std.proofs.Common.{◌≡◌, ◌⊎◌, inl, inr, ℕ, zero, suc, ◌<◌, ◌^◌, Bool, true, false, cond, List, [], ◌∷◌, ◌++◌}
+use Rattle.std.proofs.Common.{Option, Some, None, length, take, drop, get_or, refl, sym, ap, ◌∙◌, subst, arith, append_assoc}
 use Rattle.std.specs.Prelude.{IsTrue, nat_lt}
 use Rattle.std.specs.List.{flat_map, list_all, AllByRecursion as Each}
 use Rattle.std.specs.Int.{w32, from_be_bytes}
@@ -44,7 +45,8 @@ pub record Format {X : Type 0} (Good : X → Type 0) (spelled : X → List ℕ) 
   pub sound : (bytes : List ℕ) (x : X) (rest : List ℕ) → AreBytes bytes → f bytes ≡ Some (x, rest) → Good x × (bytes ≡ spelled x ++ rest)
 
 -- what is left of bytes are bytes
-pub bytes_left : {X : Type 0} {Good : X → Type 0} {spelled : X → List ℕ} {f : List ℕ → Option (X × List ℕ)} → Format Good spelled f → (bytes : List ℕ) (x : X) (rest : List ℕ) → AreBytes bytes → f bytes ≡ Some (x, rest) → AreBytes rest
+pub bytes_left : {X : Type 0} {Good : X → Type 0} {spelled : X → List ℕ} {f : List ℕ → Option (X × List ℕ)} → Format Good spelled f → (bytes : List ℕ) (x : X) (rest : List ℕ) → AreBytes bytes
+    → f bytes ≡ Some (x, rest) → AreBytes rest
 bytes_left {spelled = spelled} t bytes x rest k e = bytes_back (spelled x) rest (subst AreBytes (t.sound bytes x rest k e).1 k)
 
 -- ---- steps

@@ -58,14 +58,16 @@ module _ {X : Type 0} (f : List ℕ → Option (X × List ℕ)) (count i : ℕ) 
       ∙ ap (λ r. behind xs (reading.◌>>=◌ r (λ y. reading.◌>>=◌ (reading.many (count - (i + 1)) f y.1) (λ ys. Some (y.0 ∷ ys.0, ys.1))))) e
       ∙ regroup x (reading.many (count - (i + 1)) f after)
 
-  pub read_more : (ys : List X) (x : X) (after : List ℕ) → i < count → ys ≡ xs ++ x ∷ [] → f bytes ≡ Some (x, after) → behind xs (reading.many (count - i) f bytes) ≡ all → behind ys (reading.many (count - (i + 1)) f after) ≡ all
+  pub read_more : (ys : List X) (x : X) (after : List ℕ) → i < count → ys ≡ xs ++ x ∷ [] → f bytes ≡ Some (x, after) → behind xs (reading.many (count - i) f bytes) ≡ all
+      → behind ys (reading.many (count - (i + 1)) f after) ≡ all
   read_more ys x after h is e so_far = ap (λ l. behind l (reading.many (count - (i + 1)) f after)) is ∙ sym (next x after h e) ∙ so_far
 
   pub read_fails : (fault : BytesFault) → i < count → Fails fault (f bytes) → behind xs (reading.many (count - i) f bytes) ≡ all → Fails fault all
   read_fails fault h e so_far = go fault e
     where
       none : f bytes ≡ None → all ≡ None
-      none k = sym so_far ∙ ap (λ n. behind xs (reading.many n f bytes)) (one_fewer count i h) ∙ ap (λ r. behind xs (reading.◌>>=◌ r (λ y. reading.◌>>=◌ (reading.many (count - (i + 1)) f y.1) (λ ys. Some (y.0 ∷ ys.0, ys.1))))) k
+      none k = sym so_far ∙ ap (λ n. behind xs (reading.many n f bytes)) (one_fewer count i h)
+          ∙ ap (λ r. behind xs (reading.◌>>=◌ r (λ y. reading.◌>>=◌ (reading.many (count - (i + 1)) f y.1) (λ ys. Some (y.0 ∷ ys.0, ys.1))))) k
 
       go : (fault : BytesFault) → Fails fault (f bytes) → Fails fault all
       go faults.Short k = none k

@@ -24,7 +24,8 @@ bit_adds (suc (suc n)) h = absurd (omega arith)
 
 -- the number of twelve bits, the first the lowest
 abbrev pub number_of : (a b c d e f g h i j k l : Bool) → ℕ
-number_of a b c d e f g h i j k l = one_if a + 2 * (one_if b + 2 * (one_if c + 2 * (one_if d + 2 * (one_if e + 2 * (one_if f + 2 * (one_if g + 2 * (one_if h + 2 * (one_if i + 2 * (one_if j + 2 * (one_if k + 2 * (one_if l + 2 * (0))))))))))))
+number_of a b c d e f g h i j k l = one_if a + 2 * (one_if b + 2 * (one_if c + 2
+    * (one_if d + 2 * (one_if e + 2 * (one_if f + 2 * (one_if g + 2 * (one_if h + 2 * (one_if i + 2 * (one_if j + 2 * (one_if k + 2 * (one_if l + 2 * (0))))))))))))
 
 -- each is the bit of the number
 pub record AreBits (m : ℕ) (a b c d e f g h i j k l : Bool) : Type 0 where
@@ -73,7 +74,8 @@ bits_of a b c d e f g h i j k l =
     }
 
 -- a number of twelve bits is that of its bits
-pub of_bits : (m : ℕ) → m < 4096 → number_of (bit_at m 0 == 1) (bit_at m 1 == 1) (bit_at m 2 == 1) (bit_at m 3 == 1) (bit_at m 4 == 1) (bit_at m 5 == 1) (bit_at m 6 == 1) (bit_at m 7 == 1) (bit_at m 8 == 1) (bit_at m 9 == 1) (bit_at m 10 == 1) (bit_at m 11 == 1) ≡ m
+pub of_bits : (m : ℕ) → m < 4096 → number_of (bit_at m 0 == 1) (bit_at m 1 == 1) (bit_at m 2 == 1) (bit_at m 3 == 1) (bit_at m 4 == 1) (bit_at m 5 == 1) (bit_at m 6 == 1) (bit_at m 7 == 1) (bit_at m 8 == 1) (bit_at m 9 == 1)
+    (bit_at m 10 == 1) (bit_at m 11 == 1) ≡ m
 of_bits m h =
     let add_0 = bit_adds (bit_at m 0) (omega arith) in
     let add_1 = bit_adds (bit_at m 1) (omega arith) in

@@ -1,5 +1,6 @@
 -- Where a type is read, the shape that is cut off ends at the same position.
-use Rattle.std.proofs.Common.{◌≡◌, inl, inr, ℕ, zero, suc, ◌+◌, ◌*◌, ◌-◌, ◌/◌, ◌%◌, ◌≤◌, Bool, true, false, not, cond, ◌&&◌, List, [], ◌∷◌, ◌++◌, Option, Some, None, length, take, drop, sym, ap, ◌∙◌, subst, arith, true≢false}
+use Rattle.std.proofs.Common.{◌≡◌, inl, inr, ℕ, zero, suc, ◌+◌, ◌*◌, ◌-◌, ◌/◌, ◌%◌, ◌≤◌, Bool, true, false, not, cond, ◌&&◌, List}
+use Rattle.std.proofs.Common.{[], ◌∷◌, ◌++◌, Option, Some, None, length, take, drop, sym, ap, ◌∙◌, subst, arith, true≢false}
 use Rattle.std.specs.Prelude.{IsTrue, nat_lt, nat_le, ◌==◌, Ok, Err}
 use Rattle.std.specs.Int.{w32, from_be_bytes, bit_at}
 use Rattle.std.proofs.lemmas.List.{append-nil}
@@ -26,7 +27,8 @@ use Rattle.type_bytes.specs.ShortNames.{has_short_names}
 use Rattle.type_bytes.specs.Shapes.{TypeShape, IsShort}
 use Rattle.type_bytes.specs.steps.Cuts as cut
 use Rattle.type_bytes.specs.steps.Cuts.{Cut, skip, counted, name_cut, atoms_cut, ints_cut, bits_cut, functions_cut, cell_cut, tag_cut, tags_cut, body_cut, size_cut, tuples_cut, parts_cut, masked_cut, behind_cut, element_cut, type_cut}
-use Rattle.type_bytes.specs.steps.Reading.{◌>>=◌, many, given, where_set, number_at, name_at, int_at, names_at, atoms_at, low_at, high_at, interval_at, numbers_at, ints_at, bits_at, functions_at, is_open, cell_at, product_at, tag_at, tags_at, body_at, size_at, sizes_at, tuples_at, mask_flags, parts_at, masked_at, behind_at, element_at, type_at}
+use Rattle.type_bytes.specs.steps.Reading.{◌>>=◌, many, given, where_set, number_at, name_at, int_at, names_at, atoms_at, low_at, high_at, interval_at, numbers_at, ints_at, bits_at, functions_at}
+use Rattle.type_bytes.specs.steps.Reading.{is_open, cell_at, product_at, tag_at, tags_at, body_at, size_at, sizes_at, tuples_at, mask_flags, parts_at, masked_at, behind_at, element_at, type_at}
 use Rattle.type_bytes.proofs.FormatLaws.{bound, was_given, chosen, never, passed, granted}
 use Rattle.type_bytes.proofs.ShapeLaws.{type_tells, not_short}
 use Rattle.type_bytes.proofs.TypeFormats.{type_complete}
@@ -142,7 +144,8 @@ functions_follows (b ∷ bytes) s rest e = elim (chosen (b == 0) (Some (all_func
   | inr h ↦
       let g = granted (b == 1) (number_at bytes >>= λ n. Some (of_arity n.0, n.1)) (s, rest) h.1 in
       let n = bound (number_at bytes) (λ n. Some (of_arity n.0, n.1)) (s, rest) g.1 in
-      ap (λ c. cond c (Ok bytes) (cond (b == 1) (skip 4 bytes) (Err Broken))) h.0 ∙ ap (λ c. cond c (skip 4 bytes) (Err Broken)) g.0 ∙ number_follows bytes n.0.0 n.0.1 n.1.0 ∙ ap Ok (some_pair_parts (of_arity n.0.0) s n.0.1 rest n.1.1).1
+      ap (λ c. cond c (Ok bytes) (cond (b == 1) (skip 4 bytes) (Err Broken))) h.0 ∙ ap (λ c. cond c (skip 4 bytes) (Err Broken)) g.0 ∙ number_follows bytes n.0.0 n.0.1 n.1.0
+      ∙ ap Ok (some_pair_parts (of_arity n.0.0) s n.0.1 rest n.1.1).1
 ]
 
 -- ---- lists and tuples

@@ -1,5 +1,6 @@
 -- The trees that are read, and what they stand for.
-use Rattle.std.proofs.Common.{◌≡◌, ◌⊎◌, inl, inr, ℕ, zero, suc, ◌+◌, ◌-◌, ◌<◌, ◌≤◌, Bool, true, false, not, cond, List, [], ◌∷◌, ◌++◌, Option, Some, None, length, map, take, get_or, refl, sym, ap, ◌∙◌, subst, arith}
+use Rattle.std.proofs.Common.{◌≡◌, ◌⊎◌, inl, inr, ℕ, zero, suc, ◌+◌, ◌-◌, ◌<◌, ◌≤◌, Bool, true, false, not, cond, List, []}
+use Rattle.std.proofs.Common.{◌∷◌, ◌++◌, Option, Some, None, length, map, take, get_or, refl, sym, ap, ◌∙◌, subst, arith}
 use Rattle.std.specs.Prelude.{nat_le, nat_lt, ◌==◌}
 use Rattle.std.specs.declared.cmp.Ordering.{Ordering}
 use Rattle.std.specs.declared.cmp.Ordering.TheVariants.{Less, Equal, Greater}
@@ -34,7 +35,8 @@ use Rattle.type_bytes.proofs.TypeFormats.{masked_normal}
 pub any_read : (d b : ℕ) (bytes : List ℕ) → b ≡ 1 → behind_at d b bytes ≡ Some (view d v.Any, bytes)
 unfolding behind_at ops
 any_read zero b bytes e = ap (λ c. given c (true, bytes)) (eq-eqb b 1 e) ∙ ap (λ t. Some (t, bytes)) (sym (view_any v.Any refl zero))
-any_read (suc d) b bytes e = ap (λ c. cond c (Some ((ops (suc d)).any, bytes)) (cond (b == 2) (masked_at (ops d) (element_at d) bytes >>= λ p. given (not (is_any (suc d) p.0)) p) None)) (eq-eqb b 1 e) ∙ ap (λ t. Some (t, bytes)) (sym (view_any v.Any refl (suc d)))
+any_read (suc d) b bytes e = ap (λ c. cond c (Some ((ops (suc d)).any, bytes)) (cond (b == 2) (masked_at (ops d) (element_at d) bytes >>= λ p. given (not (is_any (suc d) p.0)) p) None)) (eq-eqb b 1 e)
+    ∙ ap (λ t. Some (t, bytes)) (sym (view_any v.Any refl (suc d)))
 
 not_1 : (b : ℕ) → (b ≡ 1 → ⊥) → (b == 1) ≡ false
 not_1 b h = false_from_ne_true (b == 1) (λ e. h (eqb-true b 1 e))
@@ -71,24 +73,28 @@ pub record IsMade (p : PartsOf Node) (n : Node) : Type 0 where
 parts_fit : (d : ℕ) (bytes rest : List ℕ) (p : PartsOf Node) → AreBytes bytes → EachInParts (Fits d) p → masked_at (ops d) (element_at d) bytes ≡ Some (parts_view d p, rest) → PartsFit d p
 parts_fit d bytes rest p k each e = record { normal = normal_parts d (parts_view d p) (masked_normal d bytes (parts_view d p) rest k e); each = each }
 
-next_of : (d b : ℕ) (bytes rest : List ℕ) (p q : PartsOf Node) (n : Node) → b ≡ 2 → AreBytes bytes → EachInParts (Fits d) p → masked_at (ops d) (element_at d) bytes ≡ Some (parts_view d p, rest) → IsMade p n → n ≡ v.Of q → Fits (suc d) n × (behind_at (suc d) b bytes ≡ Some (view (suc d) n, rest))
+next_of : (d b : ℕ) (bytes rest : List ℕ) (p q : PartsOf Node) (n : Node) → b ≡ 2 → AreBytes bytes → EachInParts (Fits d) p → masked_at (ops d) (element_at d) bytes ≡ Some (parts_view d p, rest) → IsMade p n
+    → n ≡ v.Of q → Fits (suc d) n × (behind_at (suc d) b bytes ≡ Some (view (suc d) n, rest))
 next_of d b bytes rest p q n e k each read made is =
     let fit = parts_fit d bytes rest p k each read in
     let same = made.value d fit in
     let not_any : is_any (suc d) (parts_view d p) ≡ false = false_from_ne_true (is_any (suc d) (parts_view d p)) (λ a. (fits_of n q is d (made.fits d fit)).1 (sym (view_of n q is d) ∙ same ∙ any_is_all (suc d) (parts_view d p) a)) in
     (made.fits d fit, two d b bytes e ∙ ap (λ r. r >>= λ x. given (not (is_any (suc d) x.0)) x) read ∙ ap (λ c. given (not c) (parts_view d p, rest)) not_any ∙ ap (λ x. Some (x, rest)) (sym same))
 
-next_any : (d b : ℕ) (bytes rest : List ℕ) (p : PartsOf Node) (n : Node) → b ≡ 2 → AreBytes bytes → EachInParts (Fits d) p → masked_at (ops d) (element_at d) bytes ≡ Some (parts_view d p, rest) → IsMade p n → n ≡ v.Any → behind_at (suc d) b bytes ≡ None
+next_any : (d b : ℕ) (bytes rest : List ℕ) (p : PartsOf Node) (n : Node) → b ≡ 2 → AreBytes bytes → EachInParts (Fits d) p → masked_at (ops d) (element_at d) bytes ≡ Some (parts_view d p, rest) → IsMade p n → n ≡ v.Any
+    → behind_at (suc d) b bytes ≡ None
 next_any d b bytes rest p n e k each read made is =
     let fit = parts_fit d bytes rest p k each read in
     let any : is_any (suc d) (parts_view d p) ≡ true = ap (is_any (suc d)) (sym (made.value d fit) ∙ view_any n is (suc d)) ∙ all_is_any (suc d) in
     two d b bytes e ∙ ap (λ r. r >>= λ x. given (not (is_any (suc d) x.0)) x) read ∙ ap (λ c. given (not c) (parts_view d p, rest)) any
 
-pub of_read : (d b : ℕ) (bytes rest : List ℕ) (p q : PartsOf Node) (n : Node) → (d ≡ 0 → ⊥) → b ≡ 2 → AreBytes bytes → EachInParts (Fits (d - 1)) p → masked_at (ops (d - 1)) (element_at (d - 1)) bytes ≡ Some (parts_view (d - 1) p, rest) → IsMade p n → n ≡ v.Of q → Fits d n × (behind_at d b bytes ≡ Some (view d n, rest))
+pub of_read : (d b : ℕ) (bytes rest : List ℕ) (p q : PartsOf Node) (n : Node) → (d ≡ 0 → ⊥) → b ≡ 2 → AreBytes bytes → EachInParts (Fits (d - 1)) p
+    → masked_at (ops (d - 1)) (element_at (d - 1)) bytes ≡ Some (parts_view (d - 1) p, rest) → IsMade p n → n ≡ v.Of q → Fits d n × (behind_at d b bytes ≡ Some (view d n, rest))
 of_read d b bytes rest p q n h e k each read made is =
     subst (λ m. Fits m n × (behind_at m b bytes ≡ Some (view m n, rest))) (sym (one_more d (above d h))) (next_of (d - 1) b bytes rest p q n e k each read made is)
 
-pub any_not_read : (d b : ℕ) (bytes rest : List ℕ) (p : PartsOf Node) (n : Node) → (d ≡ 0 → ⊥) → b ≡ 2 → AreBytes bytes → EachInParts (Fits (d - 1)) p → masked_at (ops (d - 1)) (element_at (d - 1)) bytes ≡ Some (parts_view (d - 1) p, rest) → IsMade p n → n ≡ v.Any → behind_at d b bytes ≡ None
+pub any_not_read : (d b : ℕ) (bytes rest : List ℕ) (p : PartsOf Node) (n : Node) → (d ≡ 0 → ⊥) → b ≡ 2 → AreBytes bytes → EachInParts (Fits (d - 1)) p
+    → masked_at (ops (d - 1)) (element_at (d - 1)) bytes ≡ Some (parts_view (d - 1) p, rest) → IsMade p n → n ≡ v.Any → behind_at d b bytes ≡ None
 any_not_read d b bytes rest p n h e k each read made is =
     subst (λ m. behind_at m b bytes ≡ None) (sym (one_more d (above d h))) (next_any (d - 1) b bytes rest p n e k each read made is)
 
@@ -172,7 +178,8 @@ not_below a b h = elim (cases_Bool (nat_lt b a)) [
   | inr k ↦ ap is_lt (sym (nat_cmp_is a b Equal (let other = ltb-false b a k in omega arith)))
 ]
 
-module _ {A K : Type 0} (R : K → K → Ordering) (total : IsTotalOrder R) (same : IsAntisymmetric R) (key : A → K) (xs : List A) (i j k : ℕ) (x y : A) (next : j ≡ i + 1) (after : k ≡ j + 1) (within : j < length xs) (at_i : x ≡ get_or xs i x) (at_j : y ≡ get_or xs j y) where
+module _ {A K : Type 0} (R : K → K → Ordering) (total : IsTotalOrder R) (same : IsAntisymmetric R) (key : A
+    → K) (xs : List A) (i j k : ℕ) (x y : A) (next : j ≡ i + 1) (after : k ≡ j + 1) (within : j < length xs) (at_i : x ≡ get_or xs i x) (at_j : y ≡ get_or xs j y) where
   key_i : get_or (map key xs) i (key x) ≡ key x
   key_i = get_or-map key xs i x (key x) (omega arith) ∙ ap key (sym at_i)
 

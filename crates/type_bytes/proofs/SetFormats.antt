@@ -1,5 +1,6 @@
 -- Sets of atoms and of integers, bit strings and functions are read as they are spelled, and nothing else.
-use Rattle.std.proofs.Common.{◌≡◌, inl, inr, ℕ, zero, suc, ◌+◌, ◌*◌, ◌-◌, ◌/◌, ◌%◌, ◌<◌, ◌^◌, ℤ, pos, negsuc, true, false, cond, ◌&&◌, List, [], ◌∷◌, ◌++◌, Option, Some, None, length, take, drop, get_or, refl, sym, ap, ◌∙◌, subst, arith, true≢false}
+use Rattle.std.proofs.Common.{◌≡◌, inl, inr, ℕ, zero, suc, ◌+◌, ◌*◌, ◌-◌, ◌/◌, ◌%◌, ◌<◌, ◌^◌, ℤ, pos, negsuc, true, false, cond, ◌&&◌, List}
+use Rattle.std.proofs.Common.{[], ◌∷◌, ◌++◌, Option, Some, None, length, take, drop, get_or, refl, sym, ap, ◌∙◌, subst, arith, true≢false}
 use Rattle.std.specs.Prelude.{IsTrue, nat_lt, nat_le, ◌==◌}
 use Rattle.std.specs.List.{flat_map, list_all, AllByRecursion as Each}
 use Rattle.std.specs.Int.{w128, from_be_bytes, to_be_bytes, cast_signed, cast_unsigned}
@@ -42,28 +43,52 @@ use Rattle.type_bytes.proofs.FormatLaws.{AreBytes, bytes_front, byte_at, Format,
 byte_in : (low p x high n : ℕ) → low < p → x < 256 → n ≡ (high * 256 + x) * p + low → n / p % 256 ≡ x
 byte_in low p x high n below small is = ap (λ m. m / p % 256) is ∙ ap (λ m. m % 256) (div-mul-add (high * 256 + x) p low below) ∙ mod-mul-add high 256 x small
 
-bytes_16 : (a b c d e f g h i j k l m n o p v : ℕ) → a < 256 → b < 256 → c < 256 → d < 256 → e < 256 → f < 256 → g < 256 → h < 256 → i < 256 → j < 256 → k < 256 → l < 256 → m < 256 → n < 256 → o < 256 → p < 256 → v ≡ a + b * 256 + c * 65536 + d * 16777216 + e * 4294967296 + f * 1099511627776 + g * 281474976710656 + h * 72057594037927936 + i * 18446744073709551616 + j * 4722366482869645213696 + k * 1208925819614629174706176 + l * 309485009821345068724781056 + m * 79228162514264337593543950336 + n * 20282409603651670423947251286016 + o * 5192296858534827628530496329220096 + p * 1329227995784915872903807060280344576 → (v / 1329227995784915872903807060280344576 % 256) ∷ (v / 5192296858534827628530496329220096 % 256) ∷ (v / 20282409603651670423947251286016 % 256) ∷ (v / 79228162514264337593543950336 % 256) ∷ (v / 309485009821345068724781056 % 256) ∷ (v / 1208925819614629174706176 % 256) ∷ (v / 4722366482869645213696 % 256) ∷ (v / 18446744073709551616 % 256) ∷ (v / 72057594037927936 % 256) ∷ (v / 281474976710656 % 256) ∷ (v / 1099511627776 % 256) ∷ (v / 4294967296 % 256) ∷ (v / 16777216 % 256) ∷ (v / 65536 % 256) ∷ (v / 256 % 256) ∷ (v % 256) ∷ [] ≡ p ∷ o ∷ n ∷ m ∷ l ∷ k ∷ j ∷ i ∷ h ∷ g ∷ f ∷ e ∷ d ∷ c ∷ b ∷ a ∷ []
+bytes_16 : (a b c d e f g h i j k l m n o p v : ℕ) → a < 256 → b < 256 → c < 256 → d < 256 → e < 256 → f < 256 → g < 256 → h < 256 → i < 256 → j < 256 → k < 256 → l < 256 → m < 256 → n < 256 → o < 256
+    → p < 256 → v ≡ a + b * 256 + c * 65536 + d * 16777216 + e * 4294967296 + f * 1099511627776 + g * 281474976710656 + h * 72057594037927936 + i * 18446744073709551616 + j * 4722366482869645213696 + k * 1208925819614629174706176 + l
+    * 309485009821345068724781056 + m * 79228162514264337593543950336 + n * 20282409603651670423947251286016 + o * 5192296858534827628530496329220096 + p * 1329227995784915872903807060280344576
+    → (v / 1329227995784915872903807060280344576 % 256) ∷ (v / 5192296858534827628530496329220096 % 256) ∷ (v / 20282409603651670423947251286016 % 256) ∷ (v / 79228162514264337593543950336 % 256)
+    ∷ (v / 309485009821345068724781056 % 256) ∷ (v / 1208925819614629174706176 % 256) ∷ (v / 4722366482869645213696 % 256) ∷ (v / 18446744073709551616 % 256) ∷ (v / 72057594037927936 % 256) ∷ (v / 281474976710656 % 256)
+    ∷ (v / 1099511627776 % 256) ∷ (v / 4294967296 % 256) ∷ (v / 16777216 % 256) ∷ (v / 65536 % 256) ∷ (v / 256 % 256) ∷ (v % 256) ∷ []
+    ≡ p ∷ o ∷ n ∷ m ∷ l ∷ k ∷ j ∷ i ∷ h ∷ g ∷ f ∷ e ∷ d ∷ c ∷ b ∷ a ∷ []
 bytes_16 a b c d e f g h i j k l m n o p v a' b' c' d' e' f' g' h' i' j' k' l' m' n' o' p' is =
-    let split : v ≡ (b + c * 256 + d * 65536 + e * 16777216 + f * 4294967296 + g * 1099511627776 + h * 281474976710656 + i * 72057594037927936 + j * 18446744073709551616 + k * 4722366482869645213696 + l * 1208925819614629174706176 + m * 309485009821345068724781056 + n * 79228162514264337593543950336 + o * 20282409603651670423947251286016 + p * 5192296858534827628530496329220096) * 256 + a = omega arith in
-    let at_a : v % 256 ≡ a = ap (λ m. m % 256) split ∙ mod-mul-add (b + c * 256 + d * 65536 + e * 16777216 + f * 4294967296 + g * 1099511627776 + h * 281474976710656 + i * 72057594037927936 + j * 18446744073709551616 + k * 4722366482869645213696 + l * 1208925819614629174706176 + m * 309485009821345068724781056 + n * 79228162514264337593543950336 + o * 20282409603651670423947251286016 + p * 5192296858534827628530496329220096) 256 a a' in
-    let at_b = byte_in (a) 256 b (c + d * 256 + e * 65536 + f * 16777216 + g * 4294967296 + h * 1099511627776 + i * 281474976710656 + j * 72057594037927936 + k * 18446744073709551616 + l * 4722366482869645213696 + m * 1208925819614629174706176 + n * 309485009821345068724781056 + o * 79228162514264337593543950336 + p * 20282409603651670423947251286016) v (omega arith) b' (omega arith) in
-    let at_c = byte_in (a + b * 256) 65536 c (d + e * 256 + f * 65536 + g * 16777216 + h * 4294967296 + i * 1099511627776 + j * 281474976710656 + k * 72057594037927936 + l * 18446744073709551616 + m * 4722366482869645213696 + n * 1208925819614629174706176 + o * 309485009821345068724781056 + p * 79228162514264337593543950336) v (omega arith) c' (omega arith) in
-    let at_d = byte_in (a + b * 256 + c * 65536) 16777216 d (e + f * 256 + g * 65536 + h * 16777216 + i * 4294967296 + j * 1099511627776 + k * 281474976710656 + l * 72057594037927936 + m * 18446744073709551616 + n * 4722366482869645213696 + o * 1208925819614629174706176 + p * 309485009821345068724781056) v (omega arith) d' (omega arith) in
-    let at_e = byte_in (a + b * 256 + c * 65536 + d * 16777216) 4294967296 e (f + g * 256 + h * 65536 + i * 16777216 + j * 4294967296 + k * 1099511627776 + l * 281474976710656 + m * 72057594037927936 + n * 18446744073709551616 + o * 4722366482869645213696 + p * 1208925819614629174706176) v (omega arith) e' (omega arith) in
-    let at_f = byte_in (a + b * 256 + c * 65536 + d * 16777216 + e * 4294967296) 1099511627776 f (g + h * 256 + i * 65536 + j * 16777216 + k * 4294967296 + l * 1099511627776 + m * 281474976710656 + n * 72057594037927936 + o * 18446744073709551616 + p * 4722366482869645213696) v (omega arith) f' (omega arith) in
-    let at_g = byte_in (a + b * 256 + c * 65536 + d * 16777216 + e * 4294967296 + f * 1099511627776) 281474976710656 g (h + i * 256 + j * 65536 + k * 16777216 + l * 4294967296 + m * 1099511627776 + n * 281474976710656 + o * 72057594037927936 + p * 18446744073709551616) v (omega arith) g' (omega arith) in
-    let at_h = byte_in (a + b * 256 + c * 65536 + d * 16777216 + e * 4294967296 + f * 1099511627776 + g * 281474976710656) 72057594037927936 h (i + j * 256 + k * 65536 + l * 16777216 + m * 4294967296 + n * 1099511627776 + o * 281474976710656 + p * 72057594037927936) v (omega arith) h' (omega arith) in
-    let at_i = byte_in (a + b * 256 + c * 65536 + d * 16777216 + e * 4294967296 + f * 1099511627776 + g * 281474976710656 + h * 72057594037927936) 18446744073709551616 i (j + k * 256 + l * 65536 + m * 16777216 + n * 4294967296 + o * 1099511627776 + p * 281474976710656) v (omega arith) i' (omega arith) in
-    let at_j = byte_in (a + b * 256 + c * 65536 + d * 16777216 + e * 4294967296 + f * 1099511627776 + g * 281474976710656 + h * 72057594037927936 + i * 18446744073709551616) 4722366482869645213696 j (k + l * 256 + m * 65536 + n * 16777216 + o * 4294967296 + p * 1099511627776) v (omega arith) j' (omega arith) in
-    let at_k = byte_in (a + b * 256 + c * 65536 + d * 16777216 + e * 4294967296 + f * 1099511627776 + g * 281474976710656 + h * 72057594037927936 + i * 18446744073709551616 + j * 4722366482869645213696) 1208925819614629174706176 k (l + m * 256 + n * 65536 + o * 16777216 + p * 4294967296) v (omega arith) k' (omega arith) in
-    let at_l = byte_in (a + b * 256 + c * 65536 + d * 16777216 + e * 4294967296 + f * 1099511627776 + g * 281474976710656 + h * 72057594037927936 + i * 18446744073709551616 + j * 4722366482869645213696 + k * 1208925819614629174706176) 309485009821345068724781056 l (m + n * 256 + o * 65536 + p * 16777216) v (omega arith) l' (omega arith) in
-    let at_m = byte_in (a + b * 256 + c * 65536 + d * 16777216 + e * 4294967296 + f * 1099511627776 + g * 281474976710656 + h * 72057594037927936 + i * 18446744073709551616 + j * 4722366482869645213696 + k * 1208925819614629174706176 + l * 309485009821345068724781056) 79228162514264337593543950336 m (n + o * 256 + p * 65536) v (omega arith) m' (omega arith) in
-    let at_n = byte_in (a + b * 256 + c * 65536 + d * 16777216 + e * 4294967296 + f * 1099511627776 + g * 281474976710656 + h * 72057594037927936 + i * 18446744073709551616 + j * 4722366482869645213696 + k * 1208925819614629174706176 + l * 309485009821345068724781056 + m * 79228162514264337593543950336) 20282409603651670423947251286016 n (o + p * 256) v (omega arith) n' (omega arith) in
-    let at_o = byte_in (a + b * 256 + c * 65536 + d * 16777216 + e * 4294967296 + f * 1099511627776 + g * 281474976710656 + h * 72057594037927936 + i * 18446744073709551616 + j * 4722366482869645213696 + k * 1208925819614629174706176 + l * 309485009821345068724781056 + m * 79228162514264337593543950336 + n * 20282409603651670423947251286016) 5192296858534827628530496329220096 o (p) v (omega arith) o' (omega arith) in
-    let at_p = byte_in (a + b * 256 + c * 65536 + d * 16777216 + e * 4294967296 + f * 1099511627776 + g * 281474976710656 + h * 72057594037927936 + i * 18446744073709551616 + j * 4722366482869645213696 + k * 1208925819614629174706176 + l * 309485009821345068724781056 + m * 79228162514264337593543950336 + n * 20282409603651670423947251286016 + o * 5192296858534827628530496329220096) 1329227995784915872903807060280344576 p (0) v (omega arith) p' (omega arith) in
+    let split : v ≡ (b + c * 256 + d * 65536 + e * 16777216 + f * 4294967296 + g * 1099511627776 + h * 281474976710656 + i * 72057594037927936 + j * 18446744073709551616 + k * 4722366482869645213696 + l * 1208925819614629174706176 + m
+    * 309485009821345068724781056 + n * 79228162514264337593543950336 + o * 20282409603651670423947251286016 + p * 5192296858534827628530496329220096) * 256 + a = omega arith in
+    let at_a : v % 256 ≡ a = ap (λ m. m % 256) split ∙ mod-mul-add (b + c * 256 + d * 65536 + e * 16777216 + f * 4294967296 + g * 1099511627776 + h * 281474976710656 + i * 72057594037927936 + j * 18446744073709551616 + k
+    * 4722366482869645213696 + l * 1208925819614629174706176 + m * 309485009821345068724781056 + n * 79228162514264337593543950336 + o * 20282409603651670423947251286016 + p * 5192296858534827628530496329220096) 256 a a' in
+    let at_b = byte_in (a) 256 b (c + d * 256 + e * 65536 + f * 16777216 + g * 4294967296 + h * 1099511627776 + i * 281474976710656 + j * 72057594037927936 + k * 18446744073709551616 + l * 4722366482869645213696 + m
+    * 1208925819614629174706176 + n * 309485009821345068724781056 + o * 79228162514264337593543950336 + p * 20282409603651670423947251286016) v (omega arith) b' (omega arith) in
+    let at_c = byte_in (a + b * 256) 65536 c (d + e * 256 + f * 65536 + g * 16777216 + h * 4294967296 + i * 1099511627776 + j * 281474976710656 + k * 72057594037927936 + l * 18446744073709551616 + m * 4722366482869645213696 + n
+    * 1208925819614629174706176 + o * 309485009821345068724781056 + p * 79228162514264337593543950336) v (omega arith) c' (omega arith) in
+    let at_d = byte_in (a + b * 256 + c * 65536) 16777216 d (e + f * 256 + g * 65536 + h * 16777216 + i * 4294967296 + j * 1099511627776 + k * 281474976710656 + l * 72057594037927936 + m * 18446744073709551616 + n * 4722366482869645213696
+    + o * 1208925819614629174706176 + p * 309485009821345068724781056) v (omega arith) d' (omega arith) in
+    let at_e = byte_in (a + b * 256 + c * 65536 + d * 16777216) 4294967296 e (f + g * 256 + h * 65536 + i * 16777216 + j * 4294967296 + k * 1099511627776 + l * 281474976710656 + m * 72057594037927936 + n * 18446744073709551616 + o
+    * 4722366482869645213696 + p * 1208925819614629174706176) v (omega arith) e' (omega arith) in
+    let at_f = byte_in (a + b * 256 + c * 65536 + d * 16777216 + e * 4294967296) 1099511627776 f
+    (g + h * 256 + i * 65536 + j * 16777216 + k * 4294967296 + l * 1099511627776 + m * 281474976710656 + n * 72057594037927936 + o * 18446744073709551616 + p * 4722366482869645213696) v (omega arith) f' (omega arith) in
+    let at_g = byte_in (a + b * 256 + c * 65536 + d * 16777216 + e * 4294967296 + f * 1099511627776) 281474976710656 g
+    (h + i * 256 + j * 65536 + k * 16777216 + l * 4294967296 + m * 1099511627776 + n * 281474976710656 + o * 72057594037927936 + p * 18446744073709551616) v (omega arith) g' (omega arith) in
+    let at_h = byte_in (a + b * 256 + c * 65536 + d * 16777216 + e * 4294967296 + f * 1099511627776 + g * 281474976710656) 72057594037927936 h
+    (i + j * 256 + k * 65536 + l * 16777216 + m * 4294967296 + n * 1099511627776 + o * 281474976710656 + p * 72057594037927936) v (omega arith) h' (omega arith) in
+    let at_i = byte_in (a + b * 256 + c * 65536 + d * 16777216 + e * 4294967296 + f * 1099511627776 + g * 281474976710656 + h * 72057594037927936) 18446744073709551616 i
+    (j + k * 256 + l * 65536 + m * 16777216 + n * 4294967296 + o * 1099511627776 + p * 281474976710656) v (omega arith) i' (omega arith) in
+    let at_j = byte_in (a + b * 256 + c * 65536 + d * 16777216 + e * 4294967296 + f * 1099511627776 + g * 281474976710656 + h * 72057594037927936 + i * 18446744073709551616) 4722366482869645213696 j
+    (k + l * 256 + m * 65536 + n * 16777216 + o * 4294967296 + p * 1099511627776) v (omega arith) j' (omega arith) in
+    let at_k = byte_in (a + b * 256 + c * 65536 + d * 16777216 + e * 4294967296 + f * 1099511627776 + g * 281474976710656 + h * 72057594037927936 + i * 18446744073709551616 + j * 4722366482869645213696) 1208925819614629174706176 k
+    (l + m * 256 + n * 65536 + o * 16777216 + p * 4294967296) v (omega arith) k' (omega arith) in
+    let at_l = byte_in (a + b * 256 + c * 65536 + d * 16777216 + e * 4294967296 + f * 1099511627776 + g * 281474976710656 + h * 72057594037927936 + i * 18446744073709551616 + j * 4722366482869645213696 + k
+    * 1208925819614629174706176) 309485009821345068724781056 l (m + n * 256 + o * 65536 + p * 16777216) v (omega arith) l' (omega arith) in
+    let at_m = byte_in (a + b * 256 + c * 65536 + d * 16777216 + e * 4294967296 + f * 1099511627776 + g * 281474976710656 + h * 72057594037927936 + i * 18446744073709551616 + j * 4722366482869645213696 + k * 1208925819614629174706176 + l
+    * 309485009821345068724781056) 79228162514264337593543950336 m (n + o * 256 + p * 65536) v (omega arith) m' (omega arith) in
+    let at_n = byte_in (a + b * 256 + c * 65536 + d * 16777216 + e * 4294967296 + f * 1099511627776 + g * 281474976710656 + h * 72057594037927936 + i * 18446744073709551616 + j * 4722366482869645213696 + k * 1208925819614629174706176 + l
+    * 309485009821345068724781056 + m * 79228162514264337593543950336) 20282409603651670423947251286016 n (o + p * 256) v (omega arith) n' (omega arith) in
+    let at_o = byte_in (a + b * 256 + c * 65536 + d * 16777216 + e * 4294967296 + f * 1099511627776 + g * 281474976710656 + h * 72057594037927936 + i * 18446744073709551616 + j * 4722366482869645213696 + k * 1208925819614629174706176 + l
+    * 309485009821345068724781056 + m * 79228162514264337593543950336 + n * 20282409603651670423947251286016) 5192296858534827628530496329220096 o (p) v (omega arith) o' (omega arith) in
+    let at_p = byte_in (a + b * 256 + c * 65536 + d * 16777216 + e * 4294967296 + f * 1099511627776 + g * 281474976710656 + h * 72057594037927936 + i * 18446744073709551616 + j * 4722366482869645213696 + k * 1208925819614629174706176 + l
+    * 309485009821345068724781056 + m * 79228162514264337593543950336 + n * 20282409603651670423947251286016 + o * 5192296858534827628530496329220096) 1329227995784915872903807060280344576 p (0) v (omega arith) p' (omega arith) in
     λ i. at_p i ∷ at_o i ∷ at_n i ∷ at_m i ∷ at_l i ∷ at_k i ∷ at_j i ∷ at_i i ∷ at_h i ∷ at_g i ∷ at_f i ∷ at_e i ∷ at_d i ∷ at_c i ∷ at_b i ∷ at_a i ∷ []
 
-written_16 : (bs : List ℕ) → length bs ≡ 16 → get_or bs 0 0 ∷ get_or bs 1 0 ∷ get_or bs 2 0 ∷ get_or bs 3 0 ∷ get_or bs 4 0 ∷ get_or bs 5 0 ∷ get_or bs 6 0 ∷ get_or bs 7 0 ∷ get_or bs 8 0 ∷ get_or bs 9 0 ∷ get_or bs 10 0 ∷ get_or bs 11 0 ∷ get_or bs 12 0 ∷ get_or bs 13 0 ∷ get_or bs 14 0 ∷ get_or bs 15 0 ∷ [] ≡ bs
+written_16 : (bs : List ℕ) → length bs ≡ 16 → get_or bs 0 0 ∷ get_or bs 1 0 ∷ get_or bs 2 0 ∷ get_or bs 3 0 ∷ get_or bs 4 0 ∷ get_or bs 5 0 ∷ get_or bs 6 0 ∷ get_or bs 7 0 ∷ get_or bs 8 0 ∷ get_or bs 9 0
+    ∷ get_or bs 10 0 ∷ get_or bs 11 0 ∷ get_or bs 12 0 ∷ get_or bs 13 0 ∷ get_or bs 14 0 ∷ get_or bs 15 0 ∷ [] ≡ bs
 written_16 [] l = absurd (omega arith)
 written_16 (x0 ∷ []) l = absurd (omega arith)
 written_16 (x0 ∷ x1 ∷ []) l = absurd (omega arith)
@@ -84,22 +109,47 @@ written_16 (x0 ∷ x1 ∷ x2 ∷ x3 ∷ x4 ∷ x5 ∷ x6 ∷ x7 ∷ x8 ∷ x9 �
 written_16 (x0 ∷ x1 ∷ x2 ∷ x3 ∷ x4 ∷ x5 ∷ x6 ∷ x7 ∷ x8 ∷ x9 ∷ x10 ∷ x11 ∷ x12 ∷ x13 ∷ x14 ∷ x15 ∷ x16 ∷ bs) l = absurd (omega arith)
 
 from_16 : (bs : List ℕ) → length bs ≡ 16 → AreBytes bs → to_be_bytes w128 (from_be_bytes w128 bs) ≡ bs
-from_16 bs l k = bytes_16 (get_or bs 15 0) (get_or bs 14 0) (get_or bs 13 0) (get_or bs 12 0) (get_or bs 11 0) (get_or bs 10 0) (get_or bs 9 0) (get_or bs 8 0) (get_or bs 7 0) (get_or bs 6 0) (get_or bs 5 0) (get_or bs 4 0) (get_or bs 3 0) (get_or bs 2 0) (get_or bs 1 0) (get_or bs 0 0) (from_be_bytes w128 bs) (byte_at bs k 15) (byte_at bs k 14) (byte_at bs k 13) (byte_at bs k 12) (byte_at bs k 11) (byte_at bs k 10) (byte_at bs k 9) (byte_at bs k 8) (byte_at bs k 7) (byte_at bs k 6) (byte_at bs k 5) (byte_at bs k 4) (byte_at bs k 3) (byte_at bs k 2) (byte_at bs k 1) (byte_at bs k 0) (omega arith) ∙ written_16 bs l
+from_16 bs l k = bytes_16 (get_or bs 15 0) (get_or bs 14 0) (get_or bs 13 0) (get_or bs 12 0) (get_or bs 11 0) (get_or bs 10 0) (get_or bs 9 0) (get_or bs 8 0) (get_or bs 7 0) (get_or bs 6 0) (get_or bs 5 0) (get_or bs 4 0) (get_or bs 3 0)
+    (get_or bs 2 0) (get_or bs 1 0) (get_or bs 0 0) (from_be_bytes w128 bs) (byte_at bs k 15) (byte_at bs k 14) (byte_at bs k 13) (byte_at bs k 12) (byte_at bs k 11) (byte_at bs k 10) (byte_at bs k 9) (byte_at bs k 8) (byte_at bs k 7)
+    (byte_at bs k 6) (byte_at bs k 5) (byte_at bs k 4) (byte_at bs k 3) (byte_at bs k 2) (byte_at bs k 1) (byte_at bs k 0) (omega arith) ∙ written_16 bs l
 
 small_16 : (bs : List ℕ) → AreBytes bs → from_be_bytes w128 bs < 2 ^ 128
-small_16 bs k = omega (arith, byte_at bs k 0, byte_at bs k 1, byte_at bs k 2, byte_at bs k 3, byte_at bs k 4, byte_at bs k 5, byte_at bs k 6, byte_at bs k 7, byte_at bs k 8, byte_at bs k 9, byte_at bs k 10, byte_at bs k 11, byte_at bs k 12, byte_at bs k 13, byte_at bs k 14, byte_at bs k 15)
+small_16 bs k = omega (
+  arith,
+  byte_at bs k 0,
+  byte_at bs k 1,
+  byte_at bs k 2,
+  byte_at bs k 3,
+  byte_at bs k 4,
+  byte_at bs k 5,
+  byte_at bs k 6,
+  byte_at bs k 7,
+  byte_at bs k 8,
+  byte_at bs k 9,
+  byte_at bs k 10,
+  byte_at bs k 11,
+  byte_at bs k 12,
+  byte_at bs k 13,
+  byte_at bs k 14,
+  byte_at bs k 15,
+)
 
 byte_and_rest : (n p : ℕ) → n / p ≡ n / p % 256 + n / (p * 256) * 256
 byte_and_rest n p = omega (arith, nat.div-div-eq-div-mul n p 256)
 
-joined_16 : (a b c d e f g h i j k l m n o p v q1 q2 q3 q4 q5 q6 q7 q8 q9 q10 q11 q12 q13 q14 q15 : ℕ) → v ≡ a + q1 * 256 → q1 ≡ b + q2 * 256 → q2 ≡ c + q3 * 256 → q3 ≡ d + q4 * 256 → q4 ≡ e + q5 * 256 → q5 ≡ f + q6 * 256 → q6 ≡ g + q7 * 256 → q7 ≡ h + q8 * 256 → q8 ≡ i + q9 * 256 → q9 ≡ j + q10 * 256 → q10 ≡ k + q11 * 256 → q11 ≡ l + q12 * 256 → q12 ≡ m + q13 * 256 → q13 ≡ n + q14 * 256 → q14 ≡ o + q15 * 256 → q15 ≡ p → p * 1329227995784915872903807060280344576 + o * 5192296858534827628530496329220096 + n * 20282409603651670423947251286016 + m * 79228162514264337593543950336 + l * 309485009821345068724781056 + k * 1208925819614629174706176 + j * 4722366482869645213696 + i * 18446744073709551616 + h * 72057594037927936 + g * 281474976710656 + f * 1099511627776 + e * 4294967296 + d * 16777216 + c * 65536 + b * 256 + a ≡ v
+joined_16 : (a b c d e f g h i j k l m n o p v q1 q2 q3 q4 q5 q6 q7 q8 q9 q10 q11 q12 q13 q14 q15 : ℕ) → v ≡ a + q1 * 256 → q1 ≡ b + q2 * 256 → q2 ≡ c + q3 * 256 → q3 ≡ d + q4 * 256 → q4 ≡ e + q5 * 256
+    → q5 ≡ f + q6 * 256 → q6 ≡ g + q7 * 256 → q7 ≡ h + q8 * 256 → q8 ≡ i + q9 * 256 → q9 ≡ j + q10 * 256 → q10 ≡ k + q11 * 256 → q11 ≡ l + q12 * 256 → q12 ≡ m + q13 * 256 → q13 ≡ n + q14 * 256
+    → q14 ≡ o + q15 * 256 → q15 ≡ p → p * 1329227995784915872903807060280344576 + o * 5192296858534827628530496329220096 + n * 20282409603651670423947251286016 + m * 79228162514264337593543950336 + l * 309485009821345068724781056
+    + k * 1208925819614629174706176 + j * 4722366482869645213696 + i * 18446744073709551616 + h * 72057594037927936 + g * 281474976710656 + f * 1099511627776 + e * 4294967296 + d * 16777216 + c * 65536 + b * 256 + a ≡ v
 joined_16 a b c d e f g h i j k l m n o p v q1 q2 q3 q4 q5 q6 q7 q8 q9 q10 q11 q12 q13 q14 q15 at_0 at_1 at_2 at_3 at_4 at_5 at_6 at_7 at_8 at_9 at_10 at_11 at_12 at_13 at_14 at_15 = omega arith
 
 to_16 : (n : ℕ) → n < 2 ^ 128 → from_be_bytes w128 (to_be_bytes w128 n) ≡ n
 to_16 n fits =
     let low : n ≡ n % 256 + n / 256 * 256 = omega arith in
     let high : n / 1329227995784915872903807060280344576 ≡ n / 1329227995784915872903807060280344576 % 256 = omega arith in
-    joined_16 _ _ _ _ _ _ _ _ _ _ _ _ _ _ _ _ n _ _ _ _ _ _ _ _ _ _ _ _ _ _ _ low (byte_and_rest n 256) (byte_and_rest n 65536) (byte_and_rest n 16777216) (byte_and_rest n 4294967296) (byte_and_rest n 1099511627776) (byte_and_rest n 281474976710656) (byte_and_rest n 72057594037927936) (byte_and_rest n 18446744073709551616) (byte_and_rest n 4722366482869645213696) (byte_and_rest n 1208925819614629174706176) (byte_and_rest n 309485009821345068724781056) (byte_and_rest n 79228162514264337593543950336) (byte_and_rest n 20282409603651670423947251286016) (byte_and_rest n 5192296858534827628530496329220096) high
+    joined_16 _ _ _ _ _ _ _ _ _ _ _ _ _ _ _ _ n _ _ _ _ _ _ _ _ _ _ _ _ _ _ _ low (byte_and_rest n 256) (byte_and_rest n 65536) (byte_and_rest n 16777216) (byte_and_rest n 4294967296) (byte_and_rest n 1099511627776)
+    (byte_and_rest n 281474976710656) (byte_and_rest n 72057594037927936) (byte_and_rest n 18446744073709551616) (byte_and_rest n 4722366482869645213696) (byte_and_rest n 1208925819614629174706176)
+    (byte_and_rest n 309485009821345068724781056) (byte_and_rest n 79228162514264337593543950336) (byte_and_rest n 20282409603651670423947251286016) (byte_and_rest n 5192296858534827628530496329220096) high
 
 pub int_format : Format (λ n. SFits w128 n) int_bytes int_at
 unfolding int_at int_bytes
@@ -135,7 +185,8 @@ names_complete xs e rest k =
     ∙ ap (λ b. given b (names.listed xs, rest)) e
     ∙ ap (λ s. Some (s, rest)) (names.or_else-yes xs names.none e)
 
-names_sound : (n : ℕ) (bytes : List ℕ) (s : Names) (rest : List ℕ) → AreBytes bytes → names_at n bytes ≡ Some (s, rest) → (xs : List Name) × ((e : names.are_listed xs ≡ true) × ((s ≡ names.some xs e) × (((length xs ≡ n) × Each (λ a. IsTrue (is_short a)) xs) × (bytes ≡ flat_map name_bytes xs ++ rest))))
+names_sound : (n : ℕ) (bytes : List ℕ) (s : Names) (rest : List ℕ) → AreBytes bytes → names_at n bytes ≡ Some (s, rest)
+    → (xs : List Name) × ((e : names.are_listed xs ≡ true) × ((s ≡ names.some xs e) × (((length xs ≡ n) × Each (λ a. IsTrue (is_short a)) xs) × (bytes ≡ flat_map name_bytes xs ++ rest))))
 unfolding names_at
 names_sound n bytes s rest k e =
     let ys = bound (many n name_at bytes) (λ ys. given (names.are_listed ys.0) (names.listed ys.0, ys.1)) (s, rest) e in
@@ -150,7 +201,8 @@ pub atoms_format : Format (λ s. (names.is_none s ≡ false) × IsTrue (are_shor
 unfolding atoms_at
 atoms_format = record { complete = complete; sound = sound }
   where
-    complete : (s : Names) (rest : List ℕ) → (names.is_none s ≡ false) × IsTrue (are_short s) → first (λ b rest. cond (b == 0) (Some (names.every, rest)) (cond (nat_le b 13) (names_at b rest) None)) (atoms_bytes s ++ rest) ≡ Some (s, rest)
+    complete : (s : Names) (rest : List ℕ) → (names.is_none s ≡ false) × IsTrue (are_short s)
+        → first (λ b rest. cond (b == 0) (Some (names.every, rest)) (cond (nat_le b 13) (names_at b rest) None)) (atoms_bytes s ++ rest) ≡ Some (s, rest)
     complete names.every rest k = refl
     complete (names.some [] e) rest k = absurd (true≢false k.0)
     complete (names.some (x ∷ xs) e) rest k =
@@ -161,7 +213,8 @@ atoms_format = record { complete = complete; sound = sound }
         ∙ ap (λ b. cond b (names_at n later) None) (few n (second_true (is_ascending name_cmp (x ∷ xs)) (are_few (x ∷ xs)) e))
         ∙ names_complete (x ∷ xs) e rest (short_each (x ∷ xs) k.1)
 
-    sound : (bytes : List ℕ) (s : Names) (rest : List ℕ) → AreBytes bytes → first (λ b rest. cond (b == 0) (Some (names.every, rest)) (cond (nat_le b 13) (names_at b rest) None)) bytes ≡ Some (s, rest) → ((names.is_none s ≡ false) × IsTrue (are_short s)) × (bytes ≡ atoms_bytes s ++ rest)
+    sound : (bytes : List ℕ) (s : Names) (rest : List ℕ) → AreBytes bytes → first (λ b rest. cond (b == 0) (Some (names.every, rest)) (cond (nat_le b 13) (names_at b rest) None)) bytes ≡ Some (s, rest)
+        → ((names.is_none s ≡ false) × IsTrue (are_short s)) × (bytes ≡ atoms_bytes s ++ rest)
     sound [] s rest k e = never (s, rest) e
     sound (b ∷ bytes) s rest k e = elim (chosen (b == 0) (Some (names.every, bytes)) (cond (nat_le b 13) (names_at b bytes) None) (Some (s, rest)) e) [
       | inl c ↦
@@ -191,11 +244,13 @@ fits_each (x ∷ xs) k = (narrow_fits x (first_true (is_narrow x) (list_all is_n
 numbers_complete : (xs : List ℤ) (e : numbers.are_listed xs ≡ true) (rest : List ℕ) → numbers_at (length xs) (flat_map int_bytes xs ++ rest) ≡ Some (numbers.some xs e, rest)
 unfolding numbers_at
 numbers_complete xs e rest =
-    ap (λ r. r >>= λ ys. given (numbers.are_listed ys.0) (numbers.listed ys.0, ys.1)) ((many_format int_format (length xs)).complete xs rest (refl, fits_each xs (second_true (is_ascending int_cmp xs && are_few xs) (list_all is_narrow xs) e)))
+    ap (λ r. r >>= λ ys. given (numbers.are_listed ys.0) (numbers.listed ys.0, ys.1))
+    ((many_format int_format (length xs)).complete xs rest (refl, fits_each xs (second_true (is_ascending int_cmp xs && are_few xs) (list_all is_narrow xs) e)))
     ∙ ap (λ b. given b (numbers.listed xs, rest)) e
     ∙ ap (λ s. Some (s, rest)) (numbers.or_else-yes xs numbers.none e)
 
-numbers_sound : (n : ℕ) (bytes : List ℕ) (s : Numbers) (rest : List ℕ) → AreBytes bytes → numbers_at n bytes ≡ Some (s, rest) → (xs : List ℤ) × ((e : numbers.are_listed xs ≡ true) × ((s ≡ numbers.some xs e) × ((length xs ≡ n) × (bytes ≡ flat_map int_bytes xs ++ rest))))
+numbers_sound : (n : ℕ) (bytes : List ℕ) (s : Numbers) (rest : List ℕ) → AreBytes bytes → numbers_at n bytes ≡ Some (s, rest)
+    → (xs : List ℤ) × ((e : numbers.are_listed xs ≡ true) × ((s ≡ numbers.some xs e) × ((length xs ≡ n) × (bytes ≡ flat_map int_bytes xs ++ rest))))
 unfolding numbers_at
 numbers_sound n bytes s rest k e =
     let ys = bound (many n int_at bytes) (λ ys. given (numbers.are_listed ys.0) (numbers.listed ys.0, ys.1)) (s, rest) e in
@@ -240,7 +295,8 @@ high_sound (suc (suc zero)) h e = ap (number_of high_number) e
 high_sound (suc (suc (suc zero))) h e = ap (number_of high_number) e
 high_sound (suc (suc (suc (suc n)))) h e = never h e
 
-interval_sound : (n : ℕ) (bytes : List ℕ) (s : Numbers) (rest : List ℕ) → interval_at n bytes ≡ Some (s, rest) → (l : Low) × ((h : High) × ((e : is_range l h ≡ true) × ((s ≡ numbers.between l h e) × ((n ≡ 4 * low_number l + high_number h) × (bytes ≡ rest)))))
+interval_sound : (n : ℕ) (bytes : List ℕ) (s : Numbers) (rest : List ℕ) → interval_at n bytes ≡ Some (s, rest)
+    → (l : Low) × ((h : High) × ((e : is_range l h ≡ true) × ((s ≡ numbers.between l h e) × ((n ≡ 4 * low_number l + high_number h) × (bytes ≡ rest)))))
 unfolding interval_at
 interval_sound n bytes s rest e =
     let l = bound (low_at (n / 4)) (λ l. high_at (n % 4) >>= λ h. given (is_range l h) (numbers.range l h, bytes)) (s, rest) e in
@@ -278,7 +334,8 @@ pub ints_format : Format (λ s. numbers.is_none s ≡ false) ints_bytes ints_at
 unfolding ints_at
 ints_format = record { complete = complete; sound = sound }
   where
-    complete : (s : Numbers) (rest : List ℕ) → numbers.is_none s ≡ false → first (λ b rest. cond (nat_le 128 b) (interval_at (b - 128) rest) (cond (b == 0) None (cond (nat_le b 13) (numbers_at b rest) None))) (ints_bytes s ++ rest) ≡ Some (s, rest)
+    complete : (s : Numbers) (rest : List ℕ) → numbers.is_none s ≡ false → first (λ b rest. cond (nat_le 128 b) (interval_at (b - 128) rest) (cond (b == 0) None (cond (nat_le b 13) (numbers_at b rest) None))) (ints_bytes s ++ rest)
+        ≡ Some (s, rest)
     complete (numbers.some [] e) rest k = absurd (true≢false k)
     complete (numbers.some (x ∷ xs) e) rest k = listed x xs e rest
     complete (numbers.between l h e) rest k = interval l h e rest
@@ -287,7 +344,8 @@ ints_format = record { complete = complete; sound = sound }
     filled [] e h = absurd (h refl)
     filled (x ∷ xs) e h = refl
 
-    sound : (bytes : List ℕ) (s : Numbers) (rest : List ℕ) → AreBytes bytes → first (λ b rest. cond (nat_le 128 b) (interval_at (b - 128) rest) (cond (b == 0) None (cond (nat_le b 13) (numbers_at b rest) None))) bytes ≡ Some (s, rest) → (numbers.is_none s ≡ false) × (bytes ≡ ints_bytes s ++ rest)
+    sound : (bytes : List ℕ) (s : Numbers) (rest : List ℕ) → AreBytes bytes → first (λ b rest. cond (nat_le 128 b) (interval_at (b - 128) rest) (cond (b == 0) None (cond (nat_le b 13) (numbers_at b rest) None))) bytes
+        ≡ Some (s, rest) → (numbers.is_none s ≡ false) × (bytes ≡ ints_bytes s ++ rest)
     sound [] s rest k e = never (s, rest) e
     sound (b ∷ bytes) s rest k e = elim (chosen (nat_le 128 b) (interval_at (b - 128) bytes) (cond (b == 0) None (cond (nat_le b 13) (numbers_at b bytes) None)) (Some (s, rest)) e) [
       | inl c ↦
@@ -315,7 +373,8 @@ bits_format = record { complete = complete; sound = sound }
     complete Whole rest k = refl
     complete Any rest k = refl
 
-    sound : (bytes : List ℕ) (s : Bits) (rest : List ℕ) → AreBytes bytes → first {X = Bits × List ℕ} (λ b rest. cond (b == 1) (Some (Whole, rest)) (cond (b == 2) (Some (Any, rest)) None)) bytes ≡ Some (s, rest) → (is_no_bits s ≡ false) × (bytes ≡ bits_bytes s ++ rest)
+    sound : (bytes : List ℕ) (s : Bits) (rest : List ℕ) → AreBytes bytes → first {X = Bits × List ℕ} (λ b rest. cond (b == 1) (Some (Whole, rest)) (cond (b == 2) (Some (Any, rest)) None)) bytes ≡ Some (s, rest)
+        → (is_no_bits s ≡ false) × (bytes ≡ bits_bytes s ++ rest)
     sound [] s rest k e = never (s, rest) e
     sound (b ∷ bytes) s rest k e = elim (chosen (b == 1) (Some (Whole, bytes)) (cond (b == 2) (Some (Any, bytes)) None) (Some (s, rest)) e) [
       | inl c ↦ let f = some_pair_parts Whole s bytes rest c.1 in subst (λ t. (is_no_bits t ≡ false) × (b ∷ bytes ≡ bits_bytes t ++ rest)) f.0 (refl, (λ i. eqb-true b 1 c.0 i ∷ f.1 i))
@@ -329,19 +388,28 @@ pub functions_format : Format (λ s. (is_no_function s ≡ false) × NormalFunct
 unfolding functions_at
 functions_format = record { complete = complete; sound = sound }
   where
-    complete : (s : Functions) (rest : List ℕ) → (is_no_function s ≡ false) × NormalFunctions s → first {X = Functions × List ℕ} (λ b rest. cond (b == 0) (Some (all_functions, rest)) (cond (b == 1) (number_at rest >>= λ n. Some (of_arity n.0, n.1)) None)) (functions_bytes s ++ rest) ≡ Some (s, rest)
+    complete : (s : Functions) (rest : List ℕ) → (is_no_function s ≡ false) × NormalFunctions s
+        → first {X = Functions × List ℕ} (λ b rest. cond (b == 0) (Some (all_functions, rest)) (cond (b == 1) (number_at rest >>= λ n. Some (of_arity n.0, n.1)) None)) (functions_bytes s ++ rest) ≡ Some (s, rest)
     complete no_function rest k = absurd (true≢false k.0)
     complete (of_arity n) rest k = ap (λ r. r >>= λ m. Some (of_arity m.0, m.1)) (number_format.complete n rest (ltb-true n (2 ^ 32) k.1))
     complete all_functions rest k = refl
 
-    sound : (bytes : List ℕ) (s : Functions) (rest : List ℕ) → AreBytes bytes → first {X = Functions × List ℕ} (λ b rest. cond (b == 0) (Some (all_functions, rest)) (cond (b == 1) (number_at rest >>= λ n. Some (of_arity n.0, n.1)) None)) bytes ≡ Some (s, rest) → ((is_no_function s ≡ false) × NormalFunctions s) × (bytes ≡ functions_bytes s ++ rest)
+    sound : (bytes : List ℕ) (s : Functions) (rest : List ℕ) → AreBytes bytes → first {X = Functions × List ℕ}
+        (λ b rest. cond (b == 0) (Some (all_functions, rest)) (cond (b == 1) (number_at rest >>= λ n. Some (of_arity n.0, n.1)) None)) bytes ≡ Some (s, rest)
+        → ((is_no_function s ≡ false) × NormalFunctions s) × (bytes ≡ functions_bytes s ++ rest)
     sound [] s rest k e = never (s, rest) e
     sound (b ∷ bytes) s rest k e = elim (chosen (b == 0) (Some (all_functions, bytes)) (cond (b == 1) (number_at bytes >>= λ n. Some (of_arity n.0, n.1)) None) (Some (s, rest)) e) [
-      | inl c ↦ let f = some_pair_parts all_functions s bytes rest c.1 in subst (λ t. ((is_no_function t ≡ false) × NormalFunctions t) × (b ∷ bytes ≡ functions_bytes t ++ rest)) f.0 ((refl, tt), (λ i. eqb-true b 0 c.0 i ∷ f.1 i))
+      | inl c ↦ let f = some_pair_parts all_functions s bytes rest c.1 in subst (λ t. ((is_no_function t ≡ false) × NormalFunctions t) × (b ∷ bytes ≡ functions_bytes t ++ rest)) f.0 (
+        (refl, tt),
+        (λ i. eqb-true b 0 c.0 i ∷ f.1 i),
+      )
       | inr c ↦
           let g = granted (b == 1) (number_at bytes >>= λ n. Some (of_arity n.0, n.1)) (s, rest) c.1 in
           let n = bound (number_at bytes) (λ n. Some (of_arity n.0, n.1)) (s, rest) g.1 in
           let f = some_pair_parts (of_arity n.0.0) s n.0.1 rest n.1.1 in
           let number = number_format.sound bytes n.0.0 n.0.1 k.1 n.1.0 in
-          subst (λ t. ((is_no_function t ≡ false) × NormalFunctions t) × (b ∷ bytes ≡ functions_bytes t ++ rest)) f.0 ((refl, lt-ltb n.0.0 (2 ^ 32) number.0), (λ i. eqb-true b 1 g.0 i ∷ (number.1 ∙ ap (λ r. four_bytes n.0.0 ++ r) f.1) i))
+          subst (λ t. ((is_no_function t ≡ false) × NormalFunctions t) × (b ∷ bytes ≡ functions_bytes t ++ rest)) f.0 (
+            (refl, lt-ltb n.0.0 (2 ^ 32) number.0),
+            (λ i. eqb-true b 1 g.0 i ∷ (number.1 ∙ ap (λ r. four_bytes n.0.0 ++ r) f.1) i),
+          )
     ]

@@ -1,5 +1,6 @@
 -- Each shape of the layout is found by the function that cuts behind it.
-use Rattle.std.proofs.Common.{◌≡◌, ◌⊎◌, inl, inr, ℕ, zero, suc, ◌+◌, ◌*◌, ◌-◌, ◌≤◌, true, false, cond, ◌&&◌, List, [], ◌∷◌, ◌++◌, length, take, drop, refl, sym, ap, ◌∙◌, arith, append_assoc, true≢false}
+use Rattle.std.proofs.Common.{◌≡◌, ◌⊎◌, inl, inr, ℕ, zero, suc, ◌+◌, ◌*◌, ◌-◌, ◌≤◌, true, false, cond, ◌&&◌, List}
+use Rattle.std.proofs.Common.{[], ◌∷◌, ◌++◌, length, take, drop, refl, sym, ap, ◌∙◌, arith, append_assoc, true≢false}
 use Rattle.std.specs.Prelude.{nat_lt, nat_le, ◌==◌, Ok, Err}
 use Rattle.std.specs.Int.{w32, from_be_bytes, bit_at}
 use Rattle.std.proofs.lemmas.List.{append-nil, take-append-drop, length-append, length-take}
@@ -8,9 +9,11 @@ use Rattle.std.proofs.lemmas.Bool.{cases_Bool, and_from}
 use Rattle.type_kinds.proofs.Truths.{first, second}
 use borrow.Author.Tests.{ltb-true, ltb-false, lt-ltb, le-ltb, eqb-true, eqb-false, leb-true, le-leb}
 use Rattle.type_bytes.specs.declared.faults.ShapeFault.TheVariants.{Short, Broken}
-use Rattle.type_bytes.specs.Shapes.{Nothing, Bytes, Both, Begins, Counted, Where, NameShape, AtomsShape, IntsShape, BitsShape, FunctionsShape, CellShape, TagShape, TagsShape, SizeShape, TuplesShape, PartsShape, MaskedShape, ElementBehind, TypeShape, IsShort}
+use Rattle.type_bytes.specs.Shapes.{Nothing, Bytes, Both, Begins, Counted, Where, NameShape, AtomsShape, IntsShape, BitsShape, FunctionsShape}
+use Rattle.type_bytes.specs.Shapes.{CellShape, TagShape, TagsShape, SizeShape, TuplesShape, PartsShape, MaskedShape, ElementBehind, TypeShape, IsShort}
 use Rattle.type_bytes.specs.steps.Cuts.{Cut, ◌>>=◌, skip, where_set, name_cut, atoms_cut, ints_cut, bits_cut, functions_cut, cell_cut, tag_cut, tags_cut, body_cut, size_cut, tuples_cut, parts_cut, masked_cut, behind_cut, type_cut}
-use Rattle.type_bytes.proofs.CutLaws.{Tells, further, ok_not_err, broken_not_short, same_left, zeros, length-zeros, zeros_some, nothing_tells, never_tells, same_tells, skip_tells, both_tells, many_some, many_tells, where_tells, where_some, first_tells, test_tells, counted_tells}
+use Rattle.type_bytes.proofs.CutLaws.{Tells, further, ok_not_err, broken_not_short, same_left, zeros, length-zeros, zeros_some, nothing_tells, never_tells}
+use Rattle.type_bytes.proofs.CutLaws.{same_tells, skip_tells, both_tells, many_some, many_tells, where_tells, where_some, first_tells, test_tells, counted_tells}
 
 -- ---- atoms
 
@@ -183,7 +186,8 @@ module _ {P : List ℕ → Type 0} {f : List ℕ → Cut} (t : Tells P f) (some 
   from_bits : (m : ℕ) → (x : List ℕ) × Both (Where (bit_at m 3 == 1) BitsShape) (Both (Where (bit_at m 7 == 1) FunctionsShape) (Both (Where (bit_at m 9 == 1) (CellShape P)) (Where (bit_at m 10 == 1) (TuplesShape P)))) x
   from_bits m = both_some (where_some BitsShape (1 ∷ []) (omega arith, (omega arith, refl)) (bit_at m 3 == 1)) (from_functions m)
 
-  from_ints : (m : ℕ) → (x : List ℕ) × Both (Where (bit_at m 1 == 1) IntsShape) (Both (Where (bit_at m 3 == 1) BitsShape) (Both (Where (bit_at m 7 == 1) FunctionsShape) (Both (Where (bit_at m 9 == 1) (CellShape P)) (Where (bit_at m 10 == 1) (TuplesShape P))))) x
+  from_ints : (m : ℕ) → (x : List ℕ) × Both (Where (bit_at m 1 == 1) IntsShape) (Both (Where (bit_at m 3 == 1) BitsShape)
+      (Both (Where (bit_at m 7 == 1) FunctionsShape) (Both (Where (bit_at m 9 == 1) (CellShape P)) (Where (bit_at m 10 == 1) (TuplesShape P))))) x
   from_ints m = both_some (where_some IntsShape (128 ∷ []) (inr (omega arith, (omega arith, refl))) (bit_at m 1 == 1)) (from_bits m)
 
   some_parts : (m : ℕ) → (x : List ℕ) × PartsShape P m x

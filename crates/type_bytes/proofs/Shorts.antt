@@ -22,7 +22,8 @@ module _ {A E : Type 0} (test : E → Bool) (f : List A → List E) (g : A → E
   pub not_all : (xs : List A) (i : ℕ) (x : A) → i < length xs → x ≡ slice_index_or xs i x → (r : Bool) → r ≡ test (g x) → r ≡ false → false ≡ list_all test (f xs)
   not_all xs i x h is r k fails = sym (ap (list_all test) (same xs) ∙ list_all-map test g xs ∙ list_all_at (λ y. test (g y)) xs i x h (ap (λ y. test (g y)) (sym is) ∙ sym k ∙ fails))
 
-  pub one_more : (xs : List A) (i : ℕ) (x : A) → i < length xs → x ≡ slice_index_or xs i x → (r : Bool) → r ≡ test (g x) → r ≡ true → list_all test (f (take i xs)) ≡ true → list_all test (f (take (i + 1) xs)) ≡ true
+  pub one_more : (xs : List A) (i : ℕ) (x : A) → i < length xs → x ≡ slice_index_or xs i x → (r : Bool) → r ≡ test (g x) → r ≡ true → list_all test (f (take i xs)) ≡ true
+      → list_all test (f (take (i + 1) xs)) ≡ true
   one_more xs i x h is r k passes so_far =
       let here : test (g (slice_index_or xs i x)) ≡ true = ap (λ y. test (g y)) (sym is) ∙ sym k ∙ passes in
       let before : list_all (λ y. test (g y)) (take i xs) ≡ true = sym (list_all-map test g (take i xs)) ∙ ap (list_all test) (sym (same (take i xs))) ∙ so_far in

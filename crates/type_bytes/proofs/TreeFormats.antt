@@ -1,5 +1,6 @@
 -- Lists, tuples and the parts of a type are read as they are spelled, and nothing else.
-use Rattle.std.proofs.Common.{◌≡◌, inl, inr, ℕ, zero, suc, ◌+◌, ◌*◌, ◌-◌, ◌/◌, ◌%◌, ◌<◌, ◌≤◌, Bool, true, false, not, cond, List, [], ◌∷◌, ◌++◌, Option, Some, None, is_some, length, refl, sym, ap, ◌∙◌, subst, arith, append_assoc, true≢false}
+use Rattle.std.proofs.Common.{◌≡◌, inl, inr, ℕ, zero, suc, ◌+◌, ◌*◌, ◌-◌, ◌/◌, ◌%◌, ◌<◌, ◌≤◌, Bool, true, false, not, cond, List, []}
+use Rattle.std.proofs.Common.{◌∷◌, ◌++◌, Option, Some, None, is_some, length, refl, sym, ap, ◌∙◌, subst, arith, append_assoc, true≢false}
 use Rattle.std.specs.Prelude.{IsTrue, nat_lt, nat_le, ◌==◌}
 use Rattle.std.specs.List.{flat_map, AllByRecursion as Each}
 use Rattle.std.specs.Int.{bit_at}
@@ -19,9 +20,11 @@ use Rattle.type_lattice_model.specs.Tables.{is_table}
 use Rattle.type_lattice_model.specs.Shapes.{Functions, no_function, of_arity, all_functions, Cell, Body, product, tags, Tuples, sizes, all_tuples, Parts}
 use Rattle.type_lattice_model.specs.Operations.{Ops, is_no_bits, is_no_function}
 use Rattle.type_lattice_model.specs.Normal.{NormalFunctions}
-use Rattle.type_bytes.specs.Spelling.{two_bytes, name_bytes, atoms_bytes, ints_bytes, bits_bytes, functions_bytes, cell_bytes, tag_bytes, body_bytes, size_bytes, tuples_bytes, atoms_part, ints_part, bits_part, functions_part, has_tuples, cell_part, tuples_part, parts_of, mask, part_bytes, some_bytes, all_bytes}
+use Rattle.type_bytes.specs.Spelling.{two_bytes, name_bytes, atoms_bytes, ints_bytes, bits_bytes, functions_bytes, cell_bytes, tag_bytes, body_bytes, size_bytes, tuples_bytes}
+use Rattle.type_bytes.specs.Spelling.{atoms_part, ints_part, bits_part, functions_part, has_tuples, cell_part, tuples_part, parts_of, mask, part_bytes, some_bytes, all_bytes}
 use Rattle.type_bytes.specs.ShortNames.{is_short, are_short}
-use Rattle.type_bytes.specs.steps.Reading.{◌>>=◌, first, many, given, where_set, name_at, atoms_at, ints_at, bits_at, functions_at, cell_at, is_open, product_at, tag_at, tags_at, body_at, size_at, sizes_at, tuples_at, mask_flags, parts_at, masked_at}
+use Rattle.type_bytes.specs.steps.Reading.{◌>>=◌, first, many, given, where_set, name_at, atoms_at, ints_at, bits_at, functions_at, cell_at, is_open}
+use Rattle.type_bytes.specs.steps.Reading.{product_at, tag_at, tags_at, body_at, size_at, sizes_at, tuples_at, mask_flags, parts_at, masked_at}
 use Rattle.type_bytes.proofs.FormatLaws.{AreBytes, Format, bytes_left, bound, was_given, chosen, never, passed, granted, many_format, name_format}
 use Rattle.type_bytes.proofs.SetFormats.{atoms_format, ints_format, bits_format, functions_format}
 use Rattle.type_bytes.proofs.MaskLaws.{bit_adds, number_of, AreBits, bits_of, of_bits}
@@ -137,7 +140,8 @@ module _ {E : Type 0} (o : Ops E) (GoodE : E → Type 0) (bytes_of : E → List 
         | inr h ↦ tagged n (passed (n == 0) (cond o.has_tags (cond (nat_le c 13) (tags_at o element (n - 1) c bytes) None) None) (b, rest) h.1) h.0
       ]
         where
-          tagged : (n : ℕ) → ((n == 0) ≡ false) × (cond o.has_tags (cond (nat_le c 13) (tags_at o element (n - 1) c bytes) None) None ≡ Some (b, rest)) → (c == 0) ≡ false → GoodBody n b × (c ∷ bytes ≡ body_bytes bytes_of b ++ rest)
+          tagged : (n : ℕ) → ((n == 0) ≡ false) × (cond o.has_tags (cond (nat_le c 13) (tags_at o element (n - 1) c bytes) None) None ≡ Some (b, rest)) → (c == 0) ≡ false
+              → GoodBody n b × (c ∷ bytes ≡ body_bytes bytes_of b ++ rest)
           tagged zero p some = absurd (true≢false p.0)
           tagged (suc n) p some =
               let one_less : suc n - 1 ≡ n = omega arith in
@@ -161,13 +165,15 @@ module _ {E : Type 0} (o : Ops E) (GoodE : E → Type 0) (bytes_of : E → List 
   unfolding size_at
   size_format = record { complete = complete; sound = sound }
     where
-      complete : (s : ℕ × Body E) (rest : List ℕ) → GoodSize s → first {X = (ℕ × Body E) × List ℕ} (λ n body. cond (nat_le n 64) (body_at o element n body >>= λ b. Some ((n, b.0), b.1)) None) (size_bytes bytes_of s ++ rest) ≡ Some (s, rest)
+      complete : (s : ℕ × Body E) (rest : List ℕ) → GoodSize s → first {X = (ℕ × Body E) × List ℕ} (λ n body. cond (nat_le n 64) (body_at o element n body >>= λ b. Some ((n, b.0), b.1)) None) (size_bytes bytes_of s ++ rest)
+          ≡ Some (s, rest)
       complete s rest k =
           let later = body_bytes bytes_of s.1 ++ rest in
           ap (λ c. cond c (body_at o element s.0 later >>= λ b. Some ((s.0, b.0), b.1)) None) (le-leb s.0 64 k.0)
           ∙ ap (λ r. r >>= λ b. Some ((s.0, b.0), b.1)) ((body_format s.0).complete s.1 rest k.1)
 
-      sound : (bytes : List ℕ) (s : ℕ × Body E) (rest : List ℕ) → AreBytes bytes → first {X = (ℕ × Body E) × List ℕ} (λ n body. cond (nat_le n 64) (body_at o element n body >>= λ b. Some ((n, b.0), b.1)) None) bytes ≡ Some (s, rest) → GoodSize s × (bytes ≡ size_bytes bytes_of s ++ rest)
+      sound : (bytes : List ℕ) (s : ℕ × Body E) (rest : List ℕ) → AreBytes bytes
+          → first {X = (ℕ × Body E) × List ℕ} (λ n body. cond (nat_le n 64) (body_at o element n body >>= λ b. Some ((n, b.0), b.1)) None) bytes ≡ Some (s, rest) → GoodSize s × (bytes ≡ size_bytes bytes_of s ++ rest)
       sound [] s rest k e = never (s, rest) e
       sound (n ∷ bytes) s rest k e =
           let g = granted (nat_le n 64) (body_at o element n bytes >>= λ b. Some ((n, b.0), b.1)) (s, rest) e in
@@ -205,7 +211,10 @@ module _ {E : Type 0} (o : Ops E) (GoodE : E → Type 0) (bytes_of : E → List 
       sound : (bytes : List ℕ) (u : Tuples E) (rest : List ℕ) → AreBytes bytes → first tuples_behind bytes ≡ Some (u, rest) → ((has_tuples bytes_of u ≡ true) × GoodTuples u) × (bytes ≡ tuples_bytes bytes_of u ++ rest)
       sound [] u rest k e = never (u, rest) e
       sound (b ∷ bytes) u rest k e = elim (chosen (b == 0) (Some (all_tuples, bytes)) (cond (nat_le b 8) (sizes_at o element b bytes) None) (Some (u, rest)) e) [
-        | inl h ↦ let f = some_pair_parts all_tuples u bytes rest h.1 in subst (λ x. ((has_tuples bytes_of x ≡ true) × GoodTuples x) × (b ∷ bytes ≡ tuples_bytes bytes_of x ++ rest)) f.0 ((refl, tt), (λ i. eqb-true b 0 h.0 i ∷ f.1 i))
+        | inl h ↦ let f = some_pair_parts all_tuples u bytes rest h.1 in subst (λ x. ((has_tuples bytes_of x ≡ true) × GoodTuples x) × (b ∷ bytes ≡ tuples_bytes bytes_of x ++ rest)) f.0 (
+          (refl, tt),
+          (λ i. eqb-true b 0 h.0 i ∷ f.1 i),
+        )
         | inr h ↦
             let few = granted (nat_le b 8) (sizes_at o element b bytes) (u, rest) h.1 in
             let m = bound (many b (size_at o element) bytes) (λ x. given (is_table nat_cmp x.0) (sizes x.0, x.1)) (u, rest) few.1 in
@@ -219,7 +228,8 @@ module _ {E : Type 0} (o : Ops E) (GoodE : E → Type 0) (bytes_of : E → List 
 
   -- ---- the parts of a type
 
-  where_format : {X : Type 0} (some : X → Bool) (Good : X → Type 0) (spelled : X → List ℕ) (f : List ℕ → Option (X × List ℕ)) (none : X) → Format (λ x. (some x ≡ true) × Good x) spelled f → some none ≡ false → Good none → ((x : X) → some x ≡ false → x ≡ none) → (b : Bool) → Format (λ x. (some x ≡ b) × Good x) (λ x. cond (some x) (spelled x) []) (where_set b none f)
+  where_format : {X : Type 0} (some : X → Bool) (Good : X → Type 0) (spelled : X → List ℕ) (f : List ℕ → Option (X × List ℕ)) (none : X) → Format (λ x. (some x ≡ true) × Good x) spelled f → some none ≡ false
+      → Good none → ((x : X) → some x ≡ false → x ≡ none) → (b : Bool) → Format (λ x. (some x ≡ b) × Good x) (λ x. cond (some x) (spelled x) []) (where_set b none f)
   where_format some Good spelled f none u is_none good only true = record {
     complete = λ x rest k. ap (λ b. f (cond b (spelled x) [] ++ rest)) k.0 ∙ u.complete x rest k;
     sound = λ bytes x rest k e. let s = u.sound bytes x rest k e in (s.0, s.1 ∙ ap (λ b. cond b (spelled x) [] ++ rest) (sym s.0.0));
@@ -284,7 +294,8 @@ module _ {E : Type 0} (o : Ops E) (GoodE : E → Type 0) (bytes_of : E → List 
 
   -- the bits of the parts
   abbrev pub Masked : ℕ → Parts E → Type 0
-  Masked m p = AreBits m (atoms_part p.plain.atoms).some (ints_part p.plain.ints).some p.plain.flags.float (bits_part p.plain.bits).some p.plain.flags.pid p.plain.flags.port p.plain.flags.reference (functions_part p.plain.functions).some p.plain.flags.nil (is_some p.cell) (has_tuples bytes_of p.tuples) p.plain.flags.map
+  Masked m p = AreBits m (atoms_part p.plain.atoms).some (ints_part p.plain.ints).some p.plain.flags.float (bits_part p.plain.bits).some p.plain.flags.pid p.plain.flags.port p.plain.flags.reference
+      (functions_part p.plain.functions).some p.plain.flags.nil (is_some p.cell) (has_tuples bytes_of p.tuples) p.plain.flags.map
 
   abbrev pub GoodParts : Parts E → Type 0
   GoodParts p = IsTrue (are_short p.plain.atoms) × (NormalFunctions p.plain.functions × (GoodCell p.cell × GoodTuples p.tuples))
@@ -393,7 +404,8 @@ module _ {E : Type 0} (o : Ops E) (GoodE : E → Type 0) (bytes_of : E → List 
   masked_from m rest = cond (m == 0) None (cond (nat_lt m 4096) (parts_at o element m rest) None)
 
   parts_bits : (p : Parts E) → Masked (mask (parts_of bytes_of p)) p
-  parts_bits p = bits_of (atoms_part p.plain.atoms).some (ints_part p.plain.ints).some p.plain.flags.float (bits_part p.plain.bits).some p.plain.flags.pid p.plain.flags.port p.plain.flags.reference (functions_part p.plain.functions).some p.plain.flags.nil (is_some p.cell) (has_tuples bytes_of p.tuples) p.plain.flags.map
+  parts_bits p = bits_of (atoms_part p.plain.atoms).some (ints_part p.plain.ints).some p.plain.flags.float (bits_part p.plain.bits).some p.plain.flags.pid p.plain.flags.port p.plain.flags.reference
+      (functions_part p.plain.functions).some p.plain.flags.nil (is_some p.cell) (has_tuples bytes_of p.tuples) p.plain.flags.map
 
   mask_is : (m : ℕ) (p : Parts E) → m < 4096 → Masked m p → mask (parts_of bytes_of p) ≡ m
   mask_is m p h k =

@@ -1,5 +1,6 @@
 -- Types are read as they are spelled, and nothing else, level by level.
-use Rattle.std.proofs.Common.{◌≡◌, inl, inr, ℕ, zero, suc, ◌<◌, ◌≤◌, Bool, true, false, not, cond, ◌&&◌, ◌||◌, List, [], ◌∷◌, ◌++◌, Option, Some, None, is_some, length, refl, sym, ap, ◌∙◌, subst, arith, true≢false}
+use Rattle.std.proofs.Common.{◌≡◌, inl, inr, ℕ, zero, suc, ◌<◌, ◌≤◌, Bool, true, false, not, cond, ◌&&◌, ◌||◌, List, []}
+use Rattle.std.proofs.Common.{◌∷◌, ◌++◌, Option, Some, None, is_some, length, refl, sym, ap, ◌∙◌, subst, arith, true≢false}
 use Rattle.std.specs.Prelude.{IsTrue, ◌==◌}
 use Rattle.std.specs.List.{list_all, AllByRecursion as Each}
 use Rattle.std.proofs.lemmas.List.{length-append}
@@ -105,7 +106,8 @@ module _ {E : Type 0} (o : Ops E) (spelled : E → List ℕ) where
 
 -- ---- types in normal form with short names, and what is read and spelled
 
-module _ {E : Type 0} (Normal : E → Type 0) (o : Ops E) (short : E → Bool) (spelled : E → List ℕ) (element : List ℕ → Option (E × List ℕ)) (t : Format (λ e. Normal e × ((o.is_none e ≡ false) × IsTrue (short e))) spelled element) where
+module _ {E : Type 0} (Normal : E → Type 0) (o : Ops E) (short : E → Bool) (spelled : E → List ℕ) (element : List ℕ
+    → Option (E × List ℕ)) (t : Format (λ e. Normal e × ((o.is_none e ≡ false) × IsTrue (short e))) spelled element) where
   abbrev Good : E → Type 0
   Good e = Normal e × ((o.is_none e ≡ false) × IsTrue (short e))
 
@@ -204,13 +206,27 @@ module _ {E : Type 0} (Normal : E → Type 0) (o : Ops E) (short : E → Bool) (
   to_parts : (p : Parts E) → GoodMasked o Good spelled element t p → NormalParts Normal o p × ((parts_is_none o p ≡ false) × IsTrue (are_short_parts short p))
   to_parts p k =
       let cell = to_cell p.cell k.0.1.1.0 in
-      let tuples = to_tuples p.tuples k.0.1.1.1 in
-      ((k.0.1.0, cell.0, tuples.0), (some_mask o spelled p k.1, and_from (are_short p.plain.atoms && is_short_cell short p.cell) (are_short_tuples short p.tuples) (and_from (are_short p.plain.atoms) (is_short_cell short p.cell) k.0.0 cell.1) tuples.1))
+      let tuples = to_tuples p.tuples k.0.1.1.1 in (
+        (k.0.1.0, cell.0, tuples.0),
+        (
+          some_mask o spelled p k.1,
+          and_from (are_short p.plain.atoms && is_short_cell short p.cell) (are_short_tuples short p.tuples)
+              (and_from (are_short p.plain.atoms) (is_short_cell short p.cell) k.0.0 cell.1) tuples.1,
+        ),
+      )
 
   from_parts : (p : Parts E) → NormalParts Normal o p → parts_is_none o p ≡ false → IsTrue (are_short_parts short p) → GoodMasked o Good spelled element t p
   from_parts p k some h =
-      let lists = first (are_short p.plain.atoms && is_short_cell short p.cell) (are_short_tuples short p.tuples) h in
-      ((first (are_short p.plain.atoms) (is_short_cell short p.cell) lists, (k.0, (from_cell p.cell k.1 (second (are_short p.plain.atoms) (is_short_cell short p.cell) lists), from_tuples p.tuples k.2 (second (are_short p.plain.atoms && is_short_cell short p.cell) (are_short_tuples short p.tuples) h)))), mask_some o spelled p some)
+      let lists = first (are_short p.plain.atoms && is_short_cell short p.cell) (are_short_tuples short p.tuples) h in (
+        (
+          first (are_short p.plain.atoms) (is_short_cell short p.cell) lists,
+          (
+            k.0,
+            (from_cell p.cell k.1 (second (are_short p.plain.atoms) (is_short_cell short p.cell) lists), from_tuples p.tuples k.2 (second (are_short p.plain.atoms && is_short_cell short p.cell) (are_short_tuples short p.tuples) h)),
+          ),
+        ),
+        mask_some o spelled p some,
+      )
 
 -- ---- levels
 

@@ -1,5 +1,6 @@
 -- The bytes of a type, from those of its parts.
-use Rattle.std.proofs.Common.{◌≡◌, ℕ, zero, suc, ◌+◌, ◌*◌, ◌-◌, ◌<◌, ◌≤◌, Bool, true, false, not, cond, List, [], ◌∷◌, ◌++◌, Option, Some, None, is_some, length, map, take, refl, sym, ap, ◌∙◌, subst, true≢false, arith, append_assoc}
+use Rattle.std.proofs.Common.{◌≡◌, ℕ, zero, suc, ◌+◌, ◌*◌, ◌-◌, ◌<◌, ◌≤◌, Bool, true, false, not, cond, List, [], ◌∷◌, ◌++◌, Option}
+use Rattle.std.proofs.Common.{Some, None, is_some, length, map, take, refl, sym, ap, ◌∙◌, subst, true≢false, arith, append_assoc}
 use Rattle.std.specs.Prelude.{IsTrue, slice_index_or, ◌↔◌}
 use borrow.Author.Tests.{ltb-true}
 use Rattle.std.specs.List.{flat_map, list_all}
@@ -82,10 +83,15 @@ chained o p q r s a b c d e f g h = h ∙ ap (λ x. x ++ d) (g ∙ ap (λ x. x +
 
 -- the mask, where it is told which parts a type has beside plain ones
 abbrev pub mask_with : PlainParts → (cell tuples : Bool) → ℕ
-mask_with p cell tuples = cond (not (names.is_none p.atoms)) 1 0 + 2 * (cond (not (numbers.is_none p.ints)) 1 0 + 2 * (cond (p.flags.float) 1 0 + 2 * (cond (not (is_no_bits p.bits)) 1 0 + 2 * (cond (p.flags.pid) 1 0 + 2 * (cond (p.flags.port) 1 0 + 2 * (cond (p.flags.reference) 1 0 + 2 * (cond (not (is_no_function p.functions)) 1 0 + 2 * (cond (p.flags.nil) 1 0 + 2 * (cond (cell) 1 0 + 2 * (cond (tuples) 1 0 + 2 * (cond (p.flags.map) 1 0 + 2 * 0)))))))))))
+mask_with p cell tuples = cond (not (names.is_none p.atoms)) 1 0 + 2 * (cond (not (numbers.is_none p.ints)) 1 0 + 2
+    * (cond (p.flags.float) 1 0 + 2 * (cond (not (is_no_bits p.bits)) 1 0 + 2 * (cond (p.flags.pid) 1 0 + 2
+    * (cond (p.flags.port) 1 0 + 2 * (cond (p.flags.reference) 1 0 + 2 * (cond (not (is_no_function p.functions)) 1 0 + 2
+    * (cond (p.flags.nil) 1 0 + 2 * (cond (cell) 1 0 + 2 * (cond (tuples) 1 0 + 2 * (cond (p.flags.map) 1 0 + 2 * 0)))))))))))
 
 -- the sum of what the parts add to it
-pub mask_sum : (p : PlainParts) (cell tuples : Bool) (a b c d e f g h i j k l : ℕ) → a ≡ 1 * cond (not (names.is_none p.atoms)) 1 0 → b ≡ 2 * cond (not (numbers.is_none p.ints)) 1 0 → c ≡ 4 * cond (p.flags.float) 1 0 → d ≡ 8 * cond (not (is_no_bits p.bits)) 1 0 → e ≡ 16 * cond (p.flags.pid) 1 0 → f ≡ 32 * cond (p.flags.port) 1 0 → g ≡ 64 * cond (p.flags.reference) 1 0 → h ≡ 128 * cond (not (is_no_function p.functions)) 1 0 → i ≡ 256 * cond (p.flags.nil) 1 0 → j ≡ 512 * cond (cell) 1 0 → k ≡ 1024 * cond (tuples) 1 0 → l ≡ 2048 * cond (p.flags.map) 1 0 → a + b + c + d + e + f + g + h + i + j + k + l ≡ mask_with p cell tuples
+pub mask_sum : (p : PlainParts) (cell tuples : Bool) (a b c d e f g h i j k l : ℕ) → a ≡ 1 * cond (not (names.is_none p.atoms)) 1 0 → b ≡ 2 * cond (not (numbers.is_none p.ints)) 1 0 → c ≡ 4 * cond (p.flags.float) 1 0
+    → d ≡ 8 * cond (not (is_no_bits p.bits)) 1 0 → e ≡ 16 * cond (p.flags.pid) 1 0 → f ≡ 32 * cond (p.flags.port) 1 0 → g ≡ 64 * cond (p.flags.reference) 1 0 → h ≡ 128 * cond (not (is_no_function p.functions)) 1 0
+    → i ≡ 256 * cond (p.flags.nil) 1 0 → j ≡ 512 * cond (cell) 1 0 → k ≡ 1024 * cond (tuples) 1 0 → l ≡ 2048 * cond (p.flags.map) 1 0 → a + b + c + d + e + f + g + h + i + j + k + l ≡ mask_with p cell tuples
 mask_sum p cell tuples a b c d e f g h i j k l ea eb ec ed ee ef eg eh ei ej ek el = omega arith
 
 pub cell_some : {A E : Type 0} (f : A → E) (c : Option (CellOf A)) → is_some (cell_of f c) ≡ is_some c
@@ -99,7 +105,9 @@ no_bytes true = refl
 no_bytes false = refl
 
 -- those that have bytes
-pub parts_in_row : {E : Type 0} (bytes : E → List ℕ) (p : Parts E) → some_bytes (parts_of bytes p) ≡ (part_bytes (atoms_part p.plain.atoms) ++ (part_bytes (ints_part p.plain.ints) ++ (part_bytes (bits_part p.plain.bits) ++ part_bytes (functions_part p.plain.functions)))) ++ (part_bytes (cell_part bytes p.cell) ++ part_bytes (tuples_part bytes p.tuples))
+pub parts_in_row : {E : Type 0} (bytes : E → List ℕ) (p : Parts E) → some_bytes (parts_of bytes p)
+    ≡ (part_bytes (atoms_part p.plain.atoms) ++ (part_bytes (ints_part p.plain.ints) ++ (part_bytes (bits_part p.plain.bits) ++ part_bytes (functions_part p.plain.functions))))
+    ++ (part_bytes (cell_part bytes p.cell) ++ part_bytes (tuples_part bytes p.tuples))
 parts_in_row bytes p = simp (no_bytes, append_assoc, append-nil)
 
 -- ---- the items of lists
@@ -140,19 +148,22 @@ short_at short f [] k i x h = absurd (omega arith)
 short_at short f (y ∷ xs) k zero x h = first (short (f y)) (list_all short (map f xs)) k
 short_at short f (y ∷ xs) k (suc i) x h = short_at short f xs (second (short (f y)) (list_all short (map f xs)) k) i x (omega arith)
 
-pub short_tag_at : (d : ℕ) (ts : List (TagOf Node)) → IsTrue (list_all (is_short_tag (is_short_at d)) (tags_view d ts)) → (i : ℕ) (x : TagOf Node) → i < length ts → IsTrue (is_short_tag (is_short_at d) ((slice_index_or ts i x).atom, row_view d (slice_index_or ts i x).rest))
+pub short_tag_at : (d : ℕ) (ts : List (TagOf Node)) → IsTrue (list_all (is_short_tag (is_short_at d)) (tags_view d ts)) → (i : ℕ) (x : TagOf Node) → i < length ts
+    → IsTrue (is_short_tag (is_short_at d) ((slice_index_or ts i x).atom, row_view d (slice_index_or ts i x).rest))
 short_tag_at d [] k i x h = absurd (omega arith)
 short_tag_at d (t ∷ ts) k zero x h = first _ (list_all (is_short_tag (is_short_at d)) (tags_view d ts)) k
 short_tag_at d (t ∷ ts) k (suc i) x h = short_tag_at d ts (second (is_short_tag (is_short_at d) (t.atom, row_view d t.rest)) _ k) i x (omega arith)
 
-pub short_size_at : (d : ℕ) (ss : List (SizeOf Node)) → IsTrue (list_all (is_short_size (is_short_at d)) (sizes_view d ss)) → (i : ℕ) (x : SizeOf Node) → i < length ss → IsTrue (is_short_body (is_short_at d) (body_view d (slice_index_or ss i x).body))
+pub short_size_at : (d : ℕ) (ss : List (SizeOf Node)) → IsTrue (list_all (is_short_size (is_short_at d)) (sizes_view d ss)) → (i : ℕ) (x : SizeOf Node) → i < length ss
+    → IsTrue (is_short_body (is_short_at d) (body_view d (slice_index_or ss i x).body))
 short_size_at d [] k i x h = absurd (omega arith)
 short_size_at d (s ∷ ss) k zero x h = first _ (list_all (is_short_size (is_short_at d)) (sizes_view d ss)) k
 short_size_at d (s ∷ ss) k (suc i) x h = short_size_at d ss (second (is_short_body (is_short_at d) (body_view d s.body)) _ k) i x (omega arith)
 
 -- ---- the forms of what holds items
 
-pub product_items : (d n : ℕ) (b : BodyOf Node) (row xs : List Node) → b ≡ Product row → xs ≡ row → BodyFits d n b → IsTrue (is_short_body (is_short_at d) (body_view d b)) → EachNode (Fits d) xs × IsTrue (list_all (is_short_at d) (row_view d xs))
+pub product_items : (d n : ℕ) (b : BodyOf Node) (row xs : List Node) → b ≡ Product row → xs ≡ row → BodyFits d n b → IsTrue (is_short_body (is_short_at d) (body_view d b))
+    → EachNode (Fits d) xs × IsTrue (list_all (is_short_at d) (row_view d xs))
 product_items d n b row xs e f k short =
     let body : xs ≡ row = f in
     let each : EachNode (Fits d) row = subst (EachInBody (Fits d)) e k.each in
@@ -171,7 +182,8 @@ few_tags : (d n : ℕ) (ts : List (TagOf Node)) → NormalTags (NormalAt d) (ops
 few_tags d zero ts k = absurd k
 few_tags d (suc n) ts k = let h = ltb-true (length (tags_view d ts)) 14 k.1 in let e = length-tags_view d ts in omega arith
 
-pub tags_items : (d n : ℕ) (b : BodyOf Node) (ts xs : List (TagOf Node)) → b ≡ Tags ts → xs ≡ ts → BodyFits d n b → IsTrue (is_short_body (is_short_at d) (body_view d b)) → EachTag (Fits d) xs × ((length xs ≤ 13) × IsTrue (list_all (is_short_tag (is_short_at d)) (tags_view d xs)))
+pub tags_items : (d n : ℕ) (b : BodyOf Node) (ts xs : List (TagOf Node)) → b ≡ Tags ts → xs ≡ ts → BodyFits d n b → IsTrue (is_short_body (is_short_at d) (body_view d b))
+    → EachTag (Fits d) xs × ((length xs ≤ 13) × IsTrue (list_all (is_short_tag (is_short_at d)) (tags_view d xs)))
 tags_items d n b ts xs e f k short =
     let there : BodyFits d n (Tags ts) = subst (BodyFits d n) e k in
     let are_short : IsTrue (list_all (is_short_tag (is_short_at d)) (tags_view d ts)) = subst (λ x. IsTrue (is_short_body (is_short_at d) (body_view d x))) e short in
@@ -180,7 +192,8 @@ tags_items d n b ts xs e f k short =
 pub tags_body : (d : ℕ) (b : BodyOf Node) (ts xs : List (TagOf Node)) → b ≡ Tags ts → xs ≡ ts → length xs ∷ tags_bytes d xs ≡ body_bytes (bytes_at d) (body_view d b)
 tags_body d b ts xs e f = ap (λ x. length x ∷ tags_bytes d x) f ∙ ap (λ n. n ∷ tags_bytes d ts) (sym (length-tags_view d ts)) ∙ ap (λ x. body_bytes (bytes_at d) (body_view d x)) (sym e)
 
-pub sizes_items : (d : ℕ) (t : TuplesOf Node) (ss xs : List (SizeOf Node)) → t ≡ Sizes ss → xs ≡ ss → TuplesFit d t → IsTrue (are_short_tuples (is_short_at d) (tuples_view d t)) → SizesFit d xs × ((length xs ≤ 8) × IsTrue (list_all (is_short_size (is_short_at d)) (sizes_view d xs)))
+pub sizes_items : (d : ℕ) (t : TuplesOf Node) (ss xs : List (SizeOf Node)) → t ≡ Sizes ss → xs ≡ ss → TuplesFit d t → IsTrue (are_short_tuples (is_short_at d) (tuples_view d t))
+    → SizesFit d xs × ((length xs ≤ 8) × IsTrue (list_all (is_short_size (is_short_at d)) (sizes_view d xs)))
 sizes_items d t ss xs e f k short =
     let there : TuplesFit d (Sizes ss) = subst (TuplesFit d) e k in
     let few : length ss ≤ 8 = let h = ltb-true (length (sizes_view d ss)) 9 there.normal.1 in let s = length-sizes_view d ss in omega arith in
@@ -191,6 +204,7 @@ sizes_there : (d : ℕ) (ss : List (SizeOf Node)) → (ss ≡ [] → ⊥) → le
 sizes_there d [] some = absurd (some refl)
 sizes_there d (s ∷ ss) some = ap (λ n. suc n ∷ sizes_bytes d (s ∷ ss)) (sym (length-sizes_view d ss))
 
-pub sizes_part : (d : ℕ) (t : TuplesOf Node) (ss xs : List (SizeOf Node)) (r : Bool) → t ≡ Sizes ss → xs ≡ ss → IsTrue r ↔ (ss ≡ []) → r ≡ false → length xs ∷ sizes_bytes d xs ≡ part_bytes (tuples_part (bytes_at d) (tuples_view d t))
+pub sizes_part : (d : ℕ) (t : TuplesOf Node) (ss xs : List (SizeOf Node)) (r : Bool) → t ≡ Sizes ss → xs ≡ ss → IsTrue r ↔ (ss ≡ []) → r ≡ false
+    → length xs ∷ sizes_bytes d xs ≡ part_bytes (tuples_part (bytes_at d) (tuples_view d t))
 sizes_part d t ss xs r e f empty not_empty =
     ap (λ x. length x ∷ sizes_bytes d x) f ∙ sizes_there d ss (λ none. true≢false (sym (empty.1 none) ∙ not_empty)) ∙ ap (λ x. part_bytes (tuples_part (bytes_at d) (tuples_view d x))) (sym e)

@@ -9,7 +9,8 @@ ghost use Rattle.type_bytes.specs.Spelling.{bytes_of};
 /// put is taken, whatever follows. A type's bytes are a shape, and no shape is a proper prefix of another:
 /// bytes that begin with a type aren't short.
 pub fn bytes_laws()
-    ensures once { (s t : Type4) (x y : List ℕ) → IsTrue (has_short_names s) → IsTrue (has_short_names t) → bytes_of s ++ x ≡ bytes_of t ++ y → (s ≡ t) × (x ≡ y) }
+    ensures once { (s t : Type4) (x y : List ℕ) → IsTrue (has_short_names s) → IsTrue (has_short_names t) → bytes_of s ++ x ≡ bytes_of t ++ y
+        → (s ≡ t) × (x ≡ y) }
     ensures shapes { (t : Type4) → IsTrue (has_short_names t) → TypeShape (bytes_of t) }
     ensures apart { (x rest : List ℕ) → TypeShape x → TypeShape (x ++ rest) → rest ≡ [] }
     ensures whole { (t : Type4) (rest : List ℕ) → IsTrue (has_short_names t) → IsShort (bytes_of t ++ rest) → ⊥ }

@@ -6,7 +6,8 @@ ghost use Rattle.type_kinds_sets.specs.Numbers as numbers;
 ghost use Rattle.type_kinds_sets.specs.declared.bits.Bits.TheVariants.{No};
 ghost use Rattle.type_lattice_model.specs.Shapes.{no_function};
 ghost use Rattle.type_lattice_trees.specs.Plains.{functions_of};
-ghost use Rattle.type_bytes.specs.steps.Reading.{Reads, many, where_set, number_at, name_at, int_at, names_at, atoms_at, low_at, high_at, interval_at, numbers_at, ints_at, bits_at, functions_at};
+ghost use Rattle.type_bytes.specs.steps.Reading.{Reads, many, where_set, number_at, name_at, int_at, names_at, atoms_at};
+ghost use Rattle.type_bytes.specs.steps.Reading.{low_at, high_at, interval_at, numbers_at, ints_at, bits_at, functions_at};
 
 use crate::faults::BytesFault;
 use std::alloc::Global;

@@ -7,8 +7,10 @@ ghost use Rattle.type_kinds_sets.specs.Names.{name_cmp};
 ghost use Rattle.std.specs.Ordering.{nat_cmp};
 ghost use Rattle.type_lattice_model.specs.Tables.{is_table};
 ghost use Rattle.type_lattice_trees.specs.Plains.{flags_of};
-ghost use Rattle.type_lattice_trees.specs.View.{view, row_view, tags_view, body_view, sizes_view, tuples_view, cell_view, parts_view, Fits, EachNode, EachTag, EachInBody, EachSize, EachInTuples, EachInCell, EachInParts};
-ghost use Rattle.type_bytes.specs.steps.Reading.{Reads, many, where_set, mask_flags, element_at, behind_at, masked_at, parts_at, cell_at, tuples_at, sizes_at, size_at, body_at, product_at, tags_at, tag_at, type_at};
+ghost use Rattle.type_lattice_trees.specs.View.{view, row_view, tags_view, body_view, sizes_view, tuples_view, cell_view, parts_view};
+ghost use Rattle.type_lattice_trees.specs.View.{Fits, EachNode, EachTag, EachInBody, EachSize, EachInTuples, EachInCell, EachInParts};
+ghost use Rattle.type_bytes.specs.steps.Reading.{Reads, many, where_set, mask_flags, element_at, behind_at, masked_at, parts_at};
+ghost use Rattle.type_bytes.specs.steps.Reading.{cell_at, tuples_at, sizes_at, size_at, body_at, product_at, tags_at, tag_at, type_at};
 
 use crate::faults::BytesFault;
 use crate::leaves::{read_atoms, read_bits, read_functions, read_ints, read_name};

@@ -1,7 +1,9 @@
 //! Where a shape ends: what the layout lets stand where a type does. Nothing here takes memory.
 ghost use Rattle.std.specs.Prelude.{◌≡◌, ◌==◌, ◌<◌, ◌≤◌};
 ghost use Rattle.std.specs.Int.{bit_at};
-ghost use Rattle.type_bytes.specs.steps.Cuts.{Cuts, skip as skip_cut, many, counted, where_set, name_cut, atoms_cut, ints_cut, bits_cut, functions_cut, cell_cut, tag_cut, tags_cut, body_cut, size_cut, tuples_cut, parts_cut, masked_cut, behind_cut, element_cut, type_cut};
+ghost use Rattle.type_bytes.specs.steps.Cuts.{Cuts, skip as skip_cut, many, counted, where_set, name_cut, atoms_cut};
+ghost use Rattle.type_bytes.specs.steps.Cuts.{ints_cut, bits_cut, functions_cut, cell_cut, tag_cut, tags_cut, body_cut, size_cut};
+ghost use Rattle.type_bytes.specs.steps.Cuts.{tuples_cut, parts_cut, masked_cut, behind_cut, element_cut, type_cut};
 
 use crate::faults::ShapeFault;
 

@@ -1,8 +1,12 @@
 //! Which types can be written. Nothing here takes memory.
 ghost use Rattle.std.specs.Prelude.{◌≡◌};
 ghost use Rattle.std.specs.List.{list_all};
-ghost use Rattle.type_lattice_trees.specs.View.{view, row_view, tags_view, body_view, sizes_view, tuples_view, cell_view, parts_view, Fits, EachNode, EachTag, EachInBody, EachSize, EachInTuples, EachInCell, EachInParts};
-ghost use Rattle.type_bytes.specs.ShortNames.{is_short as is_short_name, are_short as are_short_names, is_short_cell as is_short_cell_there, is_short_tag as is_short_tag_there, is_short_body as is_short_body_there, is_short_size as is_short_size_there, are_short_tuples as are_short_tuples_there, are_short_parts as are_short_parts_there, is_short_at, has_short_names as has_short_names_there};
+ghost use Rattle.type_lattice_trees.specs.View.{view, row_view, tags_view, body_view, sizes_view, tuples_view, cell_view, parts_view};
+ghost use Rattle.type_lattice_trees.specs.View.{Fits, EachNode, EachTag, EachInBody, EachSize, EachInTuples, EachInCell, EachInParts};
+ghost use Rattle.type_bytes.specs.ShortNames.{is_short as is_short_name, are_short as are_short_names, is_short_cell as is_short_cell_there};
+ghost use Rattle.type_bytes.specs.ShortNames.{is_short_tag as is_short_tag_there, is_short_body as is_short_body_there};
+ghost use Rattle.type_bytes.specs.ShortNames.{is_short_size as is_short_size_there, are_short_tuples as are_short_tuples_there};
+ghost use Rattle.type_bytes.specs.ShortNames.{are_short_parts as are_short_parts_there, is_short_at, has_short_names as has_short_names_there};
 
 use type_kinds::{Atom, Shared};
 use type_kinds_sets::AtomSet;

@@ -2,9 +2,13 @@
 ghost use Rattle.std.specs.Prelude.{◌≡◌, ◌++◌, ◌∷◌, ◌*◌, ◌≤◌, ℕ, cond, length, take, IsTrue, OnOk, OnErr};
 ghost use Rattle.std.specs.List.{flat_map, list_all};
 ghost use Rattle.type_lattice_trees.specs.Plains.{functions_of};
-ghost use Rattle.type_lattice_trees.specs.View.{view, row_view, tags_view, body_view, sizes_view, tuples_view, cell_view, parts_view, Fits, EachNode, EachTag, EachInCell, BodyFits, SizesFit, TuplesFit, PartsFit};
-ghost use Rattle.type_bytes.specs.Spelling.{two_bytes, four_bytes, int_bytes, name_bytes, low_number as low_model, high_number as high_model, tag_bytes, body_bytes, size_bytes, atoms_part, ints_part, bits_part, functions_part, cell_part, tuples_part, parts_of, mask, part_bytes, some_bytes, all_bytes, bytes_at, bytes_of};
-ghost use Rattle.type_bytes.specs.ShortNames.{is_short, are_short, is_short_cell, is_short_tag, is_short_body, is_short_size, are_short_tuples, are_short_parts, is_short_at, has_short_names};
+ghost use Rattle.type_lattice_trees.specs.View.{view, row_view, tags_view, body_view, sizes_view, tuples_view, cell_view, parts_view};
+ghost use Rattle.type_lattice_trees.specs.View.{Fits, EachNode, EachTag, EachInCell, BodyFits, SizesFit, TuplesFit, PartsFit};
+ghost use Rattle.type_bytes.specs.Spelling.{two_bytes, four_bytes, int_bytes, name_bytes, low_number as low_model, high_number as high_model};
+ghost use Rattle.type_bytes.specs.Spelling.{tag_bytes, body_bytes, size_bytes, atoms_part, ints_part, bits_part, functions_part};
+ghost use Rattle.type_bytes.specs.Spelling.{cell_part, tuples_part, parts_of, mask, part_bytes, some_bytes, all_bytes, bytes_at, bytes_of};
+ghost use Rattle.type_bytes.specs.ShortNames.{is_short, are_short, is_short_cell, is_short_tag, is_short_body, is_short_size};
+ghost use Rattle.type_bytes.specs.ShortNames.{are_short_tuples, are_short_parts, is_short_at, has_short_names};
 
 use type_kinds::{Atom, Bytes, Memory, Shared};
 use type_kinds_sets::{AtomSet, Bits, High, IntSet, Low};
@@ -173,7 +177,8 @@ fn append_row(level: u32, row: &[Shared<Node>], out: &mut Bytes) -> Result<(), M
 // Appends the values that hold no others, but those of a part that has no bytes.
 fn append_plain(plain: &Plain, out: &mut Bytes) -> Result<(), Memory>
     requires short { IsTrue (are_short plain.now.atoms) }
-    ensures ok { OnOk result (out.new ≡ out.old ++ (part_bytes (atoms_part plain.now.atoms) ++ (part_bytes (ints_part plain.now.ints) ++ (part_bytes (bits_part plain.now.bits) ++ part_bytes (functions_part plain.now.functions))))) }
+    ensures ok { OnOk result (out.new ≡ out.old ++ (part_bytes (atoms_part plain.now.atoms)
+        ++ (part_bytes (ints_part plain.now.ints) ++ (part_bytes (bits_part plain.now.bits) ++ part_bytes (functions_part plain.now.functions))))) }
     ensures front { take (length out.old) out.new ≡ out.old }
 {
     append_atoms(&plain.atoms, out)?;

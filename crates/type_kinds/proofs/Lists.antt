@@ -1,5 +1,6 @@
 -- What stands in a list and at its places, beside what std has of it.
-use Rattle.std.proofs.Common.{◌≡◌, ℕ, zero, suc, ◌+◌, ◌<◌, ◌⊎◌, inl, inr, List, [], ◌∷◌, ◌++◌, length, get_or, slice_get, take, drop, map, Contains, Option, Some, None, option_copied, Bor, sym, refl, ap, ◌∙◌, add-one, drop-cons, take-suc, append_assoc, arith}
+use Rattle.std.proofs.Common.{◌≡◌, ℕ, zero, suc, ◌+◌, ◌<◌, ◌⊎◌, inl, inr, List, [], ◌∷◌, ◌++◌, length, get_or, slice_get, take, drop, map, Contains}
+use Rattle.std.proofs.Common.{Option, Some, None, option_copied, Bor, sym, refl, ap, ◌∙◌, add-one, drop-cons, take-suc, append_assoc, arith}
 use Rattle.std.proofs.lemmas.List.{map-append, get_or_past}
 use Rattle.std.proofs.lemmas.Option.{slice_get-get_or, slice_get_within, get_or_from_slice_get}
 

@@ -1,5 +1,6 @@
 -- What an ascending list has, and how many items a part of it has.
-use Rattle.std.proofs.Common.{◌≡◌, ℕ, zero, suc, ◌+◌, ◌≤◌, ◌<◌, Bool, true, false, ◌&&◌, ◌||◌, ◌⊎◌, inl, inr, List, [], ◌∷◌, ◌++◌, length, filter, take, drop, get_or, refl, sym, ap, ◌∙◌, arith, true≢false, Less}
+use Rattle.std.proofs.Common.{◌≡◌, ℕ, zero, suc, ◌+◌, ◌≤◌, ◌<◌, Bool, true, false, ◌&&◌, ◌||◌, ◌⊎◌, inl, inr, List, []}
+use Rattle.std.proofs.Common.{◌∷◌, ◌++◌, length, filter, take, drop, get_or, refl, sym, ap, ◌∙◌, arith, true≢false, Less}
 use Rattle.std.specs.declared.cmp.Ordering.{Ordering}
 use Rattle.std.specs.Ordering.{is_lt, is_eq, eq_by_cmp}
 use Rattle.std.specs.Cmp.{IsTotalOrder, Equal-is, tied_itself}
@@ -67,11 +68,13 @@ module _ {K : Type 0} {R : K → K → Ordering} (o : IsTotalOrder R) (same : Is
   ascending-filter p (x ∷ xs) h = grind (arith, ascending-filter p xs, all-filter (λ y. is_lt (R x y)) p xs)
 
   -- where both lists have the same first item, what is behind it in the one is behind it in the other
-  later-part : (x y : K) (xs ys : List K) → is_ascending R (x ∷ xs) ≡ true → eq_by_cmp R x y ≡ true → ((q : K) → has_item R (x ∷ xs) q ≡ true → has_item R (y ∷ ys) q ≡ true) → (q : K) → has_item R xs q ≡ true → has_item R ys q ≡ true
+  later-part : (x y : K) (xs ys : List K) → is_ascending R (x ∷ xs) ≡ true → eq_by_cmp R x y ≡ true → ((q : K) → has_item R (x ∷ xs) q ≡ true → has_item R (y ∷ ys) q ≡ true) → (q : K) → has_item R xs q ≡ true
+      → has_item R ys q ≡ true
   later-part x y xs ys a e f q m = grind (arith, f q, is_it q y, is_it x y, below_all-item x q xs, below-not_itself x)
 
   -- where x isn't first in the other list, all of the one list is behind what is first there
-  whole-part : (x y : K) (xs ys : List K) → is_ascending R (x ∷ xs) ≡ true → is_ascending R (y ∷ ys) ≡ true → has_item R ys x ≡ true → ((q : K) → has_item R (x ∷ xs) q ≡ true → has_item R (y ∷ ys) q ≡ true) → (q : K) → has_item R (x ∷ xs) q ≡ true → has_item R ys q ≡ true
+  whole-part : (x y : K) (xs ys : List K) → is_ascending R (x ∷ xs) ≡ true → is_ascending R (y ∷ ys) ≡ true → has_item R ys x ≡ true → ((q : K) → has_item R (x ∷ xs) q ≡ true → has_item R (y ∷ ys) q ≡ true)
+      → (q : K) → has_item R (x ∷ xs) q ≡ true → has_item R ys q ≡ true
   whole-part x y xs ys a b t f q m = grind (arith, f q, is_it q y, is_it q x, below_all-item y x ys, below_all-item x q xs, below-not_itself x, below-both_ways x y)
 
   -- a part of an ascending list is shorter, or it is all of it
@@ -94,7 +97,8 @@ module _ {K : Type 0} {R : K → K → Ordering} (o : IsTotalOrder R) (same : Is
   shorter-part ys xs a b f other = elim (shorter-or_whole ys xs a b f) [ inl less ↦ less | inr same ↦ absurd (other same) ]
 
   -- ascending lists of the same items are equal
-  pub same-items : (xs ys : List K) → is_ascending R xs ≡ true → is_ascending R ys ≡ true → ((q : K) → has_item R xs q ≡ true → has_item R ys q ≡ true) → ((q : K) → has_item R ys q ≡ true → has_item R xs q ≡ true) → xs ≡ ys
+  pub same-items : (xs ys : List K) → is_ascending R xs ≡ true → is_ascending R ys ≡ true → ((q : K) → has_item R xs q ≡ true → has_item R ys q ≡ true)
+      → ((q : K) → has_item R ys q ≡ true → has_item R xs q ≡ true) → xs ≡ ys
   same-items xs ys a b f g = elim (shorter-or_whole ys xs a b f) [ inl less ↦ absurd (omega (arith, less, length-part xs ys b a g)) | inr same ↦ same ]
 
   -- what an ascending list has once an item is placed there
@@ -126,7 +130,8 @@ module _ {K : Type 0} {R : K → K → Ordering} (o : IsTotalOrder R) (same : Is
   all-merged p xs (y ∷ ys) = grind (arith, all-merged p (placed R y xs) ys, all-placed p y xs)
 
   -- what has the items of two lists has those of both together
-  pub merged-part : (xs ys : List K) (u : K → Bool) → ((q : K) → has_item R xs q ≡ true → u q ≡ true) → ((q : K) → has_item R ys q ≡ true → u q ≡ true) → (q : K) → has_item R (merged R xs ys) q ≡ true → u q ≡ true
+  pub merged-part : (xs ys : List K) (u : K → Bool) → ((q : K) → has_item R xs q ≡ true → u q ≡ true) → ((q : K) → has_item R ys q ≡ true → u q ≡ true) → (q : K) → has_item R (merged R xs ys) q ≡ true
+      → u q ≡ true
   merged-part xs ys u f g q h = grind (arith, or_cases, has-merged)
 
   pub ascending-merged : (xs ys : List K) → is_ascending R xs ≡ true → is_ascending R (merged R xs ys) ≡ true
@@ -152,7 +157,8 @@ module _ {K : Type 0} {R : K → K → Ordering} (o : IsTotalOrder R) (same : Is
   ascending-next (x ∷ y ∷ ys) (suc i) d f h a up = grind (arith, linked x y (take i ys), linked x y (take (suc i) ys), ascending-next (y ∷ ys) i d f)
 
   -- what ascends so far ascends one item further, where that item is above the one before it
-  pub ascending-more : (xs : List K) (i j k : ℕ) (d f : K) → j ≡ i + 1 → k ≡ j + 1 → j < length xs → is_ascending R (take j xs) ≡ true → is_lt (R (get_or xs i d) (get_or xs j f)) ≡ true → is_ascending R (take k xs) ≡ true
+  pub ascending-more : (xs : List K) (i j k : ℕ) (d f : K) → j ≡ i + 1 → k ≡ j + 1 → j < length xs → is_ascending R (take j xs) ≡ true → is_lt (R (get_or xs i d) (get_or xs j f)) ≡ true
+      → is_ascending R (take k xs) ≡ true
   ascending-more xs i j k d f j-is k-is h a up =
       let e : j ≡ suc i = omega arith in
       let g : k ≡ suc (suc i) = omega arith in

@@ -12,5 +12,6 @@ module _ {K : Type 0} {R : K → K → Ordering} (o : IsTotalOrder R) (same : Is
   few-part ys xs a b few f = grind (arith, length-part o same ys xs a b f)
 
   -- two parts together are one
-  pub few-merged : (us xs ys : List K) → is_ascending R xs ≡ true → is_ascending R us ≡ true → are_few us ≡ true → ((q : K) → has_item R xs q ≡ true → has_item R us q ≡ true) → ((q : K) → has_item R ys q ≡ true → has_item R us q ≡ true) → are_few (merged R xs ys) ≡ true
+  pub few-merged : (us xs ys : List K) → is_ascending R xs ≡ true → is_ascending R us ≡ true → are_few us ≡ true → ((q : K) → has_item R xs q ≡ true → has_item R us q ≡ true)
+      → ((q : K) → has_item R ys q ≡ true → has_item R us q ≡ true) → are_few (merged R xs ys) ≡ true
   few-merged us xs ys a b few f g = few-part us (merged R xs ys) (ascending-merged o same xs ys a) b few (merged-part o same xs ys (has_item R us) f g)

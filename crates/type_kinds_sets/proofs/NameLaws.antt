@@ -89,7 +89,8 @@ join-least (some xs e) every u g k q h = k q refl
 join-least every t u g k q h = g q refl
 
 -- the join of two lists has just their atoms, where these are few
-pub join-few : (xs ys : List Name) → are_listed xs ≡ true → are_listed ys ≡ true → length (merged name_cmp xs ys) ≤ MAX_MEMBERS → (q : Name) → has (join (listed xs) (listed ys)) q ≡ (has_item name_cmp xs q || has_item name_cmp ys q)
+pub join-few : (xs ys : List Name) → are_listed xs ≡ true → are_listed ys ≡ true → length (merged name_cmp xs ys) ≤ MAX_MEMBERS → (q : Name)
+    → has (join (listed xs) (listed ys)) q ≡ (has_item name_cmp xs q || has_item name_cmp ys q)
 unfolding join
 join-few xs ys e f few q = grind (arith, as_listed, has-or_else, listed-merged, has-merged, name_total, name_same)
 

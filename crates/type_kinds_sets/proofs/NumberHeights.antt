@@ -48,7 +48,8 @@ nearer Zero h = (One, h)
 nearer One Max = (One, Unicode)
 nearer One h = (One, Byte)
 
-nearer-is : (l : Low) (h : High) (n : ℕ) → is_range l h ≡ true → shrinks l h ≡ suc n → (is_range (nearer l h).0 (nearer l h).1 ≡ true) × (((at_least l (bottom (nearer l h).0) && at_most h (top (nearer l h).1)) ≡ true) × (shrinks (nearer l h).0 (nearer l h).1 ≡ n))
+nearer-is : (l : Low) (h : High) (n : ℕ) → is_range l h ≡ true → shrinks l h ≡ suc n
+    → (is_range (nearer l h).0 (nearer l h).1 ≡ true) × (((at_least l (bottom (nearer l h).0) && at_most h (top (nearer l h).1)) ≡ true) × (shrinks (nearer l h).0 (nearer l h).1 ≡ n))
 unfolding nearer
 nearer-is l h n e s = grind arith
 
@@ -58,7 +59,8 @@ between-falls zero l h e s =
     let k = fourteen-is l h e in
     let f : are_listed (drop 1 (fourteen l)) ≡ true = grind arith in
     let length-is : length (drop 1 (fourteen l)) ≡ 13 = grind arith in
-    down Below height 13 (between l h e) (some (drop 1 (fourteen l)) f) (λ n m. all-item int_cmp_total int_cmp-IsAntisymmetric (in_range l h) (drop 1 (fourteen l)) n (grind arith) m) (omega arith) (rw length-is at (listed-falls (drop 1 (fourteen l)) f))
+    down Below height 13 (between l h e) (some (drop 1 (fourteen l)) f) (λ n m. all-item int_cmp_total int_cmp-IsAntisymmetric (in_range l h) (drop 1 (fourteen l)) n (grind arith) m) (omega arith)
+    (rw length-is at (listed-falls (drop 1 (fourteen l)) f))
 between-falls (suc n) l h e s =
     let k = nearer-is l h n e s in
     let m = between (nearer l h).0 (nearer l h).1 k.0 in

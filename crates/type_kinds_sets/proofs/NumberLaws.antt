@@ -73,13 +73,21 @@ module _ {End : Type 0} {admits : End → ℤ → Bool} {wider narrower : End �
 
   outermost-least : (m : End) (n : ℤ) (xs : List ℤ) → ((x : ℤ) → has_item int_cmp xs x ≡ true → admits m x ≡ true) → admits (outermost wider nearest narrowest xs) n ≡ true → admits m n ≡ true
   outermost-least m n [] f h = grind (arith, s.admits-wider m narrowest n, s.wider-narrowest m)
-  outermost-least m n (x ∷ xs) f h = grind (arith, s.admits-wider, s.nearest-least m x n, f x, itself int_cmp_total int_cmp-IsAntisymmetric x, outermost-least m n xs (λ y k. f y (or_right (eq_by_cmp int_cmp y x) (has_item int_cmp xs y) k)))
+  outermost-least m n (x ∷ xs) f h = grind (
+    arith,
+    s.admits-wider,
+    s.nearest-least m x n,
+    f x,
+    itself int_cmp_total int_cmp-IsAntisymmetric x,
+    outermost-least m n xs (λ y k. f y (or_right (eq_by_cmp int_cmp y x) (has_item int_cmp xs y) k)),
+  )
 
 ends-in_set : (s : Numbers) (n : ℤ) → has s n ≡ true → in_range (low_end s) (high_end s) n ≡ true
 ends-in_set s n h = grind (arith, outermost-in lows, outermost-in highs)
 
 -- an interval above a set is above its ends
-ends-least : (s : Numbers) (l : Low) (h : High) (e : is_range l h ≡ true) → Below s (between l h e) → (n : ℤ) → (at_least (low_end s) n ≡ true → at_least l n ≡ true) × (at_most (high_end s) n ≡ true → at_most h n ≡ true)
+ends-least : (s : Numbers) (l : Low) (h : High) (e : is_range l h ≡ true) → Below s (between l h e) → (n : ℤ)
+    → (at_least (low_end s) n ≡ true → at_least l n ≡ true) × (at_most (high_end s) n ≡ true → at_most h n ≡ true)
 ends-least (some xs e) l h d f n = (
   outermost-least lows l n xs (λ x m. first (at_least l x) (at_most h x) (f x m)),
   outermost-least highs h n xs (λ x m. second (at_least l x) (at_most h x) (f x m)),
@@ -157,7 +165,8 @@ join-least (between m k f) t (some us d) p q n h = absurd (not_listed m k f us d
 join-least (between m k f) t (between l j d) p q n h = hull-least (between m k f) t l j d p q n h
 
 -- the join of two lists has just their numbers, where these are few
-pub join-few : (xs ys : List ℤ) → are_listed xs ≡ true → are_listed ys ≡ true → length (merged int_cmp xs ys) ≤ MAX_MEMBERS → (n : ℤ) → has (join (listed xs) (listed ys)) n ≡ (has_item int_cmp xs n || has_item int_cmp ys n)
+pub join-few : (xs ys : List ℤ) → are_listed xs ≡ true → are_listed ys ≡ true → length (merged int_cmp xs ys) ≤ MAX_MEMBERS → (n : ℤ)
+    → has (join (listed xs) (listed ys)) n ≡ (has_item int_cmp xs n || has_item int_cmp ys n)
 unfolding join
 join-few xs ys e f few n = grind (arith, as_listed, has-or_else, listed-merged, has-merged, int_cmp_total, int_cmp-IsAntisymmetric)
 
@@ -179,7 +188,14 @@ pub same_numbers : (s t : Numbers) → Below s t → Below t s → s ≡ t
 same_numbers (some xs e) (some ys f) p q = some-same xs ys e f (same-items int_cmp_total int_cmp-IsAntisymmetric xs ys (grind arith) (grind arith) p q)
 same_numbers (some xs e) (between l h f) p q = absurd (not_listed l h f xs e q)
 same_numbers (between l h e) (some ys f) p q = absurd (not_listed l h e ys f p)
-same_numbers (between l h e) (between m k f) p q = grind (arith, (below-is (between l h e) (between m k f) _ refl).1 p, (below-is (between m k f) (between l h e) _ refl).1 q, lows.outermost-same l m, highs.outermost-same h k, between-same l m h k e f)
+same_numbers (between l h e) (between m k f) p q = grind (
+  arith,
+  (below-is (between l h e) (between m k f) _ refl).1 p,
+  (below-is (between m k f) (between l h e) _ refl).1 q,
+  lows.outermost-same l m,
+  highs.outermost-same h k,
+  between-same l m h k e f,
+)
 
 -- ---- what no integer is in
 

@@ -4,7 +4,8 @@ ghost use Rattle.std.specs.Option.{option_copied};
 ghost use Rattle.std.specs.Ordering.{int_cmp};
 ghost use Rattle.type_kinds_sets.specs.Ascending.{is_ascending, has_item, placed, merged};
 ghost use Rattle.type_kinds_sets.specs.Ends.{in_range, is_range};
-ghost use Rattle.type_kinds_sets.specs.Numbers.{Numbers, has, Below, none, is_narrow, are_listed, listed, range, meet, join, hull, lowest, highest, low_end, high_end, is_none, members_of, ends_of};
+ghost use Rattle.type_kinds_sets.specs.Numbers.{Numbers, has, Below, none, is_narrow, are_listed, listed, range, meet, join};
+ghost use Rattle.type_kinds_sets.specs.Numbers.{hull, lowest, highest, low_end, high_end, is_none, members_of, ends_of};
 
 use crate::ends::{High, Low};
 use crate::limits::MAX_MEMBERS;

@@ -23,8 +23,10 @@ pub fn int_set_laws()
     ensures left { (s t : numbers.Numbers) → numbers.Below s (numbers.join s t) }
     ensures right { (s t : numbers.Numbers) → numbers.Below t (numbers.join s t) }
     ensures least { (s t u : numbers.Numbers) → numbers.Below s u → numbers.Below t u → numbers.Below (numbers.join s t) u }
-    ensures few { (xs ys : List ℤ) → IsTrue (numbers.are_listed xs) → IsTrue (numbers.are_listed ys) → length (merged int_cmp xs ys) ≤ MAX_MEMBERS → (n : ℤ) → numbers.has (numbers.join (numbers.listed xs) (numbers.listed ys)) n ≡ (has_item int_cmp xs n || has_item int_cmp ys n) }
-    ensures many { (xs ys : List ℤ) → IsTrue (numbers.are_listed xs) → IsTrue (numbers.are_listed ys) → MAX_MEMBERS < length (merged int_cmp xs ys) → numbers.join (numbers.listed xs) (numbers.listed ys) ≡ numbers.hull (numbers.listed xs) (numbers.listed ys) }
+    ensures few { (xs ys : List ℤ) → IsTrue (numbers.are_listed xs) → IsTrue (numbers.are_listed ys) → length (merged int_cmp xs ys) ≤ MAX_MEMBERS
+        → (n : ℤ) → numbers.has (numbers.join (numbers.listed xs) (numbers.listed ys)) n ≡ (has_item int_cmp xs n || has_item int_cmp ys n) }
+    ensures many { (xs ys : List ℤ) → IsTrue (numbers.are_listed xs) → IsTrue (numbers.are_listed ys) → MAX_MEMBERS < length (merged int_cmp xs ys)
+        → numbers.join (numbers.listed xs) (numbers.listed ys) ≡ numbers.hull (numbers.listed xs) (numbers.listed ys) }
     ensures empty { (s : numbers.Numbers) → numbers.is_none s ≡ true → s ≡ numbers.none }
     ensures filled { (s : numbers.Numbers) → numbers.is_none s ≡ false → (n : ℤ) × (numbers.has s n ≡ true) }
 {}
@@ -52,8 +54,11 @@ pub fn atom_set_laws()
     ensures left { (s t : names.Names) → names.Below s (names.join s t) }
     ensures right { (s t : names.Names) → names.Below t (names.join s t) }
     ensures least { (s t u : names.Names) → names.Below s u → names.Below t u → names.Below (names.join s t) u }
-    ensures few { (xs ys : List names.Name) → IsTrue (names.are_listed xs) → IsTrue (names.are_listed ys) → length (merged names.name_cmp xs ys) ≤ MAX_MEMBERS → (q : names.Name) → names.has (names.join (names.listed xs) (names.listed ys)) q ≡ (has_item names.name_cmp xs q || has_item names.name_cmp ys q) }
-    ensures many { (xs ys : List names.Name) → IsTrue (names.are_listed xs) → IsTrue (names.are_listed ys) → MAX_MEMBERS < length (merged names.name_cmp xs ys) → names.join (names.listed xs) (names.listed ys) ≡ names.every }
+    ensures few { (xs ys : List names.Name) → IsTrue (names.are_listed xs) → IsTrue (names.are_listed ys)
+        → length (merged names.name_cmp xs ys) ≤ MAX_MEMBERS → (q : names.Name)
+        → names.has (names.join (names.listed xs) (names.listed ys)) q ≡ (has_item names.name_cmp xs q || has_item names.name_cmp ys q) }
+    ensures many { (xs ys : List names.Name) → IsTrue (names.are_listed xs) → IsTrue (names.are_listed ys)
+        → MAX_MEMBERS < length (merged names.name_cmp xs ys) → names.join (names.listed xs) (names.listed ys) ≡ names.every }
     ensures empty { (s : names.Names) → names.is_none s ≡ true → s ≡ names.none }
     ensures filled { (s : names.Names) → names.is_none s ≡ false → (q : names.Name) × (names.has s q ≡ true) }
 {}

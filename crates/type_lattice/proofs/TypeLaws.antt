@@ -47,7 +47,8 @@ pub record Laws : Type 0 where
   pub tuple-only : (ts : List Type4) (v : Value) → HasType v (tuple ts) → (vs : Values) × (v ≡ tuple_value vs)
   pub tuple-exact : (ts : List Type4) → length ts ≤ 64 → (vs : Values) → HasType (tuple_value vs) (tuple ts) ↔ HasTypes vs (map (cut 3) ts)
   pub project-holds : (t : Type4) (n i : ℕ) (vs : Values) (v : Value) → HasType (tuple_value vs) t → count vs ≡ n → value_at vs (i - 1) ≡ Some v → HasType v (project t n i)
-  pub project-least : (t : Type4) (n i : ℕ) → n ≤ 64 → 1 ≤ i → i ≤ n → (u : Type4) → ((vs : Values) (v : Value) → HasType (tuple_value vs) t → count vs ≡ n → value_at vs (i - 1) ≡ Some v → HasType v u) → Below (project t n i) u
+  pub project-least : (t : Type4) (n i : ℕ) → n ≤ 64 → 1 ≤ i → i ≤ n → (u : Type4) → ((vs : Values) (v : Value) → HasType (tuple_value vs) t → count vs ≡ n → value_at vs (i - 1) ≡ Some v → HasType v u)
+      → Below (project t n i) u
   pub project-more : (s t : Type4) (n i : ℕ) → Below s t → Below (project s n i) (project t n i)
   -- lists, and what stands in them
   pub cons-has : (h t : Type4) (proper : Bool) (x y : Value) → HasType x h → HasType y t → HasType (cons_value x y) (cons h t proper)
@@ -63,7 +64,8 @@ pub record Laws : Type 0 where
   -- integers, and elements at some positions
   pub ints-of_type : (t : Type4) (n : ℤ) → HasType (int n) t ↔ IsTrue (numbers.has (ints_of t) n)
   pub elements-hold : (t : Type4) (s : Numbers) (vs : Values) (i : ℕ) (v : Value) → HasType (tuple_value vs) t → value_at vs i ≡ Some v → IsTrue (numbers.has s (pos (suc i))) → HasType v (elements_at t s)
-  pub elements-least : (t : Type4) (s : Numbers) (p : ℕ) → IsTrue (numbers.has s (pos (suc p))) → (u : Type4) → ((vs : Values) (i : ℕ) (v : Value) → HasType (tuple_value vs) t → value_at vs i ≡ Some v → IsTrue (numbers.has s (pos (suc i))) → HasType v u) → Below (elements_at t s) u
+  pub elements-least : (t : Type4) (s : Numbers) (p : ℕ) → IsTrue (numbers.has s (pos (suc p))) → (u : Type4)
+      → ((vs : Values) (i : ℕ) (v : Value) → HasType (tuple_value vs) t → value_at vs i ≡ Some v → IsTrue (numbers.has s (pos (suc i))) → HasType v u) → Below (elements_at t s) u
   pub elements-more : (t u : Type4) (s w : Numbers) → Below t u → numbers.Below s w → Below (elements_at t s) (elements_at u w)
 
 -- ---- several values

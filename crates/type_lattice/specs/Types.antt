@@ -161,7 +161,8 @@ abbrev pub tuples_code : {E : Type 0} → Coded E → Coded (Tuples E)
 tuples_code {E} c = code_by (List (ℕ × Body E) ⊎ Bool) (coded⊎ (coded_list (coded× coded_ℕ (body_code c))) coded_bool) tuples_apart tuples_from tuples_back
 
 abbrev pub parts_code : {E : Type 0} → Coded E → Coded (Parts E)
-parts_code {E} c = code_by (PlainParts × (Option (Cell E) × Tuples E)) (coded× plain_code (coded× (coded_option (cell_code c)) (tuples_code c))) (λ p. (p.plain, (p.cell, p.tuples))) (λ t. record { plain = t.0; cell = t.1.0; tuples = t.1.1 }) (λ _. refl)
+parts_code {E} c = code_by (PlainParts × (Option (Cell E) × Tuples E)) (coded× plain_code (coded× (coded_option (cell_code c)) (tuples_code c))) (λ p. (p.plain, (p.cell, p.tuples)))
+    (λ t. record { plain = t.0; cell = t.1.0; tuples = t.1.1 }) (λ _. refl)
 
 abbrev pub type_code_at : (d : ℕ) → Coded (TypeAt d)
 type_code_at zero = coded_bool

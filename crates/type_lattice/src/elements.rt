@@ -32,7 +32,8 @@ impl Ty {
     /// is at position 1, and positions outside a size don't count. It is any where the type has all tuples.
     pub fn elements_at(&self, alloc: Global, positions: &IntSet) -> Result<Ty, Memory>
         ensures value { IfOk result (λ t. t ≡ elements_at self.now positions.now) }
-        ensures holds { IfOk result (λ t. (vs : Values) (i : ℕ) (v : Value) → HasType (tuple_value vs) self.now → value_at vs i ≡ Some v → IsTrue (has positions.now (pos (suc i))) → HasType v t) }
+        ensures holds { IfOk result (λ t. (vs : Values) (i : ℕ) (v : Value) → HasType (tuple_value vs) self.now → value_at vs i ≡ Some v
+            → IsTrue (has positions.now (pos (suc i))) → HasType v t) }
     {
         let Node::Of(parts) = self.node() else {
             return Ok(Ty::any());

@@ -1,5 +1,6 @@
 //! The laws of types, as functions that do nothing: who calls one has its clauses.
-ghost use Rattle.std.specs.Prelude.{◌≡◌, ◌<◌, ◌≤◌, ◌-◌, ◌^◌, ◌↔◌, ℕ, ℤ, pos, suc, Bool, true, false, List, Some, IsTrue, length, map};
+ghost use Rattle.std.specs.Prelude.{◌≡◌, ◌<◌, ◌≤◌, ◌-◌, ◌^◌, ◌↔◌, ℕ, ℤ, pos, suc, Bool};
+ghost use Rattle.std.specs.Prelude.{true, false, List, Some, IsTrue, length, map};
 ghost use Rattle.type_kinds_sets.specs.Names.{Names};
 ghost use Rattle.type_kinds_sets.specs.Numbers as numbers;
 ghost use Rattle.type_kinds_sets.specs.Numbers.{Numbers};
@@ -12,7 +13,8 @@ ghost use Rattle.type_lattice.specs.Chains.{Falls, IsHeight};
 ghost use Rattle.type_lattice.specs.Elements.{ints_of, elements_at};
 ghost use Rattle.type_lattice.specs.Inclusion.{is_same, leq};
 ghost use Rattle.type_lattice.specs.Kinds.{HasAtom, HasInt, IsKind, of_kind};
-ghost use Rattle.type_lattice.specs.Types.{Type4, HasType, HasTypes, Below, AreBelow, IsOfLevel, none, any, is_none, meet, join, cut, tuple, cons, project, elem, tail, rank, of_atoms, of_ints};
+ghost use Rattle.type_lattice.specs.Types.{Type4, HasType, HasTypes, Below, AreBelow, IsOfLevel, none, any, is_none};
+ghost use Rattle.type_lattice.specs.Types.{meet, join, cut, tuple, cons, project, elem, tail, rank, of_atoms, of_ints};
 ghost use Rattle.type_lattice.specs.declared.kinds.Kind.{Kind};
 ghost use Rattle.type_lattice.specs.declared.kinds.Kind.TheVariants.{FunOf};
 
@@ -84,7 +86,8 @@ pub fn tuple_laws()
     ensures above { (ts : List Type4) (vs : Values) → HasTypes vs ts → HasType (tuple_value vs) (tuple ts) }
     ensures least { (ts : List Type4) (u : Type4) → ((vs : Values) → HasTypes vs ts → HasType (tuple_value vs) u) → Below (tuple ts) u }
     ensures only { (ts : List Type4) (v : Value) → HasType v (tuple ts) → (vs : Values) × (v ≡ tuple_value vs) }
-    ensures exact { (ts : List Type4) → length ts ≤ MAX_ELEMENTS → (vs : Values) → HasType (tuple_value vs) (tuple ts) ↔ HasTypes vs (map (cut 3) ts) }
+    ensures exact { (ts : List Type4) → length ts ≤ MAX_ELEMENTS → (vs : Values)
+        → HasType (tuple_value vs) (tuple ts) ↔ HasTypes vs (map (cut 3) ts) }
 {}
 
 /// The type of the lists of a head and a tail has them, and has nothing but conses. With proper ends it
@@ -94,7 +97,8 @@ pub fn cons_laws()
     ensures above { (h t : Type4) (proper : Bool) (x y : Value) → HasType x h → HasType y t → HasType (cons_value x y) (cons h t proper) }
     ensures least { (h t u : Type4) → ((x y : Value) → HasType x h → HasType y t → HasType (cons_value x y) u) → Below (cons h t true) u }
     ensures only { (h t : Type4) (proper : Bool) (v : Value) → HasType v (cons h t proper) → (x : Value) × ((y : Value) × (v ≡ cons_value x y)) }
-    ensures ends { (h t : Type4) → (h ≡ none → ⊥) → ((v : Value) → HasType v (cons h t true) → end_of v ≡ nil) ↔ ((v : Value) → HasType v t → end_of v ≡ nil) }
+    ensures ends { (h t : Type4) → (h ≡ none → ⊥) → ((v : Value) → HasType v (cons h t true) → end_of v ≡ nil)
+        ↔ ((v : Value) → HasType v t → end_of v ≡ nil) }
     ensures free { (h t : Type4) (x y : Value) → HasType (cons_value x y) (cons h t false) ↔ HasAll HasType (and_value x (heads y)) (elem (cons h t true)) }
 {}
 
@@ -111,8 +115,11 @@ pub fn list_laws()
 /// smallest that does.
 #[tactic(auto, using(crate::proofs::TypeLaws::laws))]
 pub fn project_laws()
-    ensures holds { (t : Type4) (n i : ℕ) (vs : Values) (v : Value) → HasType (tuple_value vs) t → count vs ≡ n → value_at vs (i - 1) ≡ Some v → HasType v (project t n i) }
-    ensures least { (t : Type4) (n i : ℕ) → n ≤ MAX_ELEMENTS → 1 ≤ i → i ≤ n → (u : Type4) → ((vs : Values) (v : Value) → HasType (tuple_value vs) t → count vs ≡ n → value_at vs (i - 1) ≡ Some v → HasType v u) → Below (project t n i) u }
+    ensures holds { (t : Type4) (n i : ℕ) (vs : Values) (v : Value) → HasType (tuple_value vs) t → count vs ≡ n → value_at vs (i - 1) ≡ Some v
+        → HasType v (project t n i) }
+    ensures least { (t : Type4) (n i : ℕ) → n ≤ MAX_ELEMENTS → 1 ≤ i → i ≤ n → (u : Type4)
+        → ((vs : Values) (v : Value) → HasType (tuple_value vs) t → count vs ≡ n → value_at vs (i - 1) ≡ Some v → HasType v u)
+        → Below (project t n i) u }
 {}
 
 /// The integers of a type are exactly those that it has. The type of the elements at some positions has
@@ -120,8 +127,11 @@ pub fn project_laws()
 /// does. It rises with the type and with the set.
 pub fn element_laws()
     ensures ints { (t : Type4) (n : ℤ) → HasType (int n) t ↔ IsTrue (numbers.has (ints_of t) n) }
-    ensures holds { (t : Type4) (s : Numbers) (vs : Values) (i : ℕ) (v : Value) → HasType (tuple_value vs) t → value_at vs i ≡ Some v → IsTrue (numbers.has s (pos (suc i))) → HasType v (elements_at t s) }
-    ensures least { (t : Type4) (s : Numbers) (p : ℕ) → IsTrue (numbers.has s (pos (suc p))) → (u : Type4) → ((vs : Values) (i : ℕ) (v : Value) → HasType (tuple_value vs) t → value_at vs i ≡ Some v → IsTrue (numbers.has s (pos (suc i))) → HasType v u) → Below (elements_at t s) u }
+    ensures holds { (t : Type4) (s : Numbers) (vs : Values) (i : ℕ) (v : Value) → HasType (tuple_value vs) t → value_at vs i ≡ Some v
+        → IsTrue (numbers.has s (pos (suc i))) → HasType v (elements_at t s) }
+    ensures least { (t : Type4) (s : Numbers) (p : ℕ) → IsTrue (numbers.has s (pos (suc p))) → (u : Type4)
+        → ((vs : Values) (i : ℕ) (v : Value) → HasType (tuple_value vs) t → value_at vs i ≡ Some v → IsTrue (numbers.has s (pos (suc i)))
+        → HasType v u) → Below (elements_at t s) u }
     ensures monotone { (t u : Type4) (s w : Numbers) → Below t u → numbers.Below s w → Below (elements_at t s) (elements_at u w) }
 {}
 

@@ -116,7 +116,8 @@ pub fn tail_parts(cell: &CellOf<Node>) -> Result<PartsOf<Node>, Memory>
 
 // The plain values at the end of a list.
 fn tail_plain(is_proper: bool) -> Plain
-    ensures { result ≡ cond is_proper (record { atoms = names.none; ints = numbers.none; bits = No; flags = flags_of_nil; functions = no_function }) plain_all }
+    ensures { result ≡ cond is_proper (record { atoms = names.none; ints = numbers.none; bits = No; flags = flags_of_nil; functions = no_function })
+        plain_all }
 {
     if is_proper {
         plain_kind(Kind::Nil)

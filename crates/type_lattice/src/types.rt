@@ -5,7 +5,8 @@ ghost use Rattle.type_lattice_model.specs.Shapes.{sizes};
 ghost use Rattle.type_lattice_model.specs.Values.{Value, Values, count, tuple as tuple_value, cons as cons_value};
 ghost use Rattle.type_lattice_model.proofs.NormalOnce.{normal_once};
 ghost use Rattle.type_lattice.specs.declared.kinds.Ends.TheVariants.{Proper};
-ghost use Rattle.type_lattice.specs.Types.{Type4, HasType, HasTypes, Below, IsOfLevel, none, any, is_none, meet, join, cut, tuple, cons, project, elem, tail, of_atoms, of_ints, every_tuple};
+ghost use Rattle.type_lattice.specs.Types.{Type4, HasType, HasTypes, Below, IsOfLevel, none, any, is_none, meet, join};
+ghost use Rattle.type_lattice.specs.Types.{cut, tuple, cons, project, elem, tail, of_atoms, of_ints, every_tuple};
 ghost use Rattle.type_lattice.specs.Inclusion.{leq};
 ghost use Rattle.type_lattice.specs.Kinds.{HasAtom, HasInt, IsKind, of_kind, asks_proper};
 ghost use Rattle.type_lattice_trees.specs.View.{view, Fits};
@@ -119,7 +120,8 @@ impl Ty {
     pub fn cons(alloc: Global, head: &Ty, tail: &Ty, ends: Ends) -> Result<Ty, Memory>
         ensures value { IfOk result (λ t. t ≡ cons head.now tail.now (asks_proper ends)) }
         ensures above { IfOk result (λ t. (x y : Value) → HasType x head.now → HasType y tail.now → HasType (cons_value x y) t) }
-        ensures least { IfOk result (λ t. ends ≡ Proper → (u : Type4) → ((x y : Value) → HasType x head.now → HasType y tail.now → HasType (cons_value x y) u) → Below t u) }
+        ensures least { IfOk result (λ t. ends ≡ Proper → (u : Type4)
+            → ((x y : Value) → HasType x head.now → HasType y tail.now → HasType (cons_value x y) u) → Below t u) }
     {
         if head.is_none() || tail.is_none() {
             return Ok(Ty::none());
@@ -193,7 +195,8 @@ impl Ty {
     pub fn project(&self, alloc: Global, size: u32, position: u32) -> Result<Ty, Memory>
         requires { (1 ≤ position) × (position ≤ size) }
         ensures value { IfOk result (λ t. t ≡ project self.now size position) }
-        ensures holds { IfOk result (λ t. (vs : Values) (v : Value) → HasType (tuple_value vs) self.now → count vs ≡ size → value_at vs (position - 1) ≡ Some v → HasType v t) }
+        ensures holds { IfOk result (λ t. (vs : Values) (v : Value) → HasType (tuple_value vs) self.now → count vs ≡ size
+            → value_at vs (position - 1) ≡ Some v → HasType v t) }
     {
         let Node::Of(parts) = &self.kept.node else {
             return Ok(Ty::any());

@@ -106,8 +106,14 @@ module _ {E : Type 0} {Has : Value → E → Type 0} {Normal : E → Type 0} {o 
   tags_way n [] k = absurd (true≢false k.0.1)
   tags_way n (e ∷ []) k =
       let w = row_way l r n e.1 k.0.2.0 in
-      let c = tags ((e.0, w.0) ∷ []) in
-      (c, (with_row n e.0 [] e.1 w.0 k w.1.0, way_as IsIn (IsBody (suc n)) (of_row e.1) (one_less (table_rank of_row (e ∷ []))) c (tags (e ∷ [])) (one_tag (of_row e.1) (table_rank of_row (e ∷ [])) refl) (tag_way n e.0 [] w.0 e.1 k w.1.1)))
+      let c = tags ((e.0, w.0) ∷ []) in (
+        c,
+        (
+          with_row n e.0 [] e.1 w.0 k w.1.0,
+          way_as IsIn (IsBody (suc n)) (of_row e.1) (one_less (table_rank of_row (e ∷ []))) c (tags (e ∷ [])) (one_tag (of_row e.1) (table_rank of_row (e ∷ [])) refl)
+              (tag_way n e.0 [] w.0 e.1 k w.1.1),
+        ),
+      )
   tags_way n (e ∷ d ∷ m) k =
       let w = row_way l r n e.1 k.0.2.0 in
       let low : Name × List E = (e.0, w.0) in
@@ -117,8 +123,14 @@ module _ {E : Type 0} {Has : Value → E → Type 0} {Normal : E → Type 0} {o 
       let b = one_step IsIn (IsBody (suc n)) (tags (d ∷ m)) (tags (low ∷ d ∷ m)) k' (tag_dropped low (d ∷ m) k.0.0) (not_longer low (d ∷ m)) in
       let t = table_rank of_row (d ∷ m) in
       let c = way_then IsIn (IsBody (suc n)) (one_less t) 1 rest.0 (tags (d ∷ m)) (tags (low ∷ d ∷ m)) rest.1.1 b in
-      let all = way_then IsIn (IsBody (suc n)) (1 + one_less t) (of_row e.1) rest.0 (tags (low ∷ d ∷ m)) (tags (e ∷ d ∷ m)) c a in
-      (rest.0, (rest.1.0, way_as IsIn (IsBody (suc n)) (of_row e.1 + (1 + one_less t)) (one_less (table_rank of_row (e ∷ d ∷ m))) rest.0 (tags (e ∷ d ∷ m)) (tag_steps (of_row e.1) (table_rank of_row (e ∷ d ∷ m)) t refl (omega arith)) all))
+      let all = way_then IsIn (IsBody (suc n)) (1 + one_less t) (of_row e.1) rest.0 (tags (low ∷ d ∷ m)) (tags (e ∷ d ∷ m)) c a in (
+        rest.0,
+        (
+          rest.1.0,
+          way_as IsIn (IsBody (suc n)) (of_row e.1 + (1 + one_less t)) (one_less (table_rank of_row (e ∷ d ∷ m))) rest.0 (tags (e ∷ d ∷ m))
+              (tag_steps (of_row e.1) (table_rank of_row (e ∷ d ∷ m)) t refl (omega arith)) all,
+        ),
+      )
 
   -- ---- down from a product
 
@@ -166,7 +178,8 @@ module _ {E : Type 0} {Has : Value → E → Type 0} {Normal : E → Type 0} {o 
         ),
       )
 
-  product_way : (n : ℕ) (e : E) (es : List E) → IsBody (suc n) (product (e ∷ es)) → GoesDown Has Normal o height tags_in e → (c : Body E) × (IsBody (suc n) c × Way IsIn (IsBody (suc n)) (of_body (product (e ∷ es))) c (product (e ∷ es)))
+  product_way : (n : ℕ) (e : E) (es : List E) → IsBody (suc n) (product (e ∷ es)) → GoesDown Has Normal o height tags_in e
+      → (c : Body E) × (IsBody (suc n) c × Way IsIn (IsBody (suc n)) (of_body (product (e ∷ es))) c (product (e ∷ es)))
   product_way n e es k w =
       let j : IsRow Normal o n es = (omega (arith, k.0.0), k.0.1.1) in
       let u = w.least in
@@ -239,7 +252,8 @@ module _ {E : Type 0} {Has : Value → E → Type 0} {Normal : E → Type 0} {o 
   body_lower zero (tags m) c j k f = absurd j
   body_lower (suc n) (tags m) (product []) j k f = absurd (omega (arith, k.0.0))
   body_lower (suc n) (tags m) (product (e ∷ es)) j k f = inr (tags_lower n m e es j k f)
-  body_lower (suc n) (tags m) (tags w) j k f = both (sum_lower name_total name_same of_row m w j.0.0 k.0.0 (λ a. found_row n (find name_cmp m a) (find name_cmp w a) (rows_at l n m j.0.2 a) (rows_at l n w k.0.2 a) (tag_of l m (tags w) f a)))
+  body_lower (suc n) (tags m) (tags w) j k f = both (sum_lower name_total name_same of_row m w j.0.0 k.0.0
+      (λ a. found_row n (find name_cmp m a) (find name_cmp w a) (rows_at l n m j.0.2 a) (rows_at l n w k.0.2 a) (tag_of l m (tags w) f a)))
     where
       both : Lower (table_rank of_row) m w → Lower of_body (tags m) (tags w)
       both (inl e) = inl (ap tags e)

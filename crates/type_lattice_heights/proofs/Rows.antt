@@ -61,7 +61,8 @@ module _ {E : Type 0} {Has : Value → E → Type 0} {Normal : E → Type 0} {o 
       let rest = row_way n es (omega (arith, k.0), k.1.1) in
       let u = first.0 in
       let count : length es ≡ n = omega (arith, k.0) in
-      let a = way_lift (HasEach Has) (IsRow Normal o (suc n)) (λ x. x ∷ es) u (λ x j b. (k.0, (element_above u x first.1.0 j b, k.1.1))) (λ x y b. first_below Has es x y b) (λ x y q. first_same es x y q) (one_less (height e)) e first.1.1 in
+      let a = way_lift (HasEach Has) (IsRow Normal o (suc n)) (λ x. x ∷ es) u (λ x j b. (k.0, (element_above u x first.1.0 j b, k.1.1))) (λ x y b. first_below Has es x y b) (λ x y q. first_same es x y q)
+      (one_less (height e)) e first.1.1 in
       let b = way_lift (HasEach Has) (IsRow Normal o (suc n)) (λ xs. u ∷ xs) rest.0 (λ xs j b. (ap suc j.0, (first.1.0, j.1))) (λ xs ys b. rest_below Has u xs ys b) (λ xs ys q. rest_same u xs ys q) (of_row es) es rest.1.1 in
       (u ∷ rest.0, ((ap suc rest.1.0.0, (first.1.0, rest.1.0.1)), way_then (HasEach Has) (IsRow Normal o (suc n)) (of_row es) (one_less (height e)) (u ∷ rest.0) (u ∷ es) (e ∷ es) b a))
 

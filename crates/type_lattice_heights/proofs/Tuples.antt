@@ -199,7 +199,8 @@ module _ {E : Type 0} {Has : Value → E → Type 0} {Normal : E → Type 0} {o 
   spread [] n t k e = omega arith
   spread (d ∷ m) n t k e =
       let rest = spread m (suc n) (tables.table-rest nat_cmp_total nat_cmp-IsAntisymmetric d m t) k.1 (omega (arith, e)) in
-      let top = room 65 d m t (tables.each_from nat_cmp_total nat_cmp-IsAntisymmetric (λ q b. q < 65) (d ∷ m) t (λ q b x. ltb-true q 65 (tables.each_at nat_cmp_total nat_cmp-IsAntisymmetric (NormalSize Normal o) (d ∷ m) k q b x).0)) in
+      let top = room 65 d m t (tables.each_from nat_cmp_total nat_cmp-IsAntisymmetric (λ q b. q < 65) (d ∷ m) t (λ q b x. ltb-true q 65 (tables.each_at nat_cmp_total nat_cmp-IsAntisymmetric (NormalSize Normal o) (d ∷ m) k q b x).0))
+      in
       let here = full_most d.0 d.1 k.0 in
       let more = full_more d.0 n (omega (arith, top, e)) in
       omega (arith, rest, here, more)

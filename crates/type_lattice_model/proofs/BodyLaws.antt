@@ -1,5 +1,6 @@
 -- The laws of the tuples of one size, a product of element types or tags.
-use Rattle.std.proofs.Common.{sym, ap, ◌∙◌, true≢false, subst, arith, inl, inr, ◌≡◌, ◌⊎◌, ◌↔◌, ℕ, zero, suc, ◌≤◌, true, false, List, [], ◌∷◌, length, nat_lt, Option, Some, None, is_some, option_map, refl}
+use Rattle.std.proofs.Common.{sym, ap, ◌∙◌, true≢false, subst, arith, inl, inr, ◌≡◌, ◌⊎◌, ◌↔◌, ℕ, zero, suc, ◌≤◌, true}
+use Rattle.std.proofs.Common.{false, List, [], ◌∷◌, length, nat_lt, Option, Some, None, is_some, option_map, refl}
 use Rattle.std.proofs.lemmas.Bool.{and_from}
 use borrow.Author.Tests.{ltb-true, lt-ltb, ltb-false}
 use Rattle.type_kinds_sets.specs.Ascending.{is_ascending, has_item}
@@ -227,7 +228,8 @@ module _ {E : Type 0} {Has : Value → E → Type 0} {Normal : E → Type 0} {o 
   row_some : (m : Rows) (a : Name) (vs : Values) → HasRow Has vs (at m a) → SomeOf (λ e. HasEach Has vs e.1) m
   row_some m a vs h = grind (arith, entry_some name_total name_same (λ q es. HasEach Has vs es) m a)
 
-  tags_least : (n : ℕ) (m : Rows) → AreTags Normal o n m → (gs : List E) → RowOf (suc n) (Some gs) → ((vs : Values) → HasTag Has vs m → HasEach Has vs gs) → (vs : Values) → HasEach Has vs (elements o (tags m)) → HasEach Has vs gs
+  tags_least : (n : ℕ) (m : Rows) → AreTags Normal o n m → (gs : List E) → RowOf (suc n) (Some gs) → ((vs : Values) → HasTag Has vs m → HasEach Has vs gs) → (vs : Values) → HasEach Has vs (elements o (tags m))
+      → HasEach Has vs gs
   tags_least n m k [] i f vs h = absurd (omega (arith, i.0))
   tags_least n m k (e ∷ es) i f no_value h = absurd h
   tags_least n m k (e ∷ es) i f (and_value v us) h =
@@ -266,7 +268,8 @@ module _ {E : Type 0} {Has : Value → E → Type 0} {Normal : E → Type 0} {o 
   -- ---- the join of two bodies
 
   -- the least product is the least body, where no tags have all those tuples
-  pub product_least : (n : ℕ) (es : List E) {In : Values → Type 0} → LeastRow n In (Some es) → FirstIsOpen Normal o es → ((m : Rows) → NormalTags Normal o n m → ((vs : Values) → In vs → HasTag Has vs m) → ⊥) → LeastBody n In (product es)
+  pub product_least : (n : ℕ) (es : List E) {In : Values → Type 0} → LeastRow n In (Some es) → FirstIsOpen Normal o es → ((m : Rows) → NormalTags Normal o n m → ((vs : Values) → In vs → HasTag Has vs m) → ⊥)
+      → LeastBody n In (product es)
   product_least n es j k without = record { normal = (j.normal, k); above = j.above; least = λ u i f. let g = λ (gs : List E). j.least (Some gs) in grind (arith, g, without) }
 
   -- the least product that contains both

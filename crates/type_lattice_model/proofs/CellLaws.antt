@@ -65,7 +65,8 @@ module _ {E : Type 0} {Has : Value → E → Type 0} {Normal : E → Type 0} {o 
   cell_meets : (s t : Cell E) → NormalC (Some s) → NormalC (Some t) → IsJust HasC NormalC (InBoth HasC (Some s) (Some t)) (cell_meet o (Some s) (Some t))
   cell_meets s t j k = record { normal = grind (arith, NormalC, l.lattice.meet_normal); enter = λ p. (cell_meet_is s t j k p).1; leave = λ p. (cell_meet_is s t j k p).0 }
 
-  cell_joins : (s t : Cell E) → NormalC (Some s) → NormalC (Some t) → IsLeast (λ p c. HasC p (Some c)) (λ c. NormalC (Some c)) (InEither HasC (Some s) (Some t)) (record { element = o.join s.element t.element; is_proper = s.is_proper && t.is_proper })
+  cell_joins : (s t : Cell E) → NormalC (Some s) → NormalC (Some t) → IsLeast (λ p c. HasC p (Some c)) (λ c. NormalC (Some c)) (InEither HasC (Some s) (Some t))
+      (record { element = o.join s.element t.element; is_proper = s.is_proper && t.is_proper })
   cell_joins s t j k = record {
     normal = element-join s.element t.element j k;
     above = λ p h.

@@ -1,5 +1,6 @@
 -- The laws of cuts: the least type of another level, which adds no value where that level is no lower. A join is the same one level up.
-use Rattle.std.proofs.Common.{◌≡◌, ℕ, zero, suc, ◌≤◌, Bool, true, false, cond, List, [], ◌∷◌, map, length, Option, Some, None, refl, sym, ap, ◌∙◌, arith, subst, true≢false, ◌&&◌, nat_lt, option_map, Ordering, nat_cmp}
+use Rattle.std.proofs.Common.{◌≡◌, ℕ, zero, suc, ◌≤◌, Bool, true, false, cond, List, [], ◌∷◌, map, length, Option, Some, None}
+use Rattle.std.proofs.Common.{refl, sym, ap, ◌∙◌, arith, subst, true≢false, ◌&&◌, nat_lt, option_map, Ordering, nat_cmp}
 use Rattle.std.specs.FinSet.{IsAntisymmetric}
 use Rattle.std.proofs.lemmas.List.{length-map}
 use Rattle.std.proofs.lemmas.Bool.{true_from_ne_false}
@@ -17,13 +18,15 @@ use Rattle.type_lattice_model.proofs.TableLaws as tables
 use Rattle.type_lattice_model.proofs.LeastLaws.{IsLeast, some_least}
 use Rattle.type_lattice_model.proofs.CellLaws.{value_of, filled-not_none, all-more}
 use Rattle.type_lattice_model.proofs.RowLaws.{values_of, count_each, row_lattice}
-use Rattle.type_lattice_model.proofs.BodyLaws.{only_above, not_in_tags, rows_at, rows_from, row_at_is, row_at_normal, by_tag, each_tag, elements_normal, elements_above, count_body, body_value, tag_value, LeastRow, LeastBody, product_least, body_lattice}
+use Rattle.type_lattice_model.proofs.BodyLaws.{only_above, not_in_tags, rows_at, rows_from, row_at_is, row_at_normal, by_tag, each_tag, elements_normal}
+use Rattle.type_lattice_model.proofs.BodyLaws.{elements_above, count_body, body_value, tag_value, LeastRow, LeastBody, product_least, body_lattice}
 use Rattle.type_lattice_model.proofs.TupleLaws.{size_total, size_same, normal_at, from_size, sizes_least}
 use Rattle.type_lattice_model.proofs.LevelLaws.{level_laws}
 
 -- ---- from the types of one level to those of another, and so one level up
 
-module _ {F E : Type 0} {HasF : Value → F → Type 0} {NormalF : F → Type 0} {f : Ops F} (high : Laws HasF NormalF f) {HasE : Value → E → Type 0} {NormalE : E → Type 0} {e : Ops E} (low : Laws HasE NormalE e) {lower : F → E} (s : Lowering HasF NormalF HasE NormalE lower) where
+module _ {F E : Type 0} {HasF : Value → F → Type 0} {NormalF : F → Type 0} {f : Ops F} (high : Laws HasF NormalF f) {HasE : Value → E → Type 0} {NormalE : E → Type 0} {e : Ops E} (low : Laws HasE NormalE e) {lower : F
+    → E} (s : Lowering HasF NormalF HasE NormalE lower) where
   -- ---- rows
   row_normal : (es : List F) → AreElements NormalF f es → AreElements NormalE e (map lower es)
   row_normal [] k = tt
@@ -35,7 +38,8 @@ module _ {F E : Type 0} {HasF : Value → F → Type 0} {NormalF : F → Type 0}
   row_above (t ∷ ts) k no_value h = absurd h
   row_above (t ∷ ts) k (and_value v vs) h = (s.above t k.0.0 v h.0, row_above ts k.1 vs h.1)
 
-  row_least : (es : List F) (gs : List E) → AreElements NormalF f es → AreElements NormalE e gs → ((vs : Values) → HasEach HasF vs es → HasEach HasE vs gs) → (vs : Values) → HasEach HasE vs (map lower es) → HasEach HasE vs gs
+  row_least : (es : List F) (gs : List E) → AreElements NormalF f es → AreElements NormalE e gs → ((vs : Values) → HasEach HasF vs es → HasEach HasE vs gs) → (vs : Values) → HasEach HasE vs (map lower es)
+      → HasEach HasE vs gs
   row_least [] gs j k p no_value h = p no_value tt
   row_least [] gs j k p (and_value v vs) h = absurd h
   row_least (t ∷ ts) gs j k p no_value h = absurd h
@@ -62,7 +66,8 @@ module _ {F E : Type 0} {HasF : Value → F → Type 0} {NormalF : F → Type 0}
   all_each a (g ∷ gs) k (and_value v vs) q = (low.naming.no_tags_full a g k.0.0 k.0.1 v, all_each a gs k.1 vs (omega arith))
 
   -- tags stay tags, or become a product
-  tags_are : (n : ℕ) (m : List (Name × List F)) (b : Bool) → e.has_tags ≡ b → NormalBody NormalF f (suc n) (Some (tags m)) → LeastBody low (suc n) (λ vs. HasTag HasF vs m) (cond b (tags (mapped (map lower) m)) (product (map lower (elements f (tags m)))))
+  tags_are : (n : ℕ) (m : List (Name × List F)) (b : Bool) → e.has_tags ≡ b → NormalBody NormalF f (suc n) (Some (tags m))
+      → LeastBody low (suc n) (λ vs. HasTag HasF vs m) (cond b (tags (mapped (map lower) m)) (product (map lower (elements f (tags m)))))
   tags_are n m true a k =
       let c = mapped (map lower) m in
       let table = tables.table-mapped name_total name_same (map lower) m k.0.0 in
@@ -131,7 +136,8 @@ module _ {F E : Type 0} {HasF : Value → F → Type 0} {NormalF : F → Type 0}
   parts_above p k (tuple vs) h = (tuples_are p.tuples k.2).above vs h
   parts_above p k v h = h
 
-  parts_least : (p : Parts F) (u : Parts E) → NormalParts NormalF f p → NormalParts NormalE e u → ((v : Value) → HasParts HasF v p → HasParts HasE v u) → (v : Value) → HasParts HasE v (parts_lower lower f e p) → HasParts HasE v u
+  parts_least : (p : Parts F) (u : Parts E) → NormalParts NormalF f p → NormalParts NormalE e u → ((v : Value) → HasParts HasF v p → HasParts HasE v u) → (v : Value) → HasParts HasE v (parts_lower lower f e p)
+      → HasParts HasE v u
   parts_least p u j k q (cons x y) h = (cell_are p.cell j.1).least u.cell k.1 (λ c. q (cons c.0 c.1)) (x, y) h
   parts_least p u j k q (tuple vs) h = (tuples_are p.tuples j.2).least u.tuples k.2 (λ us. q (tuple us)) vs h
   parts_least p u j k q v h = q v h
@@ -184,7 +190,8 @@ cut_exact e d le t k v h = subst (HasAt e v) (cut_back e d le t k) ((cut_lowerin
 
 -- ---- a join is the same one level up: first of tables whose entries are joined
 
-module _ {K X Y : Type 0} {R : K → K → Ordering} (same : IsAntisymmetric R) (g : X → Y) (j : X → X → X) (k : Y → Y → Y) (P : K → X → Type 0) (keeps : (a : K) (x y : X) → P a x → P a y → P a (j x y)) (joins : (a : K) (x y : X) → P a x → P a y → g (j x y) ≡ k (g x) (g y)) where
+module _ {K X Y : Type 0} {R : K → K → Ordering} (same : IsAntisymmetric R) (g : X → Y) (j : X → X → X) (k : Y → Y → Y) (P : K → X → Type 0) (keeps : (a : K) (x y : X) → P a x → P a y
+    → P a (j x y)) (joins : (a : K) (x y : X) → P a x → P a y → g (j x y) ≡ k (g x) (g y)) where
   mapped-put : (a : K) (x : X) (m : List (K × X)) → P a x → EachEntry P m → mapped g (put R j a x m) ≡ put R k a (g x) (mapped g m)
   mapped-put a x [] p q = refl
   mapped-put a x (e ∷ m) p q = grind (arith, mapped-put a x m p q.1)
@@ -215,7 +222,8 @@ module _ {F E : Type 0} {HasF : Value → F → Type 0} {NormalF : F → Type 0}
   tags_elements n [] a k = ap (λ z. z ∷ []) (s.names_stay a [])
   tags_elements n (x ∷ m) a k = grind (arith, tables.keys-mapped name_total name_same (map lower) m, rows_joins n x.1 m k.0 k.1)
 
-  tags_joins : (n : ℕ) (m w : List (Name × List F)) → NormalRows NormalF f n m → NormalRows NormalF f n w → NormalRows NormalF f n (tags_join f m w) × (mapped (map lower) (tags_join f m w) ≡ tags_join e (mapped (map lower) m) (mapped (map lower) w))
+  tags_joins : (n : ℕ) (m w : List (Name × List F)) → NormalRows NormalF f n m → NormalRows NormalF f n w
+      → NormalRows NormalF f n (tags_join f m w) × (mapped (map lower) (tags_join f m w) ≡ tags_join e (mapped (map lower) m) (mapped (map lower) w))
   tags_joins n = mapped-united name_same (map lower) (row_join f) (row_join e) (λ a es. NormalRow NormalF f n (Some es)) (λ a es fs. (row_lattice high n).join_normal (Some es) (Some fs)) (λ a es fs p q. row_joins es fs p.1 q.1)
 
   -- ---- the tuples of one size
@@ -226,7 +234,8 @@ module _ {F E : Type 0} {HasF : Value → F → Type 0} {NormalF : F → Type 0}
   body_joins (suc n) (tags m) (tags w) j k = grind (arith, tags_elements, tables.length-mapped name_total name_same (map lower), tags_joins)
 
   -- ---- tuples
-  sizes_joins : (m w : List (ℕ × Body F)) → NormalSizes NormalF f m → NormalSizes NormalF f w → mapped (body_lower lower f e) (united nat_cmp (body_join f) m w) ≡ united nat_cmp (body_join e) (mapped (body_lower lower f e) m) (mapped (body_lower lower f e) w)
+  sizes_joins : (m w : List (ℕ × Body F)) → NormalSizes NormalF f m → NormalSizes NormalF f w
+      → mapped (body_lower lower f e) (united nat_cmp (body_join f) m w) ≡ united nat_cmp (body_join e) (mapped (body_lower lower f e) m) (mapped (body_lower lower f e) w)
   sizes_joins m w j k =
       (mapped-united size_same (body_lower lower f e) (body_join f) (body_join e) (NormalSize NormalF f) (λ n b c p q. (p.0, (body_lattice high n).join_normal (Some b) (Some c) p.1 q.1)) (λ n b c p q. body_joins n b c p.1 q.1) m w j k).1
 

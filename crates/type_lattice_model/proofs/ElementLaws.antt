@@ -1,5 +1,6 @@
 -- The laws of the elements of tuples: at a position of one size, and at the positions in a set over all sizes.
-use Rattle.std.proofs.Common.{true≢false, ◌≡◌, ◌⊎◌, inl, inr, ◌+◌, ◌-◌, ◌<◌, ◌≤◌, ℕ, zero, suc, pos, true, List, [], ◌∷◌, Option, Some, None, refl, sym, ap, ◌∙◌, subst, arith, ◌↔◌, slice_get, nat_cmp}
+use Rattle.std.proofs.Common.{true≢false, ◌≡◌, ◌⊎◌, inl, inr, ◌+◌, ◌-◌, ◌<◌, ◌≤◌, ℕ, zero, suc, pos, true, List, []}
+use Rattle.std.proofs.Common.{◌∷◌, Option, Some, None, refl, sym, ap, ◌∙◌, subst, arith, ◌↔◌, slice_get, nat_cmp}
 use borrow.Author.Tests.{lt-ltb}
 use Rattle.type_kinds_sets.specs.Names.{Name, name_cmp}
 use Rattle.type_kinds_sets.specs.Numbers as numbers
@@ -63,7 +64,8 @@ module _ (d : ℕ) (u : TypeAt (suc d)) (n : NormalAt (suc d) u) where
       (level_laws (suc d)).lattice.join_least (cut d (suc d) x) (cut d (suc d) y) u (up.normal x j.0.0) (up.normal y k.0.0) n f g v (subst (HasAt (suc d) v) (lift_join d x y j.0.0 k.0.0) h)
   zip_inside (suc i) (x ∷ xs) (y ∷ ys) j k f g v h = zip_inside i xs ys j.1 k.1 f g v h
 
-  rows_inside : (m : ℕ) (i : ℕ) (es : List (TypeAt d)) (w : List (Name × List (TypeAt d))) → NormalRow (NormalAt d) (ops d) m (Some es) → NormalRows (NormalAt d) (ops d) m w → InsideAt i es → EachEntry (λ a fs. InsideAt i fs) w → InsideAt i (rows_join (ops d) es (held w))
+  rows_inside : (m : ℕ) (i : ℕ) (es : List (TypeAt d)) (w : List (Name × List (TypeAt d))) → NormalRow (NormalAt d) (ops d) m (Some es) → NormalRows (NormalAt d) (ops d) m w → InsideAt i es
+      → EachEntry (λ a fs. InsideAt i fs) w → InsideAt i (rows_join (ops d) es (held w))
   rows_inside m i es [] j k f g = f
   rows_inside m i es (x ∷ w) j k f g = grind (arith, rows_inside m i (row_join (ops d) es x.1) w ((row_lattice (level_laws d) m).join_normal (Some es) (Some x.1) j k.0) k.1 (zip_inside i es x.1 j.1 k.0.1 f g.0) g.1)
 
@@ -72,7 +74,8 @@ module _ (d : ℕ) (u : TypeAt (suc d)) (n : NormalAt (suc d) u) where
   row_inside (x ∷ xs) k zero f v h = let w = values_of (level_laws d) xs k.1 in f v (and_value v w.0, ((cut_exact d (suc d) (omega arith) x k.0.0 v h, w.1), refl))
   row_inside (x ∷ xs) k (suc i) f v h = let w = value_of (level_laws d) x k.0 in row_inside xs k.1 i (λ u t. f u (and_value w.0 t.0, ((w.1, t.1.0), t.1.1))) v h
 
-  body_inside : (m : ℕ) (b : Option (Body (TypeAt d))) → NormalBody (NormalAt d) (ops d) m b → (i : ℕ) → ((v : Value) → StandsAt (λ vs. HasBody (HasAt d) vs b) i v → HasAt (suc d) v u) → (v : Value) → UpHas d v (at_position (level_laws d) b i) → HasAt (suc d) v u
+  body_inside : (m : ℕ) (b : Option (Body (TypeAt d))) → NormalBody (NormalAt d) (ops d) m b → (i : ℕ) → ((v : Value) → StandsAt (λ vs. HasBody (HasAt d) vs b) i v → HasAt (suc d) v u) → (v : Value)
+      → UpHas d v (at_position (level_laws d) b i) → HasAt (suc d) v u
   body_inside m None k i f = λ v h. absurd h
   body_inside m (Some (product es)) k i f = row_inside es k.0.1 i f
   body_inside zero (Some (tags w)) k i f = absurd k
@@ -89,7 +92,8 @@ module _ (d : ℕ) (u : TypeAt (suc d)) (n : NormalAt (suc d) u) where
 
 -- ---- an element of one size
 
-position_least : (d : ℕ) (t : Tuples (TypeAt d)) → NormalTuples (NormalAt d) (ops d) t → (n i : ℕ) → n ≤ 64 → i < n → (u : TypeAt (suc d)) → NormalAt (suc d) u → ((v : Value) → StandsAt (λ vs. HasTuple (HasAt d) vs t × (count vs ≡ n)) i v → HasAt (suc d) v u) → BelowBy (HasAt (suc d)) (lifted d (element_at (ops d) t n i)) u
+position_least : (d : ℕ) (t : Tuples (TypeAt d)) → NormalTuples (NormalAt d) (ops d) t → (n i : ℕ) → n ≤ 64 → i < n → (u : TypeAt (suc d)) → NormalAt (suc d) u
+    → ((v : Value) → StandsAt (λ vs. HasTuple (HasAt d) vs t × (count vs ≡ n)) i v → HasAt (suc d) v u) → BelowBy (HasAt (suc d)) (lifted d (element_at (ops d) t n i)) u
 position_least d all_tuples k n i small within u j f = λ v h. let w = with_value n i v within in f v (w.0, ((tt, w.1.0), w.1.1))
 position_least d (sizes m) k n i small within u j f =
     let l = level_laws d in
@@ -98,7 +102,8 @@ position_least d (sizes m) k n i small within u j f =
     rw (lt-ltb n 65 (omega (arith, small))) (λ v h. body_inside d u j n b normal i (λ w x. f w (x.0, ((from_size l m k.2 n x.0 x.1.0, count_body l n x.0 b normal x.1.0), x.1.1))) v (lifted_out d v (at_position l b i) h))
 
 -- up to 64 elements, the type of an element is the least that has what stands there
-pub project-least : (d : ℕ) (t : TypeAt (suc d)) → NormalAt (suc d) t → (n i : ℕ) → n ≤ 64 → 1 ≤ i → i ≤ n → (u : TypeAt (suc d)) → NormalAt (suc d) u → ((vs : Values) (v : Value) → HasAt (suc d) (tuple vs) t → count vs ≡ n → value_at vs (i - 1) ≡ Some v → HasAt (suc d) v u) → BelowBy (HasAt (suc d)) (project_at d t n i) u
+pub project-least : (d : ℕ) (t : TypeAt (suc d)) → NormalAt (suc d) t → (n i : ℕ) → n ≤ 64 → 1 ≤ i → i ≤ n → (u : TypeAt (suc d)) → NormalAt (suc d) u
+    → ((vs : Values) (v : Value) → HasAt (suc d) (tuple vs) t → count vs ≡ n → value_at vs (i - 1) ≡ Some v → HasAt (suc d) v u) → BelowBy (HasAt (suc d)) (project_at d t n i) u
 unfolding NormalAt
 project-least d t k n i small one within u j f = grind (arith, position_least)
 
@@ -166,11 +171,14 @@ module _ (d : ℕ) where
       body_inside d u n b.0 (Some b.1.0) (at_size b.0 b.1.0 b.1.1.0) e.0 (λ w x. f w (e.0, ((x.0, (from_size l m k.2 b.0 x.0 (subst (HasBody (HasAt d) x.0) (sym b.1.1.0) x.1.0), x.1.1)), among))) v e.1.1)
 
   -- of all tuples it has any value, and there is one at each position of the set
-  tuples_are : (t : Tuples (TypeAt d)) (s : Numbers) → NormalTuples (NormalAt d) (ops d) t → NormalAt (suc d) (tuples_at d t s) × ((v : Value) → Stands t s v → HasAt (suc d) v (tuples_at d t s)) × ((p : ℕ) → numbers.has s (pos (suc p)) ≡ true → (u : TypeAt (suc d)) → NormalAt (suc d) u → ((v : Value) → Stands t s v → HasAt (suc d) v u) → BelowBy (HasAt (suc d)) (tuples_at d t s) u)
+  tuples_are : (t : Tuples (TypeAt d)) (s : Numbers) → NormalTuples (NormalAt d) (ops d) t
+      → NormalAt (suc d) (tuples_at d t s) × ((v : Value) → Stands t s v → HasAt (suc d) v (tuples_at d t s))
+      × ((p : ℕ) → numbers.has s (pos (suc p)) ≡ true → (u : TypeAt (suc d)) → NormalAt (suc d) u → ((v : Value) → Stands t s v → HasAt (suc d) v u) → BelowBy (HasAt (suc d)) (tuples_at d t s) u)
   tuples_are (sizes m) s k = let a = sizes_are m s k in (a.normal, a.above, λ p q. a.least)
   tuples_are all_tuples s k = ((level_laws (suc d)).any_normal, λ v h. (level_laws (suc d)).any_in v, λ p a u n f v h. let w = with_value (suc p) p v (omega arith) in f v (p, ((w.0, (tt, w.1.1)), a)))
 
-  tuples_more : (t w : Tuples (TypeAt d)) (s q : Numbers) → NormalTuples (NormalAt d) (ops d) t → NormalTuples (NormalAt d) (ops d) w → BelowBy (HasTuple (HasAt d)) t w → numbers.Below s q → BelowBy (HasAt (suc d)) (tuples_at d t s) (tuples_at d w q)
+  tuples_more : (t w : Tuples (TypeAt d)) (s q : Numbers) → NormalTuples (NormalAt d) (ops d) t → NormalTuples (NormalAt d) (ops d) w → BelowBy (HasTuple (HasAt d)) t w → numbers.Below s q
+      → BelowBy (HasAt (suc d)) (tuples_at d t s) (tuples_at d w q)
   tuples_more all_tuples all_tuples s q j k f g v h = h
   tuples_more all_tuples (sizes m) s q j k f g v h = absurd (not_all (level_laws d) m k (λ vs. f vs tt))
   tuples_more (sizes m) w s q j k f g v h =
@@ -182,12 +190,14 @@ unfolding NormalAt
 elements-normal d t k s = (tuples_are d t.tuples s k.2).0
 
 -- it has what stands at these positions
-pub elements-have : (d : ℕ) (t : TypeAt (suc d)) → NormalAt (suc d) t → (s : Numbers) (vs : Values) → HasAt (suc d) (tuple vs) t → (i : ℕ) (v : Value) → value_at vs i ≡ Some v → numbers.has s (pos (suc i)) ≡ true → HasAt (suc d) v (elements_at d t s)
+pub elements-have : (d : ℕ) (t : TypeAt (suc d)) → NormalAt (suc d) t → (s : Numbers) (vs : Values) → HasAt (suc d) (tuple vs) t → (i : ℕ) (v : Value) → value_at vs i ≡ Some v → numbers.has s (pos (suc i)) ≡ true
+    → HasAt (suc d) v (elements_at d t s)
 unfolding NormalAt
 elements-have d t k s vs h i v q p = (tuples_are d t.tuples s k.2).1 v (i, ((vs, (h, q)), p))
 
 -- and is the least type that does, where there is a position in the set at all
-pub elements-least : (d : ℕ) (t : TypeAt (suc d)) → NormalAt (suc d) t → (s : Numbers) (p : ℕ) → numbers.has s (pos (suc p)) ≡ true → (u : TypeAt (suc d)) → NormalAt (suc d) u → ((vs : Values) → HasAt (suc d) (tuple vs) t → (i : ℕ) (v : Value) → value_at vs i ≡ Some v → numbers.has s (pos (suc i)) ≡ true → HasAt (suc d) v u) → BelowBy (HasAt (suc d)) (elements_at d t s) u
+pub elements-least : (d : ℕ) (t : TypeAt (suc d)) → NormalAt (suc d) t → (s : Numbers) (p : ℕ) → numbers.has s (pos (suc p)) ≡ true → (u : TypeAt (suc d)) → NormalAt (suc d) u
+    → ((vs : Values) → HasAt (suc d) (tuple vs) t → (i : ℕ) (v : Value) → value_at vs i ≡ Some v → numbers.has s (pos (suc i)) ≡ true → HasAt (suc d) v u) → BelowBy (HasAt (suc d)) (elements_at d t s) u
 unfolding NormalAt
 elements-least d t k s p a u n f = (tuples_are d t.tuples s k.2).2 p a u n (λ v h. f h.1.0.0 h.1.0.1.0 h.0 v h.1.0.1.1 h.1.1)
 

@@ -33,10 +33,12 @@ pub record Filled {V X : Type 0} (Has : V → Option X → Type 0) (Normal : Opt
   pub join_right : (x y : X) → Normal (Some x) → Normal (Some y) → BelowBy Has (Some y) (Some (join x y))
   pub join_least : (x y z : X) → Normal (Some x) → Normal (Some y) → Normal (Some z) → BelowBy Has (Some x) (Some z) → BelowBy Has (Some y) (Some z) → BelowBy Has (Some (join x y)) (Some z)
 
-both_normal : {X : Type 0} (Normal : Option X → Type 0) (meet : X → X → Option X) → Normal None → ((x y : X) → Normal (Some x) → Normal (Some y) → Normal (meet x y)) → (s t : Option X) → Normal s → Normal t → Normal (both_at meet s t)
+both_normal : {X : Type 0} (Normal : Option X → Type 0) (meet : X → X → Option X) → Normal None → ((x y : X) → Normal (Some x) → Normal (Some y) → Normal (meet x y)) → (s t : Option X) → Normal s → Normal t
+    → Normal (both_at meet s t)
 both_normal Normal meet n m s t j k = grind arith
 
-joined_normal : {X : Type 0} (Normal : Option X → Type 0) (join : X → X → X) → ((x y : X) → Normal (Some x) → Normal (Some y) → Normal (Some (join x y))) → (s t : Option X) → Normal s → Normal t → Normal (joined join s t)
+joined_normal : {X : Type 0} (Normal : Option X → Type 0) (join : X → X → X) → ((x y : X) → Normal (Some x) → Normal (Some y) → Normal (Some (join x y))) → (s t : Option X) → Normal s → Normal t
+    → Normal (joined join s t)
 joined_normal Normal join m s t j k = grind arith
 
 module _ {V X : Type 0} {Has : V → Option X → Type 0} {Normal : Option X → Type 0} {meet : X → X → Option X} {join : X → X → X} (f : Filled Has Normal meet join) where
@@ -108,6 +110,7 @@ module _ {V P X : Type 0} {Has : V → P → Type 0} {Normal : P → Type 0} {no
       all-least (join t (of x)) xs u (l.join_normal t (of x) k j.0) j.1 n (l.join_least t (of x) u k j.0 n f (λ v h. g v (inl h))) (λ v h. g v (inr h))
 
   -- sets that together have just the values of a set join to it
-  pub all-is : (t : P) (xs : List X) (u : P) → Normal t → EachOf (λ x. Normal (of x)) xs → Normal u → ((v : V) → Has v t ⊎ SomeOf (λ x. Has v (of x)) xs → Has v u) → ((v : V) → Has v u → Has v t ⊎ SomeOf (λ x. Has v (of x)) xs) → joined_all join of t xs ≡ u
+  pub all-is : (t : P) (xs : List X) (u : P) → Normal t → EachOf (λ x. Normal (of x)) xs → Normal u → ((v : V) → Has v t ⊎ SomeOf (λ x. Has v (of x)) xs → Has v u)
+      → ((v : V) → Has v u → Has v t ⊎ SomeOf (λ x. Has v (of x)) xs) → joined_all join of t xs ≡ u
   all-is t xs u k j n f g =
       l.same (joined_all join of t xs) u (all-normal t xs k j) n (all-least t xs u k j n (λ v h. f v (inl h)) (λ v h. f v (inr h))) (λ v h. all-has t xs k j v (g v h))

@@ -44,15 +44,18 @@ module _ {V P : Type 0} {Has : V → P → Type 0} {Normal : P → Type 0} {none
   }
 
 -- where sets have a part of its values, it is enough that each set that has these has the rest
-pub less-least : {V P : Type 0} {Has : V → P → Type 0} {Normal : P → Type 0} {I J : V → Type 0} {s : P} → IsLeast Has Normal I s → ((v : V) → J v → I v) → ((u : P) → Normal u → ((v : V) → J v → Has v u) → (v : V) → I v → Has v u) → IsLeast Has Normal J s
+pub less-least : {V P : Type 0} {Has : V → P → Type 0} {Normal : P → Type 0} {I J : V → Type 0} {s : P} → IsLeast Has Normal I s → ((v : V) → J v → I v)
+    → ((u : P) → Normal u → ((v : V) → J v → Has v u) → (v : V) → I v → Has v u) → IsLeast Has Normal J s
 less-least a f g = record { normal = a.normal; above = λ v h. a.above v (f v h); least = λ u n h. a.least u n (g u n h) }
 
 -- the least of the sets that have a value is the least of all, where none is the only other
-pub some_least : {V X : Type 0} {Has : V → Option X → Type 0} {Normal : Option X → Type 0} {I : V → Type 0} {x : X} → (v : V) × I v → ((v : V) → Has v None → ⊥) → IsLeast (λ v z. Has v (Some z)) (λ z. Normal (Some z)) I x → IsLeast Has Normal I (Some x)
+pub some_least : {V X : Type 0} {Has : V → Option X → Type 0} {Normal : Option X → Type 0} {I : V → Type 0} {x : X} → (v : V) × I v → ((v : V) → Has v None → ⊥)
+    → IsLeast (λ v z. Has v (Some z)) (λ z. Normal (Some z)) I x → IsLeast Has Normal I (Some x)
 some_least w empty a = grind arith
 
 -- the least by a test
-pub cond_least : {V P : Type 0} {Has : V → P → Type 0} {Normal : P → Type 0} {I : V → Type 0} {x y : P} (b : Bool) → (b ≡ true → IsLeast Has Normal I x) → (b ≡ false → IsLeast Has Normal I y) → IsLeast Has Normal I (cond b x y)
+pub cond_least : {V P : Type 0} {Has : V → P → Type 0} {Normal : P → Type 0} {I : V → Type 0} {x y : P} (b : Bool) → (b ≡ true → IsLeast Has Normal I x) → (b ≡ false → IsLeast Has Normal I y)
+    → IsLeast Has Normal I (cond b x y)
 cond_least b f g = grind arith
 
 -- a set is the least that has its values
@@ -72,7 +75,8 @@ lattice_of normal empty value same meets joins = with_none (grind (arith, normal
 
 -- ---- tables of sets
 
-module _ {K V X : Type 0} {R : K → K → Ordering} (total : IsTotalOrder R) (same : IsAntisymmetric R) {Has : V → Option X → Type 0} {Normal : Option X → Type 0} {meet : X → X → Option X} {join : X → X → X} (l : Lattice Has Normal None (both_at meet) (joined join)) (k : K) where
+module _ {K V X : Type 0} {R : K → K → Ordering} (total : IsTotalOrder R) (same : IsAntisymmetric R) {Has : V → Option X → Type 0} {Normal : Option X → Type 0} {meet : X → X → Option X} {join : X → X
+    → X} (l : Lattice Has Normal None (both_at meet) (joined join)) (k : K) where
   -- a table met with what g gives at each key
   pub at-met : (m : List (K × X)) (g : K → Option X) → is_table R m ≡ true → Normal (find R m k) → Normal (g k) → IsJust Has Normal (InBoth Has (find R m k) (g k)) (find R (chosen (λ q x. met_with (meet x) (g q)) m) k)
   at-met m g t i j = subst (IsJust Has Normal (InBoth Has (find R m k) (g k))) (sym (find-chosen total same (λ q x. met_with (meet x) (g q)) m t k ∙ met_with-both_at meet (find R m k) (g k))) (meet-just l (find R m k) (g k) i j)
@@ -81,7 +85,8 @@ module _ {K V X : Type 0} {R : K → K → Ordering} (total : IsTotalOrder R) (s
   at-united m w s t i j = subst (IsLeast Has Normal (InEither Has (find R m k) (find R w k))) (sym (find-united total same join m w s t k)) (join-least l (itself-least (find R m k) i) (itself-least (find R w k) j))
 
 -- a table whose sets are part of those of another has no more of them
-module _ {K V X : Type 0} {R : K → K → Ordering} (total : IsTotalOrder R) (same : IsAntisymmetric R) {Has : V → Option X → Type 0} {Normal : K → Option X → Type 0} {meet : X → X → Option X} {join : X → X → X} (sets : (k : K) → Lattice Has (Normal k) None (both_at meet) (joined join)) where
+module _ {K V X : Type 0} {R : K → K → Ordering} (total : IsTotalOrder R) (same : IsAntisymmetric R) {Has : V → Option X → Type 0} {Normal : K → Option X → Type 0} {meet : X → X → Option X} {join : X → X
+    → X} (sets : (k : K) → Lattice Has (Normal k) None (both_at meet) (joined join)) where
   pub length-below : (m w : List (K × X)) → is_table R m ≡ true → is_table R w ≡ true → ((k : K) → Normal k (find R m k)) → ((k : K) → BelowBy Has (find R m k) (find R w k)) → length m ≤ length w
   length-below m w s t j f = length-within total same m w s t (λ k h. grind (arith, (sets k).filled (find R m k) (j k), f k, (sets k).none_empty, h))
 
@@ -98,7 +103,8 @@ module _ {K X : Type 0} {R : K → K → Ordering} (total : IsTotalOrder R) (sam
 
 -- ---- sets joined one after the other are the least with the values of one
 
-pub joined_least : {V P X : Type 0} {Has : V → P → Type 0} {Normal : P → Type 0} {none : P} {meet join : P → P → P} (l : Lattice Has Normal none meet join) (of : X → P) (xs : List X) → EachOf (λ x. Normal (of x)) xs → IsLeast Has Normal (λ v. SomeOf (λ x. Has v (of x)) xs) (joined_all join of none xs)
+pub joined_least : {V P X : Type 0} {Has : V → P → Type 0} {Normal : P → Type 0} {none : P} {meet join : P → P → P} (l : Lattice Has Normal none meet join) (of : X → P) (xs : List X) → EachOf (λ x. Normal (of x)) xs
+    → IsLeast Has Normal (λ v. SomeOf (λ x. Has v (of x)) xs) (joined_all join of none xs)
 joined_least {none = none} l of xs k = record {
   normal = all-normal l of none xs l.none_normal k;
   above = λ v h. all-has l of none xs l.none_normal k v (inr h);

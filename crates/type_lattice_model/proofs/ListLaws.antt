@@ -30,7 +30,8 @@ pub elem-least : (d : ℕ) (s : TypeAt (suc d)) → NormalAt (suc d) s → (u : 
 unfolding NormalAt ops
 elem-least d s k u f x h = grind (arith, f x nil, cut_exact d (suc d) (omega arith), (level_laws (suc d)).lattice.none_empty)
 
-rest-least : (d : ℕ) (c : Option (Cell (TypeAt d))) → NormalCell (NormalAt d) (ops d) c → (u : TypeAt (suc d)) → ((x y : Value) → HasCell (HasAt d) (x, y) c → HasAt (suc d) y u) → BelowBy (HasAt (suc d)) (tail_parts (ops d) c) u
+rest-least : (d : ℕ) (c : Option (Cell (TypeAt d))) → NormalCell (NormalAt d) (ops d) c → (u : TypeAt (suc d)) → ((x y : Value) → HasCell (HasAt d) (x, y) c → HasAt (suc d) y u)
+    → BelowBy (HasAt (suc d)) (tail_parts (ops d) c) u
 unfolding ops
 rest-least d None k u f y h = absurd ((level_laws (suc d)).lattice.none_empty y h)
 rest-least d (Some c) k u f y h = let w = value_of (level_laws d) c.element k in let t = tail_out (HasAt d) (ops d) c y h in f w.0 y ((w.1, t.0), t.1)
@@ -65,7 +66,8 @@ all_between : {F E : Type 0} (HasF : Value → F → Type 0) (HasE : Value → E
 all_between HasF HasE f e b no_value h = tt
 all_between HasF HasE f e b (and_value v vs) h = (b v h.0, all_between HasF HasE f e b vs h.1)
 
-made_free : (d : ℕ) (h t : TypeAt (suc d)) → NormalAt (suc d) h → NormalAt (suc d) t → (ops (suc d)).is_none h ≡ false → (ops (suc d)).is_none t ≡ false → (x y : Value) → HasAt (suc d) (cons x y) (cell_type d h t false) ↔ HasAll (HasAt (suc d)) (and_value x (heads y)) (elem_at d (cell_type d h t true))
+made_free : (d : ℕ) (h t : TypeAt (suc d)) → NormalAt (suc d) h → NormalAt (suc d) t → (ops (suc d)).is_none h ≡ false → (ops (suc d)).is_none t ≡ false → (x y : Value)
+    → HasAt (suc d) (cons x y) (cell_type d h t false) ↔ HasAll (HasAt (suc d)) (and_value x (heads y)) (elem_at d (cell_type d h t true))
 unfolding NormalAt
 made_free d h t j k p q x y =
     let e = element_with (ops d) (cut (suc d) d h) t.cell in
@@ -75,11 +77,13 @@ made_free d h t j k p q x y =
     )
 
 -- with free ends and with proper ones there are lists in the same cases
-free-cases : (d : ℕ) (h t : TypeAt (suc d)) (Q : TypeAt (suc d) → TypeAt (suc d) → Type 0) → Q (ops (suc d)).none (ops (suc d)).none → ((ops (suc d)).is_none h ≡ false → (ops (suc d)).is_none t ≡ false → Q (cell_type d h t false) (cell_type d h t true)) → Q (cons_at d h t false) (cons_at d h t true)
+free-cases : (d : ℕ) (h t : TypeAt (suc d)) (Q : TypeAt (suc d) → TypeAt (suc d) → Type 0) → Q (ops (suc d)).none (ops (suc d)).none
+    → ((ops (suc d)).is_none h ≡ false → (ops (suc d)).is_none t ≡ false → Q (cell_type d h t false) (cell_type d h t true)) → Q (cons_at d h t false) (cons_at d h t true)
 free-cases d h t Q none made = grind (arith, cell_type)
 
 -- with free ends there is every list whose heads are those of the lists with proper ends
-pub cons-free : (d : ℕ) (h t : TypeAt (suc d)) → NormalAt (suc d) h → NormalAt (suc d) t → (x y : Value) → HasAt (suc d) (cons x y) (cons_at d h t false) ↔ HasAll (HasAt (suc d)) (and_value x (heads y)) (elem_at d (cons_at d h t true))
+pub cons-free : (d : ℕ) (h t : TypeAt (suc d)) → NormalAt (suc d) h → NormalAt (suc d) t → (x y : Value)
+    → HasAt (suc d) (cons x y) (cons_at d h t false) ↔ HasAll (HasAt (suc d)) (and_value x (heads y)) (elem_at d (cons_at d h t true))
 unfolding ops
 cons-free d h t j k x y =
     let none = (level_laws (suc d)).lattice.none_empty in

@@ -1,5 +1,6 @@
 -- The laws of types made of types: of tuples and of lists, and of the elements, heads and tails that these have.
-use Rattle.std.proofs.Common.{◌≡◌, ◌⊎◌, ℕ, suc, ◌-◌, Bool, true, false, cond, ◌&&◌, inl, inr, List, [], ◌∷◌, length, Option, Some, None, refl, sym, ap, ◌∙◌, subst, arith, ◌↔◌, nat_lt, slice_get, nat_cmp}
+use Rattle.std.proofs.Common.{◌≡◌, ◌⊎◌, ℕ, suc, ◌-◌, Bool, true, false, cond, ◌&&◌, inl, inr, List, [], ◌∷◌, length}
+use Rattle.std.proofs.Common.{Option, Some, None, refl, sym, ap, ◌∙◌, subst, arith, ◌↔◌, nat_lt, slice_get, nat_cmp}
 use Rattle.std.proofs.lemmas.Bool.{true_from_ne_false}
 use Rattle.type_kinds.proofs.Truths.{second}
 use Rattle.type_lattice_model.specs.Values.{Value, atom, nil, cons, tuple, Values, no_value, and_value, count, heads, end_of}
@@ -44,7 +45,8 @@ module _ {E : Type 0} {Has : Value → E → Type 0} {Normal : E → Type 0} {o 
   product_normal : (es : List E) → AreNormal Normal es → NormalParts Normal o (product_of o es)
   product_normal es k = grind (arith, row_tuples es, are_elements es k)
 
-  product_out : (es : List E) (v : Value) → HasParts Has v (product_of o es) → (has_none o es ≡ false) × ((vs : Values) × ((v ≡ tuple vs) × HasTuple Has vs (cond (nat_lt (length es) 65) (sizes ((length es, body_of o es) ∷ [])) all_tuples)))
+  product_out : (es : List E) (v : Value) → HasParts Has v (product_of o es) → (has_none o es ≡ false)
+      × ((vs : Values) × ((v ≡ tuple vs) × HasTuple Has vs (cond (nat_lt (length es) 65) (sizes ((length es, body_of o es) ∷ [])) all_tuples)))
   product_out es v h = grind arith
 
   product_least : (es : List E) → AreNormal Normal es → (u : Parts E) → NormalParts Normal o u → ((vs : Values) → HasEach Has vs es → HasTuple Has vs u.tuples) → BelowBy (HasParts Has) (product_of o es) u
@@ -117,7 +119,8 @@ cell_type d h t proper = record {
 }
 
 -- what holds of none, and of this type where neither is none, holds of the lists
-pub cons-cases : (d : ℕ) (h t : TypeAt (suc d)) (proper : Bool) (Q : TypeAt (suc d) → Type 0) → Q (ops (suc d)).none → ((ops (suc d)).is_none h ≡ false → (ops (suc d)).is_none t ≡ false → Q (cell_type d h t proper)) → Q (cons_at d h t proper)
+pub cons-cases : (d : ℕ) (h t : TypeAt (suc d)) (proper : Bool) (Q : TypeAt (suc d) → Type 0) → Q (ops (suc d)).none → ((ops (suc d)).is_none h ≡ false → (ops (suc d)).is_none t ≡ false → Q (cell_type d h t proper))
+    → Q (cons_at d h t proper)
 cons-cases d h t proper Q none made = grind arith
 
 pub cons-made : (d : ℕ) (h t : TypeAt (suc d)) (proper : Bool) → (ops (suc d)).is_none h ≡ false → (ops (suc d)).is_none t ≡ false → cons_at d h t proper ≡ cell_type d h t proper
@@ -141,18 +144,21 @@ cons-above d h t proper j k x y p q =
     subst (HasAt (suc d) (cons x y)) (sym made) ((first, element_with-rest (level_laws d) (cut (suc d) d h) t (head.normal h j) k.1 y q), λ z. is_list-lists d t (second proper (is_list (ops d) t) z) y q)
 
 -- a type of lists has nothing but lists
-of_cell : {E : Type 0} (Has : Value → E → Type 0) (c : Option (Cell E)) (u : Parts E) → ((x y : Value) → HasCell Has (x, y) c → HasCell Has (x, y) u.cell) → BelowBy (HasParts Has) (record { plain = plain_none; cell = c; tuples = sizes [] }) u
+of_cell : {E : Type 0} (Has : Value → E → Type 0) (c : Option (Cell E)) (u : Parts E) → ((x y : Value) → HasCell Has (x, y) c → HasCell Has (x, y) u.cell)
+    → BelowBy (HasParts Has) (record { plain = plain_none; cell = c; tuples = sizes [] }) u
 of_cell Has c u p v h = grind arith
 
 -- the lists are below each list type that has each list of such a head and tail
-pub cons-least : (d : ℕ) (h t : TypeAt (suc d)) → NormalAt (suc d) h → NormalAt (suc d) t → (u : TypeAt (suc d)) → NormalAt (suc d) u → ((x y : Value) → HasAt (suc d) x h → HasAt (suc d) y t → HasAt (suc d) (cons x y) u) → BelowBy (HasAt (suc d)) (cons_at d h t true) u
+pub cons-least : (d : ℕ) (h t : TypeAt (suc d)) → NormalAt (suc d) h → NormalAt (suc d) t → (u : TypeAt (suc d)) → NormalAt (suc d) u → ((x y : Value) → HasAt (suc d) x h → HasAt (suc d) y t → HasAt (suc d) (cons x y) u)
+    → BelowBy (HasAt (suc d)) (cons_at d h t true) u
 unfolding NormalAt
 cons-least d h t j k u i p = cons-cases d h t true (λ c. BelowBy (HasAt (suc d)) c u) (λ v m. absurd ((level_laws (suc d)).lattice.none_empty v m)) (λ e f.
     let x = value_of (level_laws (suc d)) h (j, e) in
     let y = value_of (level_laws (suc d)) t (k, f) in
     of_cell (HasAt d) (cell_type d h t true).cell u (λ v w. cell_least u.cell i.1 x.0 x.1 y.0 y.1 p (v, w)))
   where
-    cell_least : (c : Option (Cell (TypeAt d))) → NormalCell (NormalAt d) (ops d) c → (x : Value) → HasAt (suc d) x h → (y : Value) → HasAt (suc d) y t → ((x y : Value) → HasAt (suc d) x h → HasAt (suc d) y t → HasCell (HasAt d) (x, y) c) → BelowBy (HasCell (HasAt d)) (cell_type d h t true).cell c
+    cell_least : (c : Option (Cell (TypeAt d))) → NormalCell (NormalAt d) (ops d) c → (x : Value) → HasAt (suc d) x h → (y : Value) → HasAt (suc d) y t
+        → ((x y : Value) → HasAt (suc d) x h → HasAt (suc d) y t → HasCell (HasAt d) (x, y) c) → BelowBy (HasCell (HasAt d)) (cell_type d h t true).cell c
     cell_least None i x a y b p z m = absurd (p x y a b)
     cell_least (Some c) i x a y b p z m =
         let s = cut_lowering (suc d) d in
@@ -185,7 +191,8 @@ module _ (d : ℕ) where
   body_position_normal : (n : ℕ) (b : Option (Body (TypeAt d))) → NormalBody (NormalAt d) (ops d) n b → (i : ℕ) → NormalAt (suc d) (lifted d (at_position (level_laws d) b i))
   body_position_normal n b k i = grind (arith, position_normal, elements_normal (level_laws d) n, (level_laws (suc d)).lattice.none_normal)
 
-  pub body_position : (n : ℕ) (b : Option (Body (TypeAt d))) → NormalBody (NormalAt d) (ops d) n b → (vs : Values) → HasBody (HasAt d) vs b → (i : ℕ) (v : Value) → value_at vs i ≡ Some v → HasAt (suc d) v (lifted d (at_position (level_laws d) b i))
+  pub body_position : (n : ℕ) (b : Option (Body (TypeAt d))) → NormalBody (NormalAt d) (ops d) n b → (vs : Values) → HasBody (HasAt d) vs b → (i : ℕ) (v : Value) → value_at vs i ≡ Some v
+      → HasAt (suc d) v (lifted d (at_position (level_laws d) b i))
   body_position n None k vs h i v q = absurd h
   body_position n (Some c) k vs h i v q = position_in vs (elements (ops d) c) (elements_above (level_laws d) n c k vs h) (elements_normal (level_laws d) n c k).1 i v q
 
@@ -193,12 +200,14 @@ module _ (d : ℕ) where
   tuple_position_normal all_tuples k n i = (cut_lowering d (suc d)).normal (ops d).any (level_laws d).any_normal
   tuple_position_normal (sizes m) k n i = grind (arith, body_position_normal n (find nat_cmp m n) (normal_at (level_laws d) m k.2 n) i, (cut_lowering d (suc d)).normal (ops d).any (level_laws d).any_normal)
 
-  tuple_position : (t : Tuples (TypeAt d)) → NormalTuples (NormalAt d) (ops d) t → (vs : Values) → HasTuple (HasAt d) vs t → (i : ℕ) (v : Value) → value_at vs i ≡ Some v → HasAt (suc d) v (lifted d (element_at (ops d) t (count vs) i))
+  tuple_position : (t : Tuples (TypeAt d)) → NormalTuples (NormalAt d) (ops d) t → (vs : Values) → HasTuple (HasAt d) vs t → (i : ℕ) (v : Value) → value_at vs i ≡ Some v
+      → HasAt (suc d) v (lifted d (element_at (ops d) t (count vs) i))
   tuple_position all_tuples k vs h i v q = (cut_lowering d (suc d)).above (ops d).any (level_laws d).any_normal v ((level_laws d).any_in v)
   tuple_position (sizes m) k vs h i v q = grind (arith, small_at, level_laws d, body_position, normal_at)
 
 -- the i-th element of a tuple of n, the head and the tail of a list have the types that are told of them
-pub project-in : (d : ℕ) (t : TypeAt (suc d)) → NormalAt (suc d) t → (n : ℕ) (vs : Values) → HasAt (suc d) (tuple vs) t → count vs ≡ n → (i : ℕ) (v : Value) → value_at vs (i - 1) ≡ Some v → HasAt (suc d) v (project_at d t n i)
+pub project-in : (d : ℕ) (t : TypeAt (suc d)) → NormalAt (suc d) t → (n : ℕ) (vs : Values) → HasAt (suc d) (tuple vs) t → count vs ≡ n → (i : ℕ) (v : Value) → value_at vs (i - 1) ≡ Some v
+    → HasAt (suc d) v (project_at d t n i)
 unfolding NormalAt
 project-in d t k n vs h e i v q = subst (λ m. HasAt (suc d) v (project_at d t m i)) e (tuple_position d t.tuples k.2 vs h (i - 1) v q)
 

@@ -43,7 +43,8 @@ module _ {E : Type 0} {Has : Value → E → Type 0} {Normal : E → Type 0} {o 
   long_rises (x ∷ m) [] j f = elim ((tuples_lattice l).filled (sizes (x ∷ m)) j) [ inl z ↦ absurd cc | inr v ↦ absurd (f v.0 v.1) ]
   long_rises (x ∷ m) (y ∷ w) j f = (l.any_normal, (l.any_normal, λ v h. h))
 
-  sizes_rise : (m w : List (ℕ × Body E)) → NormalTuples Normal o (sizes m) → NormalTuples Normal o (sizes w) → BelowBy (HasTuple Has) (sizes m) (sizes w) → (n i : ℕ) → Rises (element_at o (sizes m) n i) (element_at o (sizes w) n i)
+  sizes_rise : (m w : List (ℕ × Body E)) → NormalTuples Normal o (sizes m) → NormalTuples Normal o (sizes w) → BelowBy (HasTuple Has) (sizes m) (sizes w) → (n i : ℕ)
+      → Rises (element_at o (sizes m) n i) (element_at o (sizes w) n i)
   sizes_rise m w j k f n i = grind (arith, body_rises n (find nat_cmp m n) (find nat_cmp w n) (normal_at l m j.2 n) (normal_at l w k.2 n) (to_size l m w j.2 f n) i, long_rises m w j f)
 
   to_any : (x : Option E) → Rises x x → Rises x (Some o.any)

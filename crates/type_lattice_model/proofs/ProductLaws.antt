@@ -26,10 +26,12 @@ use Rattle.type_lattice_model.proofs.MadeLaws.{are_elements}
 abbrev NamesAlone : {E : Type 0} → (Value → E → Type 0) → Ops E → Type 0
 NamesAlone Has o = o.has_tags ≡ true → (xs : List Name) → are_listed xs ≡ true → (v : Value) → Has v (o.of_names xs) → (a : Name) × ((v ≡ atom a) × (has_item name_cmp xs a ≡ true))
 
-module _ {F E : Type 0} {HasF : Value → F → Type 0} {NormalF : F → Type 0} {f : Ops F} (high : Laws HasF NormalF f) {HasE : Value → E → Type 0} {NormalE : E → Type 0} {e : Ops E} (low : Laws HasE NormalE e) {lower : F → E} (s : Lowering HasF NormalF HasE NormalE lower) (alone : NamesAlone HasE e) where
+module _ {F E : Type 0} {HasF : Value → F → Type 0} {NormalF : F → Type 0} {f : Ops F} (high : Laws HasF NormalF f) {HasE : Value → E → Type 0} {NormalE : E → Type 0} {e : Ops E} (low : Laws HasE NormalE e) {lower : F
+    → E} (s : Lowering HasF NormalF HasE NormalE lower) (alone : NamesAlone HasE e) where
   -- a body that has a product has the product of the element types on the lower level: where its first elements are tags, the
   -- first type is a set of atoms, and stays one
-  product_below : (n : ℕ) (es : List F) (u : Body E) → NormalRow NormalF f n (Some es) → NormalBody NormalE e n (Some u) → ((vs : Values) → HasEach HasF vs es → HasBody HasE vs (Some u)) → (vs : Values) → HasEach HasE vs (map lower es) → HasBody HasE vs (Some u)
+  product_below : (n : ℕ) (es : List F) (u : Body E) → NormalRow NormalF f n (Some es) → NormalBody NormalE e n (Some u) → ((vs : Values) → HasEach HasF vs es → HasBody HasE vs (Some u)) → (vs : Values)
+      → HasEach HasE vs (map lower es) → HasBody HasE vs (Some u)
   product_below n es (product gs) k i p vs h = (found high low s n (Some es) k).least (Some gs) i.0 p vs h
   product_below zero es (tags w) k i p vs h = absurd i
   product_below (suc n) [] (tags w) k i p vs h = absurd (omega (arith, k.0))
@@ -57,7 +59,8 @@ module _ {F E : Type 0} {HasF : Value → F → Type 0} {NormalF : F → Type 0}
   no_none [] k vs h = refl
   no_none (t ∷ ts) k no_value h = absurd h
   no_none (t ∷ ts) k (and_value v vs) h =
-      rw (false_from_ne_true (f.is_none t) (λ q. low.lattice.none_empty v (s.least t e.none k.0 low.lattice.none_normal (λ w x. absurd (high.lattice.none_empty w (subst (HasF w) (high.none-is_none t q) x))) v h.0))) (no_none ts k.1 vs h.1)
+      rw (false_from_ne_true (f.is_none t) (λ q. low.lattice.none_empty v (s.least t e.none k.0 low.lattice.none_normal (λ w x. absurd (high.lattice.none_empty w (subst (HasF w) (high.none-is_none t q) x))) v h.0)))
+      (no_none ts k.1 vs h.1)
 
   -- the tuples of a product, on the lower level
   tuples_is : (es : List F) → AreElements NormalF f es → (vs : Values) → HasTuple HasE vs (tuples_lower lower f e (sizes ((length es, body_of f es) ∷ []))) ↔ HasEach HasE vs (map lower es)
@@ -74,7 +77,8 @@ names_alone zero t xs few v h = absurd (true≢false (sym t))
 names_alone (suc d) t xs few v h = grind (arith, has-listed)
 
 -- up to 64 types, their tuples are those of the types cut to the level of elements
-pub tuple-exact : (d : ℕ) (es : List (TypeAt (suc d))) → AreNormal (NormalAt (suc d)) es → nat_lt (length es) 65 ≡ true → (vs : Values) → HasAt (suc d) (tuple vs) (tuple_at (suc d) es) ↔ HasEach (HasAt d) vs (map (cut (suc d) d) es)
+pub tuple-exact : (d : ℕ) (es : List (TypeAt (suc d))) → AreNormal (NormalAt (suc d)) es → nat_lt (length es) 65 ≡ true → (vs : Values)
+    → HasAt (suc d) (tuple vs) (tuple_at (suc d) es) ↔ HasEach (HasAt d) vs (map (cut (suc d) d) es)
 unfolding cut
 tuple-exact d es k few vs =
     product-exact (level_laws (suc d)) (level_laws d) (cut_lowering (suc d) d) (names_alone d) es k few vs

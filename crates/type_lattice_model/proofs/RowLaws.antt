@@ -90,7 +90,8 @@ module _ {E : Type 0} {Has : Value → E → Type 0} {Normal : E → Type 0} {o 
   -- ---- the join
 
   -- the values of the join of two products of one size are those of the least product above both
-  each_joins : (es fs : List E) → length es ≡ length fs → Elements es → Elements fs → Elements (row_join o es fs) × BelowEach Has es (row_join o es fs) × BelowEach Has fs (row_join o es fs) × ((gs : List E) → Elements gs → BelowEach Has es gs → BelowEach Has fs gs → BelowEach Has (row_join o es fs) gs)
+  each_joins : (es fs : List E) → length es ≡ length fs → Elements es → Elements fs
+      → Elements (row_join o es fs) × BelowEach Has es (row_join o es fs) × BelowEach Has fs (row_join o es fs) × ((gs : List E) → Elements gs → BelowEach Has es gs → BelowEach Has fs gs → BelowEach Has (row_join o es fs) gs)
   each_joins [] [] e j k = (tt, tt, tt, λ gs i f g. f)
   each_joins [] (y ∷ ys) e j k = absurd (omega arith)
   each_joins (x ∷ xs) [] e j k = absurd (omega arith)
@@ -98,11 +99,13 @@ module _ {E : Type 0} {Has : Value → E → Type 0} {Normal : E → Type 0} {o 
       let r = each_joins xs ys (omega arith) j.1 k.1 in
       ((element-join l x y j.0 k.0, r.0), (l.lattice.join_left x y j.0.0 k.0.0, r.1), (l.lattice.join_right x y j.0.0 k.0.0, r.2), least r.3)
     where
-      least : ((gs : List E) → Elements gs → BelowEach Has xs gs → BelowEach Has ys gs → BelowEach Has (row_join o xs ys) gs) → (gs : List E) → Elements gs → BelowEach Has (x ∷ xs) gs → BelowEach Has (y ∷ ys) gs → BelowEach Has (row_join o (x ∷ xs) (y ∷ ys)) gs
+      least : ((gs : List E) → Elements gs → BelowEach Has xs gs → BelowEach Has ys gs → BelowEach Has (row_join o xs ys) gs) → (gs : List E) → Elements gs → BelowEach Has (x ∷ xs) gs → BelowEach Has (y ∷ ys) gs
+          → BelowEach Has (row_join o (x ∷ xs) (y ∷ ys)) gs
       least r [] i f g = f
       least r (z ∷ zs) i f g = (l.lattice.join_least x y z j.0.0 k.0.0 i.0.0 f.0 g.0, r zs i.1 f.1 g.1)
 
-  row_joins : (n : ℕ) (es fs : List E) → NormalRow Normal o n (Some es) → NormalRow Normal o n (Some fs) → IsLeast (λ vs gs. HasRow Has vs (Some gs)) (λ gs. NormalRow Normal o n (Some gs)) (InEither (HasRow Has) (Some es) (Some fs)) (row_join o es fs)
+  row_joins : (n : ℕ) (es fs : List E) → NormalRow Normal o n (Some es) → NormalRow Normal o n (Some fs)
+      → IsLeast (λ vs gs. HasRow Has vs (Some gs)) (λ gs. NormalRow Normal o n (Some gs)) (InEither (HasRow Has) (Some es) (Some fs)) (row_join o es fs)
   row_joins n es fs j k = grind (arith, each_joins, length-zip, each-more, each-below)
 
   pub row_lattice : (n : ℕ) → Lattice (HasRow Has) (NormalRow Normal o n) None (both_at (row_meet o)) (joined (row_join o))

@@ -1,6 +1,7 @@
 -- A value is told by its spelling, also where more numbers follow: no spelling is a prefix of another.
 use Rattle.std.proofs.Common.{◌≡◌, ℕ, List, [], ◌∷◌, ◌++◌, length, refl, ap, arith, append_assoc}
-use Rattle.type_lattice_model.specs.Values.{Value, int, atom, bits, float, pid, port, reference, nil, cons, tuple, map, closure, external, foreign, Values, no_value, and_value, ValuePairs, no_pair, and_pair, Env, no_variable, and_variable, and_frame}
+use Rattle.type_lattice_model.specs.Values.{Value, int, atom, bits, float, pid, port, reference, nil, cons, tuple, map, closure, external, foreign}
+use Rattle.type_lattice_model.specs.Values.{Values, no_value, and_value, ValuePairs, no_pair, and_pair, Env, no_variable, and_variable, and_frame}
 use Rattle.type_lattice_model.specs.Canonical.{spelled_name, spelled_int, spelled_bits, spelled_locals, spelled, spelled_values, spelled_pairs, spelled_env}
 
 -- what spells alike, with more behind, is the same, and so is what is behind

@@ -99,7 +99,8 @@ module _ {E : Type 0} {Has : Value → E → Type 0} {Normal : E → Type 0} {o 
   -- ---- the join
 
   -- tuples are the least where they are so among sizes, since all tuples are above all
-  pub sizes_least : {In : Values → Type 0} (s : Tuples E) → NormalT s → ((vs : Values) → In vs → HasT vs s) → ((w : List (ℕ × Body E)) → NormalT (sizes w) → ((vs : Values) → In vs → HasT vs (sizes w)) → BelowBy HasT s (sizes w)) → IsLeast HasT NormalT In s
+  pub sizes_least : {In : Values → Type 0} (s : Tuples E) → NormalT s → ((vs : Values) → In vs → HasT vs s)
+      → ((w : List (ℕ × Body E)) → NormalT (sizes w) → ((vs : Values) → In vs → HasT vs (sizes w)) → BelowBy HasT s (sizes w)) → IsLeast HasT NormalT In s
   sizes_least s k f g = record { normal = k; above = f; least = λ u i h. grind (arith, g) }
 
   -- too many sizes become all tuples: no sizes have all these tuples

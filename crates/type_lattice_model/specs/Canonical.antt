@@ -4,7 +4,8 @@ use Rattle.std.specs.Prelude.{◌≡◌, ◌⊎◌, ℕ, ℤ, pos, negsuc, Bool,
 use Rattle.std.specs.Ordering.{is_lt, eq_by_cmp}
 use Rattle.type_kinds_sets.specs.Ascending.{is_ascending}
 use Rattle.type_kinds_sets.specs.Names.{Name, name_cmp}
-use Rattle.type_lattice_model.specs.Values.{Value, int, atom, bits, float, pid, port, reference, nil, cons, tuple, map, closure, external, foreign, Values, no_value, and_value, ValuePairs, no_pair, and_pair, Env, no_variable, and_variable, and_frame, Local}
+use Rattle.type_lattice_model.specs.Values.{Value, int, atom, bits, float, pid, port, reference, nil, cons, tuple, map, closure, external, foreign}
+use Rattle.type_lattice_model.specs.Values.{Values, no_value, and_value, ValuePairs, no_pair, and_pair, Env, no_variable, and_variable, and_frame, Local}
 
 -- ---- a value as a list of numbers, from which it can be read: a number for what it is, then its parts. A name has its
 -- length first, a list of values or bits a number before each item and 0 at the end

@@ -32,13 +32,15 @@ pub record Naming {E : Type 0} (Has : Value → E → Type 0) (Normal : E → Ty
   pub atom_out : (e : E) (a : Name) → o.has_atom e a ≡ true → Has (atom a) e
   pub names_normal : (xs : List Name) → Normal (o.of_names xs)
   pub names_in : (xs : List Name) (a : Name) → has_item name_cmp xs a ≡ true → Has (atom a) (o.of_names xs)
-  pub names_least : (xs : List Name) (a : Name) → is_ascending name_cmp xs ≡ true → has_item name_cmp xs a ≡ true → (e : E) → Normal e → ((q : Name) → has_item name_cmp xs q ≡ true → Has (atom q) e) → BelowBy Has (o.of_names xs) e
+  pub names_least : (xs : List Name) (a : Name) → is_ascending name_cmp xs ≡ true → has_item name_cmp xs a ≡ true → (e : E) → Normal e → ((q : Name) → has_item name_cmp xs q ≡ true → Has (atom q) e)
+      → BelowBy Has (o.of_names xs) e
   pub only_listed : (e : E) (xs : List Name) → o.only e ≡ Some xs → are_listed xs ≡ true
   pub only_out : (e : E) (xs : List Name) → o.only e ≡ Some xs → (v : Value) → Has v e → (a : Name) × ((v ≡ atom a) × (has_item name_cmp xs a ≡ true))
   pub only_in : (e : E) (xs : List Name) → o.only e ≡ Some xs → (a : Name) → has_item name_cmp xs a ≡ true → Has (atom a) e
   pub only_tags : (e : E) (xs : List Name) → o.only e ≡ Some xs → o.has_tags ≡ true
   -- a type whose values are among few atoms is a set of few atoms
-  pub only_found : (e : E) → Normal e → o.is_none e ≡ false → (xs : List Name) → are_listed xs ≡ true → ((v : Value) → Has v e → (a : Name) × ((v ≡ atom a) × (has_item name_cmp xs a ≡ true))) → o.only e ≡ None → ⊥
+  pub only_found : (e : E) → Normal e → o.is_none e ≡ false → (xs : List Name) → are_listed xs ≡ true → ((v : Value) → Has v e → (a : Name) × ((v ≡ atom a) × (has_item name_cmp xs a ≡ true))) → o.only e ≡ None
+      → ⊥
   -- where there can be no tags, an element type has all values
   pub no_tags_full : o.has_tags ≡ false → (e : E) → Normal e → o.is_none e ≡ false → (v : Value) → Has v e
 

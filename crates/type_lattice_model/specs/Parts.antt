@@ -17,7 +17,13 @@ proper_cell None = true
 proper_cell (Some c) = c.is_proper
 
 abbrev pub without_nil : PlainParts → PlainParts
-without_nil p = record { atoms = p.atoms; ints = p.ints; bits = p.bits; flags = record { float = p.flags.float; pid = p.flags.pid; port = p.flags.port; reference = p.flags.reference; nil = false; map = p.flags.map }; functions = p.functions }
+without_nil p = record {
+  atoms = p.atoms;
+  ints = p.ints;
+  bits = p.bits;
+  flags = record { float = p.flags.float; pid = p.flags.pid; port = p.flags.port; reference = p.flags.reference; nil = false; map = p.flags.map };
+  functions = p.functions;
+}
 
 abbrev pub flags_of_nil : Flags
 flags_of_nil = record { float = false; pid = false; port = false; reference = false; nil = true; map = false }

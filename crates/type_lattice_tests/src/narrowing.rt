@@ -30,7 +30,8 @@ pub fn narrowing_is_monotone()
 // What of a list may have this head and this tail.
 fn narrowed_by_parts(alloc: Global, list: &Ty, head: &Ty, tail: &Ty) -> Result<Ty, Memory>
     ensures below { IfOk result (λ n. Below n list.now) }
-    ensures keeps { IfOk result (λ n. (x y : Value) → HasType (cons_value x y) list.now → HasType x head.now → HasType y tail.now → HasType (cons_value x y) n) }
+    ensures keeps { IfOk result (λ n. (x y : Value) → HasType (cons_value x y) list.now → HasType x head.now → HasType y tail.now
+        → HasType (cons_value x y) n) }
 {
     let made = Ty::cons(alloc, head, tail, Ends::Proper)?;
     let lists = narrowed(alloc, list, &made);
@@ -64,7 +65,8 @@ fn tail_in(alloc: Global, list: &Ty, tail: &Ty) -> Result<Ty, Memory>
 /// are a cons, its head and its tail, they have them still. `Memory` comes if allocation fails.
 pub fn narrowed_list(alloc: Global, list: &Ty, head: &Ty, tail: &Ty) -> Result<(Ty, Ty, Ty), Memory>
     ensures below { IfOk result (λ r. Below r.0 list.now × (Below r.1 head.now × Below r.2 tail.now)) }
-    ensures keeps { IfOk result (λ r. (x y : Value) → HasType (cons_value x y) list.now → HasType x head.now → HasType y tail.now → HasType (cons_value x y) r.0 × (HasType x r.1 × HasType y r.2)) }
+    ensures keeps { IfOk result (λ r. (x y : Value) → HasType (cons_value x y) list.now → HasType x head.now → HasType y tail.now
+        → HasType (cons_value x y) r.0 × (HasType x r.1 × HasType y r.2)) }
 {
     let lists = narrowed_by_parts(alloc, list, head, tail)?;
     let first = head_in(alloc, &lists, head)?;

@@ -69,11 +69,13 @@ every_fits d n us q = subst (EachNode (Fits d)) (sym q) (each_every d n)
 
 -- ---- parts, cut
 
-pub parts_cut : (t n : Node) (p q : PartsOf Node) (e d : ℕ) → t ≡ v.Of p → parts_view d q ≡ parts_lower (cut e d) (ops e) (ops d) (parts_view e p) → view (suc d) n ≡ parts_view d q → view (suc d) n ≡ cut (suc e) (suc d) (view (suc e) t)
+pub parts_cut : (t n : Node) (p q : PartsOf Node) (e d : ℕ) → t ≡ v.Of p → parts_view d q ≡ parts_lower (cut e d) (ops e) (ops d) (parts_view e p) → view (suc d) n ≡ parts_view d q
+    → view (suc d) n ≡ cut (suc e) (suc d) (view (suc e) t)
 unfolding cut
 parts_cut t n p q e d a b c = c ∙ b ∙ sym (ap (cut (suc e) (suc d)) (view_of t p a e))
 
-pub of_cut : (t n : Node) (p q : PartsOf Node) (e d : ℕ) → t ≡ v.Of p → Fits e t → (d ≡ 0 → ⊥) → parts_view (d - 1) q ≡ parts_lower (cut (e - 1) (d - 1)) (ops (e - 1)) (ops (d - 1)) (parts_view (e - 1) p) → view (suc (d - 1)) n ≡ parts_view (d - 1) q → view d n ≡ cut e d (view e t)
+pub of_cut : (t n : Node) (p q : PartsOf Node) (e d : ℕ) → t ≡ v.Of p → Fits e t → (d ≡ 0 → ⊥) → parts_view (d - 1) q ≡ parts_lower (cut (e - 1) (d - 1)) (ops (e - 1)) (ops (d - 1)) (parts_view (e - 1) p)
+    → view (suc (d - 1)) n ≡ parts_view (d - 1) q → view d n ≡ cut e d (view e t)
 of_cut t n p q e d a f g b c =
     let x : e ≡ suc (e - 1) = one_more e (of_above t p a e f) in
     let y : d ≡ suc (d - 1) = omega (arith, g) in
@@ -84,7 +86,8 @@ pub parts_kept : (e d : ℕ) (x : TypeAt (suc e)) → NormalParts (NormalAt e) (
 unfolding cut NormalAt
 parts_kept e d x k = (cut_lowering (suc e) (suc d)).normal x k
 
-pub cut_parts_fit : (e d : ℕ) (p q : PartsOf Node) → PartsFit e p → q.plain ≡ p.plain → cell_view d q.cell ≡ cell_lower (cut e d) (ops e) (ops d) (cell_view e p.cell) → tuples_view d q.tuples ≡ tuples_lower (cut e d) (ops e) (ops d) (tuples_view e p.tuples) → EachInCell (Fits d) q.cell → EachInTuples (Fits d) q.tuples → PartsFit d q
+pub cut_parts_fit : (e d : ℕ) (p q : PartsOf Node) → PartsFit e p → q.plain ≡ p.plain → cell_view d q.cell ≡ cell_lower (cut e d) (ops e) (ops d) (cell_view e p.cell)
+    → tuples_view d q.tuples ≡ tuples_lower (cut e d) (ops e) (ops d) (tuples_view e p.tuples) → EachInCell (Fits d) q.cell → EachInTuples (Fits d) q.tuples → PartsFit d q
 cut_parts_fit e d p q k a b c f g =
     let m : parts_view d q ≡ parts_lower (cut e d) (ops e) (ops d) (parts_view e p) = cc in
     record { normal = subst (NormalParts (NormalAt d) (ops d)) (sym m) (parts_kept e d (parts_view e p) k.normal); each = (f, g) }
@@ -121,7 +124,8 @@ tags_of d b ts us e f k = subst (λ z. (m : ℕ) × TagsFit d m z) (sym f) (tags
 
 -- tags stay tags where there can be some, and else become a product
 module _ (e d : ℕ) where
-  pub tags_kept : (b : BodyOf Node) (ts us : List (TagOf Node)) → b ≡ Tags ts → 0 < d → tags_view d us ≡ mapped (row_lower (cut e d) (ops e) (ops d)) (tags_view e ts) → tags (tags_view d us) ≡ body_lower (cut e d) (ops e) (ops d) (body_view e b)
+  pub tags_kept : (b : BodyOf Node) (ts us : List (TagOf Node)) → b ≡ Tags ts → 0 < d → tags_view d us ≡ mapped (row_lower (cut e d) (ops e) (ops d)) (tags_view e ts)
+      → tags (tags_view d us) ≡ body_lower (cut e d) (ops e) (ops d) (body_view e b)
   tags_kept b ts us x h q = grind (arith, above_tags)
 
   tags_lost : (ts : List (TagOf Node)) (r : List (TypeAt d)) → d ≤ 0 → r ≡ row_lower (cut e d) (ops e) (ops d) (elements (ops e) (tags (tags_view e ts))) → product r ≡ body_lower (cut e d) (ops e) (ops d) (tags (tags_view e ts))

@@ -1,5 +1,6 @@
 -- The laws of inclusion between what trees stand for, part by part.
-use Rattle.std.proofs.Common.{[], ◌≡◌, ℕ, zero, suc, ◌+◌, ◌-◌, ◌<◌, ◌≤◌, Bool, true, false, List, ◌∷◌, map, length, Option, Some, None, ◌↔◌, IsTrue, All, take, take_all, slice_index_or, refl, sym, ◌∙◌, subst, subst₂, inl, inr, true≢false, arith}
+use Rattle.std.proofs.Common.{[], ◌≡◌, ℕ, zero, suc, ◌+◌, ◌-◌, ◌<◌, ◌≤◌, Bool, true, false, List, ◌∷◌, map, length, Option, Some, None}
+use Rattle.std.proofs.Common.{◌↔◌, IsTrue, All, take, take_all, slice_index_or, refl, sym, ◌∙◌, subst, subst₂, inl, inr, true≢false, arith}
 use Rattle.std.proofs.lemmas.List.{length-map}
 use Rattle.std.proofs.lemmas.List.Elements.{All-more}
 use Rattle.std.specs.Ordering.{nat_cmp}
@@ -72,10 +73,12 @@ any_not_below zero a b q e f k h = absurd (let g = of_above b q f zero k in omeg
 any_not_below (suc d) a b q e f k h =
     let l = level_laws (suc d) in
     let g = fits_of b q f d k in
-    g.1 (l.lattice.same (parts_view d q) (ops (suc d)).any (parts_normal d (parts_view d q) g.0.normal) l.any_normal (λ x i. l.any_in x) (λ x i. subst (HasAt (suc d) x) (view_of b q f d) (h x (subst (HasAt (suc d) x) (sym (view_any a e (suc d))) i))))
+    g.1 (l.lattice.same (parts_view d q) (ops (suc d)).any (parts_normal d (parts_view d q) g.0.normal) l.any_normal (λ x i. l.any_in x)
+    (λ x i. subst (HasAt (suc d) x) (view_of b q f d) (h x (subst (HasAt (suc d) x) (sym (view_any a e (suc d))) i))))
 
 -- a test of the parts, of the level below, is one of the types
-pub parts_tell : (d : ℕ) (a b : Node) (p q : PartsOf Node) (r : Bool) → a ≡ v.Of p → b ≡ v.Of q → Fits d a → IsTrue r ↔ BelowBy (HasParts (HasAt (d - 1))) (parts_view (d - 1) p) (parts_view (d - 1) q) → IsTrue r ↔ BelowBy (HasAt d) (view d a) (view d b)
+pub parts_tell : (d : ℕ) (a b : Node) (p q : PartsOf Node) (r : Bool) → a ≡ v.Of p → b ≡ v.Of q → Fits d a → IsTrue r ↔ BelowBy (HasParts (HasAt (d - 1))) (parts_view (d - 1) p) (parts_view (d - 1) q)
+    → IsTrue r ↔ BelowBy (HasAt d) (view d a) (view d b)
 parts_tell zero a b p q r e f k h = absurd (let g = of_above a p e zero k in omega arith)
 parts_tell (suc d) a b p q r e f k h =
     let less : suc d - 1 ≡ d = omega arith in
@@ -108,7 +111,8 @@ module _ {E : Type 0} (Has : Value → E → Type 0) (p q : Parts E) where
   tuples_below f vs = shape_below f (row vs)
 
 -- the tuples decide, once the rest is included
-pub tuples_tell : (d : ℕ) (p q : PartsOf Node) (r : Bool) → PlainBelow p.plain q.plain → BelowBy (HasCell (HasAt d)) (cell_view d p.cell) (cell_view d q.cell) → IsTrue r ↔ BelowBy (HasTuple (HasAt d)) (tuples_view d p.tuples) (tuples_view d q.tuples) → IsTrue r ↔ BelowBy (HasParts (HasAt d)) (parts_view d p) (parts_view d q)
+pub tuples_tell : (d : ℕ) (p q : PartsOf Node) (r : Bool) → PlainBelow p.plain q.plain → BelowBy (HasCell (HasAt d)) (cell_view d p.cell) (cell_view d q.cell)
+    → IsTrue r ↔ BelowBy (HasTuple (HasAt d)) (tuples_view d p.tuples) (tuples_view d q.tuples) → IsTrue r ↔ BelowBy (HasParts (HasAt d)) (parts_view d p) (parts_view d q)
 tuples_tell d p q r f g e = passed r e (all_parts_below (HasAt d) (parts_view d p) (parts_view d q) f g) (tuples_below (HasAt d) (parts_view d p) (parts_view d q))
 
 -- ---- lists that aren't empty
@@ -127,7 +131,8 @@ module _ (d : ℕ) (a b : Option (CellOf Node)) (k : CellFits d a) where
 
   both_cells : (x y : CellOf Node) → a ≡ Some x → b ≡ Some y → Below → BelowBy (HasAt d) (view d x.element) (view d y.element) × (y.is_proper ≡ true → x.is_proper ≡ true)
   both_cells x y e f h =
-      cell-below (level_laws d) (record { element = view d x.element; is_proper = x.is_proper }) (record { element = view d y.element; is_proper = y.is_proper }) (element_fits x e).normal (subst₂ (λ s t. BelowBy (HasCell (HasAt d)) (cell_view d s) (cell_view d t)) e f h)
+      cell-below (level_laws d) (record { element = view d x.element; is_proper = x.is_proper }) (record { element = view d y.element; is_proper = y.is_proper }) (element_fits x e).normal
+      (subst₂ (λ s t. BelowBy (HasCell (HasAt d)) (cell_view d s) (cell_view d t)) e f h)
 
   pub free_not_below : (x y : CellOf Node) → a ≡ Some x → b ≡ Some y → y.is_proper ≡ true → x.is_proper ≡ false → Below → ⊥
   free_not_below x y e f p n h = true≢false (sym ((both_cells x y e f h).1 p) ∙ n)
@@ -135,12 +140,14 @@ module _ (d : ℕ) (a b : Option (CellOf Node)) (k : CellFits d a) where
   -- the element types decide, where the ends allow it
   pub elements_tell : (x y : CellOf Node) (r : Bool) → a ≡ Some x → b ≡ Some y → (y.is_proper ≡ true → x.is_proper ≡ true) → IsTrue r ↔ BelowBy (HasAt d) (view d x.element) (view d y.element) → IsTrue r ↔ Below
   elements_tell x y r e f p i =
-      passed r i (λ h. subst₂ (λ s t. BelowBy (HasCell (HasAt d)) (cell_view d s) (cell_view d t)) (sym e) (sym f) (λ z j. (all-more (level_laws d) (view d x.element) (view d y.element) h (and_value z.0 (heads z.1)) j.0, λ q. j.1 (p q)))) (λ h. (both_cells x y e f h).0)
+      passed r i (λ h. subst₂ (λ s t. BelowBy (HasCell (HasAt d)) (cell_view d s) (cell_view d t)) (sym e) (sym f)
+      (λ z j. (all-more (level_laws d) (view d x.element) (view d y.element) h (and_value z.0 (heads z.1)) j.0, λ q. j.1 (p q)))) (λ h. (both_cells x y e f h).0)
 
 -- ---- products
 
 -- position by position
-pub each_position : (d : ℕ) (xs ys : List Node) → length xs ≡ length ys → ((k : ℕ) → k < length xs → (x : Node) → BelowBy (HasAt d) (view d (slice_index_or xs k x)) (view d (slice_index_or ys k x))) → BelowEach (HasAt d) (row_view d xs) (row_view d ys)
+pub each_position : (d : ℕ) (xs ys : List Node) → length xs ≡ length ys → ((k : ℕ) → k < length xs → (x : Node) → BelowBy (HasAt d) (view d (slice_index_or xs k x)) (view d (slice_index_or ys k x)))
+    → BelowEach (HasAt d) (row_view d xs) (row_view d ys)
 each_position d [] [] e f = tt
 each_position d [] (y ∷ ys) e f = absurd (omega arith)
 each_position d (x ∷ xs) [] e f = absurd (omega arith)
@@ -155,17 +162,20 @@ at_position d (n ∷ ns) (m ∷ ms) f (suc k) h x y = at_position d ns ms f.1 k 
 pub row_length : (d n : ℕ) (xs : List Node) → RowFits d n xs → length xs ≡ n
 row_length d n xs k = sym (length-map xs (view d)) ∙ k.normal.0
 
-pub row_below : (d n : ℕ) (xs ys : List Node) → RowFits d n xs → RowFits d n ys → ((k : ℕ) → k < length xs → (x : Node) → BelowBy (HasAt d) (view d (slice_index_or xs k x)) (view d (slice_index_or ys k x))) → BelowBy (HasRow (HasAt d)) (Some (row_view d xs)) (Some (row_view d ys))
+pub row_below : (d n : ℕ) (xs ys : List Node) → RowFits d n xs → RowFits d n ys → ((k : ℕ) → k < length xs → (x : Node) → BelowBy (HasAt d) (view d (slice_index_or xs k x)) (view d (slice_index_or ys k x)))
+    → BelowBy (HasRow (HasAt d)) (Some (row_view d xs)) (Some (row_view d ys))
 row_below d n xs ys j k f = each-more (level_laws d) (row_view d xs) (row_view d ys) (each_position d xs ys (row_length d n xs j ∙ sym (row_length d n ys k)) f)
 
 -- what a row's inclusion owes a position
-pub position_below : (d n : ℕ) (xs ys : List Node) → RowFits d n xs → BelowBy (HasRow (HasAt d)) (Some (row_view d xs)) (Some (row_view d ys)) → (i : ℕ) (x y : Node) → i < length xs → x ≡ slice_index_or xs i x → y ≡ slice_index_or ys i y → BelowBy (HasAt d) (view d x) (view d y)
+pub position_below : (d n : ℕ) (xs ys : List Node) → RowFits d n xs → BelowBy (HasRow (HasAt d)) (Some (row_view d xs)) (Some (row_view d ys)) → (i : ℕ) (x y : Node) → i < length xs → x ≡ slice_index_or xs i x
+    → y ≡ slice_index_or ys i y → BelowBy (HasAt d) (view d x) (view d y)
 position_below d n xs ys k h i x y lt e f =
     subst₂ (λ s t. BelowBy (HasAt d) (view d s) (view d t)) (sym e) (sym f) (at_position d xs ys (each-below (level_laws d) (row_view d xs) (row_view d ys) k.normal.1 h) i lt x y)
 
 -- ---- the tuples of one size
 
-pub product_not_below : (d n : ℕ) (a b : BodyOf Node) (xs : List Node) (ts : List (TagOf Node)) → a ≡ of_body.Product xs → b ≡ of_body.Tags ts → BodyFits d n a → BodyFits d n b → BelowBy (HasBody (HasAt d)) (Some (body_view d a)) (Some (body_view d b)) → ⊥
+pub product_not_below : (d n : ℕ) (a b : BodyOf Node) (xs : List Node) (ts : List (TagOf Node)) → a ≡ of_body.Product xs → b ≡ of_body.Tags ts → BodyFits d n a → BodyFits d n b
+    → BelowBy (HasBody (HasAt d)) (Some (body_view d a)) (Some (body_view d b)) → ⊥
 product_not_below d n a b xs ts e f j k h =
     let x : BodyFits d n (of_body.Product xs) = subst (BodyFits d n) e j in
     let y : BodyFits d n (of_body.Tags ts) = subst (BodyFits d n) f k in
@@ -189,10 +199,12 @@ module _ (d : ℕ) (b : BodyOf Node) where
       at (Some es) a e = each_at name_total name_same EntryBelow (tags_view d ts) (each_entry (tag_entry d) EntryBelow ts (each_item TagBelow ts i le f)) a es e
 
   -- what the inclusion of tags owes one of them
-  pub tag_below : (n : ℕ) (ts : List (TagOf Node)) → TagsFit d n ts → BelowBy (HasBody (HasAt d)) (Some (tags (tags_view d ts))) (Some (body_view d b)) → (i : ℕ) (t : TagOf Node) → i < length ts → t ≡ slice_index_or ts i t → TagBelow t
+  pub tag_below : (n : ℕ) (ts : List (TagOf Node)) → TagsFit d n ts → BelowBy (HasBody (HasAt d)) (Some (tags (tags_view d ts))) (Some (body_view d b)) → (i : ℕ) (t : TagOf Node) → i < length ts → t ≡ slice_index_or ts i t
+      → TagBelow t
   tag_below n ts k h i t lt e =
       let f = tag_of (level_laws d) (tags_view d ts) (body_view d b) h in
-      subst TagBelow (sym e) (all_entries (tag_entry d) EntryBelow ts (each_from name_total name_same EntryBelow (tags_view d ts) k.normal.0 (λ a es q. subst (λ r. BelowBy (HasRow (HasAt d)) r (row_at (ops d) (body_view d b) a)) q (f a))) i t lt)
+      subst TagBelow (sym e) (all_entries (tag_entry d) EntryBelow ts (each_from name_total name_same EntryBelow (tags_view d ts) k.normal.0 (λ a es q. subst (λ r. BelowBy (HasRow (HasAt d)) r (row_at (ops d) (body_view d b) a)) q (f a)))
+      i t lt)
 
 pub rest_fits : (d n : ℕ) (ts : List (TagOf Node)) → TagsFit d n ts → (i : ℕ) (t : TagOf Node) → i < length ts → t ≡ slice_index_or ts i t → RowFits d n t.rest
 rest_fits d n ts k i t lt e = subst (λ s. RowFits d n s.rest) (sym e) (record { normal = all_entries (tag_entry d) (λ a es. NormalRow (NormalAt d) (ops d) n (Some es)) ts k.normal.2 i t lt; each = tag_at (Fits d) ts k.each i t lt })
@@ -207,7 +219,8 @@ tag_absent d n b t k e f =
     subst (HasRow (HasAt d) w.0) (sym e) (f w.0 w.1)
 
 -- a test of the rest of a tag's tuples, where something follows its atom
-pub tag_tells : (d : ℕ) (b : BodyOf Node) (t : TagOf Node) (xs ys : List Node) (r : Bool) → xs ≡ t.rest → Some (row_view d ys) ≡ row_at (ops d) (body_view d b) t.atom → IsTrue r ↔ BelowBy (HasRow (HasAt d)) (Some (row_view d xs)) (Some (row_view d ys)) → IsTrue r ↔ TagBelow d b t
+pub tag_tells : (d : ℕ) (b : BodyOf Node) (t : TagOf Node) (xs ys : List Node) (r : Bool) → xs ≡ t.rest → Some (row_view d ys) ≡ row_at (ops d) (body_view d b) t.atom
+    → IsTrue r ↔ BelowBy (HasRow (HasAt d)) (Some (row_view d xs)) (Some (row_view d ys)) → IsTrue r ↔ TagBelow d b t
 tag_tells d b t xs ys r e f h = subst₂ (λ x y. IsTrue r ↔ BelowBy (HasRow (HasAt d)) (Some (row_view d x)) y) e f h
 
 -- ---- sizes
@@ -228,10 +241,12 @@ module _ (d : ℕ) (w : List (SizeOf Node)) where
       at (Some x) e h = each_at nat_cmp_total nat_cmp-IsAntisymmetric BodyBelow (sizes_view d ss) (each_entry (size_entry d) BodyBelow ss (each_item SizeBelow ss i le f)) (count vs) x e vs h
 
   -- what the inclusion of sizes owes one of them
-  pub size_below : (ss : List (SizeOf Node)) → SizesFit d ss → BelowBy (HasTuple (HasAt d)) (sizes (sizes_view d ss)) (sizes (sizes_view d w)) → (i : ℕ) (s : SizeOf Node) → i < length ss → s ≡ slice_index_or ss i s → SizeBelow s
+  pub size_below : (ss : List (SizeOf Node)) → SizesFit d ss → BelowBy (HasTuple (HasAt d)) (sizes (sizes_view d ss)) (sizes (sizes_view d w)) → (i : ℕ) (s : SizeOf Node) → i < length ss → s ≡ slice_index_or ss i s
+      → SizeBelow s
   size_below ss k h i s lt e =
       let f = to_size (level_laws d) (sizes_view d ss) (sizes_view d w) k.normal h in
-      subst SizeBelow (sym e) (all_entries (size_entry d) BodyBelow ss (each_from nat_cmp_total nat_cmp-IsAntisymmetric BodyBelow (sizes_view d ss) k.table (λ n x q. subst (λ r. BelowBy (HasBody (HasAt d)) r (find nat_cmp (sizes_view d w) n)) q (f n))) i s lt)
+      subst SizeBelow (sym e) (all_entries (size_entry d) BodyBelow ss (each_from nat_cmp_total nat_cmp-IsAntisymmetric BodyBelow (sizes_view d ss) k.table
+      (λ n x q. subst (λ r. BelowBy (HasBody (HasAt d)) r (find nat_cmp (sizes_view d w) n)) q (f n))) i s lt)
 
 pub size_fits : (d : ℕ) (ss : List (SizeOf Node)) → SizesFit d ss → (i : ℕ) (s : SizeOf Node) → i < length ss → s ≡ slice_index_or ss i s → BodyFits d s.size s.body
 size_fits d ss k i s lt e = subst (λ x. BodyFits d x.size x.body) (sym e) (record { normal = (all_entries (size_entry d) (NormalSize (NormalAt d) (ops d)) ss k.normal i s lt).1; each = size_at (Fits d) ss k.each i s lt })
@@ -246,7 +261,8 @@ size_absent d w s k e f = elim ((body_lattice (level_laws d) s.size).filled (Som
   | inr x ↦ subst (HasBody (HasAt d) x.0) (sym e) (f x.0 x.1)
 ]
 
-pub size_tells : (d : ℕ) (w : List (SizeOf Node)) (s : SizeOf Node) (x : BodyOf Node) (r : Bool) → Some (body_view d x) ≡ find nat_cmp (sizes_view d w) s.size → IsTrue r ↔ BelowBy (HasBody (HasAt d)) (Some (body_view d s.body)) (Some (body_view d x)) → IsTrue r ↔ SizeBelow d w s
+pub size_tells : (d : ℕ) (w : List (SizeOf Node)) (s : SizeOf Node) (x : BodyOf Node) (r : Bool) → Some (body_view d x) ≡ find nat_cmp (sizes_view d w) s.size
+    → IsTrue r ↔ BelowBy (HasBody (HasAt d)) (Some (body_view d s.body)) (Some (body_view d x)) → IsTrue r ↔ SizeBelow d w s
 size_tells d w s x r e f = subst (λ b. IsTrue r ↔ BelowBy (HasBody (HasAt d)) (Some (body_view d s.body)) b) e f
 
 -- ---- tuples

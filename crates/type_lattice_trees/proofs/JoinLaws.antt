@@ -67,12 +67,14 @@ pub same_length : (d n : ℕ) (a b : List Node) → RowFits d n a → RowFits d 
 same_length d n a b j k = grind (arith, length-map)
 
 -- one position more, and no change to the whole
-pub row_more : (d n : ℕ) (f : TypeAt d → TypeAt d → TypeAt d) (a b out new : List Node) (i : ℕ) (x y m : Node) → RowFits d n a → RowFits d n b → i < length a → x ≡ slice_index_or a i x → y ≡ slice_index_or b i y → view d m ≡ f (view d x) (view d y) → new ≡ out ++ m ∷ [] → row_view d new ++ zip f (row_view d (drop (i + 1) a)) (row_view d (drop (i + 1) b)) ≡ row_view d out ++ zip f (row_view d (drop i a)) (row_view d (drop i b))
+pub row_more : (d n : ℕ) (f : TypeAt d → TypeAt d → TypeAt d) (a b out new : List Node) (i : ℕ) (x y m : Node) → RowFits d n a → RowFits d n b → i < length a → x ≡ slice_index_or a i x → y ≡ slice_index_or b i y
+    → view d m ≡ f (view d x) (view d y) → new ≡ out ++ m ∷ [] → row_view d new ++ zip f (row_view d (drop (i + 1) a)) (row_view d (drop (i + 1) b)) ≡ row_view d out ++ zip f (row_view d (drop i a)) (row_view d (drop i b))
 row_more d n f a b out new i x y m j k h p q e g = grind (arith, same_length, drop_next, map_done)
 
 -- ---- the type of the atoms of tags
 
-pub atoms_value : (t : Node) (s : Names) (q : PlainParts) (ts : List (TagOf Node)) → q ≡ record { atoms = s; ints = numbers.none; bits = No; flags = no_flags; functions = no_function } → ((d : ℕ) → view (suc d) t ≡ of_plain (ops d) q) → ((d : ℕ) → s ≡ or_else (keys (tags_view d ts)) every) → (d : ℕ) → view (suc d) t ≡ (ops (suc d)).of_names (keys (tags_view (suc d) ts))
+pub atoms_value : (t : Node) (s : Names) (q : PlainParts) (ts : List (TagOf Node)) → q ≡ record { atoms = s; ints = numbers.none; bits = No; flags = no_flags; functions = no_function }
+    → ((d : ℕ) → view (suc d) t ≡ of_plain (ops d) q) → ((d : ℕ) → s ≡ or_else (keys (tags_view d ts)) every) → (d : ℕ) → view (suc d) t ≡ (ops (suc d)).of_names (keys (tags_view (suc d) ts))
 unfolding ops
 atoms_value t s q ts e f g d = f d ∙ ap (of_plain (ops d)) e ∙ ap (of_atoms (ops d)) (g (suc d))
 
@@ -135,7 +137,8 @@ module _ (d : ℕ) where
   sized-united m w j k =
       each-united nat_cmp-IsAntisymmetric (body_join (ops d)) (NormalSize (NormalAt d) (ops d)) (λ n b c p q. (p.0, (body_lattice (level_laws d) n).join_normal (Some b) (Some c) p.1 q.1)) m w j k
 
-  pub sizes_so_far : (a b out : List (SizeOf Node)) (i : ℕ) → SizesFit d a → SizesFit d b → sizes_view d out ≡ united nat_cmp (body_join (ops d)) (sizes_view d a) (take i (sizes_view d b)) → EachSize (Fits d) out → SizesFit d out
+  pub sizes_so_far : (a b out : List (SizeOf Node)) (i : ℕ) → SizesFit d a → SizesFit d b → sizes_view d out ≡ united nat_cmp (body_join (ops d)) (sizes_view d a) (take i (sizes_view d b)) → EachSize (Fits d) out
+      → SizesFit d out
   sizes_so_far a b out i j k v e = record {
     table = ap (is_table nat_cmp) v ∙ table-united nat_cmp_total nat_cmp-IsAntisymmetric (body_join (ops d)) (sizes_view d a) (take i (sizes_view d b)) j.table;
     normal = subst Sized (sym v) (sized-united (sizes_view d a) (take i (sizes_view d b)) j.normal (each-take (λ e. NormalSize (NormalAt d) (ops d) e.0 e.1) (sizes_view d b) i k.normal));
@@ -159,7 +162,8 @@ same_item (z ∷ xs) i x y h e f = grind (arith, same_item xs)
 
 module _ {A K X : Type 0} (R : K → K → Ordering) (j : X → X → X) (entry : A → K × X) where
   -- the first list with the entries of the first i items of the second, and with one more
-  pub entries_step : (a b out new : List A) (i : ℕ) (x : A) → i < length b → x ≡ slice_index_or b i x → map entry out ≡ united R j (map entry a) (take i (map entry b)) → map entry new ≡ put R j (entry x).0 (entry x).1 (map entry out) → map entry new ≡ united R j (map entry a) (take (i + 1) (map entry b))
+  pub entries_step : (a b out new : List A) (i : ℕ) (x : A) → i < length b → x ≡ slice_index_or b i x → map entry out ≡ united R j (map entry a) (take i (map entry b))
+      → map entry new ≡ put R j (entry x).0 (entry x).1 (map entry out) → map entry new ≡ united R j (map entry a) (take (i + 1) (map entry b))
   entries_step a b out new i x h e v n = grind (arith, united-append R j, map_more entry)
 
   -- what stands at the position of a key
@@ -167,7 +171,8 @@ module _ {A K X : Type 0} (R : K → K → Ordering) (j : X → X → X) (entry 
   entry_there xs i k there s h e = grind (arith, same_Some, map_at entry, slice_get-get_or, length-map)
 
   -- and one whose key is there, so that what is held is joined
-  pub entry_found : (xs ys : List A) (i : ℕ) (x there read new : A) → ys ≡ xs → StandsAt R (entry x).0 (map entry ys) i → i < length ys → there ≡ slice_index_or xs i there → read ≡ slice_index_or xs i read → (entry new).0 ≡ (entry there).0 → (entry new).1 ≡ j (entry read).1 (entry x).1 → map entry (slice_set xs i new) ≡ put R j (entry x).0 (entry x).1 (map entry xs)
+  pub entry_found : (xs ys : List A) (i : ℕ) (x there read new : A) → ys ≡ xs → StandsAt R (entry x).0 (map entry ys) i → i < length ys → there ≡ slice_index_or xs i there → read ≡ slice_index_or xs i read
+      → (entry new).0 ≡ (entry there).0 → (entry new).1 ≡ j (entry read).1 (entry x).1 → map entry (slice_set xs i new) ≡ put R j (entry x).0 (entry x).1 (map entry xs)
   entry_found xs ys i x there read new g t l e f k v =
       let s : StandsAt R (entry x).0 (map entry xs) i = subst (λ zs. StandsAt R (entry x).0 (map entry zs) i) g t in
       let h : i < length xs = subst (λ zs. i < length zs) g l in
@@ -178,7 +183,8 @@ module _ {A K X : Type 0} (R : K → K → Ordering) (j : X → X → X) (entry 
       ∙ sym (s.1.1 j (entry x).1)
 
 -- the size that stands at the position is equal
-pub size_there : (d k : ℕ) (ss rs : List (SizeOf Node)) (i : ℕ) (there : SizeOf Node) → SizesFit d ss → rs ≡ ss → StandsAt nat_cmp k (sizes_view d rs) i → i < length rs → there ≡ slice_index_or ss i there → BodyFits d k there.body
+pub size_there : (d k : ℕ) (ss rs : List (SizeOf Node)) (i : ℕ) (there : SizeOf Node) → SizesFit d ss → rs ≡ ss → StandsAt nat_cmp k (sizes_view d rs) i → i < length rs → there ≡ slice_index_or ss i there
+    → BodyFits d k there.body
 size_there d k ss rs i there fit same s h e =
     let t : StandsAt nat_cmp k (sizes_view d ss) i = subst (λ xs. StandsAt nat_cmp k (sizes_view d xs) i) same s in
     let l : i < length ss = subst (λ xs. i < length xs) same h in
@@ -215,7 +221,8 @@ pub row_is : (d n : ℕ) (es fs : List Node) → es ≡ fs → RowFits d n fs �
 row_is d n es fs e k = subst (RowFits d n) (sym e) k
 
 -- the element types of the least product that contains the tags
-pub tags_elements : (d : ℕ) (ts : List (TagOf Node)) (first : Node) (rest row : List Node) → 0 < d → ((e : ℕ) → view (suc e) first ≡ (ops (suc e)).of_names (keys (tags_view (suc e) ts))) → row_view d rest ≡ all_rows_join (ops d) (held (tags_view d ts)) → row ≡ first ∷ rest → row_view d row ≡ elements (ops d) (tags (tags_view d ts))
+pub tags_elements : (d : ℕ) (ts : List (TagOf Node)) (first : Node) (rest row : List Node) → 0 < d → ((e : ℕ) → view (suc e) first ≡ (ops (suc e)).of_names (keys (tags_view (suc e) ts)))
+    → row_view d rest ≡ all_rows_join (ops d) (held (tags_view d ts)) → row ≡ first ∷ rest → row_view d row ≡ elements (ops d) (tags (tags_view d ts))
 tags_elements zero ts first rest row h f r e = absurd (omega arith)
 tags_elements (suc d) ts first rest row h f r e = ap (row_view (suc d)) e ∙ (λ n. f d n ∷ r n)
 
@@ -234,11 +241,13 @@ some_row {E} {xs} {ys} e = same_Some xs ys e
 module _ (d n : ℕ) (a b x y j : List Node) (f : RowFits d n a) (g : RowFits d n b) (p : x ≡ a) (q : y ≡ b) where
   pub rows_below : BelowBy (HasRow (HasAt d)) (Some (row_view d x)) (Some (row_view d y)) → j ≡ b → row_view d j ≡ row_join (ops d) (row_view d a) (row_view d b)
   rows_below h e =
-      ap (row_view d) e ∙ some_row (join-below (row_lattice (level_laws d) n) (Some (row_view d a)) (Some (row_view d b)) f.normal g.normal (subst (λ (z : List Node × List Node). BelowBy (HasRow (HasAt d)) (Some (row_view d z.0)) (Some (row_view d z.1))) (λ i. (p i, q i)) h))
+      ap (row_view d) e ∙ some_row (join-below (row_lattice (level_laws d) n) (Some (row_view d a)) (Some (row_view d b)) f.normal g.normal
+      (subst (λ (z : List Node × List Node). BelowBy (HasRow (HasAt d)) (Some (row_view d z.0)) (Some (row_view d z.1))) (λ i. (p i, q i)) h))
 
   pub rows_above : BelowBy (HasRow (HasAt d)) (Some (row_view d y)) (Some (row_view d x)) → j ≡ a → row_view d j ≡ row_join (ops d) (row_view d a) (row_view d b)
   rows_above h e =
-      ap (row_view d) e ∙ some_row (join-above (row_lattice (level_laws d) n) (Some (row_view d a)) (Some (row_view d b)) f.normal g.normal (subst (λ (z : List Node × List Node). BelowBy (HasRow (HasAt d)) (Some (row_view d z.1)) (Some (row_view d z.0))) (λ i. (p i, q i)) h))
+      ap (row_view d) e ∙ some_row (join-above (row_lattice (level_laws d) n) (Some (row_view d a)) (Some (row_view d b)) f.normal g.normal
+      (subst (λ (z : List Node × List Node). BelowBy (HasRow (HasAt d)) (Some (row_view d z.1)) (Some (row_view d z.0))) (λ i. (p i, q i)) h))
 
 pub any_left : (d : ℕ) (a b : Node) → Fits d a → Fits d b → a ≡ v.Any → view d v.Any ≡ (ops d).join (view d a) (view d b)
 any_left d a b j k e = grind (arith, joined_above, view_any, level_laws, (level_laws d).any_in)
@@ -252,10 +261,12 @@ parts_fit d p q j k m v e = record {
   each = e;
 }
 
-made_above : (d : ℕ) (a b r : Node) (p q j : PartsOf Node) → a ≡ v.Of p → b ≡ v.Of q → parts_view d j ≡ parts_join (ops d) (parts_view d p) (parts_view d q) → view (suc d) r ≡ parts_view d j → view (suc d) r ≡ (ops (suc d)).join (view (suc d) a) (view (suc d) b)
+made_above : (d : ℕ) (a b r : Node) (p q j : PartsOf Node) → a ≡ v.Of p → b ≡ v.Of q → parts_view d j ≡ parts_join (ops d) (parts_view d p) (parts_view d q) → view (suc d) r ≡ parts_view d j
+    → view (suc d) r ≡ (ops (suc d)).join (view (suc d) a) (view (suc d) b)
 unfolding ops
 made_above d a b r p q j e f h m = grind (arith, view_of)
 
-pub made_join : (d : ℕ) (a b r : Node) (p q j : PartsOf Node) → 1 ≤ d → a ≡ v.Of p → b ≡ v.Of q → PartsFit (d - 1) j → parts_view (d - 1) j ≡ parts_join (ops (d - 1)) (parts_view (d - 1) p) (parts_view (d - 1) q) → ((e : ℕ) → PartsFit e j → view (suc e) r ≡ parts_view e j) → view d r ≡ (ops d).join (view d a) (view d b)
+pub made_join : (d : ℕ) (a b r : Node) (p q j : PartsOf Node) → 1 ≤ d → a ≡ v.Of p → b ≡ v.Of q → PartsFit (d - 1) j → parts_view (d - 1) j ≡ parts_join (ops (d - 1)) (parts_view (d - 1) p) (parts_view (d - 1) q)
+    → ((e : ℕ) → PartsFit e j → view (suc e) r ≡ parts_view e j) → view d r ≡ (ops d).join (view d a) (view d b)
 made_join d a b r p q j h e f k m g =
     subst (λ n. view n r ≡ (ops n).join (view n a) (view n b)) (sym (one_more d h)) (made_above (d - 1) a b r p q j e f m (g (d - 1) k))

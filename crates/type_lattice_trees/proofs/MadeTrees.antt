@@ -47,24 +47,30 @@ every_tuple_value t q e f d = view_of t (record { plain = q; cell = None; tuples
 pub every_tuple_fits : (t : Node) (q : PlainParts) → t ≡ v.Of (record { plain = q; cell = None; tuples = All }) → q ≡ plain_none → (d : ℕ) → Fits (suc d) t
 every_tuple_fits t q e f d = without_list t (record { plain = q; cell = None; tuples = All }) e refl d (of_tuples (ops d) all_tuples) (tuple_parts q f d) (tt, tt, tt) tt
 
-size_parts : (q : PlainParts) (ss rs : List (SizeOf Node)) (n : ℕ) (b : BodyOf Node) → q ≡ plain_none → rs ≡ [] → ss ≡ rs ++ record { size = n; body = b } ∷ [] → (d : ℕ) → parts_view d (record { plain = q; cell = None; tuples = Sizes ss }) ≡ of_tuples (ops d) (sizes ((n, body_view d b) ∷ []))
+size_parts : (q : PlainParts) (ss rs : List (SizeOf Node)) (n : ℕ) (b : BodyOf Node) → q ≡ plain_none → rs ≡ [] → ss ≡ rs ++ record { size = n; body = b } ∷ [] → (d : ℕ)
+    → parts_view d (record { plain = q; cell = None; tuples = Sizes ss }) ≡ of_tuples (ops d) (sizes ((n, body_view d b) ∷ []))
 size_parts q ss rs n b e f g d = grind arith
 
-pub size_value : (t : Node) (q : PlainParts) (ss rs : List (SizeOf Node)) (n : ℕ) (b : BodyOf Node) → t ≡ v.Of (record { plain = q; cell = None; tuples = Sizes ss }) → q ≡ plain_none → rs ≡ [] → ss ≡ rs ++ record { size = n; body = b } ∷ [] → (d : ℕ) → view (suc d) t ≡ of_tuples (ops d) (sizes ((n, body_view d b) ∷ []))
+pub size_value : (t : Node) (q : PlainParts) (ss rs : List (SizeOf Node)) (n : ℕ) (b : BodyOf Node) → t ≡ v.Of (record { plain = q; cell = None; tuples = Sizes ss }) → q ≡ plain_none → rs ≡ []
+    → ss ≡ rs ++ record { size = n; body = b } ∷ [] → (d : ℕ) → view (suc d) t ≡ of_tuples (ops d) (sizes ((n, body_view d b) ∷ []))
 size_value t q ss rs n b i e f g d = view_of t (record { plain = q; cell = None; tuples = Sizes ss }) i d ∙ size_parts q ss rs n b e f g d
 
-pub size_fits : (t : Node) (q : PlainParts) (ss rs : List (SizeOf Node)) (n : ℕ) (b : BodyOf Node) → t ≡ v.Of (record { plain = q; cell = None; tuples = Sizes ss }) → q ≡ plain_none → rs ≡ [] → ss ≡ rs ++ record { size = n; body = b } ∷ [] → (d : ℕ) → n ≤ MAX_ELEMENTS → BodyFits d n b → Fits (suc d) t
+pub size_fits : (t : Node) (q : PlainParts) (ss rs : List (SizeOf Node)) (n : ℕ) (b : BodyOf Node) → t ≡ v.Of (record { plain = q; cell = None; tuples = Sizes ss }) → q ≡ plain_none → rs ≡ []
+    → ss ≡ rs ++ record { size = n; body = b } ∷ [] → (d : ℕ) → n ≤ MAX_ELEMENTS → BodyFits d n b → Fits (suc d) t
 size_fits t q ss rs n b i e f g d few k =
     without_list t (record { plain = q; cell = None; tuples = Sizes ss }) i refl d (of_tuples (ops d) (sizes ((n, body_view d b) ∷ []))) (size_parts q ss rs n b e f g d)
     (tt, tt, (refl, refl, ((lt-ltb n 65 (omega (arith, few)), k.normal), tt))) (grind arith)
 
-list_parts : (q : PlainParts) (ss : List (SizeOf Node)) (c e : Node) (p : Bool) → q ≡ plain_none → ss ≡ [] → c ≡ e → (d : ℕ) → parts_view d (record { plain = q; cell = Some (record { element = c; is_proper = p }); tuples = Sizes ss }) ≡ of_list (ops d) (view d e) p
+list_parts : (q : PlainParts) (ss : List (SizeOf Node)) (c e : Node) (p : Bool) → q ≡ plain_none → ss ≡ [] → c ≡ e → (d : ℕ)
+    → parts_view d (record { plain = q; cell = Some (record { element = c; is_proper = p }); tuples = Sizes ss }) ≡ of_list (ops d) (view d e) p
 list_parts q ss c e p f g h d = λ n. record { plain = f n; cell = Some (record { element = view d (h n); is_proper = p }); tuples = sizes (sizes_view d (g n)) }
 
-pub list_value : (t : Node) (q : PlainParts) (ss : List (SizeOf Node)) (c e : Node) (p : Bool) → t ≡ v.Of (record { plain = q; cell = Some (record { element = c; is_proper = p }); tuples = Sizes ss }) → q ≡ plain_none → ss ≡ [] → c ≡ e → (d : ℕ) → view (suc d) t ≡ of_list (ops d) (view d e) p
+pub list_value : (t : Node) (q : PlainParts) (ss : List (SizeOf Node)) (c e : Node) (p : Bool) → t ≡ v.Of (record { plain = q; cell = Some (record { element = c; is_proper = p }); tuples = Sizes ss }) → q ≡ plain_none → ss ≡ []
+    → c ≡ e → (d : ℕ) → view (suc d) t ≡ of_list (ops d) (view d e) p
 list_value t q ss c e p i f g h d = view_of t (record { plain = q; cell = Some (record { element = c; is_proper = p }); tuples = Sizes ss }) i d ∙ list_parts q ss c e p f g h d
 
-pub list_fits : (t : Node) (q : PlainParts) (ss : List (SizeOf Node)) (c e : Node) (p : Bool) → t ≡ v.Of (record { plain = q; cell = Some (record { element = c; is_proper = p }); tuples = Sizes ss }) → q ≡ plain_none → ss ≡ [] → c ≡ e → (d : ℕ) → Fits d e → (ops d).is_none (view d e) ≡ false → Fits (suc d) t
+pub list_fits : (t : Node) (q : PlainParts) (ss : List (SizeOf Node)) (c e : Node) (p : Bool) → t ≡ v.Of (record { plain = q; cell = Some (record { element = c; is_proper = p }); tuples = Sizes ss }) → q ≡ plain_none → ss ≡ []
+    → c ≡ e → (d : ℕ) → Fits d e → (ops d).is_none (view d e) ≡ false → Fits (suc d) t
 unfolding ops
 list_fits t q ss c e p i f g h d k some =
     of_fits t (record { plain = q; cell = Some (record { element = c; is_proper = p }); tuples = Sizes ss }) i d (record {
@@ -73,6 +79,7 @@ list_fits t q ss c e p i f g h d k some =
     }) (λ x. not_all (sizes (sizes_view d ss)) (sizes_view d ss) refl (ap (λ (y : Parts (TypeAt d)). y.tuples) x))
 
 -- the body of a row of element types
-pub row_body : (d : ℕ) (row : List Node) (n : ℕ) (b : BodyOf Node) → n ≡ length row → AreElements (NormalAt d) (ops d) (row_view d row) → body_view d b ≡ body_of (ops d) (row_view d row) → EachInBody (Fits d) b → BodyFits d n b
+pub row_body : (d : ℕ) (row : List Node) (n : ℕ) (b : BodyOf Node) → n ≡ length row → AreElements (NormalAt d) (ops d) (row_view d row) → body_view d b ≡ body_of (ops d) (row_view d row) → EachInBody (Fits d) b
+    → BodyFits d n b
 row_body d row n b e k is each =
     record { normal = subst (λ (x : Body (TypeAt d)). NormalBody (NormalAt d) (ops d) n (Some x)) (sym is) (body_of_normal (level_laws d) n (row_view d row) (length-map row (view d) ∙ sym e, k)); each = each }

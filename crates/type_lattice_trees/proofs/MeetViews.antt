@@ -33,7 +33,8 @@ met_below d a b m f g h e = ap (view d) e ∙ meet-below (level_laws d).lattice 
 pub met_above : (d : ℕ) (a b m : Node) → Fits d a → Fits d b → BelowBy (HasAt d) (view d b) (view d a) → m ≡ b → view d m ≡ (ops d).meet (view d a) (view d b)
 met_above d a b m f g h e = ap (view d) e ∙ meet-above (level_laws d).lattice (view d a) (view d b) (fits_normal d a f) (fits_normal d b g) h
 
-pub row_below : (d n : ℕ) (a b x j : List Node) → RowFits d n a → RowFits d n b → x ≡ a → BelowBy (HasRow (HasAt d)) (Some (row_view d x)) (Some (row_view d b)) → j ≡ a → Some (row_view d j) ≡ row_meet (ops d) (row_view d a) (row_view d b)
+pub row_below : (d n : ℕ) (a b x j : List Node) → RowFits d n a → RowFits d n b → x ≡ a → BelowBy (HasRow (HasAt d)) (Some (row_view d x)) (Some (row_view d b)) → j ≡ a
+    → Some (row_view d j) ≡ row_meet (ops d) (row_view d a) (row_view d b)
 row_below d n a b x j f g p h e =
     ap (λ r. Some (row_view d r)) e ∙ meet-below (row_lattice (level_laws d) n) (Some (row_view d a)) (Some (row_view d b)) f.normal g.normal (subst (λ z. BelowBy (HasRow (HasAt d)) (Some (row_view d z)) (Some (row_view d b))) p h)
 
@@ -51,23 +52,27 @@ pub meet_with_any : (d : ℕ) (a b m : Node) → b ≡ v.Any → Fits d a → Fi
 meet_with_any d a b m e f g k = met_below d a b m f g (λ u h. subst (HasAt d u) (sym (view_any b e d)) ((level_laws d).any_in u)) k
 
 -- the meet of two trees that have parts
-parts_value : (a b m : Node) (p q r : PartsOf Node) → a ≡ v.Of p → b ≡ v.Of q → m ≡ v.Of r → (d : ℕ) → parts_view d r ≡ parts_meet (ops d) (parts_view d p) (parts_view d q) → view (suc d) m ≡ (ops (suc d)).meet (view (suc d) a) (view (suc d) b)
+parts_value : (a b m : Node) (p q r : PartsOf Node) → a ≡ v.Of p → b ≡ v.Of q → m ≡ v.Of r → (d : ℕ) → parts_view d r ≡ parts_meet (ops d) (parts_view d p) (parts_view d q)
+    → view (suc d) m ≡ (ops (suc d)).meet (view (suc d) a) (view (suc d) b)
 unfolding ops
 parts_value a b m p q r e f g d h = grind (arith, view_of)
 
-pub meet_of_parts : (a b m : Node) (p q r : PartsOf Node) → a ≡ v.Of p → b ≡ v.Of q → m ≡ v.Of r → (d : ℕ) → Fits d a → parts_view (d - 1) r ≡ parts_meet (ops (d - 1)) (parts_view (d - 1) p) (parts_view (d - 1) q) → view d m ≡ (ops d).meet (view d a) (view d b)
+pub meet_of_parts : (a b m : Node) (p q r : PartsOf Node) → a ≡ v.Of p → b ≡ v.Of q → m ≡ v.Of r → (d : ℕ) → Fits d a → parts_view (d - 1) r ≡ parts_meet (ops (d - 1)) (parts_view (d - 1) p) (parts_view (d - 1) q)
+    → view d m ≡ (ops d).meet (view d a) (view d b)
 meet_of_parts a b m p q r e f g d j h =
     subst (λ n. view n m ≡ (ops n).meet (view n a) (view n b)) (sym (one_more d (of_above a p e d j))) (parts_value a b m p q r e f g (d - 1) h)
 
 -- it isn't every value, since neither of them is
-parts_fit : (a b m : Node) (p q r : PartsOf Node) → a ≡ v.Of p → b ≡ v.Of q → m ≡ v.Of r → (d : ℕ) → Fits (suc d) a → Fits (suc d) b → PartsFit d r → parts_view d r ≡ parts_meet (ops d) (parts_view d p) (parts_view d q) → Fits (suc d) m
+parts_fit : (a b m : Node) (p q r : PartsOf Node) → a ≡ v.Of p → b ≡ v.Of q → m ≡ v.Of r → (d : ℕ) → Fits (suc d) a → Fits (suc d) b → PartsFit d r
+    → parts_view d r ≡ parts_meet (ops d) (parts_view d p) (parts_view d q) → Fits (suc d) m
 unfolding ops
 parts_fit a b m p q r e f g d j k n h =
     let s = fits_of a p e d j in
     let t = fits_of b q f d k in
     of_fits m r g d n (λ full. meet-not_any (suc d) (parts_view d p) (parts_view d q) (parts_normal d (parts_view d p) s.0.normal) (parts_normal d (parts_view d q) t.0.normal) s.1 (sym h ∙ full))
 
-pub meet_of_parts_fits : (a b m : Node) (p q r : PartsOf Node) → a ≡ v.Of p → b ≡ v.Of q → m ≡ v.Of r → (d : ℕ) → Fits d a → Fits d b → PartsFit (d - 1) r → parts_view (d - 1) r ≡ parts_meet (ops (d - 1)) (parts_view (d - 1) p) (parts_view (d - 1) q) → Fits d m
+pub meet_of_parts_fits : (a b m : Node) (p q r : PartsOf Node) → a ≡ v.Of p → b ≡ v.Of q → m ≡ v.Of r → (d : ℕ) → Fits d a → Fits d b → PartsFit (d - 1) r
+    → parts_view (d - 1) r ≡ parts_meet (ops (d - 1)) (parts_view (d - 1) p) (parts_view (d - 1) q) → Fits d m
 meet_of_parts_fits a b m p q r e f g d j k n h =
     let one = one_more d (of_above a p e d j) in
     subst (λ n. Fits n m) (sym one) (parts_fit a b m p q r e f g (d - 1) (subst (λ n. Fits n a) one j) (subst (λ n. Fits n b) one k) n h)
@@ -103,13 +108,17 @@ none_among o [] e fs h = ap (λ b. b || has_none o fs) h
 none_among o (g ∷ es) e fs h = or_right (o.is_none g) (has_none o (es ++ e ∷ fs)) (none_among o es e fs h)
 
 -- where a position has no value, the product has none
-pub row_none : (d n : ℕ) (a b out : List Node) (i : ℕ) (x y m : Node) → RowFits d n a → RowFits d n b → i < length a → x ≡ slice_index_or a i x → y ≡ slice_index_or b i y → view d m ≡ (ops d).meet (view d x) (view d y) → (ops d).is_none (view d m) ≡ true → row_view d out ++ zip (ops d).meet (row_view d (drop i a)) (row_view d (drop i b)) ≡ zip (ops d).meet (row_view d a) (row_view d b) → None ≡ row_meet (ops d) (row_view d a) (row_view d b)
+pub row_none : (d n : ℕ) (a b out : List Node) (i : ℕ) (x y m : Node) → RowFits d n a → RowFits d n b → i < length a → x ≡ slice_index_or a i x → y ≡ slice_index_or b i y → view d m ≡ (ops d).meet (view d x) (view d y)
+    → (ops d).is_none (view d m) ≡ true → row_view d out ++ zip (ops d).meet (row_view d (drop i a)) (row_view d (drop i b)) ≡ zip (ops d).meet (row_view d a) (row_view d b)
+    → None ≡ row_meet (ops d) (row_view d a) (row_view d b)
 row_none d n a b out i x y m j k h p q e z f = grind (arith, same_length, drop_next, none_among)
 
 -- ---- tuples
 
 -- the sizes that both have
-pub sizes_fit : (d : ℕ) (a b : TuplesOf Node) (ss rs us : List (SizeOf Node)) → a ≡ Sizes ss → b ≡ Sizes rs → TuplesFit d a → TuplesFit d b → sizes_view d us ≡ sizes_meet (ops d) (sizes_view d ss) (sizes_view d rs) → EachSize (Fits d) us → TuplesFit d (Sizes us)
+pub sizes_fit : (d : ℕ) (a b : TuplesOf Node) (ss rs us : List (SizeOf Node)) → a ≡ Sizes ss → b ≡ Sizes rs → TuplesFit d a → TuplesFit d b → sizes_view d us ≡ sizes_meet (ops d) (sizes_view d ss) (sizes_view d rs)
+    → EachSize (Fits d) us → TuplesFit d (Sizes us)
 sizes_fit d a b ss rs us e f j k g h =
-    let met : tuples_meet (ops d) (tuples_view d a) (tuples_view d b) ≡ tuples_view d (Sizes us) = ap (λ t. tuples_meet (ops d) (tuples_view d t) (tuples_view d b)) e ∙ ap (λ t. tuples_meet (ops d) (tuples_view d (Sizes ss)) (tuples_view d t)) f ∙ ap sizes (sym g) in
+    let met : tuples_meet (ops d) (tuples_view d a) (tuples_view d b) ≡ tuples_view d (Sizes us) =
+    ap (λ t. tuples_meet (ops d) (tuples_view d t) (tuples_view d b)) e ∙ ap (λ t. tuples_meet (ops d) (tuples_view d (Sizes ss)) (tuples_view d t)) f ∙ ap sizes (sym g) in
     record { normal = subst (NormalTuples (NormalAt d) (ops d)) met ((tuples_lattice (level_laws d)).meet_normal (tuples_view d a) (tuples_view d b) j.normal k.normal); each = h }

@@ -70,7 +70,8 @@ atoms_only : (a b c : Bool) → a ≡ true → b ≡ true → c ≡ ((a && b) &&
 atoms_only x0 x1 x2 x3 x4 = grind arith
 
 -- there is nothing plain but atoms and no list, so it turns on the tuples
-pub only_atoms_then : (p : PartsOf Node) (ss : List (SizeOf Node)) (b : Bool) → is_atoms p.plain ≡ true → is_some p.cell ≡ false → p.tuples ≡ Sizes ss → IsTrue b ↔ (ss ≡ []) → (d : ℕ) → b ≡ is_only_atoms (ops d) (parts_view d p)
+pub only_atoms_then : (p : PartsOf Node) (ss : List (SizeOf Node)) (b : Bool) → is_atoms p.plain ≡ true → is_some p.cell ≡ false → p.tuples ≡ Sizes ss → IsTrue b ↔ (ss ≡ []) → (d : ℕ)
+    → b ≡ is_only_atoms (ops d) (parts_view d p)
 only_atoms_then p ss b e f g h d =
     no_sizes d ss b h
     ∙ atoms_only (is_atoms p.plain) (no_cell (ops d) (cell_view d p.cell)) (is_empty (sizes_view d ss)) e (no_cell_there d p.cell f)
@@ -79,17 +80,21 @@ only_atoms_then p ss b e f g h d =
 -- ---- what stands after a tag
 
 -- what is looked up from a position on turns on the tag there
-tag_here : (ts : List (TagOf Node)) (i : ℕ) (t : TagOf Node) (a : Name) → i < length ts → t ≡ slice_index_or ts i t → (d : ℕ) → find name_cmp (tags_view d (drop i ts)) a ≡ cond (eq_by_cmp name_cmp a t.atom) (Some (row_view d t.rest)) (find name_cmp (tags_view d (drop (suc i) ts)) a)
+tag_here : (ts : List (TagOf Node)) (i : ℕ) (t : TagOf Node) (a : Name) → i < length ts → t ≡ slice_index_or ts i t → (d : ℕ)
+    → find name_cmp (tags_view d (drop i ts)) a ≡ cond (eq_by_cmp name_cmp a t.atom) (Some (row_view d t.rest)) (find name_cmp (tags_view d (drop (suc i) ts)) a)
 tag_here ts i t a h is d = ap (λ us. find name_cmp (tags_view d us) a) (drop-cons ts i t h ∙ ap (λ u. u ∷ drop (suc i) ts) (sym is))
 
 -- the tag of the atom, and one of another atom
-pub tag_found : (ts : List (TagOf Node)) (i : ℕ) (t : TagOf Node) (es : List Node) (a : Name) → i < length ts → t ≡ slice_index_or ts i t → es ≡ t.rest → t.atom ≡ a → (d : ℕ) → find name_cmp (tags_view d ts) a ≡ find name_cmp (tags_view d (drop i ts)) a → Some (row_view d es) ≡ find name_cmp (tags_view d ts) a
+pub tag_found : (ts : List (TagOf Node)) (i : ℕ) (t : TagOf Node) (es : List Node) (a : Name) → i < length ts → t ≡ slice_index_or ts i t → es ≡ t.rest → t.atom ≡ a → (d : ℕ)
+    → find name_cmp (tags_view d ts) a ≡ find name_cmp (tags_view d (drop i ts)) a → Some (row_view d es) ≡ find name_cmp (tags_view d ts) a
 tag_found ts i t es a h is e same d k =
     ap (λ r. Some (row_view d r)) e
     ∙ sym (k ∙ tag_here ts i t a h is d ∙ ap (λ b. cond b (Some (row_view d t.rest)) (find name_cmp (tags_view d (drop (suc i) ts)) a)) (ap (eq_by_cmp name_cmp a) same ∙ itself name_total name_same a))
 
-pub tag_passed : (ts : List (TagOf Node)) (i : ℕ) (t : TagOf Node) (a : Name) (b : Bool) → i < length ts → t ≡ slice_index_or ts i t → IsTrue b ↔ (t.atom ≡ a) → b ≡ false → (d : ℕ) → find name_cmp (tags_view d (drop i ts)) a ≡ find name_cmp (tags_view d (drop (i + 1) ts)) a
+pub tag_passed : (ts : List (TagOf Node)) (i : ℕ) (t : TagOf Node) (a : Name) (b : Bool) → i < length ts → t ≡ slice_index_or ts i t → IsTrue b ↔ (t.atom ≡ a) → b ≡ false → (d : ℕ)
+    → find name_cmp (tags_view d (drop i ts)) a ≡ find name_cmp (tags_view d (drop (i + 1) ts)) a
 tag_passed ts i t a b h is test f d =
     tag_here ts i t a h is d
-    ∙ ap (λ c. cond c (Some (row_view d t.rest)) (find name_cmp (tags_view d (drop (suc i) ts)) a)) (false_from_ne_true (eq_by_cmp name_cmp a t.atom) (λ e. true≢false (sym (test.1 (sym (is_it name_total name_same a t.atom e))) ∙ f)))
+    ∙ ap (λ c. cond c (Some (row_view d t.rest)) (find name_cmp (tags_view d (drop (suc i) ts)) a))
+    (false_from_ne_true (eq_by_cmp name_cmp a t.atom) (λ e. true≢false (sym (test.1 (sym (is_it name_total name_same a t.atom e))) ∙ f)))
     ∙ ap (λ j. find name_cmp (tags_view d (drop j ts)) a) (sym (add-one i))

@@ -40,7 +40,8 @@ both_tell : {P Q : Type 0} (a v : Bool) → IsTrue a ↔ P → (a ≡ true → I
 both_tell true v p f g = (λ h. (p.0 refl, (f refl).0 h), λ h. (f refl).1 h.1)
 both_tell false v p f g = (λ h. absurd (true≢false (sym h ∙ g refl)), λ h. absurd (true≢false (sym (p.1 h.0))))
 
-pub five_tell : {P Q R S T : Type 0} (a v w x y : Bool) → IsTrue a ↔ P → (a ≡ true → IsTrue v ↔ Q) → (a ≡ false → v ≡ false) → (v ≡ true → IsTrue w ↔ R) → (v ≡ false → w ≡ false) → (w ≡ true → IsTrue x ↔ S) → (w ≡ false → x ≡ false) → (x ≡ true → IsTrue y ↔ T) → (x ≡ false → y ≡ false) → IsTrue y ↔ ((((P × Q) × R) × S) × T)
+pub five_tell : {P Q R S T : Type 0} (a v w x y : Bool) → IsTrue a ↔ P → (a ≡ true → IsTrue v ↔ Q) → (a ≡ false → v ≡ false) → (v ≡ true → IsTrue w ↔ R) → (v ≡ false → w ≡ false)
+    → (w ≡ true → IsTrue x ↔ S) → (w ≡ false → x ≡ false) → (x ≡ true → IsTrue y ↔ T) → (x ≡ false → y ≡ false) → IsTrue y ↔ ((((P × Q) × R) × S) × T)
 five_tell a v w x y p f g h i j k l m = both_tell x y (both_tell w x (both_tell v w (both_tell a v p f g) h i) j k) l m
 
 -- ---- inclusion
@@ -57,14 +58,18 @@ flags_test j l = beq j.float l.float && (beq j.pid l.pid && (beq j.port l.port &
 -- flags are the same where each of the six tests finds them so
 flags_equal : (j l : FlagSet) → IsTrue (flags_test j l) ↔ (flags_of j ≡ flags_of l)
 flags_equal j l =
-    Decides-like (flags_test j l) (λ h i. record { float = h.0 i; pid = h.1.0 i; port = h.1.1.0 i; reference = h.1.1.1.0 i; nil = h.1.1.1.1.0 i; map = h.1.1.1.1.1 i }) (λ e. (ap (λ k. k.float) e, (ap (λ k. k.pid) e, (ap (λ k. k.port) e, (ap (λ k. k.reference) e, (ap (λ k. k.nil) e, ap (λ k. k.map) e)))))) (Decides-and _ _ (booleans_Decides j.float l.float) (Decides-and _ _ (booleans_Decides j.pid l.pid) (Decides-and _ _ (booleans_Decides j.port l.port) (Decides-and _ _ (booleans_Decides j.reference l.reference) (Decides-and _ _ (booleans_Decides j.nil l.nil) (booleans_Decides j.map l.map))))))
+    Decides-like (flags_test j l) (λ h i. record { float = h.0 i; pid = h.1.0 i; port = h.1.1.0 i; reference = h.1.1.1.0 i; nil = h.1.1.1.1.0 i; map = h.1.1.1.1.1 i })
+    (λ e. (ap (λ k. k.float) e, (ap (λ k. k.pid) e, (ap (λ k. k.port) e, (ap (λ k. k.reference) e, (ap (λ k. k.nil) e, ap (λ k. k.map) e))))))
+    (Decides-and _ _ (booleans_Decides j.float l.float) (Decides-and _ _ (booleans_Decides j.pid l.pid)
+    (Decides-and _ _ (booleans_Decides j.port l.port) (Decides-and _ _ (booleans_Decides j.reference l.reference) (Decides-and _ _ (booleans_Decides j.nil l.nil) (booleans_Decides j.map l.map))))))
 
 -- flags are among others where the join of both is the others
 join-below : (k l : Flags) → flags_join k l ≡ l → FlagsBelow k l
 join-below k l e x h = sym (ap (λ m. has_flag m x) e) ∙ has_flag-join k l x ∙ or_left (has_flag k x) (has_flag l x) h
 
 below-join : (k l : Flags) → FlagsBelow k l → flags_join k l ≡ l
-below-join k l f = same_flags (flags_join k l) l (λ x. same_tests (has_flag (flags_join k l) x) (has_flag l x) (λ h. elim (or_cases (has_flag k x) (has_flag l x) (sym (has_flag-join k l x) ∙ h)) [ inl y ↦ f x y | inr y ↦ y ]) (λ h. has_flag-join k l x ∙ or_right (has_flag k x) (has_flag l x) h))
+below-join k l f = same_flags (flags_join k l) l (λ x. same_tests (has_flag (flags_join k l) x) (has_flag l x) (λ h. elim (or_cases (has_flag k x) (has_flag l x) (sym (has_flag-join k l x) ∙ h)) [ inl y ↦ f x y | inr y ↦ y ])
+    (λ h. has_flag-join k l x ∙ or_right (has_flag k x) (has_flag l x) h))
 
 pub flags_below : (j k l : FlagSet) (b : Bool) → flags_of j ≡ flags_join (flags_of k) (flags_of l) → b ≡ flags_test j l → IsTrue b ↔ FlagsBelow (flags_of k) (flags_of l)
 flags_below j k l b e f =
@@ -72,7 +77,8 @@ flags_below j k l b e f =
 
 pub arities_below : (f g : Functions) (m n : ℕ) → f ≡ of_arity m → g ≡ of_arity n → IsTrue (m == n) ↔ FunctionsBelow f g
 arities_below f g m n d e =
-    Decides-like (m == n) (λ h k i. ap (λ x. has_arity x k) (e ∙ ap of_arity (sym h) ∙ sym d) ∙ i) (λ h. sym (eqb-true n m (sym (ap (λ x. has_arity x m) e) ∙ h m (ap (λ x. has_arity x m) d ∙ eq-eqb m m refl)))) (Decides-eqb m n)
+    Decides-like (m == n) (λ h k i. ap (λ x. has_arity x k) (e ∙ ap of_arity (sym h) ∙ sym d) ∙ i) (λ h. sym (eqb-true n m (sym (ap (λ x. has_arity x m) e) ∙ h m (ap (λ x. has_arity x m) d ∙ eq-eqb m m refl))))
+    (Decides-eqb m n)
 
 pub arity-no_function : (f g : Functions) (m : ℕ) → f ≡ of_arity m → g ≡ no_function → IsTrue false ↔ FunctionsBelow f g
 arity-no_function f g m d e = (λ h. absurd (true≢false (sym h)), λ h. sym (ap (λ x. has_arity x m) e) ∙ h m (ap (λ x. has_arity x m) d ∙ eq-eqb m m refl))
@@ -116,7 +122,8 @@ ends_test e = option_eq (λ x y. (low.ghosts).eq x.0 y.0 && (high.ghosts).eq x.1
 pub ints_all : (s : Numbers) (e : Option (Low × High)) (b : Bool) → e ≡ numbers.ends_of s → b ≡ ends_test e → IsTrue b ↔ (s ≡ numbers.all)
 ints_all (numbers.some xs k) e b f g = (λ h. absurd (true≢false (sym h ∙ g ∙ ap ends_test f)), λ h. absurd (some-none (Min, Max) (sym (ap numbers.ends_of h))))
 ints_all (numbers.between l h k) e b f g =
-    Decides-like b (λ x. between-same l Min h Max k refl x.0 x.1) (λ x. (ap numbers.low_end x, ap numbers.high_end x)) (Decides-at b ((low.ghosts).eq l Min && (high.ghosts).eq h Max) (g ∙ ap ends_test f) (Decides-and _ _ (low_is l) (high_is h)))
+    Decides-like b (λ x. between-same l Min h Max k refl x.0 x.1) (λ x. (ap numbers.low_end x, ap numbers.high_end x))
+    (Decides-at b ((low.ghosts).eq l Min && (high.ghosts).eq h Max) (g ∙ ap ends_test f) (Decides-and _ _ (low_is l) (high_is h)))
 
 pub atoms_all : (s : Names) (m : Option (Bor (List Name))) (b : Bool) → option_copied m ≡ names.members_of s → is_some m ≡ not b → IsTrue b ↔ (s ≡ every)
 atoms_all x0 x1 x2 x3 x4 = grind (arith, some-none)

@@ -11,7 +11,8 @@ use Rattle.type_lattice_trees.specs.declared.node.SizeOf.{SizeOf}
 use Rattle.type_lattice_trees.specs.Positions.{StandsAt, GoesAt}
 
 -- what becomes of the first entry where another is put
-put-first : {K X : Type 0} (R : K → K → Ordering) (j : X → X → X) (k : K) (v : X) (e : K × X) (m : List (K × X)) (r : Ordering) → R k e.0 ≡ r → put R j k v (e ∷ m) ≡ cond (is_lt r) ((k, v) ∷ e ∷ m) (cond (is_eq r) ((e.0, j e.1 v) ∷ m) (e ∷ put R j k v m))
+put-first : {K X : Type 0} (R : K → K → Ordering) (j : X → X → X) (k : K) (v : X) (e : K × X) (m : List (K × X)) (r : Ordering) → R k e.0 ≡ r
+    → put R j k v (e ∷ m) ≡ cond (is_lt r) ((k, v) ∷ e ∷ m) (cond (is_eq r) ((e.0, j e.1 v) ∷ m) (e ∷ put R j k v m))
 put-first R j k v e m r h = ap (λ s. cond (is_lt s) ((k, v) ∷ e ∷ m) (cond (is_eq s) ((e.0, j e.1 v) ∷ m) (e ∷ put R j k v m))) h
 
 module _ {A K : Type 0} (R : K → K → Ordering) (key : A → K) (k : K) where
@@ -55,7 +56,8 @@ module _ {A K X : Type 0} (R : K → K → Ordering) (entry : A → K × X) (k :
   there (y ∷ ys) zero x h e s = λ n. Some ((sym (ap (λ z. (entry z).0) e) ∙ sym s) n, sym (ap (λ z. (entry z).1) e) n)
   there (y ∷ ys) (suc i) x h e s = there ys i x (omega arith) e s
 
-  puts : (xs : List A) (i : ℕ) (x : A) → i < length xs → x ≡ slice_index_or xs i x → k ≡ (entry x).0 → R k (entry x).0 ≡ Equal → StandsBehind xs i → (j : X → X → X) (v : X) → put R j k v (map entry xs) ≡ slice_set (map entry xs) i (k, j (entry x).1 v)
+  puts : (xs : List A) (i : ℕ) (x : A) → i < length xs → x ≡ slice_index_or xs i x → k ≡ (entry x).0 → R k (entry x).0 ≡ Equal → StandsBehind xs i → (j : X → X → X) (v : X)
+      → put R j k v (map entry xs) ≡ slice_set (map entry xs) i (k, j (entry x).1 v)
   puts [] i x h e s q b j v = absurd (omega arith)
   puts (y ∷ ys) zero x h e s q b j v =
       put-first R j k v (entry y) (map entry ys) Equal (sym (ap (λ z. R k (entry z).0) e) ∙ q) ∙ (λ n. ((sym (ap (λ z. (entry z).0) e) ∙ sym s) n, j (sym (ap (λ z. (entry z).1) e) n) v) ∷ map entry ys)

@@ -56,7 +56,8 @@ stands : (d : ℕ) (ns : List Node) (k : ℕ) (n : Node) → k < length ns → n
 stands d ns k n h e = slice_get-map (view d) ns k ∙ ap (option_map (view d)) (slice_get_read ns (length ns) k n refl h e)
 
 -- of the rest of the first tag, before any other is joined
-pub first_rest : (d at : ℕ) (ts : List (TagOf Node)) (t : TagOf Node) (ns : List Node) (n out : Node) → 0 < length ts → t ≡ slice_index_or ts 0 t → ns ≡ t.rest → at < length ns → n ≡ slice_index_or ns at n → out ≡ n → Fits d n → JoinedSoFar d at ts 1 out
+pub first_rest : (d at : ℕ) (ts : List (TagOf Node)) (t : TagOf Node) (ns : List Node) (n out : Node) → 0 < length ts → t ≡ slice_index_or ts 0 t → ns ≡ t.rest → at < length ns → n ≡ slice_index_or ns at n → out ≡ n
+    → Fits d n → JoinedSoFar d at ts 1 out
 first_rest d at [] t ns n out l e r h i o f = absurd (omega arith)
 first_rest d at (u ∷ us) t ns n out l e r h i o f =
     record {
@@ -67,7 +68,8 @@ first_rest d at (u ∷ us) t ns n out l e r h i o f =
     }
 
 -- and with one more
-pub next_rest : (d at : ℕ) (ts : List (TagOf Node)) (i : ℕ) (t : TagOf Node) (ns : List Node) (n out new : Node) → JoinedSoFar d at ts i out → i < length ts → t ≡ slice_index_or ts i t → ns ≡ t.rest → at < length ns → n ≡ slice_index_or ns at n → view d new ≡ (ops d).join (view d out) (view d n) → Fits d new → JoinedSoFar d at ts (i + 1) new
+pub next_rest : (d at : ℕ) (ts : List (TagOf Node)) (i : ℕ) (t : TagOf Node) (ns : List Node) (n out new : Node) → JoinedSoFar d at ts i out → i < length ts → t ≡ slice_index_or ts i t → ns ≡ t.rest → at < length ns
+    → n ≡ slice_index_or ns at n → view d new ≡ (ops d).join (view d out) (view d n) → Fits d new → JoinedSoFar d at ts (i + 1) new
 next_rest d at ts i t ns n out new s l e r h k v f =
     record {
       row = row_join (ops d) s.row (row_view d ns);
@@ -89,12 +91,14 @@ all_joined d at ts i out s h =
 
 -- ---- an element of a body
 
-pub product_element : (d n at : ℕ) (b : BodyOf Node) (row ns : List Node) (x m : Node) → b ≡ Product row → RowFits d n row → ns ≡ row → at < n → x ≡ slice_index_or ns at x → m ≡ x → Some (view d m) ≡ slice_get (elements (ops d) (body_view d b)) at
+pub product_element : (d n at : ℕ) (b : BodyOf Node) (row ns : List Node) (x m : Node) → b ≡ Product row → RowFits d n row → ns ≡ row → at < n → x ≡ slice_index_or ns at x → m ≡ x
+    → Some (view d m) ≡ slice_get (elements (ops d) (body_view d b)) at
 product_element d n at b row ns x m e k f h i o =
     let within : at < length ns = omega (arith, row_length d n row k, ap length f, h) in
     ap (λ y. Some (view d y)) o ∙ sym (stands d ns at x within i) ∙ ap (λ r. slice_get (row_view d r) at) f ∙ sym (ap (λ c. slice_get (elements (ops d) (body_view d c)) at) e)
 
-pub tag_element : (d at : ℕ) (b : BodyOf Node) (ts us : List (TagOf Node)) (n : Node) → b ≡ Tags ts → us ≡ ts → at ≡ 0 → 0 < d → ((e : ℕ) → view (suc e) n ≡ (ops (suc e)).of_names (keys (tags_view (suc e) us))) → Some (view d n) ≡ slice_get (elements (ops d) (body_view d b)) at
+pub tag_element : (d at : ℕ) (b : BodyOf Node) (ts us : List (TagOf Node)) (n : Node) → b ≡ Tags ts → us ≡ ts → at ≡ 0 → 0 < d → ((e : ℕ) → view (suc e) n ≡ (ops (suc e)).of_names (keys (tags_view (suc e) us)))
+    → Some (view d n) ≡ slice_get (elements (ops d) (body_view d b)) at
 tag_element d at b ts us n e f g h k =
     let own : view d n ≡ (ops d).of_names (keys (tags_view d us)) = subst (λ m. view m n ≡ (ops m).of_names (keys (tags_view m us))) (sym (one_more d (omega (arith, h)))) (k (d - 1)) in
     ap Some (own ∙ ap (λ xs. (ops d).of_names (keys (tags_view d xs))) f) ∙ sym (ap (λ c. slice_get (elements (ops d) (body_view d c)) at) e ∙ ap (slice_get (elements (ops d) (tags (tags_view d ts)))) g)

@@ -20,7 +20,8 @@ functions_of (fun.OfArity n) = of_arity n
 functions_of fun.Every = all_functions
 
 abbrev flags_code : Coded Flags
-flags_code = code_by (Bool × (Bool × (Bool × (Bool × (Bool × Bool))))) (coded× coded_bool (coded× coded_bool (coded× coded_bool (coded× coded_bool (coded× coded_bool coded_bool))))) (λ k. (k.float, (k.pid, (k.port, (k.reference, (k.nil, k.map)))))) (λ t. record { float = t.0; pid = t.1.0; port = t.1.1.0; reference = t.1.1.1.0; nil = t.1.1.1.1.0; map = t.1.1.1.1.1 }) (λ _. refl)
+flags_code = code_by (Bool × (Bool × (Bool × (Bool × (Bool × Bool))))) (coded× coded_bool (coded× coded_bool (coded× coded_bool (coded× coded_bool (coded× coded_bool coded_bool)))))
+    (λ k. (k.float, (k.pid, (k.port, (k.reference, (k.nil, k.map)))))) (λ t. record { float = t.0; pid = t.1.0; port = t.1.1.0; reference = t.1.1.1.0; nil = t.1.1.1.1.0; map = t.1.1.1.1.1 }) (λ _. refl)
 
 abbrev functions_apart : Functions → Bool ⊎ ℕ
 functions_apart no_function = inl false
@@ -42,4 +43,5 @@ functions_code = code_by (Bool ⊎ ℕ) (coded⊎ coded_bool coded_ℕ) function
 
 abbrev pub plain_code : Coded PlainParts
 plain_code =
-    code_by (Names × (Numbers × (Bits × (Flags × Functions)))) (coded× names_code (coded× numbers_code (coded× (bits.the_row).coded (coded× flags_code functions_code)))) (λ p. (p.atoms, (p.ints, (p.bits, (p.flags, p.functions))))) (λ t. record { atoms = t.0; ints = t.1.0; bits = t.1.1.0; flags = t.1.1.1.0; functions = t.1.1.1.1 }) (λ _. refl)
+    code_by (Names × (Numbers × (Bits × (Flags × Functions)))) (coded× names_code (coded× numbers_code (coded× (bits.the_row).coded (coded× flags_code functions_code)))) (λ p. (p.atoms, (p.ints, (p.bits, (p.flags, p.functions)))))
+    (λ t. record { atoms = t.0; ints = t.1.0; bits = t.1.1.0; flags = t.1.1.1.0; functions = t.1.1.1.1 }) (λ _. refl)

@@ -5,7 +5,9 @@ ghost use Rattle.type_lattice_model.specs.Cut as levels;
 ghost use Rattle.type_lattice_model.specs.Operations.{ops};
 ghost use Rattle.type_lattice_model.specs.Tables.{mapped};
 ghost use Rattle.type_lattice_trees.specs.declared.node.Node.TheVariants.{Any};
-ghost use Rattle.type_lattice_trees.specs.View.{view, Fits, row_view, tags_view, body_view, sizes_view, tuples_view, cell_view, parts_view, EachNode, EachTag, EachInBody, EachSize, EachInTuples, EachInCell, RowFits, TagsFit, BodyFits, SizesFit, TuplesFit, CellFits, PartsFit};
+ghost use Rattle.type_lattice_trees.specs.View.{view, Fits, row_view, tags_view, body_view, sizes_view, tuples_view, cell_view};
+ghost use Rattle.type_lattice_trees.specs.View.{parts_view, EachNode, EachTag, EachInBody, EachSize, EachInTuples};
+ghost use Rattle.type_lattice_trees.specs.View.{EachInCell, RowFits, TagsFit, BodyFits, SizesFit, TuplesFit, CellFits, PartsFit};
 
 use crate::copies::copy;
 use crate::low::is_low;

@@ -3,7 +3,8 @@ ghost use Rattle.std.specs.Prelude.{◌↔◌, ℕ, suc, Some, IsTrue};
 ghost use Rattle.type_lattice_model.specs.HasType.{HasAt, HasParts, HasCell, HasRow, HasBody, HasTuple};
 ghost use Rattle.type_lattice_model.specs.Laws.{BelowBy};
 ghost use Rattle.type_lattice_model.specs.Shapes.{tags, sizes};
-ghost use Rattle.type_lattice_trees.specs.View.{view, Fits, row_view, tags_view, body_view, sizes_view, tuples_view, cell_view, parts_view, RowFits, TagsFit, BodyFits, SizesFit, TuplesFit, CellFits, PartsFit};
+ghost use Rattle.type_lattice_trees.specs.View.{view, Fits, row_view, tags_view, body_view, sizes_view, tuples_view, cell_view};
+ghost use Rattle.type_lattice_trees.specs.View.{parts_view, RowFits, TagsFit, BodyFits, SizesFit, TuplesFit, CellFits, PartsFit};
 
 use crate::node::{
     BodyOf, CellOf, Node, PartsOf, SizeOf, TagOf, TuplesOf, find_size, find_tag_from, rest_after,

@@ -2,10 +2,13 @@
 ghost use Rattle.std.specs.Prelude.{◌≡◌, ℕ, suc, ◌<◌, Some, slice_get, IfOk};
 ghost use Rattle.std.specs.Ordering.{nat_cmp};
 ghost use Rattle.type_kinds_sets.specs.Names.{name_cmp, every, or_else};
-ghost use Rattle.type_lattice_model.specs.Operations.{ops, cell_join, row_join, elements, all_rows_join, tags_join, capped_tags, body_join, capped_sizes, tuples_join, parts_join};
+ghost use Rattle.type_lattice_model.specs.Operations.{ops, cell_join, row_join, elements, all_rows_join, tags_join};
+ghost use Rattle.type_lattice_model.specs.Operations.{capped_tags, body_join, capped_sizes, tuples_join, parts_join};
 ghost use Rattle.type_lattice_model.specs.Tables.{keys, held, put, united};
 ghost use Rattle.type_lattice_model.specs.Shapes.{tags as tagged};
-ghost use Rattle.type_lattice_trees.specs.View.{view, Fits, row_view, tags_view, body_view, sizes_view, tuples_view, cell_view, parts_view, EachNode, EachTag, EachInBody, EachSize, EachInTuples, EachInCell, RowFits, TagsFit, BodyFits, SizesFit, TuplesFit, CellFits, PartsFit};
+ghost use Rattle.type_lattice_trees.specs.View.{view, Fits, row_view, tags_view, body_view, sizes_view, tuples_view, cell_view};
+ghost use Rattle.type_lattice_trees.specs.View.{parts_view, EachNode, EachTag, EachInBody, EachSize, EachInTuples};
+ghost use Rattle.type_lattice_trees.specs.View.{EachInCell, RowFits, TagsFit, BodyFits, SizesFit, TuplesFit, CellFits, PartsFit};
 
 use crate::copies::{copy, copy_cell, copy_row, copy_size, copy_sizes, copy_tag, copy_tags};
 use crate::inclusion::{leq, leq_row};
@@ -269,7 +272,8 @@ fn put_tag(
     tag: &TagOf<Node>,
 ) -> Result<(), Memory>
     requires { (n : ℕ) × (TagsFit level n tags.old.items × RowFits level n tag.now.rest) }
-    ensures value { IfOk result (λ _. tags_view level tags.new.items ≡ put name_cmp (row_join (ops level)) tag.now.atom (row_view level tag.now.rest) (tags_view level tags.old.items)) }
+    ensures value { IfOk result (λ _. tags_view level tags.new.items
+        ≡ put name_cmp (row_join (ops level)) tag.now.atom (row_view level tag.now.rest) (tags_view level tags.old.items)) }
     ensures each { IfOk result (λ _. EachTag (Fits level) tags.new.items) }
 {
     match position_of_tag(tags.as_slice(), &tag.atom) {
@@ -359,7 +363,8 @@ fn put_size(
 ) -> Result<(), Memory>
     requires sizes { SizesFit level sizes.old.items }
     requires size { BodyFits level size.now.size size.now.body }
-    ensures value { IfOk result (λ _. sizes_view level sizes.new.items ≡ put nat_cmp (body_join (ops level)) size.now.size (body_view level size.now.body) (sizes_view level sizes.old.items)) }
+    ensures value { IfOk result (λ _. sizes_view level sizes.new.items
+        ≡ put nat_cmp (body_join (ops level)) size.now.size (body_view level size.now.body) (sizes_view level sizes.old.items)) }
     ensures each { IfOk result (λ _. EachSize (Fits level) sizes.new.items) }
 {
     match position_of_size(sizes.as_slice(), size.size) {

@@ -1,8 +1,10 @@
 //! The type whose values are those of both.
 ghost use Rattle.std.specs.Prelude.{◌≡◌, ℕ, suc, IfOk, IfSome, option_map};
-ghost use Rattle.type_lattice_model.specs.Operations.{ops, or_none, some_tags, cell_meet, row_meet, body_of, tags_meet, body_meet, sizes_meet, tuples_meet, parts_meet};
+ghost use Rattle.type_lattice_model.specs.Operations.{ops, or_none, some_tags, cell_meet, row_meet, body_of};
+ghost use Rattle.type_lattice_model.specs.Operations.{tags_meet, body_meet, sizes_meet, tuples_meet, parts_meet};
 ghost use Rattle.type_lattice_model.specs.Tables.{all_hold};
-ghost use Rattle.type_lattice_trees.specs.View.{view, Fits, row_view, tags_view, body_view, sizes_view, tuples_view, cell_view, parts_view, EachNode, EachTag, EachInBody, EachSize, RowFits, TagsFit, BodyFits, SizesFit, TuplesFit, CellFits, PartsFit};
+ghost use Rattle.type_lattice_trees.specs.View.{view, Fits, row_view, tags_view, body_view, sizes_view, tuples_view, cell_view, parts_view, EachNode};
+ghost use Rattle.type_lattice_trees.specs.View.{EachTag, EachInBody, EachSize, RowFits, TagsFit, BodyFits, SizesFit, TuplesFit, CellFits, PartsFit};
 
 use crate::copies::{copy, copy_row, copy_tuples};
 use crate::inclusion::{leq, leq_row};
@@ -100,7 +102,8 @@ fn meet_cell(
 // The lists of an element type, of which there are none where it has no value.
 #[tactic(auto, using(crate::proofs::Views::fits_normal))]
 fn some_cell(alloc: Global, element: Node, is_proper: bool) -> Result<Option<CellOf<Node>>, Memory>
-    ensures value { IfOk result (λ m. (d : ℕ) → Fits d element → cell_view d m ≡ or_none ((ops d).is_none (view d element)) (record { element = view d element; is_proper = is_proper })) }
+    ensures value { IfOk result (λ m. (d : ℕ) → Fits d element
+        → cell_view d m ≡ or_none ((ops d).is_none (view d element)) (record { element = view d element; is_proper = is_proper })) }
     ensures fits { IfOk result (λ m. (d : ℕ) → Fits d element → CellFits d m) }
 {
     if is_none(&element) {
@@ -236,7 +239,8 @@ fn meet_tags(
     b: &BodyOf<Node>,
 ) -> Result<Option<BodyOf<Node>>, Memory>
     requires { (n : ℕ) × (TagsFit level n a.now × BodyFits level (suc n) b.now) }
-    ensures value { IfOk result (λ m. option_map (body_view level) m ≡ some_tags (ops level) (tags_meet (ops level) (tags_view level a.now) (body_view level b.now))) }
+    ensures value { IfOk result (λ m. option_map (body_view level) m
+        ≡ some_tags (ops level) (tags_meet (ops level) (tags_view level a.now) (body_view level b.now))) }
     ensures each { IfOk result (λ m. IfSome m (λ c. EachInBody (Fits level) c)) }
 {
     let mut out = List::new(alloc);

@@ -1,11 +1,13 @@
-ghost use Rattle.std.specs.Prelude.{◌≡◌, ◌<◌, ℕ, suc, [], ◌∷◌, ◌++◌, length, drop, slice_get, Some, None, IfOk, IfSome, IfNone, IsTrue, option_map, ◌↔◌};
+ghost use Rattle.std.specs.Prelude.{◌≡◌, ◌<◌, ℕ, suc, [], ◌∷◌, ◌++◌, length, drop, slice_get};
+ghost use Rattle.std.specs.Prelude.{Some, None, IfOk, IfSome, IfNone, IsTrue, option_map, ◌↔◌};
 ghost use Rattle.std.specs.Option.{option_copied};
 ghost use Rattle.std.specs.Ordering.{nat_cmp};
 ghost use Rattle.type_lattice_model.specs.Operations.{ops, parts_is_none, parts_any, row_at, is_only_atoms as only_atoms_there};
 ghost use Rattle.type_lattice_model.specs.Tables.{find};
 ghost use Rattle.type_lattice_model.specs.Shapes.{product};
 ghost use Rattle.type_kinds_sets.specs.Names.{name_cmp};
-ghost use Rattle.type_lattice_trees.specs.View.{view, row_view, tags_view, body_view, sizes_view, parts_view, Fits, EachNode, EachTag, EachSize, EachInBody, PartsFit};
+ghost use Rattle.type_lattice_trees.specs.View.{view, row_view, tags_view, body_view, sizes_view, parts_view};
+ghost use Rattle.type_lattice_trees.specs.View.{Fits, EachNode, EachTag, EachSize, EachInBody, PartsFit};
 
 use crate::plain::Plain;
 use type_kinds::{Atom, Memory, Shared};
@@ -139,7 +141,8 @@ pub fn find_size(sizes: &[SizeOf<Node>], size: u8) -> Option<&BodyOf<Node>>
 
 /// The types of what follows a first element that is this atom.
 pub fn rest_after<'a>(body: &'a BodyOf<Node>, atom: &Shared<Atom>) -> Option<&'a [Shared<Node>]>
-    ensures value { (d : ℕ) → EachInBody (Fits d) body.now → option_map (row_view d) (option_copied result) ≡ row_at (ops d) (body_view d body.now) atom.now }
+    ensures value { (d : ℕ) → EachInBody (Fits d) body.now
+        → option_map (row_view d) (option_copied result) ≡ row_at (ops d) (body_view d body.now) atom.now }
     ensures each { (d : ℕ) → EachInBody (Fits d) body.now → IfSome result (λ r. EachNode (Fits d) r.now) }
 {
     match body {
@@ -150,7 +153,8 @@ pub fn rest_after<'a>(body: &'a BodyOf<Node>, atom: &Shared<Atom>) -> Option<&'a
 
 // The types after the first, where it has the atom.
 fn rest_of_product<'a>(row: &'a [Shared<Node>], atom: &Shared<Atom>) -> Option<&'a [Shared<Node>]>
-    ensures value { (d : ℕ) → EachNode (Fits d) row.now → option_map (row_view d) (option_copied result) ≡ row_at (ops d) (product (row_view d row.now)) atom.now }
+    ensures value { (d : ℕ) → EachNode (Fits d) row.now
+        → option_map (row_view d) (option_copied result) ≡ row_at (ops d) (product (row_view d row.now)) atom.now }
     ensures each { (d : ℕ) → EachNode (Fits d) row.now → IfSome result (λ r. EachNode (Fits d) r.now) }
 {
     let (first, rest) = row.split_first()?;

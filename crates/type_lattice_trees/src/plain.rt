@@ -5,7 +5,8 @@ ghost use Rattle.type_lattice_model.specs.Parts.{without_nil};
 ghost use Rattle.type_lattice_model.specs.Shapes.{Flag, no_function};
 ghost use Rattle.type_kinds_sets.specs.Numbers as numbers;
 ghost use Rattle.type_kinds_sets.specs.declared.bits.Bits.TheVariants.{No};
-ghost use Rattle.type_lattice_model.specs.Operations.{plain_none, plain_all, plain_meet, plain_join, flags_meet, flags_join, functions_meet, functions_join, is_no_flag, no_flags, all_flags, is_no_function, is_no_plain, is_atoms};
+ghost use Rattle.type_lattice_model.specs.Operations.{plain_none, plain_all, plain_meet, plain_join, flags_meet, flags_join, functions_meet};
+ghost use Rattle.type_lattice_model.specs.Operations.{functions_join, is_no_flag, no_flags, all_flags, is_no_function, is_no_plain, is_atoms};
 ghost use Rattle.type_lattice_trees.specs.Plains.{flags_of, functions_of};
 
 use std::alloc::Global;

@@ -1,5 +1,6 @@
 -- Whether a value is in a type, part by part: what a test of its parts tells of the whole.
-use Rattle.std.proofs.Common.{◌≡◌, ℕ, zero, suc, ◌-◌, ◌<◌, Bool, true, false, ◌==◌, not, List, [], ◌∷◌, length, Option, Some, None, ◌↔◌, IsTrue, refl, sym, ap, ap₂, ◌∙◌, subst, subst₂, true≢false, arith}
+use Rattle.std.proofs.Common.{◌≡◌, ℕ, zero, suc, ◌-◌, ◌<◌, Bool, true, false, ◌==◌, not, List, [], ◌∷◌, length, Option}
+use Rattle.std.proofs.Common.{Some, None, ◌↔◌, IsTrue, refl, sym, ap, ap₂, ◌∙◌, subst, subst₂, true≢false, arith}
 use Rattle.std.specs.Prelude.{option_map}
 use Rattle.std.specs.Ordering.{nat_cmp}
 use Rattle.type_kinds.proofs.Truths.{refuted}
@@ -29,7 +30,8 @@ use Rattle.type_lattice_trees.proofs.Inclusions.{after_fits, row_length}
 use Rattle.type_meaning.specs.declared.value.Value.{Value}
 use Rattle.type_meaning.specs.declared.value.Value.TheVariants as v
 use Rattle.type_meaning.specs.Values.{value_of}
-use Rattle.type_meaning.proofs.Variants.{all_values, all_pairs, is_int, is_float, is_atom, is_bits, is_nil, is_cons, is_tuple, is_map, is_pid, is_port, is_reference, is_function, variant, is_leaf, value-Int, value-Float, value-Atom, value-Bits, value-Nil, value-Cons, value-Tuple, value-Map, value-Pid, value-Port, value-Reference, value-Function}
+use Rattle.type_meaning.proofs.Variants.{all_values, all_pairs, is_int, is_float, is_atom, is_bits, is_nil, is_cons, is_tuple, is_map, is_pid, is_port, is_reference, is_function, variant, is_leaf}
+use Rattle.type_meaning.proofs.Variants.{value-Int, value-Float, value-Atom, value-Bits, value-Nil, value-Cons, value-Tuple, value-Map, value-Pid, value-Port, value-Reference, value-Function}
 
 -- ---- plain values
 
@@ -64,17 +66,20 @@ has_told (suc d) t p e k w =
     let less : d ≡ suc d - 1 = omega arith in
     ap (HasAt (suc d) w) (view_of t p e d) ∙ ap (λ j. HasParts (HasAt j) w (parts_view j p)) less
 
-parts_tell : (d : ℕ) (t : Node) (p : PartsOf Node) (x : Value) (w : m.Value) (r : Bool) → t ≡ n.Of p → Fits d t → value_of x ≡ w → IsTrue r ↔ HasParts (HasAt (d - 1)) w (parts_view (d - 1) p) → IsTrue r ↔ HasAt d (value_of x) (view d t)
+parts_tell : (d : ℕ) (t : Node) (p : PartsOf Node) (x : Value) (w : m.Value) (r : Bool) → t ≡ n.Of p → Fits d t → value_of x ≡ w → IsTrue r ↔ HasParts (HasAt (d - 1)) w (parts_view (d - 1) p)
+    → IsTrue r ↔ HasAt d (value_of x) (view d t)
 parts_tell d t p x w r e k f h =
     subst (λ T. IsTrue r ↔ T) (sym (has_told d t p e k (value_of x))) (subst (λ y. IsTrue r ↔ HasParts (HasAt (d - 1)) y (parts_view (d - 1) p)) (sym f) h)
 
 -- a tuple is in a type by its tuples
-pub tuples_tell : (d : ℕ) (t : Node) (p : PartsOf Node) (x : Value) (vs ws : List Value) (r : Bool) → t ≡ n.Of p → Fits d t → x ≡ v.Tuple vs → ws ≡ vs → IsTrue r ↔ HasTuple (HasAt (d - 1)) (all_values ws) (tuples_view (d - 1) p.tuples) → IsTrue r ↔ HasAt d (value_of x) (view d t)
+pub tuples_tell : (d : ℕ) (t : Node) (p : PartsOf Node) (x : Value) (vs ws : List Value) (r : Bool) → t ≡ n.Of p → Fits d t → x ≡ v.Tuple vs → ws ≡ vs
+    → IsTrue r ↔ HasTuple (HasAt (d - 1)) (all_values ws) (tuples_view (d - 1) p.tuples) → IsTrue r ↔ HasAt d (value_of x) (view d t)
 tuples_tell d t p x vs ws r e k f g i =
     parts_tell d t p x (m.tuple (all_values vs)) r e k (ap value_of f ∙ value-Tuple vs) (subst (λ y. IsTrue r ↔ HasTuple (HasAt (d - 1)) (all_values y) (tuples_view (d - 1) p.tuples)) g i)
 
 -- another value is in a type by its plain part
-pub plain_tells : (d : ℕ) (t : Node) (p : PartsOf Node) (x : Value) (r : Bool) → t ≡ n.Of p → Fits d t → ((h w : Value) → x ≡ v.Cons h w → ⊥) → ((vs : List Value) → x ≡ v.Tuple vs → ⊥) → ((l : Leaf) → shape (value_of x) ≡ leaf l → IsTrue r ↔ (has_leaf p.plain l ≡ true)) → IsTrue r ↔ HasAt d (value_of x) (view d t)
+pub plain_tells : (d : ℕ) (t : Node) (p : PartsOf Node) (x : Value) (r : Bool) → t ≡ n.Of p → Fits d t → ((h w : Value) → x ≡ v.Cons h w → ⊥) → ((vs : List Value) → x ≡ v.Tuple vs → ⊥)
+    → ((l : Leaf) → shape (value_of x) ≡ leaf l → IsTrue r ↔ (has_leaf p.plain l ≡ true)) → IsTrue r ↔ HasAt d (value_of x) (view d t)
 plain_tells d t p x r e k no_cons no_tuple f =
     let l = is_leaf x no_cons no_tuple in
     parts_tell d t p x (value_of x) r e k refl (subst (λ T. IsTrue r ↔ T) (sym (has-shape (HasAt (d - 1)) (value_of x) (parts_view (d - 1) p) ∙ ap (λ y. HasShape (HasAt (d - 1)) y (parts_view (d - 1) p)) l.1)) (f l.0 l.1))
@@ -100,7 +105,8 @@ abbrev pub Follows : (d : ℕ) → m.Value → CellOf Node → Type 0
 Follows d w c = HasAll (HasAt d) (m.heads w) (view d c.element) × (IsTrue c.is_proper → m.end_of w ≡ m.nil)
 
 -- a cons is in a type whose cell it may follow a head of
-pub cell_tells : (d : ℕ) (t : Node) (p : PartsOf Node) (x h w : Value) (c : CellOf Node) (r : Bool) → t ≡ n.Of p → Fits d t → x ≡ v.Cons h w → p.cell ≡ Some c → IsTrue r ↔ Follows (d - 1) (value_of x) c → IsTrue r ↔ HasAt d (value_of x) (view d t)
+pub cell_tells : (d : ℕ) (t : Node) (p : PartsOf Node) (x h w : Value) (c : CellOf Node) (r : Bool) → t ≡ n.Of p → Fits d t → x ≡ v.Cons h w → p.cell ≡ Some c → IsTrue r ↔ Follows (d - 1) (value_of x) c
+    → IsTrue r ↔ HasAt d (value_of x) (view d t)
 cell_tells d t p x h w c r e k f g i =
     let is = ap value_of f ∙ value-Cons h w in
     let there : IsTrue r ↔ HasCell (HasAt (d - 1)) (value_of h, value_of w) (cell_view (d - 1) (Some c)) = subst (λ y. IsTrue r ↔ Follows (d - 1) y c) is i in
@@ -119,7 +125,8 @@ nil_follows d x c e = subst (λ y. Follows d y c) (sym (ap value_of e ∙ value-
 -- what is no cons and no nil is an end of its own
 ends_chain : (x : Value) → (x ≡ v.Nil → ⊥) → ((h w : Value) → x ≡ v.Cons h w → ⊥) → (m.heads (value_of x) ≡ m.no_value) × (m.end_of (value_of x) ≡ m.nil → ⊥)
 ends_chain x no_nil no_cons =
-    let by : (w : m.Value) → value_of x ≡ w → (m.heads w ≡ m.no_value) × (m.end_of w ≡ m.nil → ⊥) → (m.heads (value_of x) ≡ m.no_value) × (m.end_of (value_of x) ≡ m.nil → ⊥) = λ w e. subst (λ y. (m.heads y ≡ m.no_value) × (m.end_of y ≡ m.nil → ⊥)) (sym e) in
+    let by : (w : m.Value) → value_of x ≡ w → (m.heads w ≡ m.no_value) × (m.end_of w ≡ m.nil → ⊥) → (m.heads (value_of x) ≡ m.no_value) × (m.end_of (value_of x) ≡ m.nil → ⊥) =
+    λ w e. subst (λ y. (m.heads y ≡ m.no_value) × (m.end_of y ≡ m.nil → ⊥)) (sym e) in
     elim (variant x) [
       | is_int n e ↦ by (m.int n) (ap value_of e ∙ value-Int n) (refl, λ h. cc)
       | is_float s e ↦ by (m.float s) (ap value_of e ∙ value-Float s) (refl, λ h. cc)
@@ -161,13 +168,16 @@ too_long d vs t ss e k lt h =
     omega (arith, lt, small, count-all_values vs)
 
 -- sizes have a tuple by the body of its size
-pub size_tells : (d : ℕ) (vs : List Value) (t : TuplesOf Node) (ss ws : List (SizeOf Node)) (b : Option (BodyOf Node)) (r : Bool) → t ≡ of_tuples.Sizes ss → ws ≡ ss → option_map (body_view d) b ≡ find nat_cmp (sizes_view d ws) (length vs) → IsTrue r ↔ HasBody (HasAt d) (all_values vs) (option_map (body_view d) b) → IsTrue r ↔ HasTuple (HasAt d) (all_values vs) (tuples_view d t)
+pub size_tells : (d : ℕ) (vs : List Value) (t : TuplesOf Node) (ss ws : List (SizeOf Node)) (b : Option (BodyOf Node)) (r : Bool) → t ≡ of_tuples.Sizes ss → ws ≡ ss
+    → option_map (body_view d) b ≡ find nat_cmp (sizes_view d ws) (length vs) → IsTrue r ↔ HasBody (HasAt d) (all_values vs) (option_map (body_view d) b) → IsTrue r ↔ HasTuple (HasAt d) (all_values vs) (tuples_view d t)
 size_tells d vs t ss ws b r e s f h =
     let there : option_map (body_view d) b ≡ find nat_cmp (sizes_view d ss) (m.count (all_values vs)) = f ∙ ap₂ (λ us k. find nat_cmp (sizes_view d us) k) s (sym (count-all_values vs)) in
     subst (λ y. IsTrue r ↔ HasTuple (HasAt d) (all_values vs) (tuples_view d y)) (sym e) (subst (λ y. IsTrue r ↔ HasBody (HasAt d) (all_values vs) y) there h)
 
 -- tags have a tuple that begins with one of them
-pub tag_tells : (d : ℕ) (vs : List Value) (x : Value) (xs : List Value) (a : Atom) (b : BodyOf Node) (ts us : List (TagOf Node)) (q : Option (List Node)) (r : Bool) → b ≡ of_body.Tags ts → us ≡ ts → vs ≡ x ∷ xs → x ≡ v.Atom a → option_map (row_view d) q ≡ find name_cmp (tags_view d us) a → IsTrue r ↔ HasRow (HasAt d) (all_values xs) (option_map (row_view d) q) → IsTrue r ↔ HasBody (HasAt d) (all_values vs) (Some (body_view d b))
+pub tag_tells : (d : ℕ) (vs : List Value) (x : Value) (xs : List Value) (a : Atom) (b : BodyOf Node) (ts us : List (TagOf Node)) (q : Option (List Node)) (r : Bool) → b ≡ of_body.Tags ts → us ≡ ts → vs ≡ x ∷ xs
+    → x ≡ v.Atom a → option_map (row_view d) q ≡ find name_cmp (tags_view d us) a → IsTrue r ↔ HasRow (HasAt d) (all_values xs) (option_map (row_view d) q)
+    → IsTrue r ↔ HasBody (HasAt d) (all_values vs) (Some (body_view d b))
 tag_tells d vs x xs a b ts us q r e s f g i h =
     let there : IsTrue r ↔ HasTag (HasAt d) (m.and_value (m.atom a) (all_values xs)) (tags_view d ts) = subst (λ y. IsTrue r ↔ HasRow (HasAt d) (all_values xs) y) (i ∙ ap (λ y. find name_cmp (tags_view d y) a) s) h in
     let first : IsTrue r ↔ HasTag (HasAt d) (all_values (x ∷ xs)) (tags_view d ts) = subst (λ y. IsTrue r ↔ HasTag (HasAt d) (m.and_value y (all_values xs)) (tags_view d ts)) (sym (ap value_of g ∙ value-Atom a)) there in
@@ -176,7 +186,8 @@ tag_tells d vs x xs a b ts us q r e s f g i h =
 -- and no other
 no_tag : (d : ℕ) (x : Value) (ws : m.Values) (ts : List (TagOf Node)) → ((a : Atom) → x ≡ v.Atom a → ⊥) → HasTag (HasAt d) (m.and_value (value_of x) ws) (tags_view d ts) → ⊥
 no_tag d x ws ts no_atom =
-    let by : (w : m.Value) → value_of x ≡ w → (HasTag (HasAt d) (m.and_value w ws) (tags_view d ts) → ⊥) → HasTag (HasAt d) (m.and_value (value_of x) ws) (tags_view d ts) → ⊥ = λ w e. subst (λ y. HasTag (HasAt d) (m.and_value y ws) (tags_view d ts) → ⊥) (sym e) in
+    let by : (w : m.Value) → value_of x ≡ w → (HasTag (HasAt d) (m.and_value w ws) (tags_view d ts) → ⊥) → HasTag (HasAt d) (m.and_value (value_of x) ws) (tags_view d ts) → ⊥ =
+    λ w e. subst (λ y. HasTag (HasAt d) (m.and_value y ws) (tags_view d ts) → ⊥) (sym e) in
     elim (variant x) [
       | is_int n e ↦ by (m.int n) (ap value_of e ∙ value-Int n) (λ h. h)
       | is_float s e ↦ by (m.float s) (ap value_of e ∙ value-Float s) (λ h. h)
@@ -192,7 +203,8 @@ no_tag d x ws ts no_atom =
       | is_function n e ↦ by (m.foreign 0 n) (ap value_of e ∙ value-Function n) (λ h. h)
     ]
 
-pub not_tagged : (d : ℕ) (vs : List Value) (x : Value) (xs : List Value) (b : BodyOf Node) (ts : List (TagOf Node)) → b ≡ of_body.Tags ts → vs ≡ x ∷ xs → ((a : Atom) → x ≡ v.Atom a → ⊥) → HasBody (HasAt d) (all_values vs) (Some (body_view d b)) → ⊥
+pub not_tagged : (d : ℕ) (vs : List Value) (x : Value) (xs : List Value) (b : BodyOf Node) (ts : List (TagOf Node)) → b ≡ of_body.Tags ts → vs ≡ x ∷ xs → ((a : Atom) → x ≡ v.Atom a → ⊥)
+    → HasBody (HasAt d) (all_values vs) (Some (body_view d b)) → ⊥
 not_tagged d vs x xs b ts e f no_atom h =
     no_tag d x (all_values xs) ts no_atom (subst₂ (λ y z. HasBody (HasAt d) (all_values y) (Some (body_view d z))) f e h)
 
@@ -200,7 +212,8 @@ pub each_tag_fits : (d n : ℕ) (b : BodyOf Node) (ts us : List (TagOf Node)) �
 each_tag_fits d n b ts us e s k = let fit : BodyFits d n (of_body.Tags ts) = subst (BodyFits d n) e k in subst (EachTag (Fits d)) (sym s) fit.each
 
 -- what follows a tag is as long as the rest of the tuple
-pub as_long : (d : ℕ) (vs : List Value) (x : Value) (xs : List Value) (a : Atom) (b : BodyOf Node) (ts us : List (TagOf Node)) (ns : List Node) → b ≡ of_body.Tags ts → us ≡ ts → vs ≡ x ∷ xs → BodyFits d (length vs) b → Some (row_view d ns) ≡ find name_cmp (tags_view d us) a → EachNode (Fits d) ns → length xs ≡ length ns
+pub as_long : (d : ℕ) (vs : List Value) (x : Value) (xs : List Value) (a : Atom) (b : BodyOf Node) (ts us : List (TagOf Node)) (ns : List Node) → b ≡ of_body.Tags ts → us ≡ ts → vs ≡ x ∷ xs → BodyFits d (length vs) b
+    → Some (row_view d ns) ≡ find name_cmp (tags_view d us) a → EachNode (Fits d) ns → length xs ≡ length ns
 as_long d vs x xs a b ts us ns e s f k g each =
     let fit : BodyFits d (suc (length xs)) (of_body.Tags ts) = subst₂ (λ y z. BodyFits d (length y) z) f e k in
     sym (row_length d (length xs) ns (after_fits d (length xs) (of_body.Tags ts) a ns fit (g ∙ ap (λ y. find name_cmp (tags_view d y) a) s) each))

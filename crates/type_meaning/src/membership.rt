@@ -44,7 +44,8 @@ fn is_in(level: u32, v: &Value, t: &Node) -> bool
 #[cycle(membership)]
 fn follows(level: u32, v: &Value, cell: &CellOf<Node>) -> bool
     requires { Fits level cell.now.element }
-    ensures { IsTrue result ↔ (HasAll (HasAt level) (m.heads (value_of v.now)) (view level cell.now.element) × (IsTrue cell.now.is_proper → m.end_of (value_of v.now) ≡ m.nil)) }
+    ensures { IsTrue result ↔ (HasAll (HasAt level) (m.heads (value_of v.now)) (view level cell.now.element)
+        × (IsTrue cell.now.is_proper → m.end_of (value_of v.now) ≡ m.nil)) }
 {
     match v {
         Value::Cons(head, tail) => {

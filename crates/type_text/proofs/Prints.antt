@@ -23,11 +23,13 @@ unfolding ops
 any_text zero = refl
 any_text (suc d) = grind (arith, all_is_any)
 
-text_above : (t : Node) (p : PartsOf Node) → t ≡ v.Of p → (d : ℕ) → Fits (suc d) t → text_at (suc d) (view (suc d) t) ≡ cond ((ops (suc d)).is_none (view (suc d) t)) (codes "none()") (separated (codes " | ") (parts_words (text_at d) (parts_view d p)))
+text_above : (t : Node) (p : PartsOf Node) → t ≡ v.Of p → (d : ℕ) → Fits (suc d) t
+    → text_at (suc d) (view (suc d) t) ≡ cond ((ops (suc d)).is_none (view (suc d) t)) (codes "none()") (separated (codes " | ") (parts_words (text_at d) (parts_view d p)))
 text_above t p e d h = grind (arith, view_of, fits_of t p e d h, any_is_all (suc d) (parts_view d p))
 
 -- what a tree of parts turns on
-pub text_of_parts : (t : Node) (p : PartsOf Node) → t ≡ v.Of p → (d : ℕ) → Fits d t → text_at d (view d t) ≡ cond ((ops d).is_none (view d t)) (codes "none()") (separated (codes " | ") (parts_words (text_at (d - 1)) (parts_view (d - 1) p)))
+pub text_of_parts : (t : Node) (p : PartsOf Node) → t ≡ v.Of p → (d : ℕ) → Fits d t
+    → text_at d (view d t) ≡ cond ((ops d).is_none (view d t)) (codes "none()") (separated (codes " | ") (parts_words (text_at (d - 1)) (parts_view (d - 1) p)))
 text_of_parts t p e zero h = let f = of_above t p e zero h in absurd (omega arith)
 text_of_parts t p e (suc d) h = grind (arith, text_above t p e d h)
 

@@ -38,7 +38,8 @@ module _ (d : ℕ) (once : Once d) where
       let later = rows_once es r j.1 gs q ks first.1 in
       (λ i. first.0 i ∷ later.0 i, later.1))
 
-  tuples_once : (es gs : List (TypeAt d)) (r q : List ℕ) → AreElements (NormalAt d) (ops d) es → AreElements (NormalAt d) (ops d) gs → separated (codes ",") (map (text_at d) es) ++ (codes "}" ++ r) ≡ separated (codes ",") (map (text_at d) gs) ++ (codes "}" ++ q) → (es ≡ gs) × (r ≡ q)
+  tuples_once : (es gs : List (TypeAt d)) (r q : List ℕ) → AreElements (NormalAt d) (ops d) es → AreElements (NormalAt d) (ops d) gs
+      → separated (codes ",") (map (text_at d) es) ++ (codes "}" ++ r) ≡ separated (codes ",") (map (text_at d) gs) ++ (codes "}" ++ q) → (es ≡ gs) × (r ≡ q)
   tuples_once [] gs r q j k x = no_row d _ gs q r k x refl
   tuples_once (e ∷ es) gs r q j k x =
       let text = append_assoc (text_at d e) (after (codes ",") (map (text_at d) es)) (codes "}" ++ r) in
@@ -68,7 +69,8 @@ module _ (d : ℕ) (once : Once d) where
 
   -- ---- words in a row
 
-  words_once : (ps : List (List ℕ × TypeAt (suc d))) (u v : TypeAt (suc d)) (r : List ℕ) → AreWords d ps → TypeStop r → u ≡ v → EachWords d (words_text d ps r) (λ ws q. (joined_with (ops (suc d)).join u ps ≡ joined_with (ops (suc d)).join v ws) × (r ≡ q))
+  words_once : (ps : List (List ℕ × TypeAt (suc d))) (u v : TypeAt (suc d)) (r : List ℕ) → AreWords d ps → TypeStop r → u ≡ v
+      → EachWords d (words_text d ps r) (λ ws q. (joined_with (ops (suc d)).join u ps ≡ joined_with (ops (suc d)).join v ws) × (r ≡ q))
   words_once [] u v r j f e = no_word d r (λ more x. true≢false (sym (subst TypeStop x f))) _ (λ q g x. (e, x))
   words_once (p ∷ ps) u v r j f e = next_word d _ _ (ap (λ t. codes " | " ++ t) (append_assoc p.0 (after (codes " | ") (spelled ps)) r)) _ (λ w z ws q k ks g x.
       let first = word_once p.0 w p.1 z (words_text d ps r) (words_text d ws q) j.0 k (words_stop d ps r f) (words_stop d ws q g) x in

@@ -36,7 +36,8 @@ use Rattle.type_lattice_model.proofs.PartsLaws.{shape_lattice}
 use Rattle.type_lattice_model.proofs.LevelLaws.{level_laws}
 use Rattle.type_lattice_model.specs.Full.{is_any}
 use Rattle.type_text.specs.Texts.{separated, word_if, atom_words, range_word, int_words, bits_words, function_words, plain_words, cell_words, tuple_word, tag_words, body_words, size_words, tuples_words, parts_words, text_at}
-use Rattle.type_text.specs.WordTypes.{AreWords, Named, name_of, type_named, of_ints, of_bits, of_functions, of_cell, of_row, IsWordOf, named, one_atom, every_atom, one_int, ints_between, every_float, whole_bits, every_bits, every_pid, every_port, every_reference, every_map, every_function, one_arity, empty_list, proper_list, any_list, every_tuple, one_tuple, AreWordsOf, spelled, WordsOf}
+use Rattle.type_text.specs.WordTypes.{AreWords, Named, name_of, type_named, of_ints, of_bits, of_functions, of_cell, of_row, IsWordOf, named, one_atom, every_atom, one_int, ints_between, every_float, whole_bits}
+use Rattle.type_text.specs.WordTypes.{every_bits, every_pid, every_port, every_reference, every_map, every_function, one_arity, empty_list, proper_list, any_list, every_tuple, one_tuple, AreWordsOf, spelled, WordsOf}
 
 -- ---- words in a row
 
@@ -46,7 +47,8 @@ spelled-append (p ∷ ps) qs = ap (λ ws. p.0 ∷ ws) (spelled-append ps qs)
 
 -- ---- the words of each part of a type, with their types
 
-module _ {E : Type 0} {Has : Value → E → Type 0} {Normal : E → Type 0} {o : Ops E} (l : Laws Has Normal o) (text : E → List ℕ) (one_name : o.has_tags ≡ true → (a : Name) → (text (o.of_names (a ∷ [])) ≡ quoted a) × (o.only (o.of_names (a ∷ [])) ≡ Some (a ∷ []))) where
+module _ {E : Type 0} {Has : Value → E → Type 0} {Normal : E → Type 0} {o : Ops E} (l : Laws Has Normal o) (text : E → List ℕ) (one_name : o.has_tags ≡ true → (a : Name)
+    → (text (o.of_names (a ∷ [])) ≡ quoted a) × (o.only (o.of_names (a ∷ [])) ≡ Some (a ∷ []))) where
   abbrev HasF : Shape → Parts E → Type 0
   HasF = HasShape Has
 
@@ -104,7 +106,8 @@ module _ {E : Type 0} {Has : Value → E → Type 0} {Normal : E → Type 0} {o 
 
   -- ---- sets that are listed
 
-  module _ {A : Type 0} {R : A → A → Ordering} (total : IsTotalOrder R) (same : IsAntisymmetric R) (put : A → Leaf) (word : A → List ℕ) (type : A → Parts E) (good : A → Bool) (alone : (x : A) → good x ≡ true → IsWordOf text Normal o (word x) (type x) × ((f : Shape) → HasF f (type x) ↔ (f ≡ leaf (put x)))) where
+  module _ {A : Type 0} {R : A → A → Ordering} (total : IsTotalOrder R) (same : IsAntisymmetric R) (put : A → Leaf) (word : A → List ℕ) (type : A → Parts E) (good : A → Bool) (alone : (x : A) → good x ≡ true
+      → IsWordOf text Normal o (word x) (type x) × ((f : Shape) → HasF f (type x) ↔ (f ≡ leaf (put x)))) where
     items_spelled : (xs : List A) → list_all good xs ≡ true → Spelled (map word xs) (λ f. (q : A) × ((f ≡ leaf (put q)) × (has_item R xs q ≡ true)))
     items_spelled [] k = nothing (λ f h. true≢false (sym h.1.1))
     items_spelled (x ∷ xs) k =
@@ -191,14 +194,16 @@ module _ {E : Type 0} {Has : Value → E → Type 0} {Normal : E → Type 0} {o 
   row_spelled es k few = changed (one (tuple_word (map text es)) (of_row o es) (one_tuple es k few)) (λ f. grind (arith, count_each l, body_of_in l, body_of_out l es))
 
   -- a tag is the row of its atom and the types after it
-  tag_spelled : (n : ℕ) (a : Name) (es : List E) → o.has_tags ≡ true → NormalRow Normal o n (Some es) → nat_lt (suc n) 65 ≡ true → Spelled (tuple_word (quoted a ∷ map text es) ∷ []) (IsRow (λ vs. HasEach Has vs (o.of_names (a ∷ []) ∷ es)))
+  tag_spelled : (n : ℕ) (a : Name) (es : List E) → o.has_tags ≡ true → NormalRow Normal o n (Some es) → nat_lt (suc n) 65 ≡ true
+      → Spelled (tuple_word (quoted a ∷ map text es) ∷ []) (IsRow (λ vs. HasEach Has vs (o.of_names (a ∷ []) ∷ es)))
   tag_spelled n a es t k few =
       let fs = o.of_names (a ∷ []) ∷ es in
       let element : IsElement Normal o (o.of_names (a ∷ [])) = grind (arith, l.naming.names_in (a ∷ []) a, name_laws.name_total) in
       subst (λ w. Spelled (tuple_word (w ∷ map text es) ∷ []) (IsRow (λ vs. HasEach Has vs fs))) (one_name t a).0
       (row_spelled fs (element, k.1) (subst (λ i. nat_lt (suc i) 65 ≡ true) (sym k.0) few))
 
-  tag-is : (e : Name × List E) (m : List (Name × List E)) → o.has_tags ≡ true → is_table name_cmp (e ∷ m) ≡ true → (vs : Values) → (HasEach Has vs (o.of_names (e.0 ∷ []) ∷ e.1) ⊎ HasTag Has vs m) ↔ HasTag Has vs (e ∷ m)
+  tag-is : (e : Name × List E) (m : List (Name × List E)) → o.has_tags ≡ true → is_table name_cmp (e ∷ m) ≡ true → (vs : Values)
+      → (HasEach Has vs (o.of_names (e.0 ∷ []) ∷ e.1) ⊎ HasTag Has vs m) ↔ HasTag Has vs (e ∷ m)
   tag-is e m t table vs =
       grind (arith, l.naming.names_in (e.0 ∷ []), tables.find-again name_laws.name_total name_laws.name_same e m, ascending.is_it name_laws.name_total name_laws.name_same, one_name, l.naming.only_out)
 

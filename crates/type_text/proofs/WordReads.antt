@@ -1,6 +1,7 @@
 -- What the reader of types rests on: how the text of a type begins, by which `any()`, `none()` and words are told apart, how a
 -- text that is read goes on, and the trees that are made.
-use Rattle.std.proofs.Common.{◌≡◌, inl, inr, ℕ, zero, suc, Bool, true, false, List, [], ◌∷◌, ◌++◌, map, drop, Option, None, MatchOption, IfSome, is_some, Bor, refl, sym, ap, ◌∙◌, subst, arith, append_assoc, true≢false}
+use Rattle.std.proofs.Common.{◌≡◌, inl, inr, ℕ, zero, suc, Bool, true, false, List, [], ◌∷◌, ◌++◌, map, drop, Option, None}
+use Rattle.std.proofs.Common.{MatchOption, IfSome, is_some, Bor, refl, sym, ap, ◌∙◌, subst, arith, append_assoc, true≢false}
 use Rattle.std.specs.Prelude.{codes}
 use Rattle.std.specs.Option.{IsSomeAnd}
 use Rattle.std.proofs.lemmas.List.{map-append}
@@ -128,11 +129,13 @@ module _ (d : ℕ) where
   no_element now lacks Q f (e ∷ es) r k text = absurd (lacks _ text)
 
   -- before the first there is no comma
-  pub whole_row : (now : List ℕ) → Lacks now (codes "}") → (Q : List (TypeAt d) → List ℕ → Type 0) → EachRow (codes "," ++ now) Q → (es : List (TypeAt d)) (r : List ℕ) → AreElements (NormalAt d) (ops d) es → now ≡ separated (codes ",") (map (text_at d) es) ++ (codes "}" ++ r) → Q es r
+  pub whole_row : (now : List ℕ) → Lacks now (codes "}") → (Q : List (TypeAt d) → List ℕ → Type 0) → EachRow (codes "," ++ now) Q → (es : List (TypeAt d)) (r : List ℕ) → AreElements (NormalAt d) (ops d) es
+      → now ≡ separated (codes ",") (map (text_at d) es) ++ (codes "}" ++ r) → Q es r
   whole_row now lacks Q f [] r k text = absurd (lacks r text)
   whole_row now lacks Q f (e ∷ es) r k text = f (e ∷ es) r k (ap (λ t. 44 ∷ t) text)
 
-  pub no_row : (now : List ℕ) (es : List (TypeAt d)) (r more : List ℕ) → AreElements (NormalAt d) (ops d) es → now ≡ separated (codes ",") (map (text_at d) es) ++ (codes "}" ++ r) → now ≡ codes "}" ++ more → ([] ≡ es) × (more ≡ r)
+  pub no_row : (now : List ℕ) (es : List (TypeAt d)) (r more : List ℕ) → AreElements (NormalAt d) (ops d) es → now ≡ separated (codes ",") (map (text_at d) es) ++ (codes "}" ++ r) → now ≡ codes "}" ++ more
+      → ([] ≡ es) × (more ≡ r)
   no_row now [] r more k text is = (refl, ap (drop 1) (sym is ∙ text))
   no_row now (e ∷ es) r more k text is = absurd (not_at_end (way d e k.0.0) now (row_text es r) (text ∙ append_assoc (text_at d e) (after (codes ",") (map (text_at d) es)) (codes "}" ++ r)) more is)
 
@@ -146,7 +149,8 @@ module _ (d : ℕ) where
       let read = element e (row_text es r) k (row_stop es r) text in
       subst (λ xs. MatchOption o ⊥ (λ p. (row_view d p.0 ≡ xs) × (p.1.now ≡ r))) (grind (arith, longer, read.0, map-append, append_assoc)) (f es r ks read.1))
 
-pub elements_more : (d : ℕ) (row new : List Node) (n : Node) → new ≡ row ++ n ∷ [] → AreElements (NormalAt d) (ops d) (row_view d row) → Fits d n → (ops d).is_none (view d n) ≡ false → AreElements (NormalAt d) (ops d) (row_view d new)
+pub elements_more : (d : ℕ) (row new : List Node) (n : Node) → new ≡ row ++ n ∷ [] → AreElements (NormalAt d) (ops d) (row_view d row) → Fits d n → (ops d).is_none (view d n) ≡ false
+    → AreElements (NormalAt d) (ops d) (row_view d new)
 elements_more d row new n e k h some =
     each_more (IsElement (NormalAt d) (ops d)) (row_view d new) (row_view d row) (view d n) (ap (row_view d) e ∙ map-append (view d) row (n ∷ [])) k (fits_normal d n h, some)
 
@@ -165,7 +169,8 @@ zero_read zero e now any t rest k some text = grind arith
 zero_read (suc d) e now any t rest k some text = omega (arith, e)
 
 -- the first word of a type, and the others
-type_words : (e : ℕ) (now : List ℕ) → Lacks now (codes "any()") → (t : TypeAt (suc e)) (rest : List ℕ) → NormalAt (suc e) t → (ops (suc e)).is_none t ≡ false → now ≡ text_at (suc e) t ++ rest → (s : WordsOf e t) × (now ≡ s.word ++ words_text e s.later rest)
+type_words : (e : ℕ) (now : List ℕ) → Lacks now (codes "any()") → (t : TypeAt (suc e)) (rest : List ℕ) → NormalAt (suc e) t → (ops (suc e)).is_none t ≡ false → now ≡ text_at (suc e) t ++ rest
+    → (s : WordsOf e t) × (now ≡ s.word ++ words_text e s.later rest)
 type_words e now any t rest k some text = elim (way (suc e) t k) [
   | as_any a is ↦ absurd (any rest (text ∙ ap (λ x. x ++ rest) is))
   | as_none n is ↦ absurd (true≢false (sym ((level_laws (suc e)).is_none-none) ∙ ap (ops (suc e)).is_none (sym n) ∙ some))
@@ -191,6 +196,7 @@ module _ (d : ℕ) (w : List ℕ) (u : TypeAt (suc d)) (i : IsWord d w u) (now r
       → ((a q : List ℕ) → now ≡ quoted a ++ q → MatchOption r ⊥ (λ p. ((e : ℕ) → view (suc e) p.0 ≡ of_atoms (ops e) (names.listed (a ∷ []))) × (p.1.now ≡ q))) → Found (suc d) r u rest
   atom_found o some begins read = grind (arith, number-start)
 
-  pub name_found : (o : Option (Bor (List ℕ))) → is_some o ≡ false → ((q : List ℕ) → now ≡ codes "'" ++ q → IsSomeAnd o (λ left. left.now ≡ q)) → begins_number now ≡ false → Lacks now (codes "{") → Lacks now (codes "cons(") → Lacks now (codes "cons_any(")
+  pub name_found : (o : Option (Bor (List ℕ))) → is_some o ≡ false → ((q : List ℕ) → now ≡ codes "'" ++ q → IsSomeAnd o (λ left. left.now ≡ q)) → begins_number now ≡ false → Lacks now (codes "{")
+      → Lacks now (codes "cons(") → Lacks now (codes "cons_any(")
       → MatchOption r (NoTypeName now) (λ p. (view (suc d) p.0 ≡ u) × (p.1.now ≡ rest)) → Found (suc d) r u rest
   name_found o none quote number brace proper any read = grind (arith, some_start w u i now rest is number (λ q e. grind (arith, quote q e)) brace proper any)

@@ -84,11 +84,13 @@ module _ {E : Type 0} {text : E → List ℕ} {Normal : E → Type 0} {o : Ops E
   -- ---- the words that hold something
 
   -- one integer
-  pub at_number : (w : List ℕ) (u : Parts E) → IsWordOf text Normal o w u → (now rest : List ℕ) (b : ℕ) (more : List ℕ) → now ≡ w ++ rest → now ≡ b ∷ more → IsNumberStart b → (n : ℤ) × ((is_narrow n ≡ true) × ((now ≡ signed_decimal n ++ rest) × (u ≡ of_ints o (numbers.listed (n ∷ [])))))
+  pub at_number : (w : List ℕ) (u : Parts E) → IsWordOf text Normal o w u → (now rest : List ℕ) (b : ℕ) (more : List ℕ) → now ≡ w ++ rest → now ≡ b ∷ more → IsNumberStart b
+      → (n : ℤ) × ((is_narrow n ≡ true) × ((now ≡ signed_decimal n ++ rest) × (u ≡ of_ints o (numbers.listed (n ∷ [])))))
   at_number w u i now rest b more a e s = grind arith
 
   -- an interval, where the text is not `integer()`
-  pub at_range : (w : List ℕ) (u : Parts E) → IsWordOf text Normal o w u → (now rest more : List ℕ) → now ≡ w ++ rest → now ≡ codes "integer(" ++ more → Lacks now (codes "integer()") → (l : Low) × ((h : High) × ((is_range l h ≡ true) × ((more ≡ low_text l ++ codes ".." ++ high_text h ++ codes ")" ++ rest) × (u ≡ of_ints o (numbers.range l h)))))
+  pub at_range : (w : List ℕ) (u : Parts E) → IsWordOf text Normal o w u → (now rest more : List ℕ) → now ≡ w ++ rest → now ≡ codes "integer(" ++ more → Lacks now (codes "integer()")
+      → (l : Low) × ((h : High) × ((is_range l h ≡ true) × ((more ≡ low_text l ++ codes ".." ++ high_text h ++ codes ")" ++ rest) × (u ≡ of_ints o (numbers.range l h)))))
   at_range w u i now rest more a b not = grind (arith, no_number)
 
   pub unlike_word : (w : List ℕ) (u : Parts E) → IsWordOf text Normal o w u → (later : List ℕ) → Unlike (w ++ later)
@@ -99,11 +101,13 @@ module _ {E : Type 0} {text : E → List ℕ} {Normal : E → Type 0} {o : Ops E
   }
 
   -- each word begins in one of these ways
-  pub some_start : (w : List ℕ) (u : Parts E) → IsWordOf text Normal o w u → (now rest : List ℕ) → now ≡ w ++ rest → begins_number now ≡ false → Lacks now (codes "'") → Lacks now (codes "{") → Lacks now (codes "cons(") → Lacks now (codes "cons_any(") → NoTypeName now → ⊥
+  pub some_start : (w : List ℕ) (u : Parts E) → IsWordOf text Normal o w u → (now rest : List ℕ) → now ≡ w ++ rest → begins_number now ≡ false → Lacks now (codes "'") → Lacks now (codes "{") → Lacks now (codes "cons(")
+      → Lacks now (codes "cons_any(") → NoTypeName now → ⊥
   some_start w u i now rest is number quote brace proper any name = grind (arith, signed-start)
 
 -- what holds of each word that begins so holds of the word
-module _ {E : Type 0} {text : E → List ℕ} {Normal : E → Type 0} {o : Ops E} (w : List ℕ) (u : Parts E) (i : IsWordOf text Normal o w u) (now rest : List ℕ) (is : now ≡ w ++ rest) (P : Parts E → List ℕ → Type 0) (more : List ℕ) where
+module _ {E : Type 0} {text : E → List ℕ} {Normal : E → Type 0} {o : Ops E} (w : List ℕ) (u : Parts E) (i : IsWordOf text Normal o w u) (now rest : List ℕ) (is : now ≡ w ++ rest) (P : Parts E → List ℕ
+    → Type 0) (more : List ℕ) where
   -- one atom
   pub at_quote : now ≡ codes "'" ++ more → ((a : Name) (q : List ℕ) → now ≡ quoted a ++ q → P (of_atoms o (names.listed (a ∷ []))) q) → P u rest
   at_quote begins holds = grind (arith, number-start)
@@ -117,7 +121,8 @@ module _ {E : Type 0} {text : E → List ℕ} {Normal : E → Type 0} {o : Ops E
   at_list b begins holds = grind (arith, append_assoc, no_number)
 
   -- the tuples of some element types
-  pub at_tuple : now ≡ codes "{" ++ more → ((es : List E) (q : List ℕ) → AreElements Normal o es → nat_lt (length es) 65 ≡ true → more ≡ separated (codes ",") (map text es) ++ (codes "}" ++ q) → P (of_row o es) q) → P u rest
+  pub at_tuple : now ≡ codes "{" ++ more → ((es : List E) (q : List ℕ) → AreElements Normal o es → nat_lt (length es) 65 ≡ true → more ≡ separated (codes ",") (map text es) ++ (codes "}" ++ q) → P (of_row o es) q)
+      → P u rest
   at_tuple begins holds = grind (arith, append_assoc, no_number)
 
 -- what tells the words apart

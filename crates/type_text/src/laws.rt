@@ -17,6 +17,7 @@ pub fn text_laws()
 #[tactic(auto, using(crate::proofs::TextOnce::front_once, crate::proofs::LeafLaws::quoted_once, crate::proofs::LeafLaws::decimal_once))]
 pub fn front_laws()
     ensures quoted { (a b r q : List ℕ) → quoted a ++ r ≡ quoted b ++ q → (a ≡ b) × (r ≡ q) }
-    ensures number { (m n : ℕ) (r q : List ℕ) → m < 2 ^ 128 → n < 2 ^ 128 → WordStop r → WordStop q → decimal m ++ r ≡ decimal n ++ q → (m ≡ n) × (r ≡ q) }
+    ensures number { (m n : ℕ) (r q : List ℕ) → m < 2 ^ 128 → n < 2 ^ 128 → WordStop r → WordStop q → decimal m ++ r ≡ decimal n ++ q
+        → (m ≡ n) × (r ≡ q) }
     ensures front { (s t : Type4) (r q : List ℕ) → TypeStop r → TypeStop q → text_of s ++ r ≡ text_of t ++ q → (s ≡ t) × (r ≡ q) }
 {}

@@ -1,6 +1,7 @@
 // What stands first in a text and holds no types: words, atoms, numbers and the ends of ranges. Each
 // reader gives what it read and what stands behind it.
-ghost use Rattle.std.specs.Prelude.{◌≡◌, ℕ, ℤ, pos, neg_ℤ, ◌+◌, ◌*◌, ◌/◌, ◌%◌, ◌^◌, ◌<◌, ◌≤◌, List, [], ◌∷◌, ◌++◌, length, codes, IsTrue, IfOk, IfSome, MatchOption};
+ghost use Rattle.std.specs.Prelude.{◌≡◌, ℕ, ℤ, pos, neg_ℤ, ◌+◌, ◌*◌, ◌/◌, ◌%◌, ◌^◌, ◌<◌, ◌≤◌, List};
+ghost use Rattle.std.specs.Prelude.{[], ◌∷◌, ◌++◌, length, codes, IsTrue, IfOk, IfSome, MatchOption};
 ghost use Rattle.std.specs.Option.{IsSomeAnd};
 ghost use Rattle.std.specs.Fmt.{decimal, signed_decimal};
 ghost use Rattle.type_kinds.specs.Quoted.{quoted, escaped, needs_backslash};
@@ -25,7 +26,8 @@ pub fn after_word<'a>(text: &'a [u8], word: &[u8]) -> Option<&'a [u8]>
 /// An atom in quotes.
 #[tactic(auto, using(crate::proofs::LeafLaws::atom_further, crate::proofs::LeafLaws::atom_ends))]
 pub fn read_quoted(alloc: Global, text: &[u8]) -> Result<Option<(Atom, &[u8])>, Memory>
-    ensures complete { IfOk result (λ read. (atom rest : List ℕ) → text.now ≡ quoted atom ++ rest → IsSomeAnd read (λ p. (p.0 ≡ atom) × (p.1.now ≡ rest))) }
+    ensures complete { IfOk result (λ read. (atom rest : List ℕ) → text.now ≡ quoted atom ++ rest
+        → IsSomeAnd read (λ p. (p.0 ≡ atom) × (p.1.now ≡ rest))) }
     ensures shorter { IfOk result (λ read. IfSome read (λ p. length p.1.now < length text.now)) }
 {
     let Some(inside) = after_word(text, b"'") else {
@@ -59,8 +61,10 @@ fn read_byte(text: &[u8]) -> Option<(u8, &[u8])>
 
 // What stands behind a backslash: a quote, a backslash, or three octal digits.
 fn read_escape(text: &[u8]) -> Option<(u8, &[u8])>
-    ensures itself { (byte : ℕ) (rest : List ℕ) → IsTrue (needs_backslash byte) → text.now ≡ byte ∷ rest → IsSomeAnd result (λ p. (p.0 ≡ byte) × (p.1.now ≡ rest)) }
-    ensures octal { (byte : ℕ) (rest : List ℕ) → byte < 256 → text.now ≡ (48 + byte / 64) ∷ (48 + byte / 8 % 8) ∷ (48 + byte % 8) ∷ rest → IsSomeAnd result (λ p. (p.0 ≡ byte) × (p.1.now ≡ rest)) }
+    ensures itself { (byte : ℕ) (rest : List ℕ) → IsTrue (needs_backslash byte) → text.now ≡ byte ∷ rest
+        → IsSomeAnd result (λ p. (p.0 ≡ byte) × (p.1.now ≡ rest)) }
+    ensures octal { (byte : ℕ) (rest : List ℕ) → byte < 256 → text.now ≡ (48 + byte / 64) ∷ (48 + byte / 8 % 8) ∷ (48 + byte % 8) ∷ rest
+        → IsSomeAnd result (λ p. (p.0 ≡ byte) × (p.1.now ≡ rest)) }
     ensures shorter { IfSome result (λ p. length p.1.now < length text.now) }
 {
     let (first, after) = text.split_first()?;
@@ -72,7 +76,8 @@ fn read_escape(text: &[u8]) -> Option<(u8, &[u8])>
 
 // A byte that three octal digits tell.
 fn read_octal(text: &[u8]) -> Option<(u8, &[u8])>
-    ensures complete { (byte : ℕ) (rest : List ℕ) → byte < 256 → text.now ≡ (48 + byte / 64) ∷ (48 + byte / 8 % 8) ∷ (48 + byte % 8) ∷ rest → IsSomeAnd result (λ p. (p.0 ≡ byte) × (p.1.now ≡ rest)) }
+    ensures complete { (byte : ℕ) (rest : List ℕ) → byte < 256 → text.now ≡ (48 + byte / 64) ∷ (48 + byte / 8 % 8) ∷ (48 + byte % 8) ∷ rest
+        → IsSomeAnd result (λ p. (p.0 ≡ byte) × (p.1.now ≡ rest)) }
     ensures shorter { IfSome result (λ p. length p.1.now < length text.now) }
 {
     let (high, after) = octal_digit(text)?;
@@ -86,7 +91,8 @@ fn read_octal(text: &[u8]) -> Option<(u8, &[u8])>
 
 // What an octal digit tells.
 fn octal_digit(text: &[u8]) -> Option<(u8, &[u8])>
-    ensures complete { (digit : ℕ) (rest : List ℕ) → digit < 8 → text.now ≡ (48 + digit) ∷ rest → IsSomeAnd result (λ p. (p.0 ≡ digit) × (p.1.now ≡ rest)) }
+    ensures complete { (digit : ℕ) (rest : List ℕ) → digit < 8 → text.now ≡ (48 + digit) ∷ rest
+        → IsSomeAnd result (λ p. (p.0 ≡ digit) × (p.1.now ≡ rest)) }
     ensures small { IfSome result (λ p. p.0 < 8) }
     ensures shorter { IfSome result (λ p. length p.1.now < length text.now) }
 {
@@ -100,7 +106,8 @@ fn octal_digit(text: &[u8]) -> Option<(u8, &[u8])>
 /// An integer of magnitude below 2^127.
 #[tactic(auto, using(crate::proofs::LeafLaws::number_no_minus, std::proofs::lemmas::Bool::Decides::nat_tests))]
 pub fn read_integer(text: &[u8]) -> Option<(i128, &[u8])>
-    ensures complete { (n : ℤ) (rest : List ℕ) → IsTrue (is_narrow n) → WordStop rest → text.now ≡ signed_decimal n ++ rest → IsSomeAnd result (λ p. (p.0 ≡ n) × (p.1.now ≡ rest)) }
+    ensures complete { (n : ℤ) (rest : List ℕ) → IsTrue (is_narrow n) → WordStop rest → text.now ≡ signed_decimal n ++ rest
+        → IsSomeAnd result (λ p. (p.0 ≡ n) × (p.1.now ≡ rest)) }
     ensures narrow { IfSome result (λ p. IsTrue (is_narrow p.0)) }
     ensures shorter { IfSome result (λ p. length p.1.now < length text.now) }
 {
@@ -126,7 +133,8 @@ fn negative(magnitude: u128) -> i128
 
 /// How many arguments a function has.
 pub fn read_arity(text: &[u8]) -> Option<(u32, &[u8])>
-    ensures complete { (n : ℕ) (rest : List ℕ) → n < 2 ^ 32 → WordStop rest → text.now ≡ decimal n ++ rest → IsSomeAnd result (λ p. (p.0 ≡ n) × (p.1.now ≡ rest)) }
+    ensures complete { (n : ℕ) (rest : List ℕ) → n < 2 ^ 32 → WordStop rest → text.now ≡ decimal n ++ rest
+        → IsSomeAnd result (λ p. (p.0 ≡ n) × (p.1.now ≡ rest)) }
     ensures shorter { IfSome result (λ p. length p.1.now < length text.now) }
 {
     let (number, rest) = read_natural(text)?;
@@ -139,7 +147,8 @@ pub fn read_arity(text: &[u8]) -> Option<(u32, &[u8])>
 // A number below 2^127.
 #[tactic(auto, using(crate::proofs::LeafLaws::no_digits, type_kinds::proofs::DigitLaws::number_in_front, type_kinds::proofs::DigitLaws::front_digits))]
 fn read_natural(text: &[u8]) -> Option<(u128, &[u8])>
-    ensures complete { (n : ℕ) (rest : List ℕ) → n < 2 ^ 127 → WordStop rest → text.now ≡ decimal n ++ rest → IsSomeAnd result (λ p. (p.0 ≡ n) × (p.1.now ≡ rest)) }
+    ensures complete { (n : ℕ) (rest : List ℕ) → n < 2 ^ 127 → WordStop rest → text.now ≡ decimal n ++ rest
+        → IsSomeAnd result (λ p. (p.0 ≡ n) × (p.1.now ≡ rest)) }
     ensures narrow { IfSome result (λ p. p.0 < 2 ^ 127) }
     ensures shorter { IfSome result (λ p. length p.1.now < length text.now) }
 {
@@ -154,7 +163,8 @@ fn read_natural(text: &[u8]) -> Option<(u128, &[u8])>
 
 /// The ends of a range, and the parenthesis behind them.
 pub fn read_range(text: &[u8]) -> Option<(Low, High, &[u8])>
-    ensures complete { (low : Low) (high : High) (rest : List ℕ) → text.now ≡ low_text low ++ codes ".." ++ high_text high ++ codes ")" ++ rest → IsSomeAnd result (λ p. (p.0 ≡ low) × (p.1 ≡ high) × (p.2.now ≡ rest)) }
+    ensures complete { (low : Low) (high : High) (rest : List ℕ) → text.now ≡ low_text low ++ codes ".." ++ high_text high ++ codes ")" ++ rest
+        → IsSomeAnd result (λ p. (p.0 ≡ low) × (p.1 ≡ high) × (p.2.now ≡ rest)) }
     ensures shorter { IfSome result (λ p. length p.2.now < length text.now) }
 {
     let (low, after) = read_low(text)?;
@@ -181,7 +191,8 @@ fn read_low(text: &[u8]) -> Option<(Low, &[u8])>
 
 // The upper end of a range.
 fn read_high(text: &[u8]) -> Option<(High, &[u8])>
-    ensures complete { (high : High) (rest : List ℕ) → text.now ≡ high_text high ++ rest → IsSomeAnd result (λ p. (p.0 ≡ high) × (p.1.now ≡ rest)) }
+    ensures complete { (high : High) (rest : List ℕ) → text.now ≡ high_text high ++ rest
+        → IsSomeAnd result (λ p. (p.0 ≡ high) × (p.1.now ≡ rest)) }
     ensures shorter { IfSome result (λ p. length p.1.now < length text.now) }
 {
     if let Some(rest) = after_word(text, b"-1") {

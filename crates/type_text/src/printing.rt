@@ -2,10 +2,12 @@
 ghost use Rattle.std.specs.Prelude.{◌≡◌, [], ◌∷◌, ◌++◌, length, map, take, codes, OnOk, OnErr};
 ghost use Rattle.std.specs.Fmt.{decimal, signed_decimal};
 ghost use Rattle.type_kinds.specs.Quoted.{quoted};
-ghost use Rattle.type_text.specs.Texts.{text_of, text_at, word_if, atom_words, low_text as low_model, high_text as high_model, range_word, int_words, bits_words, function_words, plain_words, cell_words, tuple_word, tag_words, body_words, size_words, tuples_words};
+ghost use Rattle.type_text.specs.Texts.{text_of, text_at, word_if, atom_words, low_text as low_model, high_text as high_model, range_word, int_words};
+ghost use Rattle.type_text.specs.Texts.{bits_words, function_words, plain_words, cell_words, tuple_word, tag_words, body_words, size_words, tuples_words};
 ghost use Rattle.type_text.specs.Adds.{row_text, Adds};
 ghost use Rattle.type_lattice_trees.specs.Plains.{functions_of};
-ghost use Rattle.type_lattice_trees.specs.View.{view, Fits, row_view, tags_view, body_view, sizes_view, tuples_view, cell_view, EachNode, EachTag, EachInBody, EachSize, EachInTuples, EachInCell};
+ghost use Rattle.type_lattice_trees.specs.View.{view, Fits, row_view, tags_view, body_view, sizes_view, tuples_view};
+ghost use Rattle.type_lattice_trees.specs.View.{cell_view, EachNode, EachTag, EachInBody, EachSize, EachInTuples, EachInCell};
 
 use type_kinds::{Atom, Bytes, Memory, Shared};
 use type_kinds_sets::{AtomSet, Bits, High, IntSet, Low};
@@ -167,7 +169,8 @@ fn append_tags(
 #[cycle(print)]
 fn append_tag(level: u32, tag: &TagOf<Node>, some: &mut bool, out: &mut Bytes) -> Result<(), Memory>
     requires { EachNode (Fits level) tag.now.rest }
-    ensures ok { OnOk result (Adds (codes " | ") (tuple_word (quoted tag.now.atom ∷ map (text_at level) (row_view level tag.now.rest)) ∷ []) some.old some.new out.old out.new) }
+    ensures ok { OnOk result (Adds (codes " | ") (tuple_word (quoted tag.now.atom ∷ map (text_at level) (row_view level tag.now.rest)) ∷ []) some.old
+        some.new out.old out.new) }
     ensures front { take (length out.old) out.new ≡ out.old }
 {
     separate(b" | ", some, out)?;

@@ -61,7 +61,8 @@ fn whole(alloc: Global, text: &[u8]) -> Result<Option<Ty>, Memory>
 /// comma or a bracket that closes, it is this type. Other texts may be read too, so who reads one prints what was read again, and
 /// compares. `Memory` if allocation fails.
 pub fn read_front<'a>(alloc: Global, text: &'a [u8]) -> Result<Option<(Ty, &'a [u8])>, Memory>
-    ensures { IfOk result (λ r. (t : Type4) (rest : List ℕ) → TypeStop rest → text.now ≡ text_of t ++ rest → IsSomeAnd r (λ p. (p.0 ≡ t) × (p.1.now ≡ rest))) }
+    ensures { IfOk result (λ r. (t : Type4) (rest : List ℕ) → TypeStop rest → text.now ≡ text_of t ++ rest
+        → IsSomeAnd r (λ p. (p.0 ≡ t) × (p.1.now ≡ rest))) }
 {
     match after_word(text, b"none()") {
         Some(rest) => Ok(Some((Ty::none(), rest))),
@@ -71,7 +72,8 @@ pub fn read_front<'a>(alloc: Global, text: &'a [u8]) -> Result<Option<(Ty, &'a [
 
 // The same for types that have a value.
 fn read_some<'a>(alloc: Global, text: &'a [u8]) -> Result<Option<(Ty, &'a [u8])>, Memory>
-    ensures { IfOk result (λ r. (t : Type4) (rest : List ℕ) → is_none t ≡ false → TypeStop rest → text.now ≡ text_of t ++ rest → IsSomeAnd r (λ p. (p.0 ≡ t) × (p.1.now ≡ rest))) }
+    ensures { IfOk result (λ r. (t : Type4) (rest : List ℕ) → is_none t ≡ false → TypeStop rest → text.now ≡ text_of t ++ rest
+        → IsSomeAnd r (λ p. (p.0 ≡ t) × (p.1.now ≡ rest))) }
 {
     match read_type(alloc, 4, text)? {
         None => Ok(None),

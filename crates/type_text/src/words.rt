@@ -1,5 +1,6 @@
 //! What a text begins with, as a type: a whole type, or one of its words.
-ghost use Rattle.std.specs.Prelude.{◌≡◌, ◌≤◌, ◌<◌, ◌^◌, ◌++◌, ◌∷◌, [], ℕ, ℤ, List, suc, true, false, length, map, codes, IsTrue, IfOk, IfSome, MatchOption};
+ghost use Rattle.std.specs.Prelude.{◌≡◌, ◌≤◌, ◌<◌, ◌^◌, ◌++◌, ◌∷◌, [], ℕ, ℤ, List, suc, true};
+ghost use Rattle.std.specs.Prelude.{false, length, map, codes, IsTrue, IfOk, IfSome, MatchOption};
 ghost use Rattle.std.specs.Fmt.{signed_decimal};
 ghost use Rattle.type_kinds.specs.Quoted.{quoted};
 ghost use Rattle.type_kinds_sets.specs.Names as names;
@@ -36,7 +37,8 @@ pub fn read_type<'a>(
 ) -> Result<Option<(Node, &'a [u8])>, Memory>
     ensures fits { IfOk result (λ r. IfSome r (λ p. Fits level p.0)) }
     ensures shorter { IfOk result (λ r. IfSome r (λ p. length p.1.now ≤ length text.now)) }
-    ensures complete { IfOk result (λ r. (t : TypeAt level) (rest : List ℕ) → NormalAt level t → (ops level).is_none t ≡ false → TypeStop rest → text.now ≡ text_at level t ++ rest → MatchOption r ⊥ (λ p. (view level p.0 ≡ t) × (p.1.now ≡ rest))) }
+    ensures complete { IfOk result (λ r. (t : TypeAt level) (rest : List ℕ) → NormalAt level t → (ops level).is_none t ≡ false → TypeStop rest
+        → text.now ≡ text_at level t ++ rest → MatchOption r ⊥ (λ p. (view level p.0 ≡ t) × (p.1.now ≡ rest))) }
 {
     if let Some(rest) = after_word(text, b"any()") {
         return Ok(Some((Node::Any, rest)));
@@ -63,7 +65,9 @@ fn read_more<'a>(
     requires below { suc level < 2 ^ 32 }
     ensures fits { IfOk result (λ r. IfSome r (λ p. Fits (suc level) p.0)) }
     ensures shorter { IfOk result (λ r. IfSome r (λ p. length p.1.now ≤ length text.now)) }
-    ensures complete { IfOk result (λ r. (later : List (List ℕ × TypeAt (suc level))) (rest : List ℕ) → AreWords level later → TypeStop rest → text.now ≡ after (codes " | ") (spelled later) ++ rest → MatchOption r ⊥ (λ p. (view (suc level) p.0 ≡ joined_with (ops (suc level)).join (view (suc level) first) later) × (p.1.now ≡ rest))) }
+    ensures complete { IfOk result (λ r. (later : List (List ℕ × TypeAt (suc level))) (rest : List ℕ) → AreWords level later → TypeStop rest
+        → text.now ≡ after (codes " | ") (spelled later) ++ rest
+        → MatchOption r ⊥ (λ p. (view (suc level) p.0 ≡ joined_with (ops (suc level)).join (view (suc level) first) later) × (p.1.now ≡ rest))) }
 {
     let mut t = first;
     let mut rest = text;
@@ -99,7 +103,8 @@ fn read_word<'a>(
 ) -> Result<Option<(Node, &'a [u8])>, Memory>
     ensures fits { IfOk result (λ r. IfSome r (λ p. Fits (suc level) p.0)) }
     ensures shorter { IfOk result (λ r. IfSome r (λ p. length p.1.now ≤ length text.now)) }
-    ensures complete { IfOk result (λ r. (w rest : List ℕ) (u : TypeAt (suc level)) → IsWord level w u → WordStop rest → text.now ≡ w ++ rest → MatchOption r ⊥ (λ p. (view (suc level) p.0 ≡ u) × (p.1.now ≡ rest))) }
+    ensures complete { IfOk result (λ r. (w rest : List ℕ) (u : TypeAt (suc level)) → IsWord level w u → WordStop rest → text.now ≡ w ++ rest
+        → MatchOption r ⊥ (λ p. (view (suc level) p.0 ≡ u) × (p.1.now ≡ rest))) }
 {
     if after_word(text, b"'").is_some() {
         return read_atom(alloc, text);
@@ -138,7 +143,8 @@ fn read_element<'a>(
 ) -> Result<Option<(Node, &'a [u8])>, Memory>
     ensures fits { IfOk result (λ r. IfSome r (λ p. Fits level p.0 × ((ops level).is_none (view level p.0) ≡ false))) }
     ensures shorter { IfOk result (λ r. IfSome r (λ p. length p.1.now ≤ length text.now)) }
-    ensures complete { IfOk result (λ r. (t : TypeAt level) (rest : List ℕ) → IsElement (NormalAt level) (ops level) t → TypeStop rest → text.now ≡ text_at level t ++ rest → MatchOption r ⊥ (λ p. (view level p.0 ≡ t) × (p.1.now ≡ rest))) }
+    ensures complete { IfOk result (λ r. (t : TypeAt level) (rest : List ℕ) → IsElement (NormalAt level) (ops level) t → TypeStop rest
+        → text.now ≡ text_at level t ++ rest → MatchOption r ⊥ (λ p. (view level p.0 ≡ t) × (p.1.now ≡ rest))) }
 {
     let Some((element, rest)) = read_type(alloc, level, text)? else {
         return Ok(None);
@@ -160,7 +166,9 @@ fn read_list<'a>(
 ) -> Result<Option<(Node, &'a [u8])>, Memory>
     ensures fits { IfOk result (λ r. IfSome r (λ p. Fits (suc level) p.0)) }
     ensures shorter { IfOk result (λ r. IfSome r (λ p. length p.1.now ≤ length text.now)) }
-    ensures complete { IfOk result (λ r. (e : TypeAt level) (rest : List ℕ) → IsElement (NormalAt level) (ops level) e → text.now ≡ text_at level e ++ (codes ")" ++ rest) → MatchOption r ⊥ (λ p. (view (suc level) p.0 ≡ of_list (ops level) e is_proper) × (p.1.now ≡ rest))) }
+    ensures complete { IfOk result (λ r. (e : TypeAt level) (rest : List ℕ) → IsElement (NormalAt level) (ops level) e
+        → text.now ≡ text_at level e ++ (codes ")" ++ rest)
+        → MatchOption r ⊥ (λ p. (view (suc level) p.0 ≡ of_list (ops level) e is_proper) × (p.1.now ≡ rest))) }
 {
     let Some((element, rest)) = read_element(alloc, level, text)? else {
         return Ok(None);
@@ -183,7 +191,9 @@ fn read_tuple<'a>(
 ) -> Result<Option<(Node, &'a [u8])>, Memory>
     ensures fits { IfOk result (λ r. IfSome r (λ p. Fits (suc level) p.0)) }
     ensures shorter { IfOk result (λ r. IfSome r (λ p. length p.1.now ≤ length text.now)) }
-    ensures complete { IfOk result (λ r. (es : List (TypeAt level)) (rest : List ℕ) → AreElements (NormalAt level) (ops level) es → length es ≤ MAX_ELEMENTS → text.now ≡ separated (codes ",") (map (text_at level) es) ++ (codes "}" ++ rest) → MatchOption r ⊥ (λ p. (view (suc level) p.0 ≡ of_row (ops level) es) × (p.1.now ≡ rest))) }
+    ensures complete { IfOk result (λ r. (es : List (TypeAt level)) (rest : List ℕ) → AreElements (NormalAt level) (ops level) es
+        → length es ≤ MAX_ELEMENTS → text.now ≡ separated (codes ",") (map (text_at level) es) ++ (codes "}" ++ rest)
+        → MatchOption r ⊥ (λ p. (view (suc level) p.0 ≡ of_row (ops level) es) × (p.1.now ≡ rest))) }
 {
     let Some((row, rest)) = read_row(alloc, level, text)? else {
         return Ok(None);
@@ -222,7 +232,9 @@ fn read_row<'a>(
     ensures each { IfOk result (λ r. IfSome r (λ p. EachNode (Fits level) p.0)) }
     ensures some { IfOk result (λ r. IfSome r (λ p. AreElements (NormalAt level) (ops level) (row_view level p.0))) }
     ensures shorter { IfOk result (λ r. IfSome r (λ p. length p.1.now ≤ length text.now)) }
-    ensures complete { IfOk result (λ r. (es : List (TypeAt level)) (rest : List ℕ) → AreElements (NormalAt level) (ops level) es → text.now ≡ separated (codes ",") (map (text_at level) es) ++ (codes "}" ++ rest) → MatchOption r ⊥ (λ p. (row_view level p.0 ≡ es) × (p.1.now ≡ rest))) }
+    ensures complete { IfOk result (λ r. (es : List (TypeAt level)) (rest : List ℕ) → AreElements (NormalAt level) (ops level) es
+        → text.now ≡ separated (codes ",") (map (text_at level) es) ++ (codes "}" ++ rest)
+        → MatchOption r ⊥ (λ p. (row_view level p.0 ≡ es) × (p.1.now ≡ rest))) }
 {
     if let Some(rest) = after_word(text, b"}") {
         return Ok(Some((List::new(alloc), rest)));
@@ -248,7 +260,9 @@ fn read_later<'a>(
     ensures each { IfOk result (λ r. IfSome r (λ p. EachNode (Fits level) p.0)) }
     ensures some { IfOk result (λ r. IfSome r (λ p. AreElements (NormalAt level) (ops level) (row_view level p.0))) }
     ensures shorter { IfOk result (λ r. IfSome r (λ p. length p.1.now ≤ length text.now)) }
-    ensures complete { IfOk result (λ r. (es : List (TypeAt level)) (rest : List ℕ) → AreElements (NormalAt level) (ops level) es → text.now ≡ after (codes ",") (map (text_at level) es) ++ (codes "}" ++ rest) → MatchOption r ⊥ (λ p. (row_view level p.0 ≡ row_view level first ++ es) × (p.1.now ≡ rest))) }
+    ensures complete { IfOk result (λ r. (es : List (TypeAt level)) (rest : List ℕ) → AreElements (NormalAt level) (ops level) es
+        → text.now ≡ after (codes ",") (map (text_at level) es) ++ (codes "}" ++ rest)
+        → MatchOption r ⊥ (λ p. (row_view level p.0 ≡ row_view level first ++ es) × (p.1.now ≡ rest))) }
 {
     let mut row = first;
     let mut rest = text;
@@ -273,7 +287,8 @@ fn read_later<'a>(
 fn read_atom<'a>(alloc: Global, text: &'a [u8]) -> Result<Option<(Node, &'a [u8])>, Memory>
     ensures fits { IfOk result (λ r. IfSome r (λ p. (d : ℕ) → Fits (suc d) p.0)) }
     ensures shorter { IfOk result (λ r. IfSome r (λ p. length p.1.now ≤ length text.now)) }
-    ensures complete { IfOk result (λ r. (atom rest : List ℕ) → text.now ≡ quoted atom ++ rest → MatchOption r ⊥ (λ p. ((d : ℕ) → view (suc d) p.0 ≡ of_atoms (ops d) (names.listed (atom ∷ []))) × (p.1.now ≡ rest))) }
+    ensures complete { IfOk result (λ r. (atom rest : List ℕ) → text.now ≡ quoted atom ++ rest
+        → MatchOption r ⊥ (λ p. ((d : ℕ) → view (suc d) p.0 ≡ of_atoms (ops d) (names.listed (atom ∷ []))) × (p.1.now ≡ rest))) }
 {
     let Some((atom, rest)) = read_quoted(alloc, text)? else {
         return Ok(None);
@@ -286,7 +301,8 @@ fn read_atom<'a>(alloc: Global, text: &'a [u8]) -> Result<Option<(Node, &'a [u8]
 fn read_number(text: &[u8]) -> Option<(Node, &[u8])>
     ensures fits { IfSome result (λ p. (d : ℕ) → Fits (suc d) p.0) }
     ensures shorter { IfSome result (λ p. length p.1.now ≤ length text.now) }
-    ensures complete { (n : ℤ) (rest : List ℕ) → IsTrue (is_narrow n) → WordStop rest → text.now ≡ signed_decimal n ++ rest → MatchOption result ⊥ (λ p. ((d : ℕ) → view (suc d) p.0 ≡ of_ints (ops d) (numbers.listed (n ∷ []))) × (p.1.now ≡ rest)) }
+    ensures complete { (n : ℤ) (rest : List ℕ) → IsTrue (is_narrow n) → WordStop rest → text.now ≡ signed_decimal n ++ rest
+        → MatchOption result ⊥ (λ p. ((d : ℕ) → view (suc d) p.0 ≡ of_ints (ops d) (numbers.listed (n ∷ []))) × (p.1.now ≡ rest)) }
 {
     let (n, rest) = read_integer(text)?;
     Some((ints_alone(IntSet::one(n)), rest))
@@ -297,7 +313,8 @@ fn read_number(text: &[u8]) -> Option<(Node, &[u8])>
 fn read_name(text: &[u8]) -> Option<(Node, &[u8])>
     ensures fits { IfSome result (λ p. (d : ℕ) → Fits (suc d) p.0) }
     ensures shorter { IfSome result (λ p. length p.1.now ≤ length text.now) }
-    ensures complete { (d : ℕ) (w rest : List ℕ) (u : TypeAt (suc d)) → IsWord d w u → text.now ≡ w ++ rest → MatchOption result (NoTypeName text.now) (λ p. (view (suc d) p.0 ≡ u) × (p.1.now ≡ rest)) }
+    ensures complete { (d : ℕ) (w rest : List ℕ) (u : TypeAt (suc d)) → IsWord d w u → text.now ≡ w ++ rest
+        → MatchOption result (NoTypeName text.now) (λ p. (view (suc d) p.0 ≡ u) × (p.1.now ≡ rest)) }
 {
     if let Some(rest) = after_word(text, b"tuple()") {
         return Some((every_tuple(), rest));
@@ -322,7 +339,8 @@ fn read_name(text: &[u8]) -> Option<(Node, &[u8])>
 #[tactic(auto, using(crate::proofs::WordStarts::words_apart))]
 fn read_flags(text: &[u8]) -> Option<(FlagSet, &[u8])>
     ensures shorter { IfSome result (λ p. length p.1.now ≤ length text.now) }
-    ensures complete { (d : ℕ) (w rest : List ℕ) (u : TypeAt (suc d)) → IsWord d w u → text.now ≡ w ++ rest → MatchOption result (NoFlag text.now) (λ p. (of_flags (ops d) (flags_of p.0) ≡ u) × (p.1.now ≡ rest)) }
+    ensures complete { (d : ℕ) (w rest : List ℕ) (u : TypeAt (suc d)) → IsWord d w u → text.now ≡ w ++ rest
+        → MatchOption result (NoFlag text.now) (λ p. (of_flags (ops d) (flags_of p.0) ≡ u) × (p.1.now ≡ rest)) }
 {
     let mut flags = FlagSet {
         float: false,
@@ -361,7 +379,8 @@ fn read_flags(text: &[u8]) -> Option<(FlagSet, &[u8])>
 #[tactic(auto, using(crate::proofs::WordStarts::words_apart))]
 fn read_bits(text: &[u8]) -> Option<(Bits, &[u8])>
     ensures shorter { IfSome result (λ p. length p.1.now ≤ length text.now) }
-    ensures complete { (d : ℕ) (w rest : List ℕ) (u : TypeAt (suc d)) → IsWord d w u → text.now ≡ w ++ rest → MatchOption result (NoBits text.now) (λ p. (of_bits (ops d) p.0 ≡ u) × (p.1.now ≡ rest)) }
+    ensures complete { (d : ℕ) (w rest : List ℕ) (u : TypeAt (suc d)) → IsWord d w u → text.now ≡ w ++ rest
+        → MatchOption result (NoBits text.now) (λ p. (of_bits (ops d) p.0 ≡ u) × (p.1.now ≡ rest)) }
 {
     if let Some(rest) = after_word(text, b"binary()") {
         return Some((Bits::Whole, rest));
@@ -375,7 +394,8 @@ fn read_bits(text: &[u8]) -> Option<(Bits, &[u8])>
 fn read_functions(text: &[u8]) -> Option<(FunSet, &[u8])>
     ensures normal { IfSome result (λ p. NormalFunctions (functions_of p.0)) }
     ensures shorter { IfSome result (λ p. length p.1.now ≤ length text.now) }
-    ensures complete { (d : ℕ) (w rest : List ℕ) (u : TypeAt (suc d)) → IsWord d w u → text.now ≡ w ++ rest → MatchOption result (NoFunction text.now) (λ p. (of_functions (ops d) (functions_of p.0) ≡ u) × (p.1.now ≡ rest)) }
+    ensures complete { (d : ℕ) (w rest : List ℕ) (u : TypeAt (suc d)) → IsWord d w u → text.now ≡ w ++ rest
+        → MatchOption result (NoFunction text.now) (λ p. (of_functions (ops d) (functions_of p.0) ≡ u) × (p.1.now ≡ rest)) }
 {
     if let Some(rest) = after_word(text, b"fun()") {
         return Some((FunSet::Every, rest));
@@ -390,7 +410,8 @@ fn read_functions(text: &[u8]) -> Option<(FunSet, &[u8])>
 #[tactic(auto, using(crate::proofs::WordStarts::words_apart))]
 fn read_interval(text: &[u8]) -> Option<(IntSet, &[u8])>
     ensures shorter { IfSome result (λ p. length p.1.now ≤ length text.now) }
-    ensures complete { (d : ℕ) (w rest : List ℕ) (u : TypeAt (suc d)) → IsWord d w u → text.now ≡ w ++ rest → MatchOption result (NoInterval text.now) (λ p. (of_ints (ops d) p.0 ≡ u) × (p.1.now ≡ rest)) }
+    ensures complete { (d : ℕ) (w rest : List ℕ) (u : TypeAt (suc d)) → IsWord d w u → text.now ≡ w ++ rest
+        → MatchOption result (NoInterval text.now) (λ p. (of_ints (ops d) p.0 ≡ u) × (p.1.now ≡ rest)) }
 {
     if let Some(rest) = after_word(text, b"integer()") {
         return Some((IntSet::range(Low::Min, High::Max), rest));

@@ -26,7 +26,8 @@ zip_nothing (x ∷ xs) ys (inr e) = ap (zip (x ∷ xs)) e
 abbrev pub def_lines : (home : Atom) → List (FunDefOf Expr) → List Summary → List ℕ
 def_lines home ds ss = lines_of (typings_in home (defined_names (all_defs ds)) ss)
 
-pub def_line : (home : Atom) (out new whole : List ℕ) (ds es : List (FunDefOf Expr)) (ss ts : List Summary) (d got : FunDefOf Expr) (s : Summary) → ds ≡ d ∷ es → ss ≡ s ∷ ts → out ++ def_lines home ds ss ≡ whole → got ≡ d
+pub def_line : (home : Atom) (out new whole : List ℕ) (ds es : List (FunDefOf Expr)) (ss ts : List Summary) (d got : FunDefOf Expr) (s : Summary) → ds ≡ d ∷ es → ss ≡ s ∷ ts → out ++ def_lines home ds ss ≡ whole
+    → got ≡ d
     → new ≡ out ++ typing_line (record { home = home; name = got.name; sig = s.strict }) → new ++ def_lines home es ts ≡ whole
 def_line home out new whole ds es ss ts d got s e f h g n =
     ap (λ o. o ++ def_lines home es ts) (n ∙ ap (λ (x : FunDefOf Expr). out ++ typing_line (record { home = home; name = x.name; sig = s.strict })) g)

@@ -46,7 +46,8 @@ Once = (s t : Typing) → IsTyping s → IsTyping t → typing_line s ≡ typing
 
 abbrev Holds : Type 0
 Holds =
-    (xs : List m.Module) (known : Callees) → AreAccepted xs → Distinct (module_names xs) → IsWholeOf xs known → (stage : ℕ) (tr : Trace) → Run xs stage tr → (home : Atom) (f : FunName) (s : Summary) (c : Value) (vs : Values) (v : Value)
+    (xs : List m.Module) (known : Callees) → AreAccepted xs → Distinct (module_names xs) → IsWholeOf xs known → (stage : ℕ) (tr : Trace) → Run xs stage tr
+    → (home : Atom) (f : FunName) (s : Summary) (c : Value) (vs : Values) (v : Value)
     → summary_of (known home f) ≡ Some s → top_function xs home f ≡ Some c → Among (gave c vs v) tr → Within s.strict vs v
 
 module _ (small : Small) (once : Once) (holds : Holds) where

@@ -49,7 +49,8 @@ pub fn typer<R: Threads + Wait + Sync, F: Shelf, K: Sink, G: Gate + Sync>(
         (λ held. Answers usage_line Lists (texts words.now) held result (K.written out.old) (K.written out.new)) }
 
     // Each line reads back, and what it says is true of every run.
-    ensures sound { result ≡ RunStatus.Done → IfSome (F.held shelf.old) (λ held. WritesTruth (texts words.now) held (K.written out.old) (K.written out.new)) }
+    ensures sound { result ≡ RunStatus.Done → IfSome (F.held shelf.old)
+        (λ held. WritesTruth (texts words.now) held (K.written out.old) (K.written out.new)) }
 
     // When each answer comes.
     ensures usage { IsAnswer result → (result ≡ RunStatus.Usage) ↔ IsNoCommand (texts words.now) }

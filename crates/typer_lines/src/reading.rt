@@ -76,7 +76,8 @@ fn candidate(alloc: Global, line: &[u8]) -> Result<Option<Typing>, Memory>
 
 // The name of a function behind its module, and what stands behind it.
 fn read_name(alloc: Global, text: &[u8]) -> Result<Option<(FunName, &[u8])>, Memory>
-    ensures complete { IfOk result (λ r. (f : TheName) (rest : List ℕ) → f.arity ≤ MOST_ARGUMENTS → WordStop rest → text.now ≡ name_text f ++ rest → IsSomeAnd r (λ p. (p.0 ≡ f) × (p.1.now ≡ rest))) }
+    ensures complete { IfOk result (λ r. (f : TheName) (rest : List ℕ) → f.arity ≤ MOST_ARGUMENTS → WordStop rest → text.now ≡ name_text f ++ rest
+        → IsSomeAnd r (λ p. (p.0 ≡ f) × (p.1.now ≡ rest))) }
     ensures few { IfOk result (λ r. IfSome r (λ p. p.0.arity ≤ MOST_ARGUMENTS)) }
 {
     let Some(text) = after_word(text, b":") else {
@@ -98,7 +99,8 @@ fn read_name(alloc: Global, text: &[u8]) -> Result<Option<(FunName, &[u8])>, Mem
 
 // The types of so many arguments and of the value, and the end of the line.
 fn read_signature(alloc: Global, arity: u32, text: &[u8]) -> Result<Option<Sig>, Memory>
-    ensures complete { IfOk result (λ r. (s : TheSig) → length s.args ≡ arity → text.now ≡ codes " " ++ signature_text s ++ 10 ∷ [] → r ≡ Some s) }
+    ensures complete { IfOk result (λ r. (s : TheSig) → length s.args ≡ arity → text.now ≡ codes " " ++ signature_text s ++ 10 ∷ []
+        → r ≡ Some s) }
     ensures count { IfOk result (λ r. IfSome r (λ s. length s.args ≡ arity)) }
 {
     let Some(text) = after_word(text, b" (") else {

@@ -11,7 +11,8 @@ lines_of_append home [] f = append-nil (line_of home f)
 lines_of_append home (g ∷ fs) f = ap (λ z. line_of home g ++ z) (lines_of_append home fs f) ∙ sym (append_assoc (line_of home g) (lines_of home fs) (line_of home f))
 
 -- a loop's step: the line of the next finding
-pub line_more : (home : Atom) (refs : List (Bor Finding)) (f : Bor Finding) (i : ℕ) (out more : List ℕ) → out ≡ lines_of home (take i (map (λ r. r.now) refs)) → f ≡ slice_index_or refs i f → i < length refs → more ≡ out ++ line_of home f.now → more ≡ lines_of home (take (i + 1) (map (λ r. r.now) refs))
+pub line_more : (home : Atom) (refs : List (Bor Finding)) (f : Bor Finding) (i : ℕ) (out more : List ℕ) → out ≡ lines_of home (take i (map (λ r. r.now) refs)) → f ≡ slice_index_or refs i f → i < length refs
+    → more ≡ out ++ line_of home f.now → more ≡ lines_of home (take (i + 1) (map (λ r. r.now) refs))
 line_more home refs f i out more so_far item within added =
     let now = map (λ (r : Bor Finding). r.now) refs in
     let at : slice_index_or now i f.now ≡ f.now = get_or-map (λ (r : Bor Finding). r.now) refs i f f.now within ∙ ap (λ (r : Bor Finding). r.now) (sym item) in

@@ -1,5 +1,6 @@
 -- What a stable sort by a key ensures of references, said of what they refer to.
-use Rattle.std.proofs.Common.{◌≡◌, ℕ, ◌+◌, ◌<◌, ◌≤◌, Bool, not, ◌&&◌, ◌||◌, nat_eq, nat_lt, List, [], ◌∷◌, ◌++◌, take, suc, inl, inr, length, map, refl, sym, ap, ◌∙◌, subst, arith, slice_index_or, Bor}
+use Rattle.std.proofs.Common.{◌≡◌, ℕ, ◌+◌, ◌<◌, ◌≤◌, Bool, not, ◌&&◌, ◌||◌, nat_eq, nat_lt, List, [], ◌∷◌, ◌++◌, take}
+use Rattle.std.proofs.Common.{suc, inl, inr, length, map, refl, sym, ap, ◌∙◌, subst, arith, slice_index_or, Bor}
 use Rattle.std.specs.List.{filter}
 use Rattle.std.specs.List.Sorted.{IsPermutation, IsSortedBy, ties, IsStableBy}
 use Rattle.std.specs.Ordering.{is_lt, nat_cmp, ordering_then}
@@ -52,7 +53,8 @@ key_test f g = is_lt (ordering_then (nat_cmp f.now.label g.now.label) (nat_cmp (
 same_test : (f g : Bor Finding) → key_test f g ≡ stands_before f.now g.now
 same_test f g = lexicographic f.now.label (kind_number f.now.kind) g.now.label (kind_number g.now.kind)
 
-pub in_order_of : (findings : List Finding) (refs sorted : List (Bor Finding)) → map (λ f. f.now) refs ≡ findings → IsPermutation refs sorted → IsSortedBy key_test sorted → IsStableBy key_test refs sorted → AreInOrder findings (map (λ f. f.now) sorted)
+pub in_order_of : (findings : List Finding) (refs sorted : List (Bor Finding)) → map (λ f. f.now) refs ≡ findings → IsPermutation refs sorted → IsSortedBy key_test sorted → IsStableBy key_test refs sorted
+    → AreInOrder findings (map (λ f. f.now) sorted)
 in_order_of findings refs sorted is moved up ties = record {
   same = subst (λ fs. IsPermutation fs (map (λ (f : Bor Finding). f.now) sorted)) is (IsPermutation-map (λ (f : Bor Finding). f.now) refs sorted moved);
   sorted = sorted_now stands_before key_test same_test sorted up;
@@ -60,7 +62,8 @@ in_order_of findings refs sorted is moved up ties = record {
 }
 
 -- what a loop that pushes references has pushed
-pub pushed_now : {X : Type 0} (fs : List X) (refs more : List (Bor X)) (f : Bor X) (i : ℕ) → map (λ r. r.now) refs ≡ take i fs → more ≡ refs ++ f ∷ [] → f.now ≡ slice_index_or fs i f.now → i < length fs → map (λ r. r.now) more ≡ take (i + 1) fs
+pub pushed_now : {X : Type 0} (fs : List X) (refs more : List (Bor X)) (f : Bor X) (i : ℕ) → map (λ r. r.now) refs ≡ take i fs → more ≡ refs ++ f ∷ [] → f.now ≡ slice_index_or fs i f.now → i < length fs
+    → map (λ r. r.now) more ≡ take (i + 1) fs
 pushed_now {X} fs refs more f i so_far pushed item within =
     ap (λ rs. map (λ (r : Bor X). r.now) rs) pushed ∙ map-append (λ (r : Bor X). r.now) refs (f ∷ [])
     ∙ ap (λ xs. xs ++ f.now ∷ []) so_far ∙ ap (λ x. take i fs ++ x ∷ []) item ∙ sym (take-suc fs i f.now within)

@@ -29,4 +29,5 @@ abbrev pub invariant-patterns::walk_pattern_pairs-loop-pair : goal.invariant-pat
 invariant-patterns::walk_pattern_pairs-loop-pair l = noting l.walk (pat_pair_targets l.walk.locals (all_pat_pairs (drop l.pair-index l.pairs))) ≡ noting l.fn.walk (pat_pair_targets l.fn.walk.locals (all_pat_pairs l.pairs))
 
 abbrev pub invariant-patterns::walk_pattern_segments-loop-segment : goal.invariant-patterns::walk_pattern_segments-loop-segment
-invariant-patterns::walk_pattern_segments-loop-segment l = noting l.walk (pat_segment_targets l.walk.locals (all_pat_segments (drop l.segment-index l.segments))) ≡ noting l.fn.walk (pat_segment_targets l.fn.walk.locals (all_pat_segments l.segments))
+invariant-patterns::walk_pattern_segments-loop-segment l = noting l.walk (pat_segment_targets l.walk.locals (all_pat_segments (drop l.segment-index l.segments)))
+    ≡ noting l.fn.walk (pat_segment_targets l.fn.walk.locals (all_pat_segments l.segments))

@@ -34,7 +34,8 @@ compared_pat_segment places s = record { value = compared_pattern places s.value
 
 -- The parts of two `try`s, and the maps that two maps update, are the same.
 abbrev pub SameTry : Bool → TryOf Expr → TryOf Expr → Type 0
-SameTry places x y = (compared places (tree x.arg) ≡ compared places (tree y.arg)) × (compared places (tree x.body) ≡ compared places (tree y.body)) × (compared places (tree x.handler) ≡ compared places (tree y.handler)) × (map (compared_variable places) x.vars ≡ map (compared_variable places) y.vars) × (map (compared_variable places) x.catch_vars ≡ map (compared_variable places) y.catch_vars)
+SameTry places x y = (compared places (tree x.arg) ≡ compared places (tree y.arg)) × (compared places (tree x.body) ≡ compared places (tree y.body)) × (compared places (tree x.handler) ≡ compared places (tree y.handler))
+    × (map (compared_variable places) x.vars ≡ map (compared_variable places) y.vars) × (map (compared_variable places) x.catch_vars ≡ map (compared_variable places) y.catch_vars)
 
 abbrev pub SameUpdated : Bool → Option Expr → Option Expr → Type 0
 SameUpdated places (Some x) (Some y) = compared places (tree x) ≡ compared places (tree y)

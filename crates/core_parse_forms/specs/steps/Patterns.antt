@@ -44,7 +44,8 @@ pub record ReadsInBrackets (d n : ℕ) (place : Place) (ts : List Token) (made :
   pub agrees : number_pattern n says ≡ (made, p)
 
 abbrev pub RefusesInBrackets : ℕ → Place → List Token → PartFault → Type 0
-RefusesInBrackets d place us e = (o : Nonterminal) (h i : Then (pattern d) o) (hs : List (Then (pattern d) o)) → Guarded (pattern d) o (h ∷ i ∷ hs) → (ts : List Token) → Goes o (itself o) (in_brackets d place o h (i ∷ hs)) ts us → Refuses o ts e
+RefusesInBrackets d place us e = (o : Nonterminal) (h i : Then (pattern d) o) (hs : List (Then (pattern d) o)) → Guarded (pattern d) o (h ∷ i ∷ hs) → (ts : List Token) → Goes o (itself o) (in_brackets d place o h (i ∷ hs)) ts us
+    → Refuses o ts e
 
 -- The same behind the variable.
 abbrev pub variable_noted : (d : ℕ) → Token → (n : Nonterminal) → Then (pattern d) n → Branch n
@@ -61,7 +62,8 @@ pub record ReadsNotedVariable (d n : ℕ) (place : Place) (t : Token) (ts : List
   pub agrees : number_pattern n says ≡ (made, p)
 
 abbrev pub RefusesNotedVariable : ℕ → Place → Token → List Token → PartFault → Type 0
-RefusesNotedVariable d place t us e = (o : Nonterminal) (h i : Then (pattern d) o) (hs : List (Then (pattern d) o)) → Guarded (pattern d) o (h ∷ i ∷ hs) → (ts : List Token) → Goes o (itself o) (variable_noted d t o h ∷ alias_behind d place t o (i ∷ hs)) ts us → Refuses o ts e
+RefusesNotedVariable d place t us e = (o : Nonterminal) (h i : Then (pattern d) o) (hs : List (Then (pattern d) o)) → Guarded (pattern d) o (h ∷ i ∷ hs) → (ts : List Token)
+    → Goes o (itself o) (variable_noted d t o h ∷ alias_behind d place t o (i ∷ hs)) ts us → Refuses o ts e
 
 -- The pattern that a variable names, behind the equals sign.
 pub record ReadsNamed (k : Mark) (x : VarName) (d n : ℕ) (ts : List Token) (made : m.Pattern) (left : List Token) (p : ℕ) : Type 0 where

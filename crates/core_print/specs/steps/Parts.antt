@@ -44,7 +44,8 @@ clause_words c rest = opened c.mark.note (symbol (codes "<") ∷ patterns true c
 
 abbrev pub definition_words : FunDefOf m.Tree → Words
 definition_words d rest =
-    function_name d.name (symbol (codes "=") ∷ opened d.mark.note (reserved (codes "fun") ∷ symbol (codes "(") ∷ variables true d.fun.params (symbol (codes ")") ∷ symbol (codes "->") ∷ expression d.fun.body (closed d.mark.note rest))))
+    function_name d.name (symbol (codes "=") ∷ opened d.mark.note (reserved (codes "fun") ∷ symbol (codes "(")
+    ∷ variables true d.fun.params (symbol (codes ")") ∷ symbol (codes "->") ∷ expression d.fun.body (closed d.mark.note rest))))
 
 -- A step but for what closes its annotation, and what closes it.
 abbrev pub step_front : StepOf m.Tree → Words

@@ -15,14 +15,16 @@ abbrev pub invariant-expressions::walk_segments-loop-segment : goal.invariant-ex
 invariant-expressions::walk_segments-loop-segment l = noting l.walk (segment_breaks (scope_of l.walk) (all_segments (drop l.segment-index l.segments))) ≡ noting l.fn.walk (segment_breaks (scope_of l.fn.walk) (all_segments l.segments))
 
 abbrev pub invariant-expressions::walk_clauses-loop-clause : goal.invariant-expressions::walk_clauses-loop-clause
-invariant-expressions::walk_clauses-loop-clause l = noting l.walk (clause_breaks (scope_of l.walk) l.ask l.count (all_clauses (drop l.clause-index l.clauses))) ≡ noting l.fn.walk (clause_breaks (scope_of l.fn.walk) l.ask l.count (all_clauses l.clauses))
+invariant-expressions::walk_clauses-loop-clause l = noting l.walk (clause_breaks (scope_of l.walk) l.ask l.count (all_clauses (drop l.clause-index l.clauses)))
+    ≡ noting l.fn.walk (clause_breaks (scope_of l.fn.walk) l.ask l.count (all_clauses l.clauses))
 
 abbrev pub invariant-expressions::walk_definitions-loop-def : goal.invariant-expressions::walk_definitions-loop-def
 invariant-expressions::walk_definitions-loop-def l = noting l.walk (def_breaks (scope_of l.walk) (all_defs (drop l.def-index l.defs))) ≡ noting l.fn.walk (def_breaks (scope_of l.fn.walk) (all_defs l.defs))
 
 abbrev pub invariant-expressions::walk_steps-loop-step : goal.invariant-expressions::walk_steps-loop-step
 invariant-expressions::walk_steps-loop-step l =
-    binding l.walk (steps_bound (all_steps (drop l.step-index l.steps))) (step_breaks (scope_of l.walk) (all_steps (drop l.step-index l.steps))) ≡ binding l.fn.walk (steps_bound (all_steps l.steps)) (step_breaks (scope_of l.fn.walk) (all_steps l.steps))
+    binding l.walk (steps_bound (all_steps (drop l.step-index l.steps))) (step_breaks (scope_of l.walk) (all_steps (drop l.step-index l.steps)))
+    ≡ binding l.fn.walk (steps_bound (all_steps l.steps)) (step_breaks (scope_of l.fn.walk) (all_steps l.steps))
 
 abbrev pub invariant-patterns::walk_patterns-loop-pattern : goal.invariant-patterns::walk_patterns-loop-pattern
 invariant-patterns::walk_patterns-loop-pattern l = record {

@@ -170,7 +170,8 @@ expressions::walk_binary-loop-segment-preserved t c =
 pub expressions::walk_binary-returns : goal.expressions::walk_binary-returns
 expressions::walk_binary-returns t c =
     λ i. one_exit c.one.result c.args.walk.now c.loop-segment.walk one_value (m.binary i (all_segments c.args.segments.now)) p.Nowhere (λ U home sc. s.nowhere)
-    (segments_end c.args.walk.now c.loop-segment.walk c.args.segments.now c.loop-segment.segment-index _ (let t = c.loop-segment-test.false in omega arith) c.loop-segment.invariant) (λ U home sc h. refl) (λ U home sc h. refl) c.one.ensures
+    (segments_end c.args.walk.now c.loop-segment.walk c.args.segments.now c.loop-segment.segment-index _ (let t = c.loop-segment-test.false in omega arith) c.loop-segment.invariant) (λ U home sc h. refl)
+    (λ U home sc h. refl) c.one.ensures
 
 pub expressions::walk_body-returns : goal.expressions::walk_body-returns
 expressions::walk_body-returns t c =

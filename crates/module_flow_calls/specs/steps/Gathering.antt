@@ -7,7 +7,8 @@ use Rattle.core_ast.specs.declared.syntax.StepOf.TheVariants.{Let, Do}
 use Rattle.core_ast.specs.declared.syntax.TryOf.{TryOf}
 use Rattle.core_ast.specs.Model as m
 use Rattle.core_ast.specs.Tree.{tree}
-use Rattle.core_scope.specs.Functions.{LabelledFunction, labelled_function, functions, functions_of_all, functions_of_pairs, functions_of_segments, functions_of_steps, functions_of_clauses, functions_of_defs, functions_of_pattern, functions_of_patterns, functions_of_pat_pairs, functions_of_pat_segments}
+use Rattle.core_scope.specs.Functions.{LabelledFunction, labelled_function, functions, functions_of_all, functions_of_pairs, functions_of_segments, functions_of_steps}
+use Rattle.core_scope.specs.Functions.{functions_of_clauses, functions_of_defs, functions_of_pattern, functions_of_patterns, functions_of_pat_pairs, functions_of_pat_segments}
 use Rattle.core_scope.specs.Names.{defined_names}
 use Rattle.module_flow_calls.specs.declared.names.DefinedFunction.{DefinedFunction}
 use Rattle.module_flow_calls.specs.declared.names.NameWalk.{NameWalk}

@@ -15,21 +15,25 @@ use Rattle.module_flow_walk.proofs.StepRounds.{StepsLeft}
 abbrev pub invariant-expressions::walk_all-loop-expr : goal.invariant-expressions::walk_all-loop-expr
 invariant-expressions::walk_all-loop-expr l = record {
   given : all_given l.all l.types (walk_all (world_of l.context) (walk_scope_of l.walker) (all_trees (drop l.expr-index l.exprs))) ≡ walk_all (world_of l.context) (walk_scope_of l.fn.walker) (all_trees l.exprs);
-  noted : noting l.walker (contributions_of_all (world_of l.context) (walk_scope_of l.walker) (all_trees (drop l.expr-index l.exprs))) (found_in_all (world_of l.context) l.around (walk_scope_of l.walker) (all_trees (drop l.expr-index l.exprs)))
+  noted : noting l.walker (contributions_of_all (world_of l.context) (walk_scope_of l.walker) (all_trees (drop l.expr-index l.exprs)))
+      (found_in_all (world_of l.context) l.around (walk_scope_of l.walker) (all_trees (drop l.expr-index l.exprs)))
       ≡ noting l.fn.walker (contributions_of_all (world_of l.context) (walk_scope_of l.fn.walker) (all_trees l.exprs)) (found_in_all (world_of l.context) l.around (walk_scope_of l.fn.walker) (all_trees l.exprs));
 }
 
 abbrev pub invariant-forms::walk_pairs-loop-pair : goal.invariant-forms::walk_pairs-loop-pair
 invariant-forms::walk_pairs-loop-pair l = record {
   given : (l.all && is_some (walk_pairs (world_of l.context) (walk_scope_of l.walker) (all_pairs (drop l.pair-index l.pairs)))) ≡ is_some (walk_pairs (world_of l.context) (walk_scope_of l.fn.walker) (all_pairs l.pairs));
-  noted : noting l.walker (contributions_of_pairs (world_of l.context) (walk_scope_of l.walker) (all_pairs (drop l.pair-index l.pairs))) (found_in_pairs (world_of l.context) l.around (walk_scope_of l.walker) (all_pairs (drop l.pair-index l.pairs)))
+  noted : noting l.walker (contributions_of_pairs (world_of l.context) (walk_scope_of l.walker) (all_pairs (drop l.pair-index l.pairs)))
+      (found_in_pairs (world_of l.context) l.around (walk_scope_of l.walker) (all_pairs (drop l.pair-index l.pairs)))
       ≡ noting l.fn.walker (contributions_of_pairs (world_of l.context) (walk_scope_of l.fn.walker) (all_pairs l.pairs)) (found_in_pairs (world_of l.context) l.around (walk_scope_of l.fn.walker) (all_pairs l.pairs));
 }
 
 abbrev pub invariant-forms::walk_segments-loop-segment : goal.invariant-forms::walk_segments-loop-segment
 invariant-forms::walk_segments-loop-segment l = record {
-  given : (l.all && is_some (walk_segments (world_of l.context) (walk_scope_of l.walker) (all_segments (drop l.segment-index l.segments)))) ≡ is_some (walk_segments (world_of l.context) (walk_scope_of l.fn.walker) (all_segments l.segments));
-  noted : noting l.walker (contributions_of_segments (world_of l.context) (walk_scope_of l.walker) (all_segments (drop l.segment-index l.segments))) (found_in_segments (world_of l.context) l.around (walk_scope_of l.walker) (all_segments (drop l.segment-index l.segments)))
+  given : (l.all && is_some (walk_segments (world_of l.context) (walk_scope_of l.walker) (all_segments (drop l.segment-index l.segments))))
+      ≡ is_some (walk_segments (world_of l.context) (walk_scope_of l.fn.walker) (all_segments l.segments));
+  noted : noting l.walker (contributions_of_segments (world_of l.context) (walk_scope_of l.walker) (all_segments (drop l.segment-index l.segments)))
+      (found_in_segments (world_of l.context) l.around (walk_scope_of l.walker) (all_segments (drop l.segment-index l.segments)))
       ≡ noting l.fn.walker (contributions_of_segments (world_of l.context) (walk_scope_of l.fn.walker) (all_segments l.segments)) (found_in_segments (world_of l.context) l.around (walk_scope_of l.fn.walker) (all_segments l.segments));
 }
 
@@ -89,15 +93,19 @@ invariant-control::walk_steps-loop-step l = StepsLeft (world_of l.context) l.fn.
 
 abbrev pub invariant-clauses::walk_clauses-loop-clause : goal.invariant-clauses::walk_clauses-loop-clause
 invariant-clauses::walk_clauses-loop-clause l = record {
-  given : either l.given (walk_clauses (world_of l.context) (walk_scope_of l.walker) l.ask l.matched (all_clauses (drop l.clause-index l.clauses))) ≡ walk_clauses (world_of l.context) (walk_scope_of l.fn.walker) l.ask l.matched (all_clauses l.clauses);
+  given : either l.given (walk_clauses (world_of l.context) (walk_scope_of l.walker) l.ask l.matched (all_clauses (drop l.clause-index l.clauses)))
+      ≡ walk_clauses (world_of l.context) (walk_scope_of l.fn.walker) l.ask l.matched (all_clauses l.clauses);
   noted :
-      noting l.walker (contributions_of_clauses (world_of l.context) (walk_scope_of l.walker) l.ask l.matched (all_clauses (drop l.clause-index l.clauses))) (found_in_clauses (world_of l.context) l.around (walk_scope_of l.walker) l.ask l.matched (all_clauses (drop l.clause-index l.clauses)))
-      ≡ noting l.fn.walker (contributions_of_clauses (world_of l.context) (walk_scope_of l.fn.walker) l.ask l.matched (all_clauses l.clauses)) (found_in_clauses (world_of l.context) l.around (walk_scope_of l.fn.walker) l.ask l.matched (all_clauses l.clauses));
+      noting l.walker (contributions_of_clauses (world_of l.context) (walk_scope_of l.walker) l.ask l.matched (all_clauses (drop l.clause-index l.clauses)))
+      (found_in_clauses (world_of l.context) l.around (walk_scope_of l.walker) l.ask l.matched (all_clauses (drop l.clause-index l.clauses)))
+      ≡ noting l.fn.walker (contributions_of_clauses (world_of l.context) (walk_scope_of l.fn.walker) l.ask l.matched (all_clauses l.clauses))
+      (found_in_clauses (world_of l.context) l.around (walk_scope_of l.fn.walker) l.ask l.matched (all_clauses l.clauses));
 }
 
 abbrev pub invariant-control::walk_functions-loop-def : goal.invariant-control::walk_functions-loop-def
 invariant-control::walk_functions-loop-def l =
-    noting l.walker (contributions_of_functions (world_of l.context) (walk_scope_of l.walker) (all_defs (drop l.def-index l.defs))) (found_in_functions (world_of l.context) l.around (walk_scope_of l.walker) (all_defs (drop l.def-index l.defs)))
+    noting l.walker (contributions_of_functions (world_of l.context) (walk_scope_of l.walker) (all_defs (drop l.def-index l.defs)))
+    (found_in_functions (world_of l.context) l.around (walk_scope_of l.walker) (all_defs (drop l.def-index l.defs)))
     ≡ noting l.fn.walker (contributions_of_functions (world_of l.context) (walk_scope_of l.fn.walker) (all_defs l.defs)) (found_in_functions (world_of l.context) l.around (walk_scope_of l.fn.walker) (all_defs l.defs))
 
 abbrev pub decreases-clauses::walk_quietly : goal.decreases-clauses::walk_quietly

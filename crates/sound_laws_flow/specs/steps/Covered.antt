@@ -44,16 +44,19 @@ module _ (U : Program) (callee : Atom → FunName → Callee) (states : Atom →
 
   -- and the state has the type of its result
   abbrev pub HasResult : Atom → (label : ℕ) → WalkScope → List Type4 → Type 0
-  HasResult home l sc ps = (c : LabelledFunction) (ts : List Type4) → function_at U home l ≡ Some c → walk (world_of U callee states home) (with_variables sc c.parameters ps) one_value c.body ≡ Some ts → Below (first ts) (result_of (states home) l)
+  HasResult home l sc ps = (c : LabelledFunction) (ts : List Type4) → function_at U home l ≡ Some c → walk (world_of U callee states home) (with_variables sc c.parameters ps) one_value c.body ≡ Some ts
+      → Below (first ts) (result_of (states home) l)
 
   -- Of a closure: it may be entered with anything, since what it captured has the types that are seen at some position, and the walk
   -- of its body there is borne out. Where it is a function of its module, the state says so.
   abbrev pub OfClosure : Atom → (label arity : ℕ) → Env → Type 0
-  OfClosure home l n env = ((sc : WalkScope) × (IsSeen home sc env × IsBorneOut home l sc [])) × ((f : FunName) → top_function U home f ≡ Some (closure home l n env) → IsOpen (world_of U callee states home) (DeadClause home) (DeadCall home) l n)
+  OfClosure home l n env = ((sc : WalkScope) × (IsSeen home sc env × IsBorneOut home l sc []))
+      × ((f : FunName) → top_function U home f ≡ Some (closure home l n env) → IsOpen (world_of U callee states home) (DeadClause home) (DeadCall home) l n)
 
   -- Of a frame of an environment: it is a `letrec` of the module.
   abbrev pub OfFrame : Atom → List Local → Env → Type 0
-  OfFrame home ls env = (ds : m.Defs) × ((locals_of ds ≡ ls) × (AreAtLabels U home ds × ((sc : WalkScope) × (IsSeen home sc env × (NamesOnce ds × FineFunctions (world_of U callee states home) (DeadClause home) (DeadCall home) (with_functions sc ds) ds)))))
+  OfFrame home ls env = (ds : m.Defs) × ((locals_of ds ≡ ls) × (AreAtLabels U home ds
+      × ((sc : WalkScope) × (IsSeen home sc env × (NamesOnce ds × FineFunctions (world_of U callee states home) (DeadClause home) (DeadCall home) (with_functions sc ds) ds)))))
 
   -- each closure that the value holds is so, and each that it has captured
   abbrev pub Covered : Value → Type 0
@@ -71,12 +74,14 @@ module _ (U : Program) (callee : Atom → FunName → Callee) (states : Atom →
   IsAllowed (made c) = Covered c
   IsAllowed (chosen home l) = DeadClause home l → ⊥
   IsAllowed (applied home l c) = Unit {0}
-  IsAllowed (entered c vs) = (home : Atom) (f : FunName) (label arity : ℕ) (env : Env) → c ≡ closure home label arity env → top_function U home f ≡ Some c → (ps : List Type4) × ((parameters_of (states home) label ≡ Some ps) × HasTypes vs ps)
+  IsAllowed (entered c vs) = (home : Atom) (f : FunName) (label arity : ℕ) (env : Env) → c ≡ closure home label arity env → top_function U home f ≡ Some c
+      → (ps : List Type4) × ((parameters_of (states home) label ≡ Some ps) × HasTypes vs ps)
   IsAllowed (gave c vs v) = Unit {0}
   IsAllowed (back home l v) = DeadCall home l → ⊥
 
   -- The state of a module takes in what walks of its functions give, and begins with what anyone may enter.
   pub record IsSettled (home : Atom) : Type 0 where
     pub names : NamesOnce (defs_in (module_named U home))
-    pub bodies : (f : FunName) (label arity : ℕ) (ps : List Type4) → top_function U home f ≡ Some (closure home label arity no_variable) → parameters_of (states home) label ≡ Some ps → IsBorneOut home label outermost ps × HasResult home label outermost ps
+    pub bodies : (f : FunName) (label arity : ℕ) (ps : List Type4) → top_function U home f ≡ Some (closure home label arity no_variable) → parameters_of (states home) label ≡ Some ps
+        → IsBorneOut home label outermost ps × HasResult home label outermost ps
     pub exports : (f : FunName) (label arity : ℕ) → is_exported U home f ≡ true → top_function U home f ≡ Some (closure home label arity no_variable) → parameters_of (states home) label ≡ Some (replicate arity any)

@@ -69,14 +69,16 @@ module _ (W : World) (DeadClause DeadCall : ℕ → Type 0) where
     Fine sc k (m.apply i t ts) =
         ByName (local_name t)
         (λ f. FineAll sc ts × ((us : List Type4) → walk_all W sc ts ≡ Some us → f.arity ≡ length us → FineApplied (resolved_name W sc f) f i.label us))
-        (Fine sc one_value t × (FineAll sc ts × ((os us : List Type4) → walk W sc one_value t ≡ Some os → walk_all W sc ts ≡ Some us → is_none (meet (first os) (function_type (length us))) ≡ false → DeadCall i.label → ⊥)))
+        (Fine sc one_value t × (FineAll sc ts × ((os us : List Type4) → walk W sc one_value t ≡ Some os → walk_all W sc ts ≡ Some us → is_none (meet (first os) (function_type (length us))) ≡ false → DeadCall i.label
+        → ⊥)))
     Fine sc k (m.call i t u ts) =
         ByName (call_names t u)
         (λ names. FineAll sc ts × ((us ws : List Type4) → walk_all W sc ts ≡ Some us → called (lenient W) names.0 names.1 us ≡ Some ws → DeadCall i.label → ⊥))
         (Fine sc one_value t × (Fine sc one_value u × (FineAll sc ts × (DeadCall i.label → ⊥))))
     Fine sc k (m.primop i x ts) = FineAll sc ts
     Fine sc k (m.try i t xs u ys w) = Fine sc (Exactly (length xs)) t × (((ts : List Type4) → walk W sc (Exactly (length xs)) t ≡ Some ts → Fine (with_variables sc xs ts) k u) × Fine (with_variables sc ys []) k w)
-    Fine sc k (m.receive i cs t u) = Fine sc one_value t × ((limit : List Type4) → walk W sc one_value t ≡ Some limit → FineClauses (seen_by_messages sc) k (length sc.types ∷ []) cs × (is_none (meet (first limit) naturals) ≡ false → Fine sc k u))
+    Fine sc k (m.receive i cs t u) = Fine sc one_value t × ((limit : List Type4) → walk W sc one_value t ≡ Some limit
+        → FineClauses (seen_by_messages sc) k (length sc.types ∷ []) cs × (is_none (meet (first limit) naturals) ≡ false → Fine sc k u))
     Fine sc k (m.catch i t) = Fine sc one_value t
 
     pub FineAll : WalkScope → m.Trees → Type 0
@@ -106,4 +108,5 @@ module _ (W : World) (DeadClause DeadCall : ℕ → Type 0) where
     -- each function that is entered, walked where it is defined with the parameters of the state; and the state has its result
     pub FineFunctions : WalkScope → m.Defs → Type 0
     FineFunctions sc m.no_def = Unit {0}
-    FineFunctions sc (m.and_def f i xs t ds) = ((ps : List Type4) → parameters_of W.state i.label ≡ Some ps → Fine (with_variables sc xs ps) one_value t × ((ts : List Type4) → walk W (with_variables sc xs ps) one_value t ≡ Some ts → Below (first ts) (result_of W.state i.label))) × FineFunctions sc ds
+    FineFunctions sc (m.and_def f i xs t ds) = ((ps : List Type4) → parameters_of W.state i.label ≡ Some ps
+        → Fine (with_variables sc xs ps) one_value t × ((ts : List Type4) → walk W (with_variables sc xs ps) one_value t ≡ Some ts → Below (first ts) (result_of W.state i.label))) × FineFunctions sc ds

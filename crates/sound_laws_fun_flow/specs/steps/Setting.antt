@@ -83,4 +83,5 @@ module _ (Z : Setting) where
   -- In a covered environment that fits the scope, and where the rules of the expression are there, each event is allowed, and the
   -- values are in the sets of the expression's places.
   abbrev pub Invariant : (Atom → Env → m.Tree → Outcome → Trace → Type 0) → Type 0
-  Invariant E = (home : Atom) (env : Env) (sc : Scope) (t : m.Tree) (o : Outcome) (tr : Trace) (k : Ask) → E home env t o tr → CovEnv home env → Fits Z.program Z.rule sc env → AreRules Z.program Z.rule (rules Z.program home sc k t) → AllOk tr × Result (places Z.program home sc k t) o
+  Invariant E = (home : Atom) (env : Env) (sc : Scope) (t : m.Tree) (o : Outcome) (tr : Trace) (k : Ask) → E home env t o tr → CovEnv home env → Fits Z.program Z.rule sc env → AreRules Z.program Z.rule (rules Z.program home sc k t)
+      → AllOk tr × Result (places Z.program home sc k t) o

@@ -1,5 +1,6 @@
 -- The type that bytes begin with, and what is left, as a function of the bytes: None where they begin with no type's spelling.
-use Rattle.std.specs.Prelude.{◌≡◌, ℕ, zero, suc, ◌+◌, ◌-◌, ◌*◌, ◌/◌, ◌%◌, ◌==◌, nat_lt, nat_le, ℤ, Bool, true, not, cond, List, [], ◌∷◌, length, take, drop, Option, Some, None, is_some, Result, Ok, Err}
+use Rattle.std.specs.Prelude.{◌≡◌, ℕ, zero, suc, ◌+◌, ◌-◌, ◌*◌, ◌/◌, ◌%◌, ◌==◌, nat_lt, nat_le, ℤ, Bool, true, not}
+use Rattle.std.specs.Prelude.{cond, List, [], ◌∷◌, length, take, drop, Option, Some, None, is_some, Result, Ok, Err}
 use Rattle.std.specs.Int.{w32, w128, from_be_bytes, cast_signed, bit_at}
 use Rattle.std.specs.Ordering.{nat_cmp}
 use Rattle.type_kinds_sets.specs.Names as names

@@ -24,7 +24,8 @@ loop-member-preserved c =
     let known = found c.args.decided.now.known in
     let lines = c.args.decided.now.lines in
     let names = member_names c.args.members.now in
-    let one = subst (λ ns. Adds K M known lines ns (c.member-item.result.name ∷ []) (entry_at c.loop-member.entries.by_name) (entry_at c.add_member.new.entries.by_name)) (c.as_slice.ensures ∙ c.in_ok-names.ensures) c.in_ok-add_member.ensures in
+    let one = subst (λ ns. Adds K M known lines ns (c.member-item.result.name ∷ []) (entry_at c.loop-member.entries.by_name) (entry_at c.add_member.new.entries.by_name))
+    (c.as_slice.ensures ∙ c.in_ok-names.ensures) c.in_ok-add_member.ensures in
     subst (λ ns. Adds K M known lines names ns (entry_at c.args.entries.now.by_name) (entry_at c.add_member.new.entries.by_name))
     (sym (map_next (λ m. m.name) c.args.members.now c.loop-member.member-index c.member-item.result c.loop-member-test.true c.member-item.is))
     (adds_one_more K M known lines names (member_names (take c.loop-member.member-index c.args.members.now)) c.member-item.result.name (entry_at c.args.entries.now.by_name) (entry_at c.loop-member.entries.by_name)

@@ -27,7 +27,8 @@ loop-group-preserved c =
     ap (stops (entries_so c.args.table.now) (sources_so c.args.sources.now) c.loop-group.todo) (sym names) ∙ sym c.in_ok-stops.ensures ∙ c.if-branch.false in
     subst
     (λ n.
-    InWave (entries_so c.args.table.now) (sources_so c.args.sources.now) (groups_in (lists_of c.args.list.now)) c.args.first (found c.args.known.now) c.args.changed.now n (found c.decide_group.new.known) c.decide_group.new.todo c.decide_group.new.changed)
+    InWave (entries_so c.args.table.now) (sources_so c.args.sources.now) (groups_in (lists_of c.args.list.now)) c.args.first (found c.args.known.now) c.args.changed.now n
+    (found c.decide_group.new.known) c.decide_group.new.todo c.decide_group.new.changed)
     (sym (add-one c.loop-group.group))
     (in_next (entries_so c.args.table.now) (sources_so c.args.sources.now) (groups_in (lists_of c.args.list.now)) c.args.first (found c.args.known.now) c.args.changed.now c.loop-group.group (found c.loop-group.known)
     (found c.decide_group.new.known) c.loop-group.todo c.decide_group.new.todo c.loop-group.changed c.decide_group.new.changed c.loop-group.invariant low free c.in_ok-decide_group.ensures.wave

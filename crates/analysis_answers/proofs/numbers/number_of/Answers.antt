@@ -19,9 +19,11 @@ returns-in_default c =
 
 pub returns-then-number-from : goal.returns-then-number-from
 returns-then-number-from c =
-    λ n least low e. too_many_told c.as_bytes-digits.result.now c.in-Some.number c.args.most c.in-Some.ensures.0 (subst (λ m. m < c.in-Some.number) c.from.ensures c.if-number-from.true) n low (omega (arith, low, c.requires)) (c.as_bytes-digits.ensures.value ∙ e)
+    λ n least low e. too_many_told c.as_bytes-digits.result.now c.in-Some.number c.args.most c.in-Some.ensures.0 (subst (λ m. m < c.in-Some.number) c.from.ensures c.if-number-from.true) n low (omega (arith, low, c.requires))
+    (c.as_bytes-digits.ensures.value ∙ e)
 
 pub returns : goal.returns
 returns c =
-    let so = number_so c.as_bytes-digits.result.now c.begins_number.result c.in-Some.number c.args.most (omega (arith, c.requires)) c.begins_number.ensures c.if-not-begins_number.false (all_digits c.as_bytes-digits.result.now c.digits_len.result c.digits_len.ensures.front c.if-digits_len-digits.false) c.in-Some.ensures.0 (subst (λ m. c.in-Some.number ≤ m) c.from.ensures c.if-number-from.false) in
+    let so = number_so c.as_bytes-digits.result.now c.begins_number.result c.in-Some.number c.args.most (omega (arith, c.requires)) c.begins_number.ensures c.if-not-begins_number.false
+    (all_digits c.as_bytes-digits.result.now c.digits_len.result c.digits_len.ensures.front c.if-digits_len-digits.false) c.in-Some.ensures.0 (subst (λ m. c.in-Some.number ≤ m) c.from.ensures c.if-number-from.false) in
     (sym c.as_bytes-digits.ensures.value ∙ so.0, so.1, so.2)

@@ -12,7 +12,8 @@ pub add_pairs-requires-clause-from : goal.add_pairs-requires-clause-from
 add_pairs-requires-clause-from c =
     let source = c.args.source.now in
     let long = left_longer source.name source.exports c.as_slice-defs.result.now c.loop-def.def-index c.def-item.result c.loop-def-test.true c.def-item.is in
-    let whole : length (functions_in source.name source.exports (all_defs c.as_slice-defs.result.now)) ≡ length (module_functions (module_tree source)) = ap (λ ds. length (functions_in source.name source.exports (all_defs ds))) c.as_slice-defs.ensures in
+    let whole : length (functions_in source.name source.exports (all_defs c.as_slice-defs.result.now)) ≡ length (module_functions (module_tree source)) =
+    ap (λ ds. length (functions_in source.name source.exports (all_defs ds))) c.as_slice-defs.ensures in
     let k = c.loop-def.invariant.caller in
     let s = c.loop-def.invariant.size in
     let r = c.requires.room in
@@ -31,7 +32,8 @@ pub overflow_add-caller : goal.overflow_add-caller
 overflow_add-caller c =
     let source = c.args.source.now in
     let long = left_longer source.name source.exports c.as_slice-defs.result.now c.loop-def.def-index c.def-item.result c.loop-def-test.true c.def-item.is in
-    let whole : length (functions_in source.name source.exports (all_defs c.as_slice-defs.result.now)) ≡ length (module_functions (module_tree source)) = ap (λ ds. length (functions_in source.name source.exports (all_defs ds))) c.as_slice-defs.ensures in
+    let whole : length (functions_in source.name source.exports (all_defs c.as_slice-defs.result.now)) ≡ length (module_functions (module_tree source)) =
+    ap (λ ds. length (functions_in source.name source.exports (all_defs ds))) c.as_slice-defs.ensures in
     let k = c.loop-def.invariant.caller in
     let r = c.requires.room in
     let f = c.requires.few in
@@ -42,12 +44,15 @@ loop-def-preserved c =
     let source = c.args.source.now in
     let w = c.loop-def.walk in
     let kept = c.loop-def.invariant in
-    let found = body_callees w c.walk_body.new.walk c.args.walk.now.table source.name source.exports c.def-item.result c.get-def.result.now c.get.result.now c.as_slice.result.now kept.table kept.home kept.locals c.get-def.ensures c.get.ensures c.in_ok-walk_body.ensures c.as_slice.ensures in
-    let missed = body_missed w c.walk_body.new.walk c.args.walk.now.table source.name source.exports c.def-item.result c.get-def.result.now c.get.result.now c.take_outside.result kept.table kept.locals c.get-def.ensures c.get.ensures c.in_ok-walk_body.ensures c.take_outside.ensures.result in
+    let found = body_callees w c.walk_body.new.walk c.args.walk.now.table source.name source.exports c.def-item.result c.get-def.result.now c.get.result.now c.as_slice.result.now kept.table kept.home kept.locals c.get-def.ensures
+    c.get.ensures c.in_ok-walk_body.ensures c.as_slice.ensures in
+    let missed = body_missed w c.walk_body.new.walk c.args.walk.now.table source.name source.exports c.def-item.result c.get-def.result.now c.get.result.now c.take_outside.result kept.table kept.locals c.get-def.ensures c.get.ensures
+    c.in_ok-walk_body.ensures c.take_outside.ensures.result in
     let long = left_longer source.name source.exports c.as_slice-defs.result.now c.loop-def.def-index c.def-item.result c.loop-def-test.true c.def-item.is in
     record {
       pairs =
-          module_round c.loop-def.calls.graph c.add_pairs.new.graph c.args.calls.now.graph c.args.walk.now.table c.loop-def.caller c.args.first source.name source.exports c.as_slice-defs.result.now c.loop-def.def-index c.def-item.result c.as_slice.result.now c.loop-def-test.true c.def-item.is found
+          module_round c.loop-def.calls.graph c.add_pairs.new.graph c.args.calls.now.graph c.args.walk.now.table c.loop-def.caller c.args.first source.name source.exports c.as_slice-defs.result.now c.loop-def.def-index c.def-item.result
+          c.as_slice.result.now c.loop-def-test.true c.def-item.is found
           c.in_ok-add_pairs.ensures.pairs kept.pairs;
       size = c.in_ok-add_pairs.ensures.size ∙ kept.size;
       caller = let k = kept.caller in omega (arith, long, k);
@@ -56,7 +61,8 @@ loop-def-preserved c =
       outside =
           one_more (missed_in c.args.walk.now.table) c.loop-def.calls.outside c.add.new.self (c.args.calls.now.outside ++ map (missed_in c.args.walk.now.table) (functions_in source.name source.exports (all_defs c.as_slice-defs.result.now)))
           (functions_in source.name source.exports (all_defs (drop c.loop-def.def-index c.as_slice-defs.result.now))) (functions_in source.name source.exports (all_defs (drop (c.loop-def.def-index + 1) c.as_slice-defs.result.now)))
-          (function_at source.name source.exports c.def-item.result) c.take_outside.result (next_function source.name source.exports c.as_slice-defs.result.now c.loop-def.def-index c.def-item.result c.loop-def-test.true c.def-item.is) missed c.in_ok-add.ensures.ok kept.outside;
+          (function_at source.name source.exports c.def-item.result) c.take_outside.result
+          (next_function source.name source.exports c.as_slice-defs.result.now c.loop-def.def-index c.def-item.result c.loop-def-test.true c.def-item.is) missed c.in_ok-add.ensures.ok kept.outside;
       locals = ap (λ v. v.locals) c.take_outside.ensures.rest ∙ ap (λ v. v.locals) c.in_ok-walk_body.ensures ∙ kept.locals;
     }
 
@@ -65,7 +71,8 @@ returns-clause-next c =
     let source = c.args.source.now in
     let none : length (functions_in source.name source.exports (all_defs (drop c.loop-def.def-index c.as_slice-defs.result.now))) ≡ 0 =
     ap (λ ds. length (functions_in source.name source.exports (all_defs ds))) (drop_all c.loop-def.def-index c.as_slice-defs.result.now (let t = c.loop-def-test.false in omega arith)) in
-    let whole : length (functions_in source.name source.exports (all_defs c.as_slice-defs.result.now)) ≡ length (module_functions (module_tree source)) = ap (λ ds. length (functions_in source.name source.exports (all_defs ds))) c.as_slice-defs.ensures in
+    let whole : length (functions_in source.name source.exports (all_defs c.as_slice-defs.result.now)) ≡ length (module_functions (module_tree source)) =
+    ap (λ ds. length (functions_in source.name source.exports (all_defs ds))) c.as_slice-defs.ensures in
     let k = c.loop-def.invariant.caller in
     omega (arith, none, whole, k)
 
@@ -78,13 +85,15 @@ returns-clause-pairs c =
     λ i j.
     both_ways
     (none_left c.loop-def.calls.graph table c.loop-def.caller left i j (ap (λ ds. functions_in source.name source.exports (all_defs ds)) (drop_all c.loop-def.def-index defs (let t = c.loop-def-test.false in omega arith))))
-    (subst (λ ds. WithPairs c.loop-def.calls.graph table c.loop-def.caller left i j ↔ WithPairs c.args.calls.now.graph table c.args.first (functions_in source.name source.exports (all_defs ds)) i j) c.as_slice-defs.ensures (c.loop-def.invariant.pairs i j))
+    (subst (λ ds. WithPairs c.loop-def.calls.graph table c.loop-def.caller left i j ↔ WithPairs c.args.calls.now.graph table c.args.first (functions_in source.name source.exports (all_defs ds)) i j) c.as_slice-defs.ensures
+    (c.loop-def.invariant.pairs i j))
 
 pub returns-clause-outside : goal.returns-clause-outside
 returns-clause-outside c =
     let source = c.args.source.now in
     let table = c.args.walk.now.table in
     let defs = c.as_slice-defs.result.now in
-    all_added (missed_in table) c.loop-def.calls.outside (c.args.calls.now.outside ++ map (missed_in table) (functions_in source.name source.exports (all_defs defs))) (functions_in source.name source.exports (all_defs (drop c.loop-def.def-index defs)))
+    all_added (missed_in table) c.loop-def.calls.outside (c.args.calls.now.outside ++ map (missed_in table) (functions_in source.name source.exports (all_defs defs)))
+    (functions_in source.name source.exports (all_defs (drop c.loop-def.def-index defs)))
     (ap (λ ds. functions_in source.name source.exports (all_defs ds)) (drop_all c.loop-def.def-index defs (let t = c.loop-def-test.false in omega arith))) c.loop-def.invariant.outside
     ∙ ap (λ ds. c.args.calls.now.outside ++ map (missed_in table) (functions_in source.name source.exports (all_defs ds))) c.as_slice-defs.ensures

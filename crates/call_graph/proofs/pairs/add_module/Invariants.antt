@@ -13,6 +13,7 @@ invariant-loop-def l = record {
   caller : l.caller + length (functions_in l.source.name l.source.exports (all_defs (drop l.def-index l.defs))) ≡ l.first + length (functions_in l.source.name l.source.exports (all_defs l.defs));
   table : l.walk.table ≡ l.fn.walk.table;
   home : l.walk.home ≡ l.source.name;
-  outside : l.calls.outside ++ map (missed_in l.fn.walk.table) (functions_in l.source.name l.source.exports (all_defs (drop l.def-index l.defs))) ≡ l.fn.calls.outside ++ map (missed_in l.fn.walk.table) (functions_in l.source.name l.source.exports (all_defs l.defs));
+  outside : l.calls.outside ++ map (missed_in l.fn.walk.table) (functions_in l.source.name l.source.exports (all_defs (drop l.def-index l.defs)))
+      ≡ l.fn.calls.outside ++ map (missed_in l.fn.walk.table) (functions_in l.source.name l.source.exports (all_defs l.defs));
   locals : l.walk.locals ≡ [];
 }

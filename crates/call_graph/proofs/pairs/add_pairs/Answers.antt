@@ -19,11 +19,13 @@ pub loop-to-preserved : goal.loop-to-preserved
 loop-to-preserved c = record {
   pairs = λ i j.
       both_ways
-      (pairs_round c.loop-to.graph c.add.new.self c.args.from (drop c.loop-to.to-index c.args.callees.now) (drop (c.loop-to.to-index + 1) c.args.callees.now) (slice_index c.args.callees.now c.loop-to.to-index) (drop_more c.args.callees.now c.loop-to.to-index 0 c.loop-to-test.true) c.in_ok-add.ensures.pairs i j)
+      (pairs_round c.loop-to.graph c.add.new.self c.args.from (drop c.loop-to.to-index c.args.callees.now) (drop (c.loop-to.to-index + 1) c.args.callees.now) (slice_index c.args.callees.now c.loop-to.to-index)
+      (drop_more c.args.callees.now c.loop-to.to-index 0 c.loop-to-test.true) c.in_ok-add.ensures.pairs i j)
       (c.loop-to.invariant.pairs i j);
   size = c.in_ok-add.ensures.count ∙ c.loop-to.invariant.size;
 }
 
 pub returns-clause-pairs : goal.returns-clause-pairs
 returns-clause-pairs c =
-    pairs_exit c.loop-to.graph c.args.graph.now c.args.from c.args.callees.now (drop c.loop-to.to-index c.args.callees.now) (drop_all c.loop-to.to-index c.args.callees.now (let t = c.loop-to-test.false in omega arith)) c.loop-to.invariant.pairs
+    pairs_exit c.loop-to.graph c.args.graph.now c.args.from c.args.callees.now (drop c.loop-to.to-index c.args.callees.now)
+    (drop_all c.loop-to.to-index c.args.callees.now (let t = c.loop-to-test.false in omega arith)) c.loop-to.invariant.pairs

@@ -44,7 +44,8 @@ loop-source-preserved g c =
     let long = left_split g.S.AsChecked.stands_for c.args.mods.now c.loop-source.source-index c.source-item.result (module_tree c.module.result.now) c.loop-source-test.true c.source-item.is is in
     record {
       pairs =
-          graph_round g.S.AsChecked.stands_for c.loop-source.calls.graph c.add_module.new.calls.graph c.loop-source.walk.table c.add_module.new.walk.table c.loop-source.next c.in_ok-next.next c.args.mods.now c.loop-source.source-index c.source-item.result (module_tree c.module.result.now) c.loop-source-test.true
+          graph_round g.S.AsChecked.stands_for c.loop-source.calls.graph c.add_module.new.calls.graph c.loop-source.walk.table c.add_module.new.walk.table c.loop-source.next c.in_ok-next.next c.args.mods.now c.loop-source.source-index
+          c.source-item.result (module_tree c.module.result.now) c.loop-source-test.true
           c.source-item.is is c.in_ok-next.ensures.table c.in_ok-next.ensures.next c.in_ok-next.ensures.pairs kept.pairs;
       size = c.in_ok-next.ensures.size ∙ kept.size;
       next = let n = c.in_ok-next.ensures.next in let k = kept.next in omega (arith, long, n, k);
@@ -59,7 +60,8 @@ loop-source-preserved g c =
 
 pub returns-clause-pairs : goal.returns-clause-pairs
 returns-clause-pairs g c =
-    graph_exit g.S.AsChecked.stands_for c.loop-source.calls.graph c.loop-source.walk.table c.loop-source.next c.args.mods.now c.loop-source.source-index (let t = c.loop-source-test.false in omega arith) c.loop-source.invariant.table c.loop-source.invariant.pairs
+    graph_exit g.S.AsChecked.stands_for c.loop-source.calls.graph c.loop-source.walk.table c.loop-source.next c.args.mods.now c.loop-source.source-index
+    (let t = c.loop-source-test.false in omega arith) c.loop-source.invariant.table c.loop-source.invariant.pairs
 
 pub returns-clause-outside : goal.returns-clause-outside
 returns-clause-outside g c =

@@ -11,5 +11,6 @@ abbrev pub invariant-loop-source : goal.invariant-loop-source
 invariant-loop-source g l = record {
   entries : inserted l.table.functions.entries l.table.count (functions_of (modules g.S.AsChecked.stands_for (drop l.source-index l.mods))) ≡ inserted [] 0 (functions_of (modules g.S.AsChecked.stands_for l.mods));
   count : l.table.count + length (functions_of (modules g.S.AsChecked.stands_for (drop l.source-index l.mods))) ≡ length (functions_of (modules g.S.AsChecked.stands_for l.mods));
-  modules : (h : Atom) → (list_any (same_atom h) l.table.modules.keys || list_any (same_atom h) (names (modules g.S.AsChecked.stands_for (drop l.source-index l.mods)))) ≡ list_any (same_atom h) (names (modules g.S.AsChecked.stands_for l.mods));
+  modules : (h : Atom) → (list_any (same_atom h) l.table.modules.keys || list_any (same_atom h) (names (modules g.S.AsChecked.stands_for (drop l.source-index l.mods))))
+      ≡ list_any (same_atom h) (names (modules g.S.AsChecked.stands_for l.mods));
 }

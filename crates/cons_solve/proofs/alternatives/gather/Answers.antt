@@ -21,9 +21,11 @@ returns-in_ok-first-in-None-clause-value c =
 pub returns-in_ok-higher-in-Some-clause-kept : goal.returns-in_ok-higher-in-Some-clause-kept
 returns-in_ok-higher-in-Some-clause-kept c =
     let xs = c.args.slots.now.types in
-    next_kept c.type_facts.ensures c.args.best c.args.alive c.in-Some.lows c.as_slice-in-Some.result.now c.in_ok-higher-in-Some.higher (laid (drop c.args.checkpoint c.args.slots.now.trail) xs) xs c.in-Some.is c.if-not-alive.false c.as_slice-in-Some.ensures c.in_ok-higher-in-Some.ensures c.requires.below c.requires.kept
+    next_kept c.type_facts.ensures c.args.best c.args.alive c.in-Some.lows c.as_slice-in-Some.result.now c.in_ok-higher-in-Some.higher
+    (laid (drop c.args.checkpoint c.args.slots.now.trail) xs) xs c.in-Some.is c.if-not-alive.false c.as_slice-in-Some.ensures c.in_ok-higher-in-Some.ensures c.requires.below c.requires.kept
 
 pub returns-in_ok-higher-in-Some-clause-value : goal.returns-in_ok-higher-in-Some-clause-value
 returns-in_ok-higher-in-Some-clause-value c =
     let xs = c.args.slots.now.types in
-    next_gathered c.type_facts.ensures c.args.best c.args.alive c.in-Some.lows c.as_slice-in-Some.result.now c.in_ok-higher-in-Some.higher (laid (drop c.args.checkpoint c.args.slots.now.trail) xs) xs c.in-Some.is c.if-not-alive.false c.as_slice-in-Some.ensures c.in_ok-higher-in-Some.ensures c.requires.below
+    next_gathered c.type_facts.ensures c.args.best c.args.alive c.in-Some.lows c.as_slice-in-Some.result.now c.in_ok-higher-in-Some.higher
+    (laid (drop c.args.checkpoint c.args.slots.now.trail) xs) xs c.in-Some.is c.if-not-alive.false c.as_slice-in-Some.ensures c.in_ok-higher-in-Some.ensures c.requires.below

@@ -11,4 +11,5 @@ returns-in-All-clause-value g c =
     let xs = c.args.slots.now.types in
     let ys = c.count_work.new.slots.types in
     let ms = c.as_slice.result.now in
-    IfOk-weaker c.count_work.result (λ a. solution (all_of (constraints ms)) xs ≡ answer a ys) (λ a. solution (constraint c.args.c.now) xs ≡ answer a ys) (λ a h. ap (λ k. solution k xs) (of_all c.args.c.now c.in-All.members ms c.in-All.is c.as_slice.ensures) ∙ h) c.count_work.ensures.value
+    IfOk-weaker c.count_work.result (λ a. solution (all_of (constraints ms)) xs ≡ answer a ys) (λ a. solution (constraint c.args.c.now) xs ≡ answer a ys)
+    (λ a h. ap (λ k. solution k xs) (of_all c.args.c.now c.in-All.members ms c.in-All.is c.as_slice.ensures) ∙ h) c.count_work.ensures.value

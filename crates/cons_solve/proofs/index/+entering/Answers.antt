@@ -13,7 +13,8 @@ enter-returns-in-Part t c =
     let Q : ℕ → Type 0 = λ s. Free s (constraint c.args.c.now) in
     let old = c.args.namings.now in
     let new = c.enter_part.new.namings in
-    IfOk-weaker c.enter_part.result (λ _. Grown P c.args.member old new) (λ _. Grown Q c.args.member old new) (λ _ g. grown_as P Q c.args.member old new (λ s h. free_part c.args.c.now c.in-Part.part s c.in-Part.is h) g) c.enter_part.ensures
+    IfOk-weaker c.enter_part.result (λ _. Grown P c.args.member old new) (λ _. Grown Q c.args.member old new)
+    (λ _ g. grown_as P Q c.args.member old new (λ s h. free_part c.args.c.now c.in-Part.part s c.in-Part.is h) g) c.enter_part.ensures
 
 pub enter-returns-in-All : goal.enter-returns-in-All
 enter-returns-in-All t c =
@@ -22,7 +23,8 @@ enter-returns-in-All t c =
     let Q : ℕ → Type 0 = λ s. Free s (constraint c.args.c.now) in
     let old = c.args.namings.now in
     let new = c.enter_each.new.namings in
-    IfOk-weaker c.enter_each.result (λ _. Grown P c.args.member old new) (λ _. Grown Q c.args.member old new) (λ _ g. grown_as P Q c.args.member old new (λ s h. free_in_all c.args.c.now c.in-All.inner ms s c.in-All.is c.as_slice.ensures h) g) c.enter_each.ensures
+    IfOk-weaker c.enter_each.result (λ _. Grown P c.args.member old new) (λ _. Grown Q c.args.member old new)
+    (λ _ g. grown_as P Q c.args.member old new (λ s h. free_in_all c.args.c.now c.in-All.inner ms s c.in-All.is c.as_slice.ensures h) g) c.enter_each.ensures
 
 pub enter-returns-in-Any : goal.enter-returns-in-Any
 enter-returns-in-Any t c =
@@ -31,4 +33,5 @@ enter-returns-in-Any t c =
     let Q : ℕ → Type 0 = λ s. Free s (constraint c.args.c.now) in
     let old = c.args.namings.now in
     let new = c.enter_each-in-Any.new.namings in
-    IfOk-weaker c.enter_each-in-Any.result (λ _. Grown P c.args.member old new) (λ _. Grown Q c.args.member old new) (λ _ g. grown_as P Q c.args.member old new (λ s h. free_in_any c.args.c.now c.in-Any.inner ms s c.in-Any.is c.as_slice-in-Any.ensures h) g) c.enter_each-in-Any.ensures
+    IfOk-weaker c.enter_each-in-Any.result (λ _. Grown P c.args.member old new) (λ _. Grown Q c.args.member old new)
+    (λ _ g. grown_as P Q c.args.member old new (λ s h. free_in_any c.args.c.now c.in-Any.inner ms s c.in-Any.is c.as_slice-in-Any.ensures h) g) c.enter_each-in-Any.ensures

@@ -10,4 +10,5 @@ invariant_of-result c = record {
 }
 
 pub returns-in-Ok : goal.returns-in-Ok
-returns-in-Ok c = covers_sorted c.args.members.now c.in_ok-namings_of.field-0 c.into_vec-namings.result.items c.sort_by_key.new.self.items c.from_vec.result c.in_ok-namings_of.ensures c.into_vec-namings.ensures c.in-Ok.ensures.permutation c.from_vec.ensures
+returns-in-Ok c = covers_sorted c.args.members.now c.in_ok-namings_of.field-0 c.into_vec-namings.result.items c.sort_by_key.new.self.items c.from_vec.result c.in_ok-namings_of.ensures c.into_vec-namings.ensures c.in-Ok.ensures.permutation
+    c.from_vec.ensures

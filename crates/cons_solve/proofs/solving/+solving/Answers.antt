@@ -57,7 +57,8 @@ solve_plan-returns-in_ok-alive-in-All-clause-good t c =
     let also = of_all c.args.c.now c.in-All.members ns c.in-All.is c.as_slice-in-All.ensures in
     let good = its.ensures xs (subst (λ k. Good k (memo c.args.plan) xs) is c.requires) in
     let here = subst (λ l. Good (all_of (constraints l)) (listing (memos its.plans) its.index.namings) xs) (c.as_slice.ensures ∙ sym c.as_slice-in-All.ensures) good in
-    λ e. subst (λ m. Good (constraint c.args.c.now) m ys) (sym (memo_all _ c.work.new.plans its.index refl)) (subst (λ k. Good k (listing (memos c.work.new.plans) its.index.namings) ys) (sym also) (here.0, c.in_ok-alive-in-All.ensures.good e))
+    λ e. subst (λ m. Good (constraint c.args.c.now) m ys) (sym (memo_all _ c.work.new.plans its.index refl))
+    (subst (λ k. Good k (listing (memos c.work.new.plans) its.index.namings) ys) (sym also) (here.0, c.in_ok-alive-in-All.ensures.good e))
 
 pub solve_plan-join_each-requires : goal.solve_plan-join_each-requires
 solve_plan-join_each-requires t c =
@@ -66,8 +67,10 @@ solve_plan-join_each-requires t c =
     let xs = c.args.slots.now.types in
     let its = c.in_ok-plans-in-Any in
     let is = of_any c.args.c.now c.in-Any.members ms c.in-Any.is c.as_slice-in-Any.ensures in
-    let good = its.ensures xs (subst (λ k. Good k (memo c.args.plan) xs) is c.requires) in
-    (omega (arith, c.decreases, ap weight (of_any c.args.c.now c.in-Any.members ns c.in-Any.is c.as_slice-in-Any-2.ensures)), subst (λ l. GoodAny (constraints l) (memos its.plans) its.kept xs) (c.as_slice-in-Any.ensures ∙ sym c.as_slice-in-Any-2.ensures) good)
+    let good = its.ensures xs (subst (λ k. Good k (memo c.args.plan) xs) is c.requires) in (
+      omega (arith, c.decreases, ap weight (of_any c.args.c.now c.in-Any.members ns c.in-Any.is c.as_slice-in-Any-2.ensures)),
+      subst (λ l. GoodAny (constraints l) (memos its.plans) its.kept xs) (c.as_slice-in-Any.ensures ∙ sym c.as_slice-in-Any-2.ensures) good,
+    )
 
 pub solve_plan-returns-in_ok-alive-in-Any-clause-value : goal.solve_plan-returns-in_ok-alive-in-Any-clause-value
 solve_plan-returns-in_ok-alive-in-Any-clause-value t c =
@@ -80,7 +83,8 @@ solve_plan-returns-in_ok-alive-in-Any-clause-good t c =
     let ns = c.as_slice-in-Any-2.result.now in
     let ys = c.join_each.new.slots.types in
     let also = of_any c.args.c.now c.in-Any.members ns c.in-Any.is c.as_slice-in-Any-2.ensures in
-    λ e. subst (λ m. Good (constraint c.args.c.now) m ys) (sym (memo_any _ c.join_each.new.plans c.join_each.new.kept refl)) (subst (λ k. Good k (choosing (memos c.join_each.new.plans) c.join_each.new.kept) ys) (sym also) (c.in_ok-alive-in-Any.ensures.good e))
+    λ e. subst (λ m. Good (constraint c.args.c.now) m ys) (sym (memo_any _ c.join_each.new.plans c.join_each.new.kept refl))
+    (subst (λ k. Good k (choosing (memos c.join_each.new.plans) c.join_each.new.kept) ys) (sym also) (c.in_ok-alive-in-Any.ensures.good e))
 
 -- ---- All
 
@@ -90,8 +94,10 @@ work-solve_plan-requires t c =
     let at = c.in-Some.at in
     let x = c.index-members-at.result in
     let next = if_some c.in_ok-at.field-0 at _ c.in-Some.is c.in_ok-at.ensures.some in
-    let low : at < length c.args.members.now = omega (arith, next.0, inv.long) in
-    (omega (arith, c.decreases, lighter_member c.args.members.now at x low c.index-members-at.is), each_at c.args.members.now c.turns.plans at x c.take_plan-former.result c.turns.slots.types inv.good low c.index-members-at.is c.take_plan-former.ensures.taken)
+    let low : at < length c.args.members.now = omega (arith, next.0, inv.long) in (
+      omega (arith, c.decreases, lighter_member c.args.members.now at x low c.index-members-at.is),
+      each_at c.args.members.now c.turns.plans at x c.take_plan-former.result c.turns.slots.types inv.good low c.index-members-at.is c.take_plan-former.ensures.taken,
+    )
 
 pub work-returns-in_default-clause-value : goal.work-returns-in_default-clause-value
 work-returns-in_default-clause-value t c =
@@ -104,7 +110,8 @@ work-returns-then-not-alive-clause-value t c =
     let inv = c.turns.invariant in
     let next = if_some c.in_ok-at.field-0 c.in-Some.at _ c.in-Some.is c.in_ok-at.ensures.some in
     let low : c.in-Some.at < length c.args.members.now = omega (arith, next.0, inv.long) in
-    sym inv.same ∙ member_dies c.environment_laws.ensures.laws c.args.members.now c.in-Some.at c.index-members-at.result c.turns.slots.types low c.index-members-at.is (no_answer c.in_ok-alive.alive _ c.solve_plan.new.slots.types c.if-not-alive.true c.in_ok-alive.ensures.value)
+    sym inv.same ∙ member_dies c.environment_laws.ensures.laws c.args.members.now c.in-Some.at c.index-members-at.result c.turns.slots.types low c.index-members-at.is
+    (no_answer c.in_ok-alive.alive _ c.solve_plan.new.slots.types c.if-not-alive.true c.in_ok-alive.ensures.value)
 
 pub work-returns-then-not-alive-clause-trailed : goal.work-returns-then-not-alive-clause-trailed
 work-returns-then-not-alive-clause-trailed t c =
@@ -127,7 +134,9 @@ work-turns-smaller t c =
     let mid = c.next.new.self.flags in
     let next = if_some c.in_ok-at.field-0 at _ c.in-Some.is c.in_ok-at.ensures.some in
     let told = take (length c.as_slice.result.now - c.len-checkpoint.result) (drop c.len-checkpoint.result c.as_slice.result.now) in
-    turn_falls c.environment_laws.ensures.rank c.args.members.now old mid c.wake.new.self.flags told c.turns.slots c.solve_plan.new.slots c.len-checkpoint.result at c.in_ok-alive.ensures.trailed c.len-checkpoint.ensures (slice_told c.as_slice.result.now c.solve_plan.new.slots.trail c.len-checkpoint.result c.as_slice.ensures) next.2 c.in_ok-wake.ensures.quiet (c.in_ok-wake.ensures.woke.long ∙ ap length next.2 ∙ length-set old at false ∙ inv.long) next.1
+    turn_falls c.environment_laws.ensures.rank c.args.members.now old mid c.wake.new.self.flags told c.turns.slots c.solve_plan.new.slots c.len-checkpoint.result at c.in_ok-alive.ensures.trailed c.len-checkpoint.ensures
+    (slice_told c.as_slice.result.now c.solve_plan.new.slots.trail c.len-checkpoint.result c.as_slice.ensures) next.2 c.in_ok-wake.ensures.quiet
+    (c.in_ok-wake.ensures.woke.long ∙ ap length next.2 ∙ length-set old at false ∙ inv.long) next.1
 
 pub work-turns-preserved : goal.work-turns-preserved
 work-turns-preserved t c =
@@ -152,8 +161,10 @@ work-turns-preserved t c =
       trailed = trailed_then c.args.slots.now c.turns.slots c.solve_plan.new.slots inv.trailed its.ensures.trailed;
       long = c.in_ok-wake.ensures.woke.long ∙ ap length next.2 ∙ length-set old at false ∙ inv.long;
       queued = c.in_ok-wake.ensures.queued;
-      rest = rest_goes_on facts c.frame_law.ensures laws old mid c.wake.new.self.flags ms c.args.index.now.namings told c.turns.slots c.solve_plan.new.slots c.len-checkpoint.result at x low c.index-members-at.is alive its.ensures.trailed c.len-checkpoint.ensures (slice_told c.as_slice.result.now c.solve_plan.new.slots.trail c.len-checkpoint.result c.as_slice.ensures) c.requires.covers next.2 c.in_ok-wake.ensures.woke inv.rest;
-      good = each_again ms c.turns.plans c.take_plan-former.new.plans c.put.new.items at x v.Blank its.plan ys c.take_plan-former.ensures.left c.put.ensures (each_falls facts laws (constraints ms) (memos c.turns.plans) xs ys under inv.good) c.index-members-at.is (its.ensures.good c.if-not-alive.false);
+      rest = rest_goes_on facts c.frame_law.ensures laws old mid c.wake.new.self.flags ms c.args.index.now.namings told c.turns.slots c.solve_plan.new.slots c.len-checkpoint.result at x low c.index-members-at.is alive its.ensures.trailed
+          c.len-checkpoint.ensures (slice_told c.as_slice.result.now c.solve_plan.new.slots.trail c.len-checkpoint.result c.as_slice.ensures) c.requires.covers next.2 c.in_ok-wake.ensures.woke inv.rest;
+      good = each_again ms c.turns.plans c.take_plan-former.new.plans c.put.new.items at x v.Blank its.plan ys c.take_plan-former.ensures.left c.put.ensures
+          (each_falls facts laws (constraints ms) (memos c.turns.plans) xs ys under inv.good) c.index-members-at.is (its.ensures.good c.if-not-alive.false);
     }
 
 -- ---- one alternative
@@ -166,11 +177,13 @@ solve_on-returns-clause-value t c =
     let k = constraint c.args.c.now in
     let xs = c.args.slots.now.types in
     let ys = c.solve_plan.new.slots.types in
-    IfOk-weaker c.solve_plan.result (λ r. solution k c.lower_kept.new.slots.types ≡ answer r.0 ys) (λ r. solution k xs ≡ answer r.0 ys) (λ r h. sym (kept_solves c.type_facts.ensures c.environment_laws.ensures.laws k c.args.lows (Good k (memo c.args.plan)) xs c.requires) ∙ ap (solution k) (sym c.in_ok-lower_kept.ensures.value) ∙ h) c.solve_plan.ensures.value
+    IfOk-weaker c.solve_plan.result (λ r. solution k c.lower_kept.new.slots.types ≡ answer r.0 ys) (λ r. solution k xs ≡ answer r.0 ys)
+    (λ r h. sym (kept_solves c.type_facts.ensures c.environment_laws.ensures.laws k c.args.lows (Good k (memo c.args.plan)) xs c.requires) ∙ ap (solution k) (sym c.in_ok-lower_kept.ensures.value) ∙ h) c.solve_plan.ensures.value
 
 pub solve_on-returns-clause-trailed : goal.solve_on-returns-clause-trailed
 solve_on-returns-clause-trailed t c =
-    IfOk-weaker c.solve_plan.result (λ _. Trailed c.lower_kept.new.slots c.solve_plan.new.slots) (λ _. Trailed c.args.slots.now c.solve_plan.new.slots) (λ _ h. trailed_then c.args.slots.now c.lower_kept.new.slots c.solve_plan.new.slots c.in_ok-lower_kept.ensures.trailed h) c.solve_plan.ensures.trailed
+    IfOk-weaker c.solve_plan.result (λ _. Trailed c.lower_kept.new.slots c.solve_plan.new.slots) (λ _. Trailed c.args.slots.now c.solve_plan.new.slots)
+    (λ _ h. trailed_then c.args.slots.now c.lower_kept.new.slots c.solve_plan.new.slots c.in_ok-lower_kept.ensures.trailed h) c.solve_plan.ensures.trailed
 
 -- ---- Any
 
@@ -189,8 +202,11 @@ join_each-replace-requires t c =
 
 pub join_each-solve_on-requires : goal.join_each-solve_on-requires
 join_each-solve_on-requires t c =
-    let x = c.index-members-at.result in
-    (omega (arith, c.decreases, lighter_member c.args.members.now c.loop-at.at x c.loop-at-test.true c.index-members-at.is), any_here c.args.members.now c.loop-at.plans c.loop-at.kept c.loop-at.at x c.take_plan-former.result (Some c.in-Some.lows) c.loop-at.slots.types c.loop-at.invariant.good c.loop-at-test.true c.index-members-at.is c.take_plan-former.ensures.taken c.in-Some.ensures.before)
+    let x = c.index-members-at.result in (
+      omega (arith, c.decreases, lighter_member c.args.members.now c.loop-at.at x c.loop-at-test.true c.index-members-at.is),
+      any_here c.args.members.now c.loop-at.plans c.loop-at.kept c.loop-at.at x c.take_plan-former.result
+          (Some c.in-Some.lows) c.loop-at.slots.types c.loop-at.invariant.good c.loop-at-test.true c.index-members-at.is c.take_plan-former.ensures.taken c.in-Some.ensures.before,
+    )
 
 pub join_each-gather-requires-clause-below : goal.join_each-gather-requires-clause-below
 join_each-gather-requires-clause-below t c =
@@ -253,7 +269,8 @@ join_each-loop-at-preserved t c =
           let one = subst (λ b. joined environments (best_of best b) (answer its.alive ys) ≡ best_of after b) back w.in_ok-best-in-Some.ensures.value in
           let now = between_as cs left whole after new.best w.put.new.items new.plans w.put-in-Some.new.items new.kept xs new.slots.types w.best-is w.plans-is w.kept-is same (record {
             kept = subst (Kept after) back w.in_ok-best-in-Some.ensures.kept;
-            good = any_again ms plans w.take_plan-former.new.plans w.put.new.items kept c.replace.new.self w.put-in-Some.new.items at x v.Blank its.plan None w.in_ok-note-in-Some.field-0 xs w.take_plan-former.ensures.left w.put.ensures c.replace.ensures.after w.put-in-Some.ensures inv.good c.index-members-at.is noted;
+            good = any_again ms plans w.take_plan-former.new.plans w.put.new.items kept c.replace.new.self w.put-in-Some.new.items at x v.Blank its.plan None w.in_ok-note-in-Some.field-0 xs w.take_plan-former.ensures.left w.put.ensures
+                c.replace.ensures.after w.put-in-Some.ensures inv.good c.index-members-at.is noted;
             rest = union_goes_on ms at x xs (best_of best xs) (answer its.alive ys) (best_of after xs) whole low c.index-members-at.is its.ensures.value one inv.rest;
           }) in
           record {
@@ -271,4 +288,6 @@ join_each-returns-clause-good t c =
     let xs = c.loop-at.slots.types in
     let ys = c.apply_join.new.slots.types in
     let cs = constraints c.args.members.now in
-    IfOk-weaker c.apply_join.result (λ alive. best_of c.loop-at.best xs ≡ answer alive ys) (λ alive. alive ≡ true → GoodAny cs (memos c.loop-at.plans) c.loop-at.kept ys) (λ alive h e. any_falls c.type_facts.ensures c.environment_laws.ensures.laws cs (memos c.loop-at.plans) c.loop-at.kept xs ys (laid_below c.loop-at.best xs ys alive inv.best h e) inv.good) c.apply_join.ensures.value
+    IfOk-weaker c.apply_join.result (λ alive. best_of c.loop-at.best xs ≡ answer alive ys) (λ alive. alive ≡ true
+    → GoodAny cs (memos c.loop-at.plans) c.loop-at.kept ys) (λ alive h e. any_falls c.type_facts.ensures c.environment_laws.ensures.laws cs (memos c.loop-at.plans) c.loop-at.kept xs ys
+    (laid_below c.loop-at.best xs ys alive inv.best h e) inv.good) c.apply_join.ensures.value

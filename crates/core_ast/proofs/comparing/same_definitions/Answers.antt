@@ -9,10 +9,12 @@ pub loop-i-init : goal.loop-i-init
 loop-i-init c = begun _ _ _ c.if-a-b.false
 
 pub loop-i-preserved : goal.loop-i-preserved
-loop-i-preserved c = one_more _ _ _ _ _ _ _ c.loop-i-test.true c.loop-i.invariant c.index-a-i.is c.index-b-i.is (along (λ d. compared_def false (def_tree d)) _ _ _ _ _ c.get.ensures c.get-in-loop-i.ensures c.same_definition.ensures) c.if-not-same_definition.false
+loop-i-preserved c = one_more _ _ _ _ _ _ _ c.loop-i-test.true c.loop-i.invariant c.index-a-i.is c.index-b-i.is
+    (along (λ d. compared_def false (def_tree d)) _ _ _ _ _ c.get.ensures c.get-in-loop-i.ensures c.same_definition.ensures) c.if-not-same_definition.false
 
 pub returns-then-not-same_definition : goal.returns-then-not-same_definition
-returns-then-not-same_definition c = through _ (defs_same false _ _) (unlike _ _ _ _ _ _ _ c.loop-i-test.true c.loop-i.invariant c.index-a-i.is c.index-b-i.is (along (λ d. compared_def false (def_tree d)) _ _ _ _ _ c.get.ensures c.get-in-loop-i.ensures c.same_definition.ensures) c.if-not-same_definition.true)
+returns-then-not-same_definition c = through _ (defs_same false _ _) (unlike _ _ _ _ _ _ _ c.loop-i-test.true c.loop-i.invariant c.index-a-i.is c.index-b-i.is
+    (along (λ d. compared_def false (def_tree d)) _ _ _ _ _ c.get.ensures c.get-in-loop-i.ensures c.same_definition.ensures) c.if-not-same_definition.true)
 
 pub returns-then-a-b : goal.returns-then-a-b
 returns-then-a-b c = through _ (defs_same false _ _) (other_length _ _ _ c.if-a-b.true)

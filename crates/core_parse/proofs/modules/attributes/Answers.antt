@@ -21,7 +21,8 @@ pub returns-then-fits-2-clause-ok : goal.returns-then-fits-2-clause-ok
 returns-then-fits-2-clause-ok c = attributes_close _ _ c.loop-rest.invariant.so_far _ c.in-Ok-attribute.ensures.ok _ _ _ _ c.in-Ok-next.ensures.ok _ c.fits-in-loop-rest.ensures c.if-fits-2.true
 
 pub returns-then-not-fits-clause-err : goal.returns-then-not-fits-clause-err
-returns-then-not-fits-clause-err c = attributes_other _ _ c.loop-rest.invariant.so_far _ c.in-Ok-attribute.ensures.ok _ _ _ _ c.in-Ok-next.ensures.ok _ c.fits-in-loop-rest.ensures c.if-fits-2.false _ c.fits-in-loop-rest-2.ensures c.if-not-fits.true
+returns-then-not-fits-clause-err c = attributes_other _ _ c.loop-rest.invariant.so_far _ c.in-Ok-attribute.ensures.ok _ _ _ _ c.in-Ok-next.ensures.ok _ c.fits-in-loop-rest.ensures c.if-fits-2.false _ c.fits-in-loop-rest-2.ensures
+    c.if-not-fits.true
 
 pub loop-rest-preserved : goal.loop-rest-preserved
 loop-rest-preserved c = record {

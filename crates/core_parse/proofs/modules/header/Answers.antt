@@ -20,7 +20,9 @@ pub returns-in-Err-take-3-clause-err : goal.returns-in-Err-take-3-clause-err
 returns-in-Err-take-3-clause-err c = header_5_bad _ _ c.in-Ok.ensures.ok _ _ c.in-Ok-annotated_atom.ensures.ok _ c.in-Ok-take.ensures.ok _ _ _ c.in-Ok-exports.ensures.ok _ c.in-Ok-take-2.ensures.ok _ c.in-Err-take-3.ensures.err
 
 pub returns-clause-err : goal.returns-clause-err
-returns-clause-err c = header_6_bad _ _ c.in-Ok.ensures.ok _ _ c.in-Ok-annotated_atom.ensures.ok _ c.in-Ok-take.ensures.ok _ _ _ c.in-Ok-exports.ensures.ok _ c.in-Ok-take-2.ensures.ok _ c.in-Ok-take-3.ensures.ok _ c.in-Err-attributes.ensures.err
+returns-clause-err c = header_6_bad _ _ c.in-Ok.ensures.ok _ _ c.in-Ok-annotated_atom.ensures.ok _ c.in-Ok-take.ensures.ok _ _ _ c.in-Ok-exports.ensures.ok _ c.in-Ok-take-2.ensures.ok _ c.in-Ok-take-3.ensures.ok _
+    c.in-Err-attributes.ensures.err
 
 pub returns-in-Ok-attributes-clause-ok : goal.returns-in-Ok-attributes-clause-ok
-returns-in-Ok-attributes-clause-ok c = header_ok _ _ c.in-Ok.ensures.ok _ _ c.in-Ok-annotated_atom.ensures.ok _ c.in-Ok-take.ensures.ok _ _ _ c.in-Ok-exports.ensures.ok _ c.in-Ok-take-2.ensures.ok _ c.in-Ok-take-3.ensures.ok _ c.in-Ok-attributes.ensures.ok
+returns-in-Ok-attributes-clause-ok c = header_ok _ _ c.in-Ok.ensures.ok _ _ c.in-Ok-annotated_atom.ensures.ok _ c.in-Ok-take.ensures.ok _ _ _ c.in-Ok-exports.ensures.ok _ c.in-Ok-take-2.ensures.ok _ c.in-Ok-take-3.ensures.ok _
+    c.in-Ok-attributes.ensures.ok

@@ -11,4 +11,5 @@ pub returns-clause-err : goal.returns-clause-err
 returns-clause-err c = external_3_bad _ c.args.label _ _ _ _ _ c.requires.starts c.requires.shallow c.requires.sort c.requires.once _ _ _ c.in-Ok.ensures.ok _ c.in-Ok-take.ensures.ok _ c.in-Err-function_name.ensures.err
 
 pub returns-in-Ok-external-clause-ok : goal.returns-in-Ok-external-clause-ok
-returns-in-Ok-external-clause-ok c = external_ok _ c.args.label _ _ _ _ _ c.requires.starts c.requires.shallow c.requires.sort c.requires.once _ _ _ c.in-Ok.ensures.ok _ c.in-Ok-take.ensures.ok _ _ _ c.in-Ok-function_name.ensures.ok _ c.mark-mark.ensures _ c.in-Ok-external.ensures
+returns-in-Ok-external-clause-ok c = external_ok _ c.args.label _ _ _ _ _ c.requires.starts c.requires.shallow c.requires.sort c.requires.once _ _ _ c.in-Ok.ensures.ok _ c.in-Ok-take.ensures.ok _ _ _ c.in-Ok-function_name.ensures.ok _
+    c.mark-mark.ensures _ c.in-Ok-external.ensures

@@ -11,4 +11,5 @@ pub returns-in-Err-name_tokens-clause-err : goal.returns-in-Err-name_tokens-clau
 returns-in-Err-name_tokens-clause-err c = fun_name_bad _ _ _ _ _ _ c.requires.starts c.requires.shallow c.requires.sort _ c.in-Ok.ensures.ok _ c.in-Ok-take.ensures.ok _ c.in-Err-name_tokens.ensures.err
 
 pub returns-in-Ok-name_tokens-clause-ok : goal.returns-in-Ok-name_tokens-clause-ok
-returns-in-Ok-name_tokens-clause-ok c = fun_ok _ _ _ _ _ _ c.requires.starts c.requires.shallow c.requires.sort _ c.in-Ok.ensures.ok _ c.in-Ok-take.ensures.ok _ _ _ _ c.in-Ok-name_tokens.ensures.ok c.another.ensures.constant _ c.another.ensures.rest
+returns-in-Ok-name_tokens-clause-ok c = fun_ok _ _ _ _ _ _ c.requires.starts c.requires.shallow c.requires.sort _ c.in-Ok.ensures.ok _ c.in-Ok-take.ensures.ok _ _ _ _ c.in-Ok-name_tokens.ensures.ok c.another.ensures.constant _
+    c.another.ensures.rest

@@ -17,7 +17,9 @@ pub returns-then-not-fits-2-clause-err : goal.returns-then-not-fits-2-clause-err
 returns-then-not-fits-2-clause-err c = atom_round_other _ _ _ _ _ c.in-Ok.ensures.ok _ c.fits.ensures c.if-fits.false _ c.fits-2.ensures c.if-not-fits.false _ _ _ _ c.in-Ok-next.ensures.ok _ c.fits-3.ensures c.if-not-fits-2.true
 
 pub returns-in-Ok-annotation-clause-ok : goal.returns-in-Ok-annotation-clause-ok
-returns-in-Ok-annotation-clause-ok c = atom_round_ok _ _ _ _ _ c.in-Ok.ensures.ok _ c.fits.ensures c.if-fits.false _ c.fits-2.ensures c.if-not-fits.false _ _ _ _ c.in-Ok-next.ensures.ok _ c.fits-3.ensures c.if-not-fits-2.false _ _ c.in-Ok-annotation.ensures.ok
+returns-in-Ok-annotation-clause-ok c = atom_round_ok _ _ _ _ _ c.in-Ok.ensures.ok _ c.fits.ensures c.if-fits.false _ c.fits-2.ensures c.if-not-fits.false _ _ _ _ c.in-Ok-next.ensures.ok _ c.fits-3.ensures c.if-not-fits-2.false _ _
+    c.in-Ok-annotation.ensures.ok
 
 pub returns-in-Err-annotation-clause-err : goal.returns-in-Err-annotation-clause-err
-returns-in-Err-annotation-clause-err c = atom_round_bad _ _ _ _ _ c.in-Ok.ensures.ok _ c.fits.ensures c.if-fits.false _ c.fits-2.ensures c.if-not-fits.false _ _ _ _ c.in-Ok-next.ensures.ok _ c.fits-3.ensures c.if-not-fits-2.false _ c.in-Err-annotation.ensures.err
+returns-in-Err-annotation-clause-err c = atom_round_bad _ _ _ _ _ c.in-Ok.ensures.ok _ c.fits.ensures c.if-fits.false _ c.fits-2.ensures c.if-not-fits.false _ _ _ _ c.in-Ok-next.ensures.ok _ c.fits-3.ensures c.if-not-fits-2.false _
+    c.in-Err-annotation.ensures.err

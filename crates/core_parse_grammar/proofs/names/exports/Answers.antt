@@ -18,14 +18,17 @@ pub returns-in-Err-next-clause-err : goal.returns-in-Err-next-clause-err
 returns-in-Err-next-clause-err c = export_end _ _ _ _ c.loop-read.invariant.so_far _ _ _ c.in-Ok-annotated_function_name.ensures.ok _ c.in-Err-next.ensures.err
 
 pub returns-then-fits-2-clause-ok : goal.returns-then-fits-2-clause-ok
-returns-then-fits-2-clause-ok c = export_close _ _ _ _ c.loop-read.invariant.so_far _ _ _ c.in-Ok-annotated_function_name.ensures.ok _ _ c.in-Ok-add.ensures.ok c.in-Ok-add-2.ensures.ok _ _ _ _ c.in-Ok-next.ensures.ok _ c.fits-in-loop-read.ensures c.if-fits-2.true
+returns-then-fits-2-clause-ok c = export_close _ _ _ _ c.loop-read.invariant.so_far _ _ _ c.in-Ok-annotated_function_name.ensures.ok _ _ c.in-Ok-add.ensures.ok c.in-Ok-add-2.ensures.ok _ _ _ _ c.in-Ok-next.ensures.ok _
+    c.fits-in-loop-read.ensures c.if-fits-2.true
 
 pub returns-then-not-fits-clause-err : goal.returns-then-not-fits-clause-err
-returns-then-not-fits-clause-err c = export_other _ _ _ _ c.loop-read.invariant.so_far _ _ _ c.in-Ok-annotated_function_name.ensures.ok _ _ c.in-Ok-add.ensures.ok c.in-Ok-add-2.ensures.ok _ _ _ _ c.in-Ok-next.ensures.ok _ c.fits-in-loop-read.ensures c.if-fits-2.false _ c.fits-in-loop-read-2.ensures c.if-not-fits.true
+returns-then-not-fits-clause-err c = export_other _ _ _ _ c.loop-read.invariant.so_far _ _ _ c.in-Ok-annotated_function_name.ensures.ok _ _ c.in-Ok-add.ensures.ok c.in-Ok-add-2.ensures.ok _ _ _ _ c.in-Ok-next.ensures.ok _
+    c.fits-in-loop-read.ensures c.if-fits-2.false _ c.fits-in-loop-read-2.ensures c.if-not-fits.true
 
 pub loop-read-preserved : goal.loop-read-preserved
 loop-read-preserved c = record {
-  so_far = export_comma _ _ _ _ c.loop-read.invariant.so_far _ _ _ c.in-Ok-annotated_function_name.ensures.ok _ _ c.in-Ok-add.ensures.ok c.in-Ok-add-2.ensures.ok _ _ _ _ c.in-Ok-next.ensures.ok _ c.fits-in-loop-read.ensures c.if-fits-2.false _ c.fits-in-loop-read-2.ensures c.if-not-fits.false;
+  so_far = export_comma _ _ _ _ c.loop-read.invariant.so_far _ _ _ c.in-Ok-annotated_function_name.ensures.ok _ _ c.in-Ok-add.ensures.ok c.in-Ok-add-2.ensures.ok _ _ _ _ c.in-Ok-next.ensures.ok _ c.fits-in-loop-read.ensures
+      c.if-fits-2.false _ c.fits-in-loop-read-2.ensures c.if-not-fits.false;
   shorter = omega (arith, c.loop-read.invariant.shorter, c.in-Ok-annotated_function_name.ensures.shorter, c.in-Ok-next.ensures.shorter);
   lighter = omega (arith, c.loop-read.invariant.lighter, c.in-Ok-annotated_function_name.ensures.lighter, c.in-Ok-next.ensures.lighter);
 }

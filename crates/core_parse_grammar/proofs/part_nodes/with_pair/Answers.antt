@@ -4,4 +4,8 @@ use Rattle.core_parse_grammar.specs.Pairs.{read_pair}
 use Rattle.core_parse_grammar.proofs.part_nodes.with_pair.Goals as goal
 
 pub returns-then-added : goal.returns-then-added
-returns-then-added c = (c.new-pair.result, c.new-pair.ensures ∙ ap (λ (x : Expr). read_pair c.args.exact x c.into_inner-2.result) c.into_inner.ensures ∙ ap (λ (x : Expr). read_pair c.args.exact c.args.key x) c.into_inner-2.ensures, c.if-added.ensures.added)
+returns-then-added c = (
+  c.new-pair.result,
+  c.new-pair.ensures ∙ ap (λ (x : Expr). read_pair c.args.exact x c.into_inner-2.result) c.into_inner.ensures ∙ ap (λ (x : Expr). read_pair c.args.exact c.args.key x) c.into_inner-2.ensures,
+  c.if-added.ensures.added,
+)

@@ -21,11 +21,13 @@ pub returns-then-fits-2-clause-ok : goal.returns-then-fits-2-clause-ok
 returns-then-fits-2-clause-ok c = to_close _ c.requires _ _ _ c.loop-read.invariant.so_far _ _ c.in-Ok-variable.ensures.ok _ c.in-Ok-add.ensures.ok _ _ _ _ c.in-Ok-next.ensures.ok _ c.fits-in-loop-read.ensures c.if-fits-2.true
 
 pub returns-then-not-fits-clause-err : goal.returns-then-not-fits-clause-err
-returns-then-not-fits-clause-err c = to_other _ c.requires _ _ _ c.loop-read.invariant.so_far _ _ c.in-Ok-variable.ensures.ok _ c.in-Ok-add.ensures.ok _ _ _ _ c.in-Ok-next.ensures.ok _ c.fits-in-loop-read.ensures c.if-fits-2.false _ c.fits-in-loop-read-2.ensures c.if-not-fits.true
+returns-then-not-fits-clause-err c = to_other _ c.requires _ _ _ c.loop-read.invariant.so_far _ _ c.in-Ok-variable.ensures.ok _ c.in-Ok-add.ensures.ok _ _ _ _ c.in-Ok-next.ensures.ok _ c.fits-in-loop-read.ensures c.if-fits-2.false _
+    c.fits-in-loop-read-2.ensures c.if-not-fits.true
 
 pub loop-read-preserved : goal.loop-read-preserved
 loop-read-preserved c = record {
-  so_far = to_comma _ c.requires _ _ _ c.loop-read.invariant.so_far _ _ c.in-Ok-variable.ensures.ok _ c.in-Ok-add.ensures.ok _ _ _ _ c.in-Ok-next.ensures.ok _ c.fits-in-loop-read.ensures c.if-fits-2.false _ c.fits-in-loop-read-2.ensures c.if-not-fits.false;
+  so_far = to_comma _ c.requires _ _ _ c.loop-read.invariant.so_far _ _ c.in-Ok-variable.ensures.ok _ c.in-Ok-add.ensures.ok _ _ _ _ c.in-Ok-next.ensures.ok _ c.fits-in-loop-read.ensures c.if-fits-2.false _ c.fits-in-loop-read-2.ensures
+      c.if-not-fits.false;
   shorter = omega (arith, c.loop-read.invariant.shorter, c.in-Ok-variable.ensures.shorter, c.in-Ok-next.ensures.shorter);
   lighter = omega (arith, c.loop-read.invariant.lighter, c.in-Ok-variable.ensures.lighter, c.in-Ok-next.ensures.lighter);
 }

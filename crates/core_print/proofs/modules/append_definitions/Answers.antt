@@ -11,9 +11,11 @@ loop-definition-init c = begins (definitions (all_defs c.args.shared.now)) c.arg
 
 pub loop-definition-preserved : goal.loop-definition-preserved
 loop-definition-preserved c =
-    next_row (λ ds. definitions (all_defs ds)) (λ d. definition_words (def_tree d)) (definitions (all_defs c.args.shared.now)) c.args.shared.now c.loop-definition.definition-index c.definition-item.result c.args.out.now c.loop-definition.out c.append_definition.new.out (λ x xs rest. refl)
+    next_row (λ ds. definitions (all_defs ds)) (λ d. definition_words (def_tree d))
+    (definitions (all_defs c.args.shared.now)) c.args.shared.now c.loop-definition.definition-index c.definition-item.result c.args.out.now c.loop-definition.out c.append_definition.new.out (λ x xs rest. refl)
     c.loop-definition-test.true c.definition-item.is c.loop-definition.invariant
     (subst (λ d. Writes (definition_words (def_tree d)) c.loop-definition.out c.append_definition.new.out) c.get.ensures c.in_ok-append_definition.ensures)
 
 pub returns : goal.returns
-returns c = all_rows (λ ds. definitions (all_defs ds)) (definitions (all_defs c.args.shared.now)) c.args.shared.now c.loop-definition.definition-index c.args.out.now c.loop-definition.out (λ rest. refl) (omega arith) c.loop-definition.invariant
+returns c = all_rows (λ ds. definitions (all_defs ds)) (definitions (all_defs c.args.shared.now)) c.args.shared.now c.loop-definition.definition-index c.args.out.now c.loop-definition.out (λ rest. refl)
+    (omega arith) c.loop-definition.invariant

@@ -16,7 +16,8 @@ parse_decimal-requires c =
 
 pub returns-then-fraction-gt0-clause-ok : goal.returns-then-fraction-gt0-clause-ok
 returns-then-fraction-gt0-clause-ok c =
-    float_found c.args.rest.now c.args.sign c.args.whole c.requires.sign c.requires.whole c.requires.some c.in_ok-from_slice.field-0 c.fraction_len-fraction.result (simp take_rest at c.fraction_len-fraction.ensures.front) (omega arith) (simp take_rest at c.fraction_len-fraction.ensures.within) c.in_ok-from_slice.ensures
+    float_found c.args.rest.now c.args.sign c.args.whole c.requires.sign c.requires.whole c.requires.some c.in_ok-from_slice.field-0 c.fraction_len-fraction.result (simp take_rest at c.fraction_len-fraction.ensures.front) (omega arith)
+    (simp take_rest at c.fraction_len-fraction.ensures.within) c.in_ok-from_slice.ensures
 
 pub returns-in_default-clause-err : goal.returns-in_default-clause-err
 returns-in_default-clause-err c =

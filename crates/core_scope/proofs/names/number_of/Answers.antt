@@ -11,6 +11,7 @@ pub returns-after-insert-clause-number : goal.returns-after-insert-clause-number
 returns-after-insert-clause-number g c =
     let P : Result ℕ Memory → Type 0 = λ r. IfOk r (λ number. slice_get c.insert.new.self.keys number ≡ Some c.args.name.now) in
     elim c.match-insert.branch [
-      | in-Ok w ↦ subst P (sym w.result-is) (inserted g.T.PartialEq.eq g.met.T.Eq.laws c.args.numbers.now.keys c.insert.new.self.keys c.args.name.now c.in_ok-copy-in-None.copy c.len-number.result c.in_ok-copy-in-None.ensures (sym c.in-None.ensures.found) c.len-number.ensures.len w.in-Ok.ensures.keys)
+      | in-Ok w ↦ subst P (sym w.result-is) (inserted g.T.PartialEq.eq g.met.T.Eq.laws c.args.numbers.now.keys c.insert.new.self.keys c.args.name.now c.in_ok-copy-in-None.copy c.len-number.result c.in_ok-copy-in-None.ensures
+          (sym c.in-None.ensures.found) c.len-number.ensures.len w.in-Ok.ensures.keys)
       | in-Err w ↦ subst P (sym w.result-is) tt
     ]

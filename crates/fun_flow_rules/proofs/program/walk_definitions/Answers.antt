@@ -11,7 +11,8 @@ loop-def-init c = going_begins c.args.walk.now _
 pub loop-def-preserved : goal.loop-def-preserved
 loop-def-preserved c =
     definitions_round c.args.walk.now c.loop-def.walk c.walk_body.new.walk c.args.defs.now c.loop-def.def-index c.def-item.result _ c.loop-def-test.true c.def-item.is
-    (definition_told c.loop-def.walk c.walk_body.new.walk c.def-item.result c.as_slice.result.now c.get.result.now (c.as_slice.ensures ∙ ap (λ d. d.fun.params) c.get-def.ensures) (c.get.ensures ∙ ap (λ d. d.fun.body) c.get-def.ensures)
+    (definition_told c.loop-def.walk c.walk_body.new.walk c.def-item.result c.as_slice.result.now c.get.result.now (c.as_slice.ensures ∙ ap (λ d. d.fun.params) c.get-def.ensures)
+    (c.get.ensures ∙ ap (λ d. d.fun.body) c.get-def.ensures)
     (subst (λ d. Makes c.loop-def.walk c.walk_body.new.walk (λ U home sc. body_rules U home sc d.mark.label c.as_slice.result.now (tree c.get.result.now))) c.get-def.ensures c.in_ok-walk_body.ensures)) c.loop-def.invariant
 
 pub returns : goal.returns

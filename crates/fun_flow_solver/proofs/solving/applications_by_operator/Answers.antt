@@ -12,8 +12,11 @@ pub add-requires-clause-from : goal.add-requires-clause-from
 add-requires-clause-from c =
     let low : c.loop-number.number < length c.as_slice-applications.result.now = omega (arith, c.loop-number-test.true) in
     subst (λ m. (slice_index_or c.as_slice-applications.result.now c.loop-number.number none_call).operator < m) (sym c.loop-number.invariant.0)
-    (c.requires.below.applications (slice_index_or c.as_slice-applications.result.now c.loop-number.number none_call)
-    (c.loop-number.number, shorter c.as_slice-applications.result.now c.args.problem.now.applications.items c.loop-number.number c.as_slice-applications.ensures.value low, item_is c.as_slice-applications.result.now c.args.problem.now.applications.items c.loop-number.number none_call c.as_slice-applications.ensures.value low)).0
+    (c.requires.below.applications (slice_index_or c.as_slice-applications.result.now c.loop-number.number none_call) (
+      c.loop-number.number,
+      shorter c.as_slice-applications.result.now c.args.problem.now.applications.items c.loop-number.number c.as_slice-applications.ensures.value low,
+      item_is c.as_slice-applications.result.now c.args.problem.now.applications.items c.loop-number.number none_call c.as_slice-applications.ensures.value low,
+    )).0
 
 pub loop-number-preserved : goal.loop-number-preserved
 loop-number-preserved c =

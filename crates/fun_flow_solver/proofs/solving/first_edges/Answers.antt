@@ -11,15 +11,21 @@ pub add-requires-clause-from : goal.add-requires-clause-from
 add-requires-clause-from c =
     let low : c.loop-number.number < length c.as_slice-flows.result.now = omega (arith, c.loop-number-test.true) in
     subst (λ m. (slice_index_or c.as_slice-flows.result.now c.loop-number.number none_edge).from < m) (sym c.loop-number.invariant.0)
-    (c.requires.below.flows (slice_index_or c.as_slice-flows.result.now c.loop-number.number none_edge)
-    (c.loop-number.number, shorter c.as_slice-flows.result.now c.args.problem.now.flows.items c.loop-number.number c.as_slice-flows.ensures.value low, item_is c.as_slice-flows.result.now c.args.problem.now.flows.items c.loop-number.number none_edge c.as_slice-flows.ensures.value low)).0
+    (c.requires.below.flows (slice_index_or c.as_slice-flows.result.now c.loop-number.number none_edge) (
+      c.loop-number.number,
+      shorter c.as_slice-flows.result.now c.args.problem.now.flows.items c.loop-number.number c.as_slice-flows.ensures.value low,
+      item_is c.as_slice-flows.result.now c.args.problem.now.flows.items c.loop-number.number none_edge c.as_slice-flows.ensures.value low,
+    )).0
 
 pub add-requires-clause-to : goal.add-requires-clause-to
 add-requires-clause-to c =
     let low : c.loop-number.number < length c.as_slice-flows.result.now = omega (arith, c.loop-number-test.true) in
     subst (λ m. (slice_index_or c.as_slice-flows.result.now c.loop-number.number none_edge).to < m) (sym c.loop-number.invariant.0)
-    (c.requires.below.flows (slice_index_or c.as_slice-flows.result.now c.loop-number.number none_edge)
-    (c.loop-number.number, shorter c.as_slice-flows.result.now c.args.problem.now.flows.items c.loop-number.number c.as_slice-flows.ensures.value low, item_is c.as_slice-flows.result.now c.args.problem.now.flows.items c.loop-number.number none_edge c.as_slice-flows.ensures.value low)).1
+    (c.requires.below.flows (slice_index_or c.as_slice-flows.result.now c.loop-number.number none_edge) (
+      c.loop-number.number,
+      shorter c.as_slice-flows.result.now c.args.problem.now.flows.items c.loop-number.number c.as_slice-flows.ensures.value low,
+      item_is c.as_slice-flows.result.now c.args.problem.now.flows.items c.loop-number.number none_edge c.as_slice-flows.ensures.value low,
+    )).1
 
 pub loop-number-preserved : goal.loop-number-preserved
 loop-number-preserved c =

@@ -11,7 +11,8 @@ loop-init c = (
   (
     c.in_ok-out.ensures.count,
     (
-      work_begins c.args.problem.now c.in_ok-sets.sets c.in_ok-out.out c.new-queue.result.items c.start.new.sets c.start.new.queue.items c.new-queue.ensures.items c.in_ok-sets.ensures.none c.in_ok-out.ensures.just c.in_ok-start.ensures.moves c.in_ok-start.ensures.only,
+      work_begins c.args.problem.now c.in_ok-sets.sets c.in_ok-out.out c.new-queue.result.items c.start.new.sets c.start.new.queue.items c.new-queue.ensures.items c.in_ok-sets.ensures.none c.in_ok-out.ensures.just
+          c.in_ok-start.ensures.moves c.in_ok-start.ensures.only,
       (c.in_ok-start.ensures.all, c.in_ok-out.ensures.all),
     ),
   ),

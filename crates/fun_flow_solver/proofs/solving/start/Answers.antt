@@ -11,15 +11,21 @@ pub put-requires-clause-place : goal.put-requires-clause-place
 put-requires-clause-place c =
     let low : c.loop-number.number < length c.as_slice-starts.result.now = omega (arith, c.loop-number-test.true) in
     subst (λ m. (slice_index_or c.as_slice-starts.result.now c.loop-number.number none_pair).place < m) (sym c.loop-number.invariant.0.count)
-    (c.requires.below.starts (slice_index_or c.as_slice-starts.result.now c.loop-number.number none_pair)
-    (c.loop-number.number, shorter c.as_slice-starts.result.now c.args.problem.now.starts.items c.loop-number.number c.as_slice-starts.ensures.value low, item_is c.as_slice-starts.result.now c.args.problem.now.starts.items c.loop-number.number none_pair c.as_slice-starts.ensures.value low)).0
+    (c.requires.below.starts (slice_index_or c.as_slice-starts.result.now c.loop-number.number none_pair) (
+      c.loop-number.number,
+      shorter c.as_slice-starts.result.now c.args.problem.now.starts.items c.loop-number.number c.as_slice-starts.ensures.value low,
+      item_is c.as_slice-starts.result.now c.args.problem.now.starts.items c.loop-number.number none_pair c.as_slice-starts.ensures.value low,
+    )).0
 
 pub put-requires-clause-item : goal.put-requires-clause-item
 put-requires-clause-item c =
     let low : c.loop-number.number < length c.as_slice-starts.result.now = omega (arith, c.loop-number-test.true) in
     subst (λ m. (slice_index_or c.as_slice-starts.result.now c.loop-number.number none_pair).item < m) (sym c.loop-number.invariant.0.count)
-    (c.requires.below.starts (slice_index_or c.as_slice-starts.result.now c.loop-number.number none_pair)
-    (c.loop-number.number, shorter c.as_slice-starts.result.now c.args.problem.now.starts.items c.loop-number.number c.as_slice-starts.ensures.value low, item_is c.as_slice-starts.result.now c.args.problem.now.starts.items c.loop-number.number none_pair c.as_slice-starts.ensures.value low)).1
+    (c.requires.below.starts (slice_index_or c.as_slice-starts.result.now c.loop-number.number none_pair) (
+      c.loop-number.number,
+      shorter c.as_slice-starts.result.now c.args.problem.now.starts.items c.loop-number.number c.as_slice-starts.ensures.value low,
+      item_is c.as_slice-starts.result.now c.args.problem.now.starts.items c.loop-number.number none_pair c.as_slice-starts.ensures.value low,
+    )).1
 
 pub loop-number-preserved : goal.loop-number-preserved
 loop-number-preserved c =

@@ -28,7 +28,8 @@ apply_one-requires-clause-held_there c =
 
 pub loop-number-preserved : goal.loop-number-preserved
 loop-number-preserved c = (
-  keeps_then c.args.problem.now c.args.sets.now c.args.out.now c.args.queue.now.items c.loop-number.sets c.loop-number.out c.loop-number.queue.items c.apply_one.new.sets c.apply_one.new.out c.apply_one.new.queue.items c.loop-number.invariant.0 c.in_ok-apply_one.ensures.keeps,
+  keeps_then c.args.problem.now c.args.sets.now c.args.out.now c.args.queue.now.items c.loop-number.sets c.loop-number.out c.loop-number.queue.items c.apply_one.new.sets c.apply_one.new.out c.apply_one.new.queue.items
+      c.loop-number.invariant.0 c.in_ok-apply_one.ensures.keeps,
   applied_more c.args.problem.now c.loop-number.sets c.loop-number.out c.apply_one.new.sets c.apply_one.new.out c.args.item c.loop-number.number-index c.targets-number-items.result.now c.index-application.result.now
       c.in_ok-apply_one.ensures.keeps.grown c.in_ok-apply_one.ensures.keeps.edges
       (c.requires.at.below c.args.place (slice_index c.targets-number-items.result.now c.loop-number.number-index)

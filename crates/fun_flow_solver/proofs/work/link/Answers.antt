@@ -9,7 +9,8 @@ send-requires-clause-inside c = λ x h. c.count-count.ensures.graph.inside c.arg
 pub returns-clause-keeps : goal.returns-clause-keeps
 returns-clause-keeps c = λ P j.
     on_ok_weaker c.add.result
-    (λ e. link_keeps P c.args.sets.now c.args.out.now c.args.queue.now.items c.send.new.sets c.add.new.self c.send.new.queue.items c.args.from c.args.to c.in_ok-send.ensures.moves c.in_ok-send.ensures.only c.in_ok-send.ensures.there c.add.ensures.count e j)
+    (λ e. link_keeps P c.args.sets.now c.args.out.now c.args.queue.now.items c.send.new.sets c.add.new.self c.send.new.queue.items c.args.from c.args.to c.in_ok-send.ensures.moves c.in_ok-send.ensures.only c.in_ok-send.ensures.there
+    c.add.ensures.count e j)
     c.add.ensures.pairs
 
 pub returns-clause-added : goal.returns-clause-added

@@ -8,7 +8,8 @@ pub put-requires-clause-item : goal.put-requires-clause-item
 put-requires-clause-item c =
     let is : c.as_slice-item-items.result.now ≡ targets c.args.sets.now c.args.from = c.as_slice-item-items.ensures.value ∙ c.in_ok-items.ensures in
     subst (λ n. slice_index c.as_slice-item-items.result.now c.loop-item.item-index < n) (sym c.loop-item.invariant.0.count)
-    (c.requires.inside (slice_index c.as_slice-item-items.result.now c.loop-item.item-index) (subst (λ xs. Contains xs (slice_index c.as_slice-item-items.result.now c.loop-item.item-index)) is (at_place c.as_slice-item-items.result.now c.loop-item.item-index (omega (arith, c.loop-item-test.true)))))
+    (c.requires.inside (slice_index c.as_slice-item-items.result.now c.loop-item.item-index)
+    (subst (λ xs. Contains xs (slice_index c.as_slice-item-items.result.now c.loop-item.item-index)) is (at_place c.as_slice-item-items.result.now c.loop-item.item-index (omega (arith, c.loop-item-test.true)))))
 
 pub loop-item-preserved : goal.loop-item-preserved
 loop-item-preserved c =
@@ -17,7 +18,11 @@ loop-item-preserved c =
       (
         λ p x h. elim (c.in_ok-put.ensures.only p x h) [
           | inl old ↦ c.loop-item.invariant.1.0 p x old
-          | inr both ↦ inr (both.0, subst (λ z. Leads c.args.sets.now c.args.from z) (sym both.1) (subst (λ xs. Contains xs (slice_index c.as_slice-item-items.result.now c.loop-item.item-index)) is (at_place c.as_slice-item-items.result.now c.loop-item.item-index (omega (arith, c.loop-item-test.true)))))
+          | inr both ↦ inr (
+            both.0,
+            subst (λ z. Leads c.args.sets.now c.args.from z) (sym both.1)
+                (subst (λ xs. Contains xs (slice_index c.as_slice-item-items.result.now c.loop-item.item-index)) is (at_place c.as_slice-item-items.result.now c.loop-item.item-index (omega (arith, c.loop-item-test.true)))),
+          )
         ],
         below_more _ _ (λ k h. c.in_ok-put.ensures.moves.grown c.args.to (slice_index c.as_slice-item-items.result.now k) (c.loop-item.invariant.1.1 k h)) c.in_ok-put.ensures.there,
       ),

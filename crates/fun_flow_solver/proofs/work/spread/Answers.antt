@@ -7,7 +7,8 @@ use Rattle.fun_flow_solver.proofs.work.spread.Goals as goal
 pub put-requires-clause-place : goal.put-requires-clause-place
 put-requires-clause-place c =
     subst (λ n. slice_index c.targets-to-items.result.now c.loop-to.to-index < n) (sym c.loop-to.invariant.0.count)
-    (c.requires.inside (slice_index c.targets-to-items.result.now c.loop-to.to-index) (subst (λ xs. Contains xs (slice_index c.targets-to-items.result.now c.loop-to.to-index)) c.targets-to-items.ensures (at_place c.targets-to-items.result.now c.loop-to.to-index (omega (arith, c.loop-to-test.true)))))
+    (c.requires.inside (slice_index c.targets-to-items.result.now c.loop-to.to-index)
+    (subst (λ xs. Contains xs (slice_index c.targets-to-items.result.now c.loop-to.to-index)) c.targets-to-items.ensures (at_place c.targets-to-items.result.now c.loop-to.to-index (omega (arith, c.loop-to-test.true)))))
 
 pub loop-to-preserved : goal.loop-to-preserved
 loop-to-preserved c = (
@@ -15,7 +16,11 @@ loop-to-preserved c = (
   (
     λ p x h. elim (c.in_ok-put.ensures.only p x h) [
       | inl old ↦ c.loop-to.invariant.1.0 p x old
-      | inr is ↦ inr (subst (λ z. Leads c.args.out.now c.args.place z) (sym is.0) (subst (λ xs. Contains xs (slice_index c.targets-to-items.result.now c.loop-to.to-index)) c.targets-to-items.ensures (at_place c.targets-to-items.result.now c.loop-to.to-index (omega (arith, c.loop-to-test.true)))), is.1)
+      | inr is ↦ inr (
+        subst (λ z. Leads c.args.out.now c.args.place z) (sym is.0)
+            (subst (λ xs. Contains xs (slice_index c.targets-to-items.result.now c.loop-to.to-index)) c.targets-to-items.ensures (at_place c.targets-to-items.result.now c.loop-to.to-index (omega (arith, c.loop-to-test.true)))),
+        is.1,
+      )
     ],
     below_more _ _ (λ k h. c.in_ok-put.ensures.moves.grown (slice_index c.targets-to-items.result.now k) c.args.item (c.loop-to.invariant.1.1 k h)) c.in_ok-put.ensures.there,
   ),

@@ -17,6 +17,7 @@ pub returns-clause-work : goal.returns-clause-work
 returns-clause-work c =
     on_both c.apply_all.result c.apply_all.ensures.keeps c.apply_all.ensures.applied
     (λ k a. step_ends c.args.problem.now c.spread.new.sets c.args.out.now c.spread.new.queue.items c.apply_all.new.sets c.apply_all.new.out c.apply_all.new.queue.items c.args.pair
-    (spread_keeps c.args.problem.now (Some c.args.pair) c.args.sets.now c.args.out.now c.args.queue.now.items c.spread.new.sets c.spread.new.queue.items c.args.pair.place c.args.pair.item c.requires.work c.in_ok-spread.ensures.moves c.in_ok-spread.ensures.only c.requires.held)
+    (spread_keeps c.args.problem.now (Some c.args.pair) c.args.sets.now c.args.out.now c.args.queue.now.items c.spread.new.sets c.spread.new.queue.items c.args.pair.place c.args.pair.item c.requires.work c.in_ok-spread.ensures.moves
+    c.in_ok-spread.ensures.only c.requires.held)
     (c.in_ok-spread.ensures.moves.grown c.args.pair.place c.args.pair.item c.requires.held)
     c.in_ok-spread.ensures.there k a)

@@ -19,7 +19,8 @@ loop-round-init c = record {
   state = c.in_ok-state.ensures;
   settled = first_settled
       (record { callee = found c.args.known.now; home = c.args.source.now.name; names = c.args.tops.now.names; labels = c.args.tops.now.labels; state = c.in_ok-state.state })
-      (rounds_of c.new-changes.result) c.args.source.now.defs c.in_ok-visits.visits (ap₂ (λ x y. (x, y)) c.new-changes.ensures.entered c.new-changes.ensures.given) (c.in_ok-visits.ensures ∙ ap (map first_visit) c.as_slice-defs.ensures);
+      (rounds_of c.new-changes.result) c.args.source.now.defs c.in_ok-visits.visits (ap₂ (λ x y. (x, y)) c.new-changes.ensures.entered c.new-changes.ensures.given)
+      (c.in_ok-visits.ensures ∙ ap (map first_visit) c.as_slice-defs.ensures);
   candidates =
       let vs = c.in_ok-visits.visits in
       let many : length c.as_slice-defs.result.now ≡ length vs = sym (ap length c.in_ok-visits.ensures ∙ length-map c.as_slice-defs.result.now first_visit) in
@@ -48,13 +49,16 @@ loop-round-preserved c =
     let state = c.loop-round.state in
     let next = c.take_round.new.self in
     let made : next ≡ next_state c.loop-round.round state (made_of callees (module_tree source) state) =
-    is_made F callees source c.args.tops.now.names c.args.tops.now.labels state next (rounds_of c.loop-round.changes) (rounds_of c.take_round.new.changes) c.loop-round.round c.as_slice-defs.result.now c.loop-round.visits c.walk_again.new.visits c.in_ok-contributions.contributions c.as_slice-in-loop-round.result.now c.in_ok-take_round.field-0
+    is_made F callees source c.args.tops.now.names c.args.tops.now.labels state next (rounds_of c.loop-round.changes)
+    (rounds_of c.take_round.new.changes) c.loop-round.round c.as_slice-defs.result.now c.loop-round.visits c.walk_again.new.visits c.in_ok-contributions.contributions c.as_slice-in-loop-round.result.now c.in_ok-take_round.field-0
     c.as_slice-defs.ensures c.loop-round.invariant.settled c.in_ok-contributions.ensures.contributions c.in_ok-contributions.ensures.visits c.as_slice-in-loop-round.ensures c.in_ok-take_round.ensures.after c.requires.names c.requires.labels
     in
     record {
       state = settling.next_round same callees (module_tree source) c.loop-round.round state next c.loop-round.invariant.state made;
-      settled = settled_next F callees source c.args.tops.now.names c.args.tops.now.labels state next (rounds_of c.loop-round.changes) (rounds_of c.take_round.new.changes) c.loop-round.round c.as_slice-defs.result.now c.loop-round.visits c.walk_again.new.visits c.in_ok-contributions.contributions c.as_slice-in-loop-round.result.now c.in_ok-take_round.field-0
-          c.as_slice-defs.ensures c.loop-round.invariant.settled c.in_ok-contributions.ensures.contributions c.in_ok-contributions.ensures.visits c.as_slice-in-loop-round.ensures c.in_ok-take_round.ensures.after c.in_ok-take_round.ensures.noted;
+      settled = settled_next F callees source c.args.tops.now.names c.args.tops.now.labels state next (rounds_of c.loop-round.changes)
+          (rounds_of c.take_round.new.changes) c.loop-round.round c.as_slice-defs.result.now c.loop-round.visits c.walk_again.new.visits c.in_ok-contributions.contributions c.as_slice-in-loop-round.result.now c.in_ok-take_round.field-0
+          c.as_slice-defs.ensures c.loop-round.invariant.settled c.in_ok-contributions.ensures.contributions c.in_ok-contributions.ensures.visits c.as_slice-in-loop-round.ensures c.in_ok-take_round.ensures.after
+          c.in_ok-take_round.ensures.noted;
       candidates = c.in_ok-positions-2.ensures (c.loop-round.round + 1)
           (c.in_ok-take_round.ensures.anew.entered.listed (c.loop-round.invariant.entered_later (c.loop-round.round + 1) (omega arith)))
           (c.in_ok-take_round.ensures.anew.given.listed (c.loop-round.invariant.given_later (c.loop-round.round + 1) (omega arith)));
@@ -75,7 +79,8 @@ returns-then-not-branch c =
     in
     let within : c.loop-round.round ≤ last_round callees (module_tree source) = omega arith in
     let made : next ≡ next_state c.loop-round.round state (made_of callees (module_tree source) state) =
-    is_made F callees source c.args.tops.now.names c.args.tops.now.labels state next (rounds_of c.loop-round.changes) (rounds_of c.take_round.new.changes) c.loop-round.round c.as_slice-defs.result.now c.loop-round.visits c.walk_again.new.visits c.in_ok-contributions.contributions c.as_slice-in-loop-round.result.now c.in_ok-take_round.field-0
+    is_made F callees source c.args.tops.now.names c.args.tops.now.labels state next (rounds_of c.loop-round.changes)
+    (rounds_of c.take_round.new.changes) c.loop-round.round c.as_slice-defs.result.now c.loop-round.visits c.walk_again.new.visits c.in_ok-contributions.contributions c.as_slice-in-loop-round.result.now c.in_ok-take_round.field-0
     c.as_slice-defs.ensures c.loop-round.invariant.settled c.in_ok-contributions.ensures.contributions c.in_ok-contributions.ensures.visits c.as_slice-in-loop-round.ensures c.in_ok-take_round.ensures.after c.requires.names c.requires.labels
     in
     settling.first_still same callees (module_tree source) c.loop-round.round state next within c.loop-round.invariant.state made (c.in_ok-take_round.ensures.noted.still c.if-not-branch.true)

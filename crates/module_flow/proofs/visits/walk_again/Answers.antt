@@ -20,7 +20,8 @@ loop-candidate-preserved-then-position-from c =
     let passed : (p < c.loop-candidate.from) ⊎ (length ds ≤ p) =
     elim c.then-position-from.branch [ then-position-from-via-then-position-from w ↦ inl w.if-position-from.true | then-position-from-via-else-position-from+then-position-defs w ↦ inr w.if-position-defs.true ]
     in
-    walk_passes W rounds k ds (contributions_again W rounds k ds c.args.visits.now) (visits_again W rounds k ds c.args.visits.now) c.loop-candidate.visits c.loop-candidate.contributions c.loop-candidate.from (drop i c.args.positions.now) (drop (i + 1) c.args.positions.now) p (drop_more c.args.positions.now i 0 c.loop-candidate-test.true) passed c.loop-candidate.invariant
+    walk_passes W rounds k ds (contributions_again W rounds k ds c.args.visits.now) (visits_again W rounds k ds c.args.visits.now) c.loop-candidate.visits c.loop-candidate.contributions c.loop-candidate.from (drop i c.args.positions.now)
+    (drop (i + 1) c.args.positions.now) p (drop_more c.args.positions.now i 0 c.loop-candidate-test.true) passed c.loop-candidate.invariant
 
 pub loop-candidate-preserved : goal.loop-candidate-preserved
 loop-candidate-preserved c =
@@ -46,7 +47,8 @@ loop-candidate-preserved c =
     elim c.if-is_touched.branch [
       | then-is_touched+in_ok-walk_at w ↦
           let touched : is_touched rounds k v ≡ true = sym c.is_touched.ensures ∙ w.if-is_touched.true in
-          walk_takes W rounds k ds all_contributions all_visits vs gs from left more p next c.if-position-from.false c.if-position-defs.false c.loop-candidate.invariant d v c.if-is_touched.visits c.if-is_touched.contributions here c.at.ensures touched (w.contributions-is ∙ w.in_ok-walk_at.ensures.contributions) (w.visits-is ∙ w.in_ok-walk_at.ensures.visits v c.at.ensures)
+          walk_takes W rounds k ds all_contributions all_visits vs gs from left more p next c.if-position-from.false c.if-position-defs.false c.loop-candidate.invariant d v c.if-is_touched.visits c.if-is_touched.contributions here
+          c.at.ensures touched (w.contributions-is ∙ w.in_ok-walk_at.ensures.contributions) (w.visits-is ∙ w.in_ok-walk_at.ensures.visits v c.at.ensures)
       | else-is_touched w ↦
           let touched : is_touched rounds k v ≡ false = sym c.is_touched.ensures ∙ w.if-is_touched.false in
           rw (w.contributions-is, w.visits-is)
@@ -60,5 +62,6 @@ returns c =
     let k = c.args.round in
     let ds = c.args.defs.now in
     let i = c.loop-candidate.candidate-index in
-    let end = walk_ends W rounds k ds (contributions_again W rounds k ds c.args.visits.now) (visits_again W rounds k ds c.args.visits.now) c.loop-candidate.visits c.loop-candidate.contributions c.loop-candidate.from (drop i c.args.positions.now) (drop_all i c.args.positions.now c.loop-candidate-test.false) c.loop-candidate.invariant in
+    let end = walk_ends W rounds k ds (contributions_again W rounds k ds c.args.visits.now) (visits_again W rounds k ds c.args.visits.now) c.loop-candidate.visits c.loop-candidate.contributions c.loop-candidate.from
+    (drop i c.args.positions.now) (drop_all i c.args.positions.now c.loop-candidate-test.false) c.loop-candidate.invariant in
     record { contributions = end.0; visits = end.1 }

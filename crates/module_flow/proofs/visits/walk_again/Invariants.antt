@@ -7,5 +7,6 @@ use Rattle.module_flow.proofs.visits.walk_again.Given as goal
 
 abbrev pub invariant-loop-candidate : goal.invariant-loop-candidate
 invariant-loop-candidate l =
-    IsWalked (world_of l.context) (rounds_of l.changes) l.round l.defs (contributions_again (world_of l.context) (rounds_of l.changes) l.round l.defs l.fn.visits) (visits_again (world_of l.context) (rounds_of l.changes) l.round l.defs l.fn.visits)
+    IsWalked (world_of l.context) (rounds_of l.changes) l.round l.defs (contributions_again (world_of l.context) (rounds_of l.changes) l.round l.defs l.fn.visits)
+    (visits_again (world_of l.context) (rounds_of l.changes) l.round l.defs l.fn.visits)
     l.visits l.contributions l.from (drop l.candidate-index l.positions)

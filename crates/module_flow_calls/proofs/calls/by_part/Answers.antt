@@ -8,4 +8,5 @@ returns-then-not-alive c =
 
 pub returns : goal.returns
 returns c =
-    part_alive c.one.result c.args.part c.args.args.now c.new-slots.result.types c.solve_slots-answer.new.slots.types c.in_ok-alive.alive c.in_ok-value.value (c.new-slots.ensures.types ∙ c.in_ok-beginning.ensures) c.in_ok-alive.ensures.value c.if-not-alive.false (c.in_ok-value.ensures ∙ c.at.ensures) c.one.ensures
+    part_alive c.one.result c.args.part c.args.args.now c.new-slots.result.types c.solve_slots-answer.new.slots.types c.in_ok-alive.alive c.in_ok-value.value
+    (c.new-slots.ensures.types ∙ c.in_ok-beginning.ensures) c.in_ok-alive.ensures.value c.if-not-alive.false (c.in_ok-value.ensures ∙ c.at.ensures) c.one.ensures

@@ -28,4 +28,5 @@ abbrev pub invariant-note_pattern_pairs-loop-pair : goal.invariant-note_pattern_
 invariant-note_pattern_pairs-loop-pair l = noting l.walk (in_pat_pairs (defined_around l.walk) (all_pat_pairs (drop l.pair-index l.pairs))) ≡ noting l.fn.walk (in_pat_pairs (defined_around l.fn.walk) (all_pat_pairs l.pairs))
 
 abbrev pub invariant-note_pattern_segments-loop-segment : goal.invariant-note_pattern_segments-loop-segment
-invariant-note_pattern_segments-loop-segment l = noting l.walk (in_pat_segments (defined_around l.walk) (all_pat_segments (drop l.segment-index l.segments))) ≡ noting l.fn.walk (in_pat_segments (defined_around l.fn.walk) (all_pat_segments l.segments))
+invariant-note_pattern_segments-loop-segment l = noting l.walk (in_pat_segments (defined_around l.walk) (all_pat_segments (drop l.segment-index l.segments)))
+    ≡ noting l.fn.walk (in_pat_segments (defined_around l.fn.walk) (all_pat_segments l.segments))

@@ -8,7 +8,8 @@ use Rattle.module_flow_calls.specs.NamedFunctions.{named_function, named_functio
 use Rattle.module_flow_calls.specs.steps.Gathering.{defined_around, in_tree, noting, with_function}
 use Rattle.module_flow_calls.proofs.names.names_of_function.Goals as goal
 
-of_one : (w w1 w2 : NameWalk) (d : FunDefOf Expr) (body : Expr) → w.functions ≡ [] → w1 ≡ with_function w (named_function d.mark.label d.name (length d.fun.params)) → body ≡ d.fun.body → w2 ≡ noting w1 (in_tree (defined_around w1) (tree body))
+of_one : (w w1 w2 : NameWalk) (d : FunDefOf Expr) (body : Expr) → w.functions ≡ [] → w1 ≡ with_function w (named_function d.mark.label d.name (length d.fun.params)) → body ≡ d.fun.body
+    → w2 ≡ noting w1 (in_tree (defined_around w1) (tree body))
     → w2.functions ≡ named_functions (functions_of_defs (all_defs (d ∷ [])))
 of_one w w1 w2 d body none one body_is two =
     let f = named_function d.mark.label d.name (length d.fun.params) in

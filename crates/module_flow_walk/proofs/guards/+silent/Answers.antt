@@ -2,7 +2,8 @@ use Rattle.std.proofs.Common.{refl, sym, ap, subst}
 use Rattle.core_ast.specs.declared.syntax.Form.TheVariants as f
 use Rattle.core_ast.specs.Tree.{all_clauses, all_steps, all_trees, tree}
 use Rattle.cons_gen_rows.proofs.Reading.{read_one, read_two, read_three}
-use Rattle.module_flow_walk.proofs.Silence.{call_silent, case_silent, chain_silent, clauses_silent, listed_silent, literal_silent, no_clauses_silent, no_steps_silent, no_trees_silent, primop_silent, steps_silent, trees_silent, try_silent, tuple_silent, values_silent, variable_silent}
+use Rattle.module_flow_walk.proofs.Silence.{call_silent, case_silent, chain_silent, clauses_silent, listed_silent, literal_silent, no_clauses_silent, no_steps_silent}
+use Rattle.module_flow_walk.proofs.Silence.{no_trees_silent, primop_silent, steps_silent, trees_silent, try_silent, tuple_silent, values_silent, variable_silent}
 use Rattle.module_flow_walk.proofs.guards.+silent.Goals as goal
 
 pub is_silent-returns-in-Var : goal.is_silent-returns-in-Var

@@ -16,7 +16,8 @@ returns-clause-groups c =
     let T = entries_so c.args.table.now in
     let M = sources_so c.args.sources.now in
     IfOk-weaker c.group_list.result (λ list. AreGroupsOf c.in_ok-found.found.entries c.in_ok-comps.comps list.groups c.in_ok-comps.comps.count) (λ list. IsGroups (is_candidate T M) (calls_of T M) (groups_in (lists_of list))) (λ list so.
-    groups_law c.args.table.now c.args.sources.now c.in_ok-found.found.entries c.in_ok-found.ensures.rises c.in_ok-found.ensures.standing c.in_ok-comps.comps list so c.in_ok-graph.graph c.in_ok-graph.ensures c.in_ok-comps.ensures.nodes c.in_ok-comps.ensures.together
+    groups_law c.args.table.now c.args.sources.now c.in_ok-found.found.entries c.in_ok-found.ensures.rises c.in_ok-found.ensures.standing c.in_ok-comps.comps list so c.in_ok-graph.graph c.in_ok-graph.ensures c.in_ok-comps.ensures.nodes
+    c.in_ok-comps.ensures.together
     c.in_ok-comps.ensures.downward c.in_ok-comps.ensures.members c.in_ok-comps.ensures.kept) c.group_list.ensures
 
 pub returns-clause-made_for : goal.returns-clause-made_for

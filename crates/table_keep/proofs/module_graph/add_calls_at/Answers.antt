@@ -22,6 +22,7 @@ returns-in-Some-entry-clause-pairs c =
     let p = c.args.positions in
     let none : p.source ≡ None = no_option p.source c.in_default.not-Some in
     let is : calls_by (found_at (sources_so c.args.sources.now) p.source) (found_at (entries_so c.args.table.now) p.entry) ≡ c.as_slice.result.now =
-    ap (λ r. calls_by (found_at (sources_so c.args.sources.now) r) (found_at (entries_so c.args.table.now) p.entry)) none ∙ called_by_entry c.args.table.now c.in-Some-entry.at c.at-entry.result.now p.entry c.in-Some-entry.is c.at-entry.ensures ∙ sym c.as_slice.ensures in
+    ap (λ r. calls_by (found_at (sources_so c.args.sources.now) r) (found_at (entries_so c.args.table.now) p.entry)) none
+    ∙ called_by_entry c.args.table.now c.in-Some-entry.at c.at-entry.result.now p.entry c.in-Some-entry.is c.at-entry.ensures ∙ sym c.as_slice.ensures in
     on_ok_weaker c.add_calls.result (λ pairs.
     subst (λ l. (i j : ℕ) → Leads c.add_calls.new.graph i j ↔ With c.args.graph.now c.args.from (IsNamed (keys c.args.found.now) l) i j) (sym is) pairs) c.add_calls.ensures.pairs

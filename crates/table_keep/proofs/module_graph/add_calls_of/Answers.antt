@@ -30,5 +30,6 @@ returns-clause-pairs c =
     let M = sources_so c.args.sources.now in
     let told : standing (source_names c.args.sources.now) (entry_names c.args.table.now.entries) h ≡ Some p = (let s = c.requires.standing h in cc c.in-Some.ensures.value) in
     let there : Some (h, p) ≡ slice_get c.args.found.now.entries c.args.place = (cc c.in-Some.ensures.entry) in
-    on_ok_weaker c.add_calls_at.result (same_pairs c.add_calls_at.new.graph c.args.graph.now c.args.place (IsNamed (keys c.args.found.now) (calls_by (found_at M p.source) (found_at T p.entry))) (NameLeads (keys c.args.found.now) (calls_of T M) c.args.place)
+    on_ok_weaker c.add_calls_at.result (same_pairs c.add_calls_at.new.graph c.args.graph.now c.args.place (IsNamed (keys c.args.found.now) (calls_by (found_at M p.source) (found_at T p.entry)))
+    (NameLeads (keys c.args.found.now) (calls_of T M) c.args.place)
     (λ j. leads_from c.args.table.now c.args.sources.now h p told c.args.found.now.entries c.args.place j there)) c.add_calls_at.ensures.pairs

@@ -19,4 +19,5 @@ returns c =
     let n = length-map c.args.found.now.entries (λ e. e.0) in
     let s = c.loop-place.invariant.size in
     let t = c.loop-place-test.false in
-    graph_ends (keys c.args.found.now) (calls_of (entries_so c.args.table.now) (sources_so c.args.sources.now)) c.loop-place.graph c.loop-place.place c.loop-place.invariant.size (let k = c.len-count.ensures.len in omega (arith, n, t, k)) c.loop-place.invariant.pairs
+    graph_ends (keys c.args.found.now) (calls_of (entries_so c.args.table.now) (sources_so c.args.sources.now)) c.loop-place.graph c.loop-place.place c.loop-place.invariant.size
+    (let k = c.len-count.ensures.len in omega (arith, n, t, k)) c.loop-place.invariant.pairs

@@ -76,7 +76,8 @@ solve-returns-in_ok-after-in-Some-clause-right t c =
     let trailed = trailed_then s c.lower_all.new.slots u c.in_ok-lower_all-in-Some.ensures.trailed its.ensures.trailed in
     let marked = c.len-checkpoint.ensures in
     let value = sym (opened_solves facts laws k c.in-Some.lows (memos c.in-Some.inner) s.types r) ∙ ap (solution k) (sym c.in_ok-lower_all-in-Some.ensures.value) ∙ its.ensures.value in
-    c.in_ok-after-in-Some.ensures k s.types (right_new facts laws k (memos c.settle_kind.new.inner) (drop m u.trail) s.types u.types its.alive value (told_back s u m trailed marked) (told_within s u m trailed marked) (sym (trailed_length s u trailed)) its.ensures.right)
+    c.in_ok-after-in-Some.ensures k s.types (right_new facts laws k (memos c.settle_kind.new.inner) (drop m u.trail) s.types u.types its.alive value (told_back s u m trailed marked) (told_within s u m trailed marked)
+    (sym (trailed_length s u trailed)) its.ensures.right)
 
 -- ---- the three kinds
 
@@ -89,7 +90,8 @@ pub settle_kind-returns-in-Part-clause-right : goal.settle_kind-returns-in-Part-
 settle_kind-returns-in-Part-clause-right t c =
     let is = of_part c.args.c.now c.in-Part.part c.in-Part.is in
     let ys = c.settle_part.new.slots.types in
-    IfOk-weaker c.settle_part.result (λ _. Trailed c.args.slots.now c.settle_part.new.slots) (λ alive. alive ≡ true → MembersRight (constraint c.args.c.now) (memos c.args.inner.now) ys) (λ alive h e. subst (λ k. MembersRight k (memos c.args.inner.now) ys) (sym is) tt) c.settle_part.ensures.trailed
+    IfOk-weaker c.settle_part.result (λ _. Trailed c.args.slots.now c.settle_part.new.slots) (λ alive. alive ≡ true
+    → MembersRight (constraint c.args.c.now) (memos c.args.inner.now) ys) (λ alive h e. subst (λ k. MembersRight k (memos c.args.inner.now) ys) (sym is) tt) c.settle_part.ensures.trailed
 
 pub settle_kind-settle_all-requires : goal.settle_kind-settle_all-requires
 settle_kind-settle_all-requires t c =
@@ -139,7 +141,8 @@ pub settle_all-returns-then-len-checkpoint-clause-value : goal.settle_all-return
 settle_all-returns-then-len-checkpoint-clause-value t c =
     let all = all_of (constraints c.args.members.now) in
     let its = c.in_ok-alive.ensures in
-    sym c.sweeps.invariant.same ∙ sym its.value ∙ ap (λ b. on_types (answer b c.sweep.new.slots.types) (solution all)) c.if-not-alive.false ∙ its.settled c.if-not-alive.false (omega (arith, c.len.ensures, c.len-checkpoint.ensures, c.if-len-checkpoint.true))
+    sym c.sweeps.invariant.same ∙ sym its.value ∙ ap (λ b. on_types (answer b c.sweep.new.slots.types) (solution all)) c.if-not-alive.false
+    ∙ its.settled c.if-not-alive.false (omega (arith, c.len.ensures, c.len-checkpoint.ensures, c.if-len-checkpoint.true))
 
 pub settle_all-returns-then-len-checkpoint-clause-right : goal.settle_all-returns-then-len-checkpoint-clause-right
 settle_all-returns-then-len-checkpoint-clause-right t c = λ e. c.in_ok-alive.ensures.right c.if-not-alive.false
@@ -176,7 +179,8 @@ sweep-returns-then-not-alive-clause-value t c =
     let at = c.position-at.result in
     let is : at ≡ position_of c.args.forward (length ms) c.loop-turn.turn = c.position-at.ensures in
     let low : at < length ms = subst (λ p. p < length ms) (sym is) (position_low c.args.forward (length ms) c.loop-turn.turn c.loop-turn-test.true) in
-    sym (member_dies c.environment_laws.ensures.laws ms at c.index-members-at.result c.loop-turn.slots.types low c.index-members-at.is (no_answer c.in_ok-alive.alive _ c.solve.new.slots.types c.if-not-alive.true c.in_ok-alive.ensures.value)) ∙ c.loop-turn.invariant.same
+    sym (member_dies c.environment_laws.ensures.laws ms at c.index-members-at.result c.loop-turn.slots.types low c.index-members-at.is
+    (no_answer c.in_ok-alive.alive _ c.solve.new.slots.types c.if-not-alive.true c.in_ok-alive.ensures.value)) ∙ c.loop-turn.invariant.same
 
 pub sweep-returns-then-not-alive-clause-trailed : goal.sweep-returns-then-not-alive-clause-trailed
 sweep-returns-then-not-alive-clause-trailed t c =
@@ -285,4 +289,6 @@ join_all-returns-clause-right t c =
     let xs = c.loop-at.slots.types in
     let ys = c.lay.new.slots.types in
     let cs = constraints c.args.members.now in
-    IfOk-weaker c.lay.result (λ alive. best_of c.loop-at.best xs ≡ answer alive ys) (λ alive. alive ≡ true → AreRight cs (memos c.loop-at.kept) ys) (λ alive h e. each_falls c.type_facts.ensures c.environment_laws.ensures.laws cs (memos c.loop-at.kept) xs ys (laid_below c.loop-at.best xs ys alive inv.best h e) inv.right) c.lay.ensures.value
+    IfOk-weaker c.lay.result (λ alive. best_of c.loop-at.best xs ≡ answer alive ys) (λ alive. alive ≡ true
+    → AreRight cs (memos c.loop-at.kept) ys) (λ alive h e. each_falls c.type_facts.ensures c.environment_laws.ensures.laws cs (memos c.loop-at.kept) xs ys (laid_below c.loop-at.best xs ys alive inv.best h e) inv.right)
+    c.lay.ensures.value

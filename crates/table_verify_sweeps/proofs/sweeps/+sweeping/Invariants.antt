@@ -40,7 +40,8 @@ invariant-sweep-loop-turn l = record {
   same : solution (all_of (constraints l.members)) l.slots.types ≡ solution (all_of (constraints l.members)) l.initial.slots.types;
   trailed : Trailed l.initial.slots l.slots;
   right : AreRight (constraints l.members) (memos l.kept) l.slots.types;
-  stays : length l.slots.trail ≡ length l.initial.slots.trail → (j : ℕ) → j < l.turn → (x : Constraint) → solution (constraint (get_or l.members (position_of l.forward (length l.members) j) x)) l.slots.types ≡ Some l.slots.types;
+  stays : length l.slots.trail ≡ length l.initial.slots.trail → (j : ℕ) → j < l.turn → (x : Constraint)
+      → solution (constraint (get_or l.members (position_of l.forward (length l.members) j) x)) l.slots.types ≡ Some l.slots.types;
 }
 
 abbrev pub invariant-join_all-loop-at : goal.invariant-join_all-loop-at

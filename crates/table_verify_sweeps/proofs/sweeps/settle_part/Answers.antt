@@ -10,11 +10,14 @@ returns-then-not-alive-clause-value c =
 
 pub returns-then-len-checkpoint-clause-value : goal.returns-then-len-checkpoint-clause-value
 returns-then-len-checkpoint-clause-value c =
-    sym c.turns.invariant.same ∙ part_ends c.environment_laws.ensures.laws c.args.part.now c.turns.slots.types c.narrow.new.self.types (an_answer c.in_ok-alive.alive _ c.narrow.new.self.types c.if-not-alive.false c.in_ok-alive.ensures.value) (trailed_same c.turns.slots c.narrow.new.self c.in_ok-alive.ensures.trailed (omega (arith, c.len.ensures, c.len-checkpoint.ensures, c.if-len-checkpoint.true)))
+    sym c.turns.invariant.same ∙ part_ends c.environment_laws.ensures.laws c.args.part.now c.turns.slots.types c.narrow.new.self.types
+    (an_answer c.in_ok-alive.alive _ c.narrow.new.self.types c.if-not-alive.false c.in_ok-alive.ensures.value)
+    (trailed_same c.turns.slots c.narrow.new.self c.in_ok-alive.ensures.trailed (omega (arith, c.len.ensures, c.len-checkpoint.ensures, c.if-len-checkpoint.true)))
 
 pub turns-preserved : goal.turns-preserved
 turns-preserved c = record {
-  same = part_moves c.environment_laws.ensures.laws c.args.part.now c.turns.slots.types c.narrow.new.self.types (an_answer c.in_ok-alive.alive _ c.narrow.new.self.types c.if-not-alive.false c.in_ok-alive.ensures.value) ∙ c.turns.invariant.same;
+  same = part_moves c.environment_laws.ensures.laws c.args.part.now c.turns.slots.types c.narrow.new.self.types (an_answer c.in_ok-alive.alive _ c.narrow.new.self.types c.if-not-alive.false c.in_ok-alive.ensures.value)
+      ∙ c.turns.invariant.same;
   trailed = trailed_then c.args.slots.now c.turns.slots c.narrow.new.self c.turns.invariant.trailed c.in_ok-alive.ensures.trailed;
 }
 

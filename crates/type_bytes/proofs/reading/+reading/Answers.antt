@@ -30,17 +30,20 @@ read_behind-returns-in_err-parts-clause-read t c =
 
 pub read_behind-returns-in-Any-clause-read : goal.read_behind-returns-in-Any-clause-read
 read_behind-returns-in-Any-clause-read t c =
-    any_not_read c.args.level c.args.first c.args.bytes.now c.in_ok-parts.rest.now c.in_ok-parts.parts c.made.result c.if-level-eq0.false c.if-first-ne2.false (are_bytes c.args.bytes.now (λ i. (c.type_inv.bytes i).fits)) c.in_ok-parts.ensures.each c.in_ok-parts.ensures.read (record { fits = c.made.ensures.fits; value = c.made.ensures.value }) c.in-Any.is
+    any_not_read c.args.level c.args.first c.args.bytes.now c.in_ok-parts.rest.now c.in_ok-parts.parts c.made.result c.if-level-eq0.false c.if-first-ne2.false
+    (are_bytes c.args.bytes.now (λ i. (c.type_inv.bytes i).fits)) c.in_ok-parts.ensures.each c.in_ok-parts.ensures.read (record { fits = c.made.ensures.fits; value = c.made.ensures.value }) c.in-Any.is
 
 pub read_behind-returns-in-Of-clause-fits : goal.read_behind-returns-in-Of-clause-fits
 read_behind-returns-in-Of-clause-fits t c =
     let made : IsMade c.in_ok-parts.parts c.made.result = record { fits = c.made.ensures.fits; value = c.made.ensures.value } in
-    (of_read c.args.level c.args.first c.args.bytes.now c.in_ok-parts.rest.now c.in_ok-parts.parts c.in-Of.parts (v.Of c.in-Of.parts) c.if-level-eq0.false c.if-first-ne2.false (are_bytes c.args.bytes.now (λ i. (c.type_inv.bytes i).fits)) c.in_ok-parts.ensures.each c.in_ok-parts.ensures.read (subst (IsMade c.in_ok-parts.parts) c.in-Of.is made) refl).0
+    (of_read c.args.level c.args.first c.args.bytes.now c.in_ok-parts.rest.now c.in_ok-parts.parts c.in-Of.parts (v.Of c.in-Of.parts) c.if-level-eq0.false c.if-first-ne2.false
+    (are_bytes c.args.bytes.now (λ i. (c.type_inv.bytes i).fits)) c.in_ok-parts.ensures.each c.in_ok-parts.ensures.read (subst (IsMade c.in_ok-parts.parts) c.in-Of.is made) refl).0
 
 pub read_behind-returns-in-Of-clause-read : goal.read_behind-returns-in-Of-clause-read
 read_behind-returns-in-Of-clause-read t c =
     let made : IsMade c.in_ok-parts.parts c.made.result = record { fits = c.made.ensures.fits; value = c.made.ensures.value } in
-    (of_read c.args.level c.args.first c.args.bytes.now c.in_ok-parts.rest.now c.in_ok-parts.parts c.in-Of.parts (v.Of c.in-Of.parts) c.if-level-eq0.false c.if-first-ne2.false (are_bytes c.args.bytes.now (λ i. (c.type_inv.bytes i).fits)) c.in_ok-parts.ensures.each c.in_ok-parts.ensures.read (subst (IsMade c.in_ok-parts.parts) c.in-Of.is made) refl).1
+    (of_read c.args.level c.args.first c.args.bytes.now c.in_ok-parts.rest.now c.in_ok-parts.parts c.in-Of.parts (v.Of c.in-Of.parts) c.if-level-eq0.false c.if-first-ne2.false
+    (are_bytes c.args.bytes.now (λ i. (c.type_inv.bytes i).fits)) c.in_ok-parts.ensures.each c.in_ok-parts.ensures.read (subst (IsMade c.in_ok-parts.parts) c.in-Of.is made) refl).1
 
 pub read_body-returns-then-size-eq0-clause-read : goal.read_body-returns-then-size-eq0-clause-read
 read_body-returns-then-size-eq0-clause-read t c = body_not_read c.args.level c.args.size c.in-Some.first.now c.args.bytes.now c.in-Some.rest.now (search rules) c.if-first-eq0.false (inl c.if-size-eq0.true)
@@ -63,7 +66,8 @@ read_row-loop-preserved t c =
     let added : c.add.new.self ≡ c.loop.row ++ n ∷ [] = c.in_ok-add.ensures.ok ∙ ap (λ x. c.loop.row ++ x ∷ []) c.in_ok-new.ensures in
     record {
       each = each_more (Fits d) c.add.new.self c.loop.row n added c.loop.invariant.each c.in_ok-element.ensures.fits;
-      read = read_more (element_at d) c.args.count c.loop.counter c.loop.rest.now (row_view d c.loop.row) _ (row_view d c.add.new.self) (view d n) c.in_ok-element.after.now c.loop-test.true (ap (row_view d) added ∙ row_more d c.loop.row n) c.in_ok-element.ensures.read c.loop.invariant.read;
+      read = read_more (element_at d) c.args.count c.loop.counter c.loop.rest.now (row_view d c.loop.row) _ (row_view d c.add.new.self) (view d n) c.in_ok-element.after.now c.loop-test.true
+          (ap (row_view d) added ∙ row_more d c.loop.row n) c.in_ok-element.ensures.read c.loop.invariant.read;
     }
 
 pub list_tags-loop-preserved : goal.list_tags-loop-preserved
@@ -72,7 +76,8 @@ list_tags-loop-preserved t c =
     let g = c.in_ok-tag.tag in
     record {
       each = each_tag_more (Fits d) c.add.new.self c.loop.list g c.in_ok-add.ensures.ok c.loop.invariant.each c.in_ok-tag.ensures.each;
-      read = read_more (tag_at (ops d) (element_at d) c.args.size) c.args.count c.loop.counter c.loop.rest.now (tags_view d c.loop.list) _ (tags_view d c.add.new.self) (g.atom, row_view d g.rest) c.in_ok-tag.after.now c.loop-test.true (ap (tags_view d) c.in_ok-add.ensures.ok ∙ tags_more d c.loop.list g) c.in_ok-tag.ensures.read c.loop.invariant.read;
+      read = read_more (tag_at (ops d) (element_at d) c.args.size) c.args.count c.loop.counter c.loop.rest.now (tags_view d c.loop.list) _ (tags_view d c.add.new.self) (g.atom, row_view d g.rest) c.in_ok-tag.after.now c.loop-test.true
+          (ap (tags_view d) c.in_ok-add.ensures.ok ∙ tags_more d c.loop.list g) c.in_ok-tag.ensures.read c.loop.invariant.read;
     }
 
 pub list_sizes-loop-preserved : goal.list_sizes-loop-preserved
@@ -81,5 +86,6 @@ list_sizes-loop-preserved t c =
     let s = c.in_ok-size.size in
     record {
       each = each_size_more (Fits d) c.add.new.self c.loop.list s c.in_ok-add.ensures.ok c.loop.invariant.each c.in_ok-size.ensures.each;
-      read = read_more (size_at (ops d) (element_at d)) c.args.count c.loop.counter c.loop.rest.now (sizes_view d c.loop.list) _ (sizes_view d c.add.new.self) (s.size, body_view d s.body) c.in_ok-size.after.now c.loop-test.true (ap (sizes_view d) c.in_ok-add.ensures.ok ∙ sizes_more d c.loop.list s) c.in_ok-size.ensures.read c.loop.invariant.read;
+      read = read_more (size_at (ops d) (element_at d)) c.args.count c.loop.counter c.loop.rest.now (sizes_view d c.loop.list) _ (sizes_view d c.add.new.self) (s.size, body_view d s.body) c.in_ok-size.after.now c.loop-test.true
+          (ap (sizes_view d) c.in_ok-add.ensures.ok ∙ sizes_more d c.loop.list s) c.in_ok-size.ensures.read c.loop.invariant.read;
     }

@@ -14,7 +14,8 @@ returns-then-ge c d =
     let a = c.get.ensures ∙ ap (λ t. t.atom) (sym c.index-list-at.is) in
     let b = c.get-in-loop-at.ensures ∙ ap (λ t. t.atom) (sym c.index-list-at-in-loop-at.is) in
     let falls = sym (λ i. is_lt (name_cmp (a i) (b i))) ∙ not_under _ true (sym c.ge.ensures ∙ c.if-ge.true) in
-    sym (ap (is_ascending name_cmp) (tag_keys d c.args.list.now) ∙ keys_fall name_cmp name_total name_same (λ t. t.atom) c.args.list.now (c.loop-at.at - 1) c.loop-at.at (c.loop-at.at + 1) x y (omega (arith, c.loop-at.auto.at)) (omega arith) c.loop-at-test.true c.index-list-at.is c.index-list-at-in-loop-at.is falls)
+    sym (ap (is_ascending name_cmp) (tag_keys d c.args.list.now) ∙ keys_fall name_cmp name_total name_same (λ t. t.atom) c.args.list.now (c.loop-at.at - 1) c.loop-at.at (c.loop-at.at + 1) x y (omega (arith, c.loop-at.auto.at))
+    (omega arith) c.loop-at-test.true c.index-list-at.is c.index-list-at-in-loop-at.is falls)
 
 pub loop-at-init : goal.loop-at-init
 loop-at-init c = first_key name_cmp (λ t. t.atom) c.args.list.now
@@ -26,7 +27,8 @@ loop-at-preserved c =
     let a = c.get.ensures ∙ ap (λ t. t.atom) (sym c.index-list-at.is) in
     let b = c.get-in-loop-at.ensures ∙ ap (λ t. t.atom) (sym c.index-list-at-in-loop-at.is) in
     let up = sym (λ i. is_lt (name_cmp (a i) (b i))) ∙ not_under _ false (sym c.ge.ensures ∙ c.if-ge.false) in
-    keys_more name_cmp name_total name_same (λ t. t.atom) c.args.list.now (c.loop-at.at - 1) c.loop-at.at (c.loop-at.at + 1) x y (omega (arith, c.loop-at.auto.at)) (omega arith) c.loop-at-test.true c.index-list-at.is c.index-list-at-in-loop-at.is c.loop-at.invariant up
+    keys_more name_cmp name_total name_same (λ t. t.atom) c.args.list.now (c.loop-at.at - 1) c.loop-at.at (c.loop-at.at + 1) x y (omega (arith, c.loop-at.auto.at))
+    (omega arith) c.loop-at-test.true c.index-list-at.is c.index-list-at-in-loop-at.is c.loop-at.invariant up
 
 pub returns : goal.returns
 returns c d = sym (ap (is_ascending name_cmp) (tag_keys d c.args.list.now) ∙ all_keys name_cmp (λ t. t.atom) c.args.list.now c.loop-at.at c.loop-at-test.false c.loop-at.invariant)

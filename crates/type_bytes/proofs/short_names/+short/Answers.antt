@@ -25,12 +25,14 @@ are_short_sizes-is_short_body-requires t c =
 pub are_short_sizes-returns-then-not-is_short_body : goal.are_short_sizes-returns-then-not-is_short_body
 are_short_sizes-returns-then-not-is_short_body t c =
     let d = c.args.level in
-    not_all (is_short_size (is_short_at d)) (sizes_view d) (size_view d) (same_sizes d) c.args.sizes.now c.loop-size.size-index c.size-item.result c.loop-size-test.true c.size-item.is c.is_short_body.result c.is_short_body.ensures c.if-not-is_short_body.true
+    not_all (is_short_size (is_short_at d)) (sizes_view d) (size_view d) (same_sizes d) c.args.sizes.now c.loop-size.size-index c.size-item.result c.loop-size-test.true c.size-item.is c.is_short_body.result c.is_short_body.ensures
+    c.if-not-is_short_body.true
 
 pub are_short_sizes-loop-size-preserved : goal.are_short_sizes-loop-size-preserved
 are_short_sizes-loop-size-preserved t c =
     let d = c.args.level in
-    one_more (is_short_size (is_short_at d)) (sizes_view d) (size_view d) (same_sizes d) c.args.sizes.now c.loop-size.size-index c.size-item.result c.loop-size-test.true c.size-item.is c.is_short_body.result c.is_short_body.ensures c.if-not-is_short_body.false c.loop-size.invariant
+    one_more (is_short_size (is_short_at d)) (sizes_view d) (size_view d) (same_sizes d) c.args.sizes.now c.loop-size.size-index c.size-item.result c.loop-size-test.true c.size-item.is c.is_short_body.result c.is_short_body.ensures
+    c.if-not-is_short_body.false c.loop-size.invariant
 
 pub are_short_tags-is_short_tag-requires : goal.are_short_tags-is_short_tag-requires
 are_short_tags-is_short_tag-requires t c =
@@ -39,19 +41,23 @@ are_short_tags-is_short_tag-requires t c =
 pub are_short_tags-returns-then-not-is_short_tag : goal.are_short_tags-returns-then-not-is_short_tag
 are_short_tags-returns-then-not-is_short_tag t c =
     let d = c.args.level in
-    not_all (is_short_tag (is_short_at d)) (tags_view d) (tag_view d) (same_tags d) c.args.tags.now c.loop-tag.tag-index c.tag-item.result c.loop-tag-test.true c.tag-item.is c.is_short_tag.result c.is_short_tag.ensures c.if-not-is_short_tag.true
+    not_all (is_short_tag (is_short_at d)) (tags_view d) (tag_view d) (same_tags d) c.args.tags.now c.loop-tag.tag-index c.tag-item.result c.loop-tag-test.true c.tag-item.is c.is_short_tag.result c.is_short_tag.ensures
+    c.if-not-is_short_tag.true
 
 pub are_short_tags-loop-tag-preserved : goal.are_short_tags-loop-tag-preserved
 are_short_tags-loop-tag-preserved t c =
     let d = c.args.level in
-    one_more (is_short_tag (is_short_at d)) (tags_view d) (tag_view d) (same_tags d) c.args.tags.now c.loop-tag.tag-index c.tag-item.result c.loop-tag-test.true c.tag-item.is c.is_short_tag.result c.is_short_tag.ensures c.if-not-is_short_tag.false c.loop-tag.invariant
+    one_more (is_short_tag (is_short_at d)) (tags_view d) (tag_view d) (same_tags d) c.args.tags.now c.loop-tag.tag-index c.tag-item.result c.loop-tag-test.true c.tag-item.is c.is_short_tag.result c.is_short_tag.ensures
+    c.if-not-is_short_tag.false c.loop-tag.invariant
 
 pub is_short_row-returns-then-not-is_short : goal.is_short_row-returns-then-not-is_short
 is_short_row-returns-then-not-is_short t c =
     let d = c.args.level in
-    not_all (is_short_at d) (row_view d) (view d) (λ xs. refl) c.args.row.now c.loop-element.element-index c.element-item.result c.loop-element-test.true c.element-item.is c.is_short.result (c.is_short.ensures ∙ ap (λ n. is_short_at d (view d n)) c.get.ensures) c.if-not-is_short.true
+    not_all (is_short_at d) (row_view d) (view d) (λ xs. refl) c.args.row.now c.loop-element.element-index c.element-item.result c.loop-element-test.true c.element-item.is c.is_short.result
+    (c.is_short.ensures ∙ ap (λ n. is_short_at d (view d n)) c.get.ensures) c.if-not-is_short.true
 
 pub is_short_row-loop-element-preserved : goal.is_short_row-loop-element-preserved
 is_short_row-loop-element-preserved t c =
     let d = c.args.level in
-    one_more (is_short_at d) (row_view d) (view d) (λ xs. refl) c.args.row.now c.loop-element.element-index c.element-item.result c.loop-element-test.true c.element-item.is c.is_short.result (c.is_short.ensures ∙ ap (λ n. is_short_at d (view d n)) c.get.ensures) c.if-not-is_short.false c.loop-element.invariant
+    one_more (is_short_at d) (row_view d) (view d) (λ xs. refl) c.args.row.now c.loop-element.element-index c.element-item.result c.loop-element-test.true c.element-item.is c.is_short.result
+    (c.is_short.ensures ∙ ap (λ n. is_short_at d (view d n)) c.get.ensures) c.if-not-is_short.false c.loop-element.invariant

@@ -10,15 +10,18 @@ use Rattle.type_lattice_trees.proofs.Inclusions.{size_fits}
 use Rattle.type_bytes.specs.Spelling.{two_bytes, parts_of, all_bytes, tag_bytes, size_bytes, bytes_at}
 use Rattle.type_bytes.specs.ShortNames.{is_short, are_short, are_short_tuples, is_short_tag, is_short_body, is_short_at}
 use Rattle.type_bytes.proofs.Fronts.{still_front}
-use Rattle.type_bytes.proofs.Writes.{bytes_of_any, bytes_of_none, bytes_of_some, short_parts, chained, parts_in_row, row_bytes, tags_bytes, sizes_bytes, row_bytes-append, tags_bytes-append, sizes_bytes-append, one_more, short_at, short_tag_at, short_size_at, product_items, tags_items, tags_body, sizes_items, sizes_part}
+use Rattle.type_bytes.proofs.Writes.{bytes_of_any, bytes_of_none, bytes_of_some, short_parts, chained, parts_in_row, row_bytes, tags_bytes, sizes_bytes, row_bytes-append}
+use Rattle.type_bytes.proofs.Writes.{tags_bytes-append, sizes_bytes-append, one_more, short_at, short_tag_at, short_size_at, product_items, tags_items, tags_body, sizes_items, sizes_part}
 use Rattle.type_bytes.proofs.writing.+write.Goals as goal
 
 pub append_type-overflow_sub-level : goal.append_type-overflow_sub-level
 append_type-overflow_sub-level t c = of_above c.args.t.now c.in-Of.parts c.in-Of.is c.args.level c.requires.fits
 
 pub append_type-append_parts-requires : goal.append_type-append_parts-requires
-append_type-append_parts-requires t c =
-    (omega (arith, c.decreases, of_above c.args.t.now c.in-Of.parts c.in-Of.is c.args.level c.requires.fits), (below_fits c.args.t.now c.in-Of.parts c.in-Of.is c.args.level c.requires.fits, short_parts c.args.t.now c.in-Of.parts c.in-Of.is c.args.level c.requires.fits c.requires.short))
+append_type-append_parts-requires t c = (
+  omega (arith, c.decreases, of_above c.args.t.now c.in-Of.parts c.in-Of.is c.args.level c.requires.fits),
+  (below_fits c.args.t.now c.in-Of.parts c.in-Of.is c.args.level c.requires.fits, short_parts c.args.t.now c.in-Of.parts c.in-Of.is c.args.level c.requires.fits c.requires.short),
+)
 
 pub append_type-returns-in_default-clause-ok : goal.append_type-returns-in_default-clause-ok
 append_type-returns-in_default-clause-ok t c =
@@ -54,7 +57,8 @@ append_parts-append_tuples-requires t c =
 
 pub append_parts-returns-in_err-append_cell-clause-front : goal.append_parts-returns-in_err-append_cell-clause-front
 append_parts-returns-in_err-append_cell-clause-front t c =
-    still_front c.args.out.now c.append_mask.new.out c.append_cell.new.out _ c.in_ok-append_mask.ensures.ok (still_front c.append_mask.new.out c.append_plain.new.out c.append_cell.new.out _ c.in_ok-append_plain.ensures.ok c.append_cell.ensures.front)
+    still_front c.args.out.now c.append_mask.new.out c.append_cell.new.out _ c.in_ok-append_mask.ensures.ok
+    (still_front c.append_mask.new.out c.append_plain.new.out c.append_cell.new.out _ c.in_ok-append_plain.ensures.ok c.append_cell.ensures.front)
 
 pub append_parts-returns-clause-ok : goal.append_parts-returns-clause-ok
 append_parts-returns-clause-ok t c =
@@ -68,26 +72,39 @@ append_parts-returns-clause-ok t c =
 pub append_parts-returns-clause-front : goal.append_parts-returns-clause-front
 append_parts-returns-clause-front t c =
     still_front c.args.out.now c.append_mask.new.out c.append_tuples.new.out _ c.in_ok-append_mask.ensures.ok
-    (still_front c.append_mask.new.out c.append_plain.new.out c.append_tuples.new.out _ c.in_ok-append_plain.ensures.ok (still_front c.append_plain.new.out c.append_cell.new.out c.append_tuples.new.out _ c.in_ok-append_cell.ensures.ok c.append_tuples.ensures.front))
+    (still_front c.append_mask.new.out c.append_plain.new.out c.append_tuples.new.out _ c.in_ok-append_plain.ensures.ok
+    (still_front c.append_plain.new.out c.append_cell.new.out c.append_tuples.new.out _ c.in_ok-append_cell.ensures.ok c.append_tuples.ensures.front))
 
 pub append_row-append_type-requires : goal.append_row-append_type-requires
 append_row-append_type-requires t c =
     let d = c.args.level in
     let i = c.loop-element.element-index in
-    let x = c.element-item.result in
-    (omega (arith, c.decreases), (subst (Fits d) (sym (c.get.ensures ∙ c.element-item.is)) (each_at (Fits d) c.args.row.now c.requires.fits i x c.loop-element-test.true), subst (λ y. IsTrue (is_short_at d (view d y))) (sym (c.get.ensures ∙ c.element-item.is)) (short_at (is_short_at d) (view d) c.args.row.now c.requires.short i x c.loop-element-test.true)))
+    let x = c.element-item.result in (
+      omega (arith, c.decreases),
+      (
+        subst (Fits d) (sym (c.get.ensures ∙ c.element-item.is)) (each_at (Fits d) c.args.row.now c.requires.fits i x c.loop-element-test.true),
+        subst (λ y. IsTrue (is_short_at d (view d y))) (sym (c.get.ensures ∙ c.element-item.is)) (short_at (is_short_at d) (view d) c.args.row.now c.requires.short i x c.loop-element-test.true),
+      ),
+    )
 
 pub append_row-loop-element-preserved : goal.append_row-loop-element-preserved
 append_row-loop-element-preserved t c =
     let d = c.args.level in
     let x = c.element-item.result in
-    one_more (row_bytes d) (row_bytes-append d) c.args.row.now c.loop-element.element-index x x c.loop-element-test.true c.element-item.is [] c.args.out.now c.loop-element.out _ _ c.loop-element.invariant c.in_ok-append_type.ensures.ok (ap (λ n. bytes_at d (view d n)) c.get.ensures ∙ sym (append-nil (bytes_at d (view d x))))
+    one_more (row_bytes d) (row_bytes-append d) c.args.row.now c.loop-element.element-index x x c.loop-element-test.true c.element-item.is [] c.args.out.now c.loop-element.out _ _ c.loop-element.invariant c.in_ok-append_type.ensures.ok
+    (ap (λ n. bytes_at d (view d n)) c.get.ensures ∙ sym (append-nil (bytes_at d (view d x))))
 
 pub append_size-append_row-requires : goal.append_size-append_row-requires
-append_size-append_row-requires t c = (omega (arith, c.decreases), product_items c.args.level c.args.size.now.size c.args.size.now.body c.in-Product.row c.as_slice.result.now c.in-Product.is c.as_slice.ensures c.requires.fits c.requires.short)
+append_size-append_row-requires t c = (
+  omega (arith, c.decreases),
+  product_items c.args.level c.args.size.now.size c.args.size.now.body c.in-Product.row c.as_slice.result.now c.in-Product.is c.as_slice.ensures c.requires.fits c.requires.short,
+)
 
 pub append_size-append_tags-requires : goal.append_size-append_tags-requires
-append_size-append_tags-requires t c = (omega (arith, c.decreases), tags_items c.args.level c.args.size.now.size c.args.size.now.body c.in-Tags.tags c.as_slice-in-Tags.result.now c.in-Tags.is c.as_slice-in-Tags.ensures c.requires.fits c.requires.short)
+append_size-append_tags-requires t c = (
+  omega (arith, c.decreases),
+  tags_items c.args.level c.args.size.now.size c.args.size.now.body c.in-Tags.tags c.as_slice-in-Tags.result.now c.in-Tags.is c.as_slice-in-Tags.ensures c.requires.fits c.requires.short,
+)
 
 pub append_size-returns-in_ok-append-in-Product-clause-front : goal.append_size-returns-in_ok-append-in-Product-clause-front
 append_size-returns-in_ok-append-in-Product-clause-front t c = still_front c.args.out.now c.append.new.self c.append_row.new.out _ c.in_ok-append-in-Product.ensures.ok c.append_row.ensures.front
@@ -111,24 +128,36 @@ pub append_sizes-loop-size-preserved : goal.append_sizes-loop-size-preserved
 append_sizes-loop-size-preserved t c =
     let d = c.args.level in
     let x = c.size-item.result in
-    one_more (sizes_bytes d) (sizes_bytes-append d) c.args.sizes.now c.loop-size.size-index x x c.loop-size-test.true c.size-item.is (length c.args.sizes.now ∷ []) c.args.out.now c.loop-size.out _ _ c.loop-size.invariant c.in_ok-append_size.ensures.ok (sym (append-nil (size_bytes (bytes_at d) (x.size, body_view d x.body))))
+    one_more (sizes_bytes d) (sizes_bytes-append d) c.args.sizes.now c.loop-size.size-index x x c.loop-size-test.true c.size-item.is
+    (length c.args.sizes.now ∷ []) c.args.out.now c.loop-size.out _ _ c.loop-size.invariant c.in_ok-append_size.ensures.ok (sym (append-nil (size_bytes (bytes_at d) (x.size, body_view d x.body))))
 
 pub append_tags-loop-tag-preserved : goal.append_tags-loop-tag-preserved
 append_tags-loop-tag-preserved t c =
     let d = c.args.level in
     let x = c.tag-item.result in
-    one_more (tags_bytes d) (tags_bytes-append d) c.args.tags.now c.loop-tag.tag-index x x c.loop-tag-test.true c.tag-item.is (length c.args.tags.now ∷ []) c.args.out.now c.loop-tag.out _ _ c.loop-tag.invariant c.in_ok-append_tag.ensures.ok (sym (append-nil (tag_bytes (bytes_at d) (x.atom, row_view d x.rest))))
+    one_more (tags_bytes d) (tags_bytes-append d) c.args.tags.now c.loop-tag.tag-index x x c.loop-tag-test.true c.tag-item.is
+    (length c.args.tags.now ∷ []) c.args.out.now c.loop-tag.out _ _ c.loop-tag.invariant c.in_ok-append_tag.ensures.ok (sym (append-nil (tag_bytes (bytes_at d) (x.atom, row_view d x.rest))))
 
 pub append_sizes-append_size-requires : goal.append_sizes-append_size-requires
 append_sizes-append_size-requires t c =
     let d = c.args.level in
     let i = c.loop-size.size-index in
-    let x = c.size-item.result in
-    (omega (arith, c.decreases), (size_fits d c.args.sizes.now c.requires.fits i x c.loop-size-test.true c.size-item.is, subst (λ y. IsTrue (is_short_body (is_short_at d) (body_view d y.body))) (sym c.size-item.is) (short_size_at d c.args.sizes.now c.requires.short i x c.loop-size-test.true)))
+    let x = c.size-item.result in (
+      omega (arith, c.decreases),
+      (
+        size_fits d c.args.sizes.now c.requires.fits i x c.loop-size-test.true c.size-item.is,
+        subst (λ y. IsTrue (is_short_body (is_short_at d) (body_view d y.body))) (sym c.size-item.is) (short_size_at d c.args.sizes.now c.requires.short i x c.loop-size-test.true),
+      ),
+    )
 
 pub append_tag-append_row-requires : goal.append_tag-append_row-requires
-append_tag-append_row-requires t c =
-    (omega (arith, c.decreases), (subst (EachNode (Fits c.args.level)) (sym c.as_slice.ensures) c.requires.fits, subst (λ x. IsTrue (list_all (is_short_at c.args.level) (row_view c.args.level x))) (sym c.as_slice.ensures) c.requires.short))
+append_tag-append_row-requires t c = (
+  omega (arith, c.decreases),
+  (
+    subst (EachNode (Fits c.args.level)) (sym c.as_slice.ensures) c.requires.fits,
+    subst (λ x. IsTrue (list_all (is_short_at c.args.level) (row_view c.args.level x))) (sym c.as_slice.ensures) c.requires.short,
+  ),
+)
 
 pub append_tags-append_tag-requires : goal.append_tags-append_tag-requires
 append_tags-append_tag-requires t c =

@@ -22,5 +22,6 @@ returns c d =
     let some_tuples = has_tuples (bytes_at d) (tuples_view d c.args.parts.now.tuples) in
     let cell = worth 512 c.bit-10.result _ some_cell c.bit-10.ensures.value (c.is_some.ensures ∙ sym (cell_some (view d) c.args.parts.now.cell)) in
     let tuples = worth 1024 c.bit-11.result _ some_tuples c.bit-11.ensures.value (c.has_tuples.ensures d) in
-    mask_sum (record { atoms = k.atoms; ints = k.ints; bits = k.bits; flags = flags_of k.flags; functions = functions_of k.functions }) some_cell some_tuples _ _ _ _ _ _ _ _ _ _ _ _ atoms ints c.bit-3.ensures.value bits c.bit-5.ensures.value c.bit-6.ensures.value c.bit-7.ensures.value functions c.bit-9.ensures.value cell tuples c.bit-12.ensures.value
+    mask_sum (record { atoms = k.atoms; ints = k.ints; bits = k.bits; flags = flags_of k.flags; functions = functions_of k.functions }) some_cell some_tuples _ _ _ _ _ _ _ _ _ _ _ _ atoms ints c.bit-3.ensures.value bits
+    c.bit-5.ensures.value c.bit-6.ensures.value c.bit-7.ensures.value functions c.bit-9.ensures.value cell tuples c.bit-12.ensures.value
     ∙ ap (λ p. mask_with p some_cell some_tuples) c.plain.view_is

@@ -42,12 +42,14 @@ invariant-cut_row-loop-element l = record {
 
 abbrev pub invariant-cut_sizes-loop-size : goal.invariant-cut_sizes-loop-size
 invariant-cut_sizes-loop-size l = record {
-  value : sizes_view l.to l.out ++ mapped (body_lower (levels.cut l.from l.to) (ops l.from) (ops l.to)) (sizes_view l.from (drop l.size-index l.sizes)) ≡ mapped (body_lower (levels.cut l.from l.to) (ops l.from) (ops l.to)) (sizes_view l.from l.sizes);
+  value : sizes_view l.to l.out ++ mapped (body_lower (levels.cut l.from l.to) (ops l.from) (ops l.to)) (sizes_view l.from (drop l.size-index l.sizes))
+      ≡ mapped (body_lower (levels.cut l.from l.to) (ops l.from) (ops l.to)) (sizes_view l.from l.sizes);
   each : EachSize (Fits l.to) l.out;
 }
 
 abbrev pub invariant-cut_tags-loop-tag : goal.invariant-cut_tags-loop-tag
 invariant-cut_tags-loop-tag l = record {
-  value : tags_view l.to l.out ++ mapped (row_lower (levels.cut l.from l.to) (ops l.from) (ops l.to)) (tags_view l.from (drop l.tag-index l.tags)) ≡ mapped (row_lower (levels.cut l.from l.to) (ops l.from) (ops l.to)) (tags_view l.from l.tags);
+  value : tags_view l.to l.out ++ mapped (row_lower (levels.cut l.from l.to) (ops l.from) (ops l.to)) (tags_view l.from (drop l.tag-index l.tags))
+      ≡ mapped (row_lower (levels.cut l.from l.to) (ops l.from) (ops l.to)) (tags_view l.from l.tags);
   each : EachTag (Fits l.to) l.out;
 }

@@ -5,7 +5,8 @@ use Rattle.type_lattice_model.specs.Tables.{find}
 use Rattle.type_lattice_trees.specs.declared.node.BodyOf.TheVariants as of_body
 use Rattle.type_lattice_trees.specs.View.{tags_view, RowFits}
 use Rattle.type_lattice_trees.proofs.Views.{of_above, part_fits}
-use Rattle.type_lattice_trees.proofs.Inclusions.{TagBelow, SizeBelow, failed, one_item_more, below_any, any_not_below, parts_tell, plain_below, cell_below, tuples_tell, some_cell_not_below, free_not_below, elements_tell, position_below, product_not_below, each_tag_below, tag_below, rest_fits, after_fits, tag_absent, tag_tells, each_size_below, size_below, size_fits, found_fits, size_absent, size_tells, all_not_below}
+use Rattle.type_lattice_trees.proofs.Inclusions.{TagBelow, SizeBelow, failed, one_item_more, below_any, any_not_below, parts_tell, plain_below, cell_below, tuples_tell, some_cell_not_below, free_not_below, elements_tell, position_below}
+use Rattle.type_lattice_trees.proofs.Inclusions.{product_not_below, each_tag_below, tag_below, rest_fits, after_fits, tag_absent, tag_tells, each_size_below, size_below, size_fits, found_fits, size_absent, size_tells, all_not_below}
 use Rattle.type_lattice_trees.proofs.BottomRows.{bottom_bodies}
 use Rattle.type_lattice_trees.proofs.JoinLaws.{tags_of_bodies}
 use Rattle.type_lattice_trees.proofs.PositionLaws.{Behind, atom_of}

@@ -60,15 +60,24 @@ join_rest-returns-then-leq_row-2-clause-value t c =
 
 pub join_rests-join_row-requires : goal.join_rests-join_row-requires
 join_rests-join_row-requires t c =
-    let next = rest_fits c.args.level c.requires.0 c.args.tags.now c.requires.1 c.loop-i.i c.index-tags-i.result (omega arith) c.index-tags-i.is in
-    (omega (arith, c.decreases), (c.requires.0, (row_is _ _ _ _ c.as_slice-in-loop-i.ensures (c.loop-i.invariant.fits _ c.requires.1), row_is _ _ _ _ (c.as_slice-in-loop-i-2.ensures ∙ sym (ap (λ (x : TagOf Node). x.rest) c.index-tags-i.is)) next)))
+    let next = rest_fits c.args.level c.requires.0 c.args.tags.now c.requires.1 c.loop-i.i c.index-tags-i.result (omega arith) c.index-tags-i.is in (
+      omega (arith, c.decreases),
+      (
+        c.requires.0,
+        (
+          row_is _ _ _ _ c.as_slice-in-loop-i.ensures (c.loop-i.invariant.fits _ c.requires.1),
+          row_is _ _ _ _ (c.as_slice-in-loop-i-2.ensures ∙ sym (ap (λ (x : TagOf Node). x.rest) c.index-tags-i.is)) next,
+        ),
+      ),
+    )
 
 pub join_rests-loop-i-preserved : goal.join_rests-loop-i-preserved
 join_rests-loop-i-preserved t c =
     let rest = c.as_slice-in-loop-i-2.ensures ∙ sym (ap (λ (x : TagOf Node). x.rest) c.index-tags-i.is) in
     record {
       value = grind (arith, drop_next);
-      fits = λ n k. joined_fits _ _ _ _ _ (row_is _ _ _ _ c.as_slice-in-loop-i.ensures (c.loop-i.invariant.fits n k)) (row_is _ _ _ _ rest (rest_fits _ _ _ k _ _ (omega arith) c.index-tags-i.is)) c.in_ok-out-2.ensures.value c.in_ok-out-2.ensures.each;
+      fits = λ n k. joined_fits _ _ _ _ _ (row_is _ _ _ _ c.as_slice-in-loop-i.ensures (c.loop-i.invariant.fits n k))
+          (row_is _ _ _ _ rest (rest_fits _ _ _ k _ _ (omega arith) c.index-tags-i.is)) c.in_ok-out-2.ensures.value c.in_ok-out-2.ensures.each;
       each = c.in_ok-out-2.ensures.each;
     }
 
@@ -93,7 +102,8 @@ put_size-join_body-requires t c = (
 pub put_size-returns-in_ok-body-in-Ok-clause-value :
     goal.put_size-returns-in_ok-body-in-Ok-clause-value
 put_size-returns-in_ok-body-in-Ok-clause-value t c =
-    entry_found nat_cmp (body_join (ops c.args.level)) (size_entry c.args.level) _ _ _ _ _ _ _ c.as_slice.ensures.value (c.in-Ok.ensures.found c.args.level) c.in-Ok.ensures.found_within c.index_mut.ensures.value c.index.ensures refl c.in_ok-body-in-Ok.ensures.value
+    entry_found nat_cmp (body_join (ops c.args.level)) (size_entry c.args.level) _ _ _ _ _ _ _ c.as_slice.ensures.value
+    (c.in-Ok.ensures.found c.args.level) c.in-Ok.ensures.found_within c.index_mut.ensures.value c.index.ensures refl c.in_ok-body-in-Ok.ensures.value
 
 pub put_tag-join_rest-requires : goal.put_tag-join_rest-requires
 put_tag-join_rest-requires t c =
@@ -103,4 +113,5 @@ put_tag-join_rest-requires t c =
 pub put_tag-returns-in_ok-rest-in-Ok-clause-value :
     goal.put_tag-returns-in_ok-rest-in-Ok-clause-value
 put_tag-returns-in_ok-rest-in-Ok-clause-value t c =
-    entry_found name_cmp (row_join (ops c.args.level)) (tag_entry c.args.level) _ _ _ _ _ _ _ c.as_slice.ensures.value (c.in-Ok.ensures.found c.args.level) c.in-Ok.ensures.found_within c.index_mut.ensures.value c.index.ensures refl c.in_ok-rest-in-Ok.ensures.value
+    entry_found name_cmp (row_join (ops c.args.level)) (tag_entry c.args.level) _ _ _ _ _ _ _ c.as_slice.ensures.value
+    (c.in-Ok.ensures.found c.args.level) c.in-Ok.ensures.found_within c.index_mut.ensures.value c.index.ensures refl c.in_ok-rest-in-Ok.ensures.value

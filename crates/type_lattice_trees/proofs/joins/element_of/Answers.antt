@@ -13,7 +13,8 @@ element_of_rests-requires c =
 
 pub returns-in-Product-clause-value : goal.returns-in-Product-clause-value
 returns-in-Product-clause-value c =
-    IfOk-weaker c.copy.result _ _ (λ n e. product_element _ _ _ _ _ _ _ n c.in-Product.is (product_of_body _ _ _ _ c.requires.1.0 c.in-Product.is) c.as_slice.ensures c.requires.1.1 c.index-as_slice-at.is (e ∙ c.get.ensures)) c.copy.ensures
+    IfOk-weaker c.copy.result _ _ (λ n e. product_element _ _ _ _ _ _ _ n c.in-Product.is (product_of_body _ _ _ _ c.requires.1.0 c.in-Product.is) c.as_slice.ensures c.requires.1.1 c.index-as_slice-at.is (e ∙ c.get.ensures))
+    c.copy.ensures
 
 pub returns-then-at-eq0-clause-fits : goal.returns-then-at-eq0-clause-fits
 returns-then-at-eq0-clause-fits c =

@@ -9,7 +9,8 @@ loop-i-init c =
     let k = c.requires.1.0 in
     let within = tags_filled _ _ _ k in
     let same : c.as_slice.result.now ≡ c.index-tags-0.result.rest = grind (arith, c.as_slice.ensures, c.index-tags-0.is) in
-    first_rest _ _ _ _ _ _ _ within c.index-tags-0.is same (rest_within _ _ _ k _ _ within c.index-tags-0.is _ same _ c.requires.1.1) c.index-as_slice-at.is (c.in_ok-out.ensures ∙ c.get.ensures) (rest_element _ _ _ k _ _ within c.index-tags-0.is _ same _ c.requires.1.1 _ c.index-as_slice-at.is)
+    first_rest _ _ _ _ _ _ _ within c.index-tags-0.is same (rest_within _ _ _ k _ _ within c.index-tags-0.is _ same _ c.requires.1.1) c.index-as_slice-at.is (c.in_ok-out.ensures ∙ c.get.ensures)
+    (rest_element _ _ _ k _ _ within c.index-tags-0.is _ same _ c.requires.1.1 _ c.index-as_slice-at.is)
 
 pub bounds-as_slice-at-in-loop-i : goal.bounds-as_slice-at-in-loop-i
 bounds-as_slice-at-in-loop-i c =
@@ -26,4 +27,5 @@ loop-i-preserved c =
     let d = c.args.level in
     let same : c.as_slice-in-loop-i.result.now ≡ c.index-tags-i.result.rest = grind (arith, c.as_slice-in-loop-i.ensures, c.index-tags-i.is) in
     let within = rest_within _ _ _ c.requires.1.0 _ _ (omega arith) c.index-tags-i.is _ same _ c.requires.1.1 in
-    next_rest _ _ _ _ _ _ _ _ _ c.loop-i.invariant (omega arith) c.index-tags-i.is same within c.index-as_slice-at-in-loop-i.is (c.in_ok-out-2.ensures.value ∙ ap (λ m. (ops d).join (view d c.loop-i.out) (view d m)) c.get-in-loop-i.ensures) c.in_ok-out-2.ensures.fits
+    next_rest _ _ _ _ _ _ _ _ _ c.loop-i.invariant (omega arith) c.index-tags-i.is same within c.index-as_slice-at-in-loop-i.is
+    (c.in_ok-out-2.ensures.value ∙ ap (λ m. (ops d).join (view d c.loop-i.out) (view d m)) c.get-in-loop-i.ensures) c.in_ok-out-2.ensures.fits

@@ -15,7 +15,8 @@ meet_apart-meet_parts-requires t c = (
 pub meet_apart-returns-in_ok-meet_parts-in-Of-b-clause-fits :
     goal.meet_apart-returns-in_ok-meet_parts-in-Of-b-clause-fits
 meet_apart-returns-in_ok-meet_parts-in-Of-b-clause-fits t c =
-    meet_of_parts_fits c.args.a.now c.args.b.now _ c.in-Of.parts c.in-Of-b.others c.in_ok-meet_parts-in-Of-b.field-0 c.in-Of.is c.in-Of-b.is refl c.args.level c.requires.a c.requires.b c.in_ok-meet_parts-in-Of-b.ensures.fits c.in_ok-meet_parts-in-Of-b.ensures.value
+    meet_of_parts_fits c.args.a.now c.args.b.now _ c.in-Of.parts c.in-Of-b.others c.in_ok-meet_parts-in-Of-b.field-0 c.in-Of.is c.in-Of-b.is refl c.args.level c.requires.a c.requires.b c.in_ok-meet_parts-in-Of-b.ensures.fits
+    c.in_ok-meet_parts-in-Of-b.ensures.value
 
 pub meet_sizes-meet_body-requires : goal.meet_sizes-meet_body-requires
 meet_sizes-meet_body-requires t c = (
@@ -48,7 +49,8 @@ pub meet_tuples-returns-in_ok-new-in-Sizes-b-clause-fits :
     goal.meet_tuples-returns-in_ok-new-in-Sizes-b-clause-fits
 meet_tuples-returns-in_ok-new-in-Sizes-b-clause-fits t c =
     let d = c.args.level in
-    subst (λ ss. TuplesFit d (Sizes ss)) (sym c.in_ok-new-in-Sizes-b.ensures) (sizes_fit d c.args.a.now c.args.b.now c.as_slice.result.now c.as_slice-in-Sizes-b.result.now c.in_ok-met-in-Sizes-b.met (c.in-Sizes.is ∙ ap Sizes (sym c.as_slice.ensures)) (c.in-Sizes-b.is ∙ ap Sizes (sym c.as_slice-in-Sizes-b.ensures)) c.requires.a c.requires.b c.in_ok-met-in-Sizes-b.ensures.value c.in_ok-met-in-Sizes-b.ensures.each)
+    subst (λ ss. TuplesFit d (Sizes ss)) (sym c.in_ok-new-in-Sizes-b.ensures) (sizes_fit d c.args.a.now c.args.b.now c.as_slice.result.now c.as_slice-in-Sizes-b.result.now c.in_ok-met-in-Sizes-b.met
+    (c.in-Sizes.is ∙ ap Sizes (sym c.as_slice.ensures)) (c.in-Sizes-b.is ∙ ap Sizes (sym c.as_slice-in-Sizes-b.ensures)) c.requires.a c.requires.b c.in_ok-met-in-Sizes-b.ensures.value c.in_ok-met-in-Sizes-b.ensures.each)
 
 pub meet_rest-returns-then-leq_row-clause-value : goal.meet_rest-returns-then-leq_row-clause-value
 meet_rest-returns-then-leq_row-clause-value t c =

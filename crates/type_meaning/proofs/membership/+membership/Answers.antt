@@ -6,7 +6,8 @@ use Rattle.type_lattice_trees.specs.View.{view, Fits}
 use Rattle.type_lattice_trees.proofs.Views.{of_above, below_fits, each_at}
 use Rattle.type_lattice_trees.proofs.Inclusions.{found_fits, sizes_fit}
 use Rattle.type_meaning.specs.Values.{value_of}
-use Rattle.type_meaning.proofs.Memberships.{any_has_it, cell_fits, tuples_fit, no_cell_tells, cell_tells, tuples_tell, plain_tells, head_tells, head_fails, Follows, cons_follows, nil_follows, end_follows, too_long, size_tells, tag_tells, not_tagged, each_tag_fits, as_long}
+use Rattle.type_meaning.proofs.Memberships.{any_has_it, cell_fits, tuples_fit, no_cell_tells, cell_tells, tuples_tell, plain_tells, head_tells, head_fails}
+use Rattle.type_meaning.proofs.Memberships.{Follows, cons_follows, nil_follows, end_follows, too_long, size_tells, tag_tells, not_tagged, each_tag_fits, as_long}
 use Rattle.type_meaning.proofs.Weights.{lighter_head, lighter_tail, lighter_elements, lighter_rest, lighter_item}
 use Rattle.type_meaning.proofs.membership.+membership.Goals as goal
 
@@ -26,8 +27,10 @@ is_in-follows-requires t c =
     (omega (arith, c.decreases), cell_fits (c.args.level - 1) c.in-Of.parts c.in-Some.cell c.in-Some.is (below_fits c.args.t.now c.in-Of.parts c.in-Of.is c.args.level c.requires))
 
 pub is_in-tuple_in-requires : goal.is_in-tuple_in-requires
-is_in-tuple_in-requires t c =
-    (omega (arith, c.decreases, lighter_elements c.args.v.now c.in-Tuple.elements c.as_slice.result.now c.in-Tuple.is c.as_slice.ensures), tuples_fit (c.args.level - 1) c.in-Of.parts (below_fits c.args.t.now c.in-Of.parts c.in-Of.is c.args.level c.requires))
+is_in-tuple_in-requires t c = (
+  omega (arith, c.decreases, lighter_elements c.args.v.now c.in-Tuple.elements c.as_slice.result.now c.in-Tuple.is c.as_slice.ensures),
+  tuples_fit (c.args.level - 1) c.in-Of.parts (below_fits c.args.t.now c.in-Of.parts c.in-Of.is c.args.level c.requires),
+)
 
 pub is_in-returns-in-None : goal.is_in-returns-in-None
 is_in-returns-in-None t c = no_cell_tells c.args.level c.args.t.now c.in-Of.parts c.args.v.now c.in-Cons.field-0 c.in-Cons.field-1 c.in-Of.is c.requires c.in-Cons.is c.in-None.is
@@ -92,19 +95,29 @@ body_in-returns-in_default-first t c =
 
 pub body_in-each_in-requires-in-Some-find_tag : goal.body_in-each_in-requires-in-Some-find_tag
 body_in-each_in-requires-in-Some-find_tag t c =
-    let each = c.in-Some-find_tag.ensures.each c.args.level (each_tag_fits c.args.level _ c.args.body.now c.in-Tags.tags c.as_slice-in-Tags.result.now c.in-Tags.is c.as_slice-in-Tags.ensures c.requires) in
-    (omega (arith, c.decreases, lighter_rest c.args.elements.now c.in-Some.first.now c.in-Some.rest.now c.in-Some.ensures.cases.0), (each, as_long c.args.level c.args.elements.now c.in-Some.first.now c.in-Some.rest.now c.in-Atom.atom c.args.body.now c.in-Tags.tags c.as_slice-in-Tags.result.now c.in-Some-find_tag.row.now c.in-Tags.is c.as_slice-in-Tags.ensures c.in-Some.ensures.cases.0 c.requires (c.in-Some-find_tag.ensures.value c.args.level) each))
+    let each = c.in-Some-find_tag.ensures.each c.args.level (each_tag_fits c.args.level _ c.args.body.now c.in-Tags.tags c.as_slice-in-Tags.result.now c.in-Tags.is c.as_slice-in-Tags.ensures c.requires) in (
+      omega (arith, c.decreases, lighter_rest c.args.elements.now c.in-Some.first.now c.in-Some.rest.now c.in-Some.ensures.cases.0),
+      (
+        each,
+        as_long c.args.level c.args.elements.now c.in-Some.first.now c.in-Some.rest.now c.in-Atom.atom c.args.body.now c.in-Tags.tags c.as_slice-in-Tags.result.now c.in-Some-find_tag.row.now c.in-Tags.is c.as_slice-in-Tags.ensures
+            c.in-Some.ensures.cases.0 c.requires (c.in-Some-find_tag.ensures.value c.args.level) each,
+      ),
+    )
 
 pub body_in-returns-in-None : goal.body_in-returns-in-None
 body_in-returns-in-None t c =
-    tag_tells c.args.level c.args.elements.now c.in-Some.first.now c.in-Some.rest.now c.in-Atom.atom c.args.body.now c.in-Tags.tags c.as_slice-in-Tags.result.now None false c.in-Tags.is c.as_slice-in-Tags.ensures c.in-Some.ensures.cases.0 c.in-Atom.is (c.in-None.ensures.value c.args.level) (refuted (λ h. h))
+    tag_tells c.args.level c.args.elements.now c.in-Some.first.now c.in-Some.rest.now c.in-Atom.atom c.args.body.now c.in-Tags.tags c.as_slice-in-Tags.result.now None false c.in-Tags.is c.as_slice-in-Tags.ensures c.in-Some.ensures.cases.0
+    c.in-Atom.is (c.in-None.ensures.value c.args.level) (refuted (λ h. h))
 
 pub body_in-returns-in-Some-find_tag : goal.body_in-returns-in-Some-find_tag
 body_in-returns-in-Some-find_tag t c =
-    tag_tells c.args.level c.args.elements.now c.in-Some.first.now c.in-Some.rest.now c.in-Atom.atom c.args.body.now c.in-Tags.tags c.as_slice-in-Tags.result.now (Some c.in-Some-find_tag.row.now) c.each_in-in-Some-find_tag.result c.in-Tags.is c.as_slice-in-Tags.ensures c.in-Some.ensures.cases.0 c.in-Atom.is (c.in-Some-find_tag.ensures.value c.args.level) c.each_in-in-Some-find_tag.ensures
+    tag_tells c.args.level c.args.elements.now c.in-Some.first.now c.in-Some.rest.now c.in-Atom.atom c.args.body.now c.in-Tags.tags c.as_slice-in-Tags.result.now
+    (Some c.in-Some-find_tag.row.now) c.each_in-in-Some-find_tag.result c.in-Tags.is c.as_slice-in-Tags.ensures c.in-Some.ensures.cases.0 c.in-Atom.is (c.in-Some-find_tag.ensures.value c.args.level) c.each_in-in-Some-find_tag.ensures
 
 -- ---- elements in the types at their positions
 
 pub each_in-is_in-requires : goal.each_in-is_in-requires
-each_in-is_in-requires t c =
-    (omega (arith, c.decreases, lighter_item c.args.elements.now c.loop-i.i c.index-elements-i.result c.loop-i-test.true c.index-elements-i.is), subst (Fits c.args.level) (sym (c.get.ensures ∙ c.index-row-i.is)) (each_at (Fits c.args.level) c.args.row.now c.requires.fits c.loop-i.i c.index-row-i.result (omega (arith, c.loop-i-test.true, c.requires.same))))
+each_in-is_in-requires t c = (
+  omega (arith, c.decreases, lighter_item c.args.elements.now c.loop-i.i c.index-elements-i.result c.loop-i-test.true c.index-elements-i.is),
+  subst (Fits c.args.level) (sym (c.get.ensures ∙ c.index-row-i.is)) (each_at (Fits c.args.level) c.args.row.now c.requires.fits c.loop-i.i c.index-row-i.result (omega (arith, c.loop-i-test.true, c.requires.same))),
+)

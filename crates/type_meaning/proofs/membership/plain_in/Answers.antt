@@ -14,7 +14,8 @@ use Rattle.type_meaning.proofs.membership.plain_in.Goals as goal
 pub returns-in-Int : goal.returns-in-Int
 returns-in-Int c =
     let fits : FitsSigned w128 c.in-Int.n = search rules in
-    leaf_told c.args.v.now (an_int c.in-Int.n) c.args.plain.now c.contains.result (shape-Int c.args.v.now c.in-Int.n c.in-Int.is) (c.contains.ensures ∙ ap (numbers.has c.plain.inside.ints) (to_z-of_z w128 c.in-Int.n fits) ∙ ap (λ p. has_leaf p (an_int c.in-Int.n)) c.plain.view_is)
+    leaf_told c.args.v.now (an_int c.in-Int.n) c.args.plain.now c.contains.result (shape-Int c.args.v.now c.in-Int.n c.in-Int.is)
+    (c.contains.ensures ∙ ap (numbers.has c.plain.inside.ints) (to_z-of_z w128 c.in-Int.n fits) ∙ ap (λ p. has_leaf p (an_int c.in-Int.n)) c.plain.view_is)
 
 pub returns-in-Float : goal.returns-in-Float
 returns-in-Float c =
@@ -22,7 +23,8 @@ returns-in-Float c =
 
 pub returns-in-Atom : goal.returns-in-Atom
 returns-in-Atom c =
-    leaf_told c.args.v.now (an_atom c.in-Atom.atom) c.args.plain.now c.contains-in-Atom.result (shape-Atom c.args.v.now c.in-Atom.atom c.in-Atom.is) (c.contains-in-Atom.ensures ∙ ap (λ p. has_leaf p (an_atom c.in-Atom.atom)) c.plain.view_is)
+    leaf_told c.args.v.now (an_atom c.in-Atom.atom) c.args.plain.now c.contains-in-Atom.result (shape-Atom c.args.v.now c.in-Atom.atom c.in-Atom.is)
+    (c.contains-in-Atom.ensures ∙ ap (λ p. has_leaf p (an_atom c.in-Atom.atom)) c.plain.view_is)
 
 pub returns-in-No : goal.returns-in-No
 returns-in-No c =
@@ -55,15 +57,18 @@ returns-in-Reference c =
 
 pub returns-in-Nothing : goal.returns-in-Nothing
 returns-in-Nothing c =
-    leaf_told c.args.v.now (a_function c.in-Function.arity) c.args.plain.now false (shape-Function c.args.v.now c.in-Function.arity c.in-Function.is) (ap (λ f. has_arity (functions_of f) c.in-Function.arity) (sym c.in-Nothing.is) ∙ ap (λ p. has_arity p.functions c.in-Function.arity) c.plain.view_is)
+    leaf_told c.args.v.now (a_function c.in-Function.arity) c.args.plain.now false (shape-Function c.args.v.now c.in-Function.arity c.in-Function.is)
+    (ap (λ f. has_arity (functions_of f) c.in-Function.arity) (sym c.in-Nothing.is) ∙ ap (λ p. has_arity p.functions c.in-Function.arity) c.plain.view_is)
 
 pub returns-in-OfArity : goal.returns-in-OfArity
 returns-in-OfArity c =
-    leaf_told c.args.v.now (a_function c.in-Function.arity) c.args.plain.now _ (shape-Function c.args.v.now c.in-Function.arity c.in-Function.is) (same_number c.in-Function.arity c.in-OfArity.other ∙ ap (λ f. has_arity (functions_of f) c.in-Function.arity) (sym c.in-OfArity.is) ∙ ap (λ p. has_arity p.functions c.in-Function.arity) c.plain.view_is)
+    leaf_told c.args.v.now (a_function c.in-Function.arity) c.args.plain.now _ (shape-Function c.args.v.now c.in-Function.arity c.in-Function.is)
+    (same_number c.in-Function.arity c.in-OfArity.other ∙ ap (λ f. has_arity (functions_of f) c.in-Function.arity) (sym c.in-OfArity.is) ∙ ap (λ p. has_arity p.functions c.in-Function.arity) c.plain.view_is)
 
 pub returns-in-Every : goal.returns-in-Every
 returns-in-Every c =
-    leaf_told c.args.v.now (a_function c.in-Function.arity) c.args.plain.now true (shape-Function c.args.v.now c.in-Function.arity c.in-Function.is) (ap (λ f. has_arity (functions_of f) c.in-Function.arity) (sym c.in-Every.is) ∙ ap (λ p. has_arity p.functions c.in-Function.arity) c.plain.view_is)
+    leaf_told c.args.v.now (a_function c.in-Function.arity) c.args.plain.now true (shape-Function c.args.v.now c.in-Function.arity c.in-Function.is)
+    (ap (λ f. has_arity (functions_of f) c.in-Function.arity) (sym c.in-Every.is) ∙ ap (λ p. has_arity p.functions c.in-Function.arity) c.plain.view_is)
 
 pub returns-in-Cons : goal.returns-in-Cons
 returns-in-Cons c = no_leaf_told c.args.v.now _ c.args.plain.now false (shape-Cons c.args.v.now c.in-Cons.field-0 c.in-Cons.field-1 c.in-Cons.is) (λ l h. cc)

@@ -30,4 +30,5 @@ pub append_row-loop-element-preserved : goal.append_row-loop-element-preserved
 append_row-loop-element-preserved t c =
     one_more (λ ns. map (text_at c.args.level) (row_view c.args.level ns)) (λ ns ms. grind (arith, map-append))
     c.args.row.now c.loop-element.element-index c.element-item.result c.element-item.result c.loop-element-test.true c.element-item.is c.loop-element.invariant
-    (one_word c.in_ok-separate.ensures.ok (text_at c.args.level (view c.args.level c.element-item.result)) c.append_type.new.out (c.in_ok-append_type.ensures.ok ∙ ap (λ n. c.separate.new.out ++ text_at c.args.level (view c.args.level n)) c.get.ensures))
+    (one_word c.in_ok-separate.ensures.ok (text_at c.args.level (view c.args.level c.element-item.result)) c.append_type.new.out
+    (c.in_ok-append_type.ensures.ok ∙ ap (λ n. c.separate.new.out ++ text_at c.args.level (view c.args.level n)) c.get.ensures))

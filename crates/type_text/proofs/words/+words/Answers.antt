@@ -5,7 +5,8 @@ use Rattle.std.proofs.lemmas.Result.{IfOk-weaker}
 use Rattle.type_lattice_model.specs.Operations.{ops}
 use Rattle.type_lattice_trees.specs.View.{view, row_view, Fits}
 use Rattle.type_lattice_trees.proofs.Views.{one_more, each_more}
-use Rattle.type_text.proofs.WordReads.{next_word, no_word, words_stop, word_further, next_element, no_element, row_stop, whole_row, no_row, element_further, elements_more, TypeRead, any_read, zero_read, no_word_read, words_read, Found, atom_found, name_found}
+use Rattle.type_text.proofs.WordReads.{next_word, no_word, words_stop, word_further, next_element, no_element, row_stop, whole_row, no_row, element_further}
+use Rattle.type_text.proofs.WordReads.{elements_more, TypeRead, any_read, zero_read, no_word_read, words_read, Found, atom_found, name_found}
 use Rattle.type_text.proofs.WordStarts.{at_list, at_tuple}
 use borrow.Author.Tests.{ltb-true}
 use Rattle.type_text.proofs.words.+words.Goals as goal

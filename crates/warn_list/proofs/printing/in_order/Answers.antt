@@ -18,4 +18,5 @@ pub returns-in-Ok-sort_by_key : goal.returns-in-Ok-sort_by_key
 returns-in-Ok-sort_by_key c =
     let up : IsSortedBy key_test c.sort_by_key.new.self.items = c.in-Ok-sort_by_key.ensures.sorted (λ f. (f.now.label, kind_number f.now.kind)) (answers_always _ _ _ (λ a r g k h. search rules)) in
     let stable : IsStableBy key_test c.loop-finding.ordered.items c.sort_by_key.new.self.items = c.in-Ok-sort_by_key.ensures.stable (λ f. (f.now.label, kind_number f.now.kind)) (answers_always _ _ _ (λ a r g k h. search rules)) in
-    in_order_of c.args.findings.now c.loop-finding.ordered.items c.sort_by_key.new.self.items (all_now c.args.findings.now c.loop-finding.ordered.items c.loop-finding.finding-index c.loop-finding.invariant c.loop-finding-test.false) c.in-Ok-sort_by_key.ensures.permutation up stable
+    in_order_of c.args.findings.now c.loop-finding.ordered.items c.sort_by_key.new.self.items
+    (all_now c.args.findings.now c.loop-finding.ordered.items c.loop-finding.finding-index c.loop-finding.invariant c.loop-finding-test.false) c.in-Ok-sort_by_key.ensures.permutation up stable

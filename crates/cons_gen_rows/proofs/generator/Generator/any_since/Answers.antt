@@ -3,4 +3,5 @@ use Rattle.cons_gen_rows.proofs.generator.Generator.any_since.Goals as goal
 use Rattle.std.proofs.lemmas.Result.{on_ok_weaker}
 
 pub returns : goal.returns
-returns c = on_ok_weaker c.push.result (gathers_any c.args.self.now c.taken_since.new.self c.push.new.self c.args.start c.in_ok-any.any c.in_ok-any.ensures.taken c.in_ok-any.ensures.left c.taken_since.ensures.next c.taken_since.ensures.variables c.taken_since.ensures.functions) c.push.ensures
+returns c = on_ok_weaker c.push.result (gathers_any c.args.self.now c.taken_since.new.self c.push.new.self c.args.start c.in_ok-any.any c.in_ok-any.ensures.taken c.in_ok-any.ensures.left c.taken_since.ensures.next
+    c.taken_since.ensures.variables c.taken_since.ensures.functions) c.push.ensures

@@ -13,5 +13,6 @@ pub returns : goal.returns
 returns c =
     let least : c.min-len.result ≡ min c.args.len (length c.self.inside.slots) = omega arith in
     ap (λ xs. zip xs c.truncate.new.self) c.leave.ensures ∙ ap (zip (take c.min-len.result c.self.inside.names)) c.truncate.ensures
-    ∙ zip_take c.min-len.result c.self.inside.names c.self.inside.slots ∙ ap (λ n. take n (zip c.self.inside.names c.self.inside.slots)) (least ∙ ap (min c.args.len) (sym (zip_length c.self.inside.names c.self.inside.slots c.self.invariant)))
+    ∙ zip_take c.min-len.result c.self.inside.names c.self.inside.slots ∙ ap (λ n. take n (zip c.self.inside.names c.self.inside.slots))
+    (least ∙ ap (min c.args.len) (sym (zip_length c.self.inside.names c.self.inside.slots c.self.invariant)))
     ∙ take_min c.args.len (zip c.self.inside.names c.self.inside.slots) ∙ ap (take c.args.len) c.self.view_is

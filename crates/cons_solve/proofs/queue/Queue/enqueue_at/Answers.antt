@@ -9,4 +9,5 @@ returns-clause-enqueued c =
     let except = c.args.except in
     let old = c.args.self.now.flags in
     let new = c.enqueue.new.self.flags in
-    IfOk-weaker c.enqueue.result (λ _. Enqueued except (map (λ n. n.member) c.at.result.now) old new) (λ _. Enqueued except (here c.args.index.now.namings c.args.slot) old new) (λ _ r. subst (λ l. Enqueued except l old new) (here_is c.at.result.now c.args.index.now.namings c.args.slot c.at.ensures) r) c.enqueue.ensures.enqueued
+    IfOk-weaker c.enqueue.result (λ _. Enqueued except (map (λ n. n.member) c.at.result.now) old new) (λ _. Enqueued except (here c.args.index.now.namings c.args.slot) old new)
+    (λ _ r. subst (λ l. Enqueued except l old new) (here_is c.at.result.now c.args.index.now.namings c.args.slot c.at.ensures) r) c.enqueue.ensures.enqueued

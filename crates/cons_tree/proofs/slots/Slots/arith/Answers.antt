@@ -8,5 +8,6 @@ pub returns-clause-value : goal.returns-clause-value
 returns-clause-value c =
     let xs = c.args.self.now.types in
     of_row c.lower_to.result (lowered xs c.args.value c.in_ok-gives.gives) (transferred Arith c.args.value c.args.args.now xs) c.lower_to.new.self.types
-    (arith_row c.args.value c.args.args.now xs c.all_integers-integers.result c.in_ok-some_float.some_float c.integer_type.result c.in_ok-gives.gives c.all_integers-integers.ensures c.in_ok-some_float.ensures c.integer_type.ensures c.in_ok-gives.ensures)
+    (arith_row c.args.value c.args.args.now xs c.all_integers-integers.result c.in_ok-some_float.some_float c.integer_type.result c.in_ok-gives.gives c.all_integers-integers.ensures c.in_ok-some_float.ensures c.integer_type.ensures
+    c.in_ok-gives.ensures)
     c.lower_to.ensures.value

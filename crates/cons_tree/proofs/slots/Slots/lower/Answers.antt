@@ -11,7 +11,8 @@ returns-then-leq-clause-value c =
 pub put-requires-clause-smaller : goal.put-requires-clause-smaller
 put-requires-clause-smaller c =
     let laws = c.type_laws.ensures in
-    meet_smaller laws.same laws.both c.args.self.now.types c.args.slot c.at-2.result.now c.args.ty.now c.in_ok-met.met c.at-2.ensures c.in_ok-met.ensures.value (λ h. true≢false (sym (c.leq.ensures.below.1 (subst (λ u. Below u c.args.ty.now) (c.at-2.ensures ∙ sym c.at.ensures) h)) ∙ c.if-leq.false))
+    meet_smaller laws.same laws.both c.args.self.now.types c.args.slot c.at-2.result.now c.args.ty.now c.in_ok-met.met c.at-2.ensures c.in_ok-met.ensures.value
+    (λ h. true≢false (sym (c.leq.ensures.below.1 (subst (λ u. Below u c.args.ty.now) (c.at-2.ensures ∙ sym c.at.ensures) h)) ∙ c.if-leq.false))
 
 pub returns-clause-value : goal.returns-clause-value
 returns-clause-value c = lowered_is c.put.result c.args.self.now.types c.put.new.self.types c.args.slot c.args.ty.now c.at-2.result.now c.in_ok-met.met c.at-2.ensures c.in_ok-met.ensures.value c.put.ensures.value

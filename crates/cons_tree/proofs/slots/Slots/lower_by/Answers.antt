@@ -16,7 +16,8 @@ put-requires-clause-smaller c =
     let laws = c.type_laws.ensures in
     let xs = c.args.self.now.types in
     let t = type_at xs c.args.other in
-    meet_smaller laws.same laws.both xs c.args.slot c.at-3.result.now t c.in_ok-met.met c.at-3.ensures (c.in_ok-met.ensures.value ∙ ap (meet c.at-3.result.now) c.at-4.ensures) (λ h. true≢false (sym (c.leq.ensures.below.1 (subst (Below c.at.result.now) (sym c.at-2.ensures) (subst (λ u. Below u t) (c.at-3.ensures ∙ sym c.at.ensures) h))) ∙ c.if-leq.false))
+    meet_smaller laws.same laws.both xs c.args.slot c.at-3.result.now t c.in_ok-met.met c.at-3.ensures (c.in_ok-met.ensures.value ∙ ap (meet c.at-3.result.now) c.at-4.ensures)
+    (λ h. true≢false (sym (c.leq.ensures.below.1 (subst (Below c.at.result.now) (sym c.at-2.ensures) (subst (λ u. Below u t) (c.at-3.ensures ∙ sym c.at.ensures) h))) ∙ c.if-leq.false))
 
 pub returns-clause-value : goal.returns-clause-value
 returns-clause-value c =

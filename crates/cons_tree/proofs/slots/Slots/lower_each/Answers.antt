@@ -14,7 +14,8 @@ returns-then-not-alive-clause-value c =
     let t = c.index-types-at.result in
     let one : i < length vs = omega (arith, c.loop-at-test.true) in
     let two : i < length ts = omega (arith, c.loop-at-test.true) in
-    sym c.loop-at.invariant.rest ∙ typed_stops vs ts i t xs one two (got ts i t any two c.index-types-at.is) (no_answer c.in_ok-alive.alive (lowered xs (get_or vs i 0) t) c.lower.new.self.types c.if-not-alive.true c.in_ok-alive.ensures.value)
+    sym c.loop-at.invariant.rest ∙ typed_stops vs ts i t xs one two (got ts i t any two c.index-types-at.is)
+    (no_answer c.in_ok-alive.alive (lowered xs (get_or vs i 0) t) c.lower.new.self.types c.if-not-alive.true c.in_ok-alive.ensures.value)
 
 pub returns-then-not-alive-clause-trailed : goal.returns-then-not-alive-clause-trailed
 returns-then-not-alive-clause-trailed c = trailed_then c.args.self.now c.loop-at.self c.lower.new.self c.loop-at.invariant.trailed c.in_ok-alive.ensures.trailed

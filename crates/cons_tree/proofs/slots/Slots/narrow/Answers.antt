@@ -67,7 +67,8 @@ returns-else-not-alive-2-clause-value c =
     of_row c.transfer.result (on_types (each_typed it.args it.types xs) (transferred it.transfer it.value it.args)) (narrowed c.args.part.now xs) zs (ap (λ p. narrowed p xs) it.is)
     (tail_value c.transfer.result (each_typed it.args it.types) (transferred it.transfer it.value it.args) xs ys zs alive c.if-not-alive-2.false
     (typed_as c.as_slice-in-Builtin.result.now it.args c.as_slice-in-Builtin-2.result.now it.types xs (answer alive ys) c.as_slice-in-Builtin.ensures c.as_slice-in-Builtin-2.ensures c.in_ok-alive-in-Builtin.ensures.value)
-    (of_row c.transfer.result (transferred it.transfer it.value c.as_slice-in-Builtin-3.result.now ys) (transferred it.transfer it.value it.args ys) zs (sym (ap (λ l. transferred it.transfer it.value l ys) c.as_slice-in-Builtin-3.ensures)) c.transfer.ensures.value))
+    (of_row c.transfer.result (transferred it.transfer it.value c.as_slice-in-Builtin-3.result.now ys) (transferred it.transfer it.value it.args ys) zs
+    (sym (ap (λ l. transferred it.transfer it.value l ys) c.as_slice-in-Builtin-3.ensures)) c.transfer.ensures.value))
 
 pub returns-else-not-alive-2-clause-trailed : goal.returns-else-not-alive-2-clause-trailed
 returns-else-not-alive-2-clause-trailed c = tail_trailed c.transfer.result c.args.self.now c.lower_each-in-Builtin.new.self c.transfer.new.self c.in_ok-alive-in-Builtin.ensures.trailed c.transfer.ensures.trailed

@@ -24,4 +24,5 @@ returns-in-Some-clause-innermost g c = place_innermost (g.T.PartialEq.eq c.args.
 
 pub returns-in-None-clause-bound : goal.returns-in-None-clause-bound
 returns-in-None-clause-bound g c =
-    place_unknown (g.T.PartialEq.eq c.args.name.now) c.args.self.now (unknown_tells g.T.PartialEq.eq g.met.T.Eq.laws c.self.inside.numbers.keys c.self.inside.bound c.args.self.now c.args.name.now 0 c.self.view_is (sym c.in-None.ensures.found))
+    place_unknown (g.T.PartialEq.eq c.args.name.now) c.args.self.now (unknown_tells g.T.PartialEq.eq g.met.T.Eq.laws c.self.inside.numbers.keys c.self.inside.bound c.args.self.now c.args.name.now 0 c.self.view_is
+    (sym c.in-None.ensures.found))

@@ -7,6 +7,7 @@ use Rattle.core_scope.proofs.walk.Walk.define_all.Given as goal
 
 abbrev pub invariant-loop-def : goal.invariant-loop-def
 invariant-loop-def l = record {
-  so_far : defining l.self (defined_names (all_defs (drop l.def-index l.defs))) (new_functions (drop l.from l.self.functions) (all_defs (drop l.def-index l.defs))) ≡ defining l.fn.self (defined_names (all_defs l.defs)) (new_functions [] (all_defs l.defs));
+  so_far : defining l.self (defined_names (all_defs (drop l.def-index l.defs))) (new_functions (drop l.from l.self.functions) (all_defs (drop l.def-index l.defs)))
+      ≡ defining l.fn.self (defined_names (all_defs l.defs)) (new_functions [] (all_defs l.defs));
   within : l.from ≤ length l.self.functions;
 }

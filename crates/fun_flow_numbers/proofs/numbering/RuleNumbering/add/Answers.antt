@@ -13,4 +13,5 @@ returns-in-Flows c =
 
 pub returns-in-Applies : goal.returns-in-Applies
 returns-in-Applies c =
-    on_ok_weaker c.add_application.result (λ added rules before. subst (λ r. IsNumbering c.args.table.now (rules ++ r ∷ []) c.add_application.new.self) (sym c.in-Applies.is) (added c.args.table.now rules before)) c.add_application.ensures
+    on_ok_weaker c.add_application.result (λ added rules before. subst (λ r. IsNumbering c.args.table.now (rules ++ r ∷ []) c.add_application.new.self) (sym c.in-Applies.is) (added c.args.table.now rules before))
+    c.add_application.ensures

@@ -8,7 +8,8 @@ use Rattle.module_flow.proofs.readers.Readers.of.Goals as goal
 
 pub loop-label-preserved : goal.loop-label-preserved
 loop-label-preserved c =
-    positions_more c.args.self.now.table c.args.labels.now c.loop-label.label-index (get_or c.args.labels.now c.loop-label.label-index 0) c.loop-label.positions c.add_readers.new.positions c.loop-label-test.true refl c.in_ok-add_readers.ensures c.loop-label.invariant
+    positions_more c.args.self.now.table c.args.labels.now c.loop-label.label-index
+    (get_or c.args.labels.now c.loop-label.label-index 0) c.loop-label.positions c.add_readers.new.positions c.loop-label-test.true refl c.in_ok-add_readers.ensures c.loop-label.invariant
 
 pub returns-clause-ascending : goal.returns-clause-ascending
 returns-clause-ascending c =

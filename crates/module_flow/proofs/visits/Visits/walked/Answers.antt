@@ -22,6 +22,7 @@ invariant_of-self c = noted_still c.self.inside.readers.table c.note_all.new.sel
 
 pub invariant_of-self-2 : goal.invariant_of-self-2
 invariant_of-self-2 c =
-    noted_walked c.self.inside.readers.table c.note_all.new.self.table c.self.inside.all c.replace.new.self c.args.position c.at-before.result.now (record { own = c.in_ok-own.own; given = c.in_ok-given.given }) c.note_all.ensures.kept c.at-before.ensures c.in_ok-own.ensures
+    noted_walked c.self.inside.readers.table c.note_all.new.self.table c.self.inside.all c.replace.new.self c.args.position c.at-before.result.now
+    (record { own = c.in_ok-own.own; given = c.in_ok-given.given }) c.note_all.ensures.kept c.at-before.ensures c.in_ok-own.ensures
     (reader_is c.note_all.new.self.table _ c.in_ok-given.given _ _ c.in_ok-note_all.ensures.noted c.as_slice-3.ensures refl)
     c.replace.ensures.after c.self.invariant

@@ -8,4 +8,5 @@ invariant_of-self-then-contains_key c =
 
 pub invariant_of-self-in-Ok : goal.invariant_of-self-in-Ok
 invariant_of-self-in-Ok c =
-    placed_more c.self.inside.functions c.add.new.self c.args.function c.len-position.result c.self.inside.positions.entries c.insert.new.self.entries c.self.invariant (sym c.if-contains_key.false ∙ c.contains_key.ensures) c.len-position.ensures c.in-Ok.ensures.updates.0 c.in_ok-add.ensures.ok
+    placed_more c.self.inside.functions c.add.new.self c.args.function c.len-position.result c.self.inside.positions.entries c.insert.new.self.entries c.self.invariant
+    (sym c.if-contains_key.false ∙ c.contains_key.ensures) c.len-position.ensures c.in-Ok.ensures.updates.0 c.in_ok-add.ensures.ok

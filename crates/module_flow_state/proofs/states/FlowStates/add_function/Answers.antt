@@ -13,5 +13,6 @@ returns-in-None c =
 pub returns-in_ok-copy-in-Some : goal.returns-in_ok-copy-in-Some
 returns-in_ok-copy-in-Some c =
     on_ok_weaker c.add.result
-    (λ is. is ∙ ap (λ f. c.args.list.now ++ f ∷ []) c.in_ok-copy-in-Some.ensures ∙ sym (ap (λ fs. c.args.list.now ++ fs) (functions_told c.self.inside.functions c.args.self.now c.args.label c.in-Some.position c.at.result.now c.self.view_is c.in-Some.ensures.there c.at.ensures)))
+    (λ is. is ∙ ap (λ f. c.args.list.now ++ f ∷ []) c.in_ok-copy-in-Some.ensures
+    ∙ sym (ap (λ fs. c.args.list.now ++ fs) (functions_told c.self.inside.functions c.args.self.now c.args.label c.in-Some.position c.at.result.now c.self.view_is c.in-Some.ensures.there c.at.ensures)))
     c.add.ensures.ok

@@ -19,7 +19,9 @@ loop-contribution-preserved c =
     elim c.if-branch.branch [ then-branch w ↦ λ h. absurd (true≢false (sym w.changed-is ∙ h)) | else-branch w ↦ λ h. (sym w.changed-is ∙ h, w.if-branch.false) ]
     in
     record {
-      after = taken_round c.loop-contribution.self c.take_noting.new.self (takes c.args.self.now c.args.contributions.now) c.args.contributions.now c.loop-contribution.contribution-index c.contribution-item.result c.loop-contribution-test.true c.contribution-item.is c.in_ok-take_noting.ensures.after c.loop-contribution.invariant.after;
-      noted = noted_more c.args.self.now c.loop-contribution.self c.take_noting.new.self (rounds_of c.args.changes.now) (rounds_of c.loop-contribution.changes) (rounds_of c.take_noting.new.changes) c.args.next c.loop-contribution.changed c.in_ok-take_noting.field-0 c.if-branch.changed c.loop-contribution.invariant.noted c.in_ok-take_noting.ensures.noted both;
+      after = taken_round c.loop-contribution.self c.take_noting.new.self (takes c.args.self.now c.args.contributions.now) c.args.contributions.now c.loop-contribution.contribution-index c.contribution-item.result
+          c.loop-contribution-test.true c.contribution-item.is c.in_ok-take_noting.ensures.after c.loop-contribution.invariant.after;
+      noted = noted_more c.args.self.now c.loop-contribution.self c.take_noting.new.self (rounds_of c.args.changes.now) (rounds_of c.loop-contribution.changes)
+          (rounds_of c.take_noting.new.changes) c.args.next c.loop-contribution.changed c.in_ok-take_noting.field-0 c.if-branch.changed c.loop-contribution.invariant.noted c.in_ok-take_noting.ensures.noted both;
       more = changes_through c.args.changes.now c.loop-contribution.changes c.take_noting.new.changes c.args.next c.loop-contribution.invariant.more c.in_ok-take_noting.ensures.more;
     }

@@ -23,6 +23,7 @@ returns c =
     record {
       after = late_after c.args.round c.args.self.now c.widen_all.new.self c.args.contributions.now c.if-round-lt-JOINED_ROUNDS.false wide;
       noted = subst (λ rounds. Noted c.args.self.now c.widen_all.new.self rounds (rounds_of c.take_all-2.new.changes) c.args.next c.in_ok-changed.changed) c.begin.ensures.rounds
-          (noted_wide same c.args.self.now c.take_all-2.new.self c.widen_all.new.self c.args.contributions.now (rounds_of c.begin.new.self) (rounds_of c.take_all-2.new.changes) c.args.next c.in_ok-changed.changed c.in_ok-changed.ensures.after wide c.in_ok-changed.ensures.noted);
+          (noted_wide same c.args.self.now c.take_all-2.new.self c.widen_all.new.self c.args.contributions.now (rounds_of c.begin.new.self)
+          (rounds_of c.take_all-2.new.changes) c.args.next c.in_ok-changed.changed c.in_ok-changed.ensures.after wide c.in_ok-changed.ensures.noted);
       anew = changes_anew c.args.changes.now c.begin.new.self c.take_all-2.new.changes c.args.next c.begin.ensures.rounds c.in_ok-changed.ensures.more;
     }

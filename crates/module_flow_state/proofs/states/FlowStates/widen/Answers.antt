@@ -20,4 +20,5 @@ invariant_of-self c =
 
 pub returns : goal.returns
 returns c =
-    changed_told c.self.inside.functions c.args.self.now c.replace.new.self c.args.old.now.label c.in-Some.position (λ n. widened_one c.args.old.now n) c.at.result.now c.in_ok-wide.wide c.self.view_is c.in-Some.ensures.there c.at.ensures c.in_ok-wide.ensures c.replace.ensures.after
+    changed_told c.self.inside.functions c.args.self.now c.replace.new.self c.args.old.now.label c.in-Some.position
+    (λ n. widened_one c.args.old.now n) c.at.result.now c.in_ok-wide.wide c.self.view_is c.in-Some.ensures.there c.at.ensures c.in_ok-wide.ensures c.replace.ensures.after

@@ -11,7 +11,8 @@ use Rattle.module_flow_state.proofs.walk.FlowWalk.report_dead_call.Goals.{then-n
 
 pub returns-then-not-self : goal.returns-then-not-self
 returns-then-not-self c =
-    dead_not_reported c.args.self.now c.args.around c.args.mark.now (DeadCall (Remote c.args.home.now (function_name c.args.name.now (length c.args.types.now)))) (called (lenient (world_of c.args.context.now)) c.args.home.now c.args.name.now c.args.types.now)
+    dead_not_reported c.args.self.now c.args.around c.args.mark.now (DeadCall (Remote c.args.home.now (function_name c.args.name.now (length c.args.types.now))))
+    (called (lenient (world_of c.args.context.now)) c.args.home.now c.args.name.now c.args.types.now)
     (elim c.then-not-self.branch [ then-not-self-via-then-not-self w ↦ inl w.if-not-self.true | then-not-self-via-else-not-self+then-around w ↦ inr w.if-around.true ])
 
 pub returns-then-is_some : goal.returns-then-is_some
@@ -21,5 +22,6 @@ returns-then-is_some c =
 
 pub returns : goal.returns
 returns c =
-    remote_reported c.report.result c.args.self.now c.report.new.self c.args.around c.args.mark.now c.args.home.now c.args.name.now c.in_ok-home.home (length c.args.types.now) c.in_ok-function.function c.is_some.result (called (lenient (world_of c.args.context.now)) c.args.home.now c.args.name.now c.args.types.now)
+    remote_reported c.report.result c.args.self.now c.report.new.self c.args.around c.args.mark.now c.args.home.now c.args.name.now c.in_ok-home.home (length c.args.types.now) c.in_ok-function.function c.is_some.result
+    (called (lenient (world_of c.args.context.now)) c.args.home.now c.args.name.now c.args.types.now)
     c.in_ok-home.ensures c.in_ok-function.ensures (c.is_some.ensures ∙ ap (λ g. is_some g) (c.in_ok-given.ensures (lenient (world_of c.args.context.now)) refl refl)) c.if-is_some.false c.report.ensures

@@ -46,5 +46,10 @@ invariant_of-self-2 g c =
 pub returns-clause-ok : goal.returns-clause-ok
 returns-clause-ok g c =
     let tracks = c.self.invariant.2 in
-    rw (c.set_progress.ensures, c.put.ensures.items, ← c.self.view_is)
-    (c.if-self.false, least_ready c.self.inside.callees _ _ c.in-Some.c tracks.exact c.in-Some.ensures, c.at.ensures ∙ ap Some (sym c.in_ok-part.ensures), c.in_ok-inputs.ensures ∙ ap (outputs_of c.self.inside.progress) c.called_at.ensures, refl)
+    rw (c.set_progress.ensures, c.put.ensures.items, ← c.self.view_is) (
+      c.if-self.false,
+      least_ready c.self.inside.callees _ _ c.in-Some.c tracks.exact c.in-Some.ensures,
+      c.at.ensures ∙ ap Some (sym c.in_ok-part.ensures),
+      c.in_ok-inputs.ensures ∙ ap (outputs_of c.self.inside.progress) c.called_at.ensures,
+      refl,
+    )

@@ -12,4 +12,5 @@ returns-then-is_all c =
       | else-is_none w ↦ absurd (true≢false (sym h ∙ w.if-is_none.false))
     ] in
     plain_is_all _ _ c.eq-then-is_all.result c.self.view_is
-    (five_tell c.is_none.result c.if-is_none.value c.if-eq.value c.if-eq-2.value _ (atoms_all s.atoms c.members.result c.is_none.result c.members.ensures.value c.is_none.ensures) ints (grind arith) (grind (arith, bits_all)) (grind arith) (grind arith) (grind arith) (λ _. functions_all s.functions c.eq-then-is_all.result c.eq-then-is_all.ensures) (grind arith))
+    (five_tell c.is_none.result c.if-is_none.value c.if-eq.value c.if-eq-2.value _ (atoms_all s.atoms c.members.result c.is_none.result c.members.ensures.value c.is_none.ensures) ints (grind arith) (grind (arith, bits_all)) (grind arith)
+    (grind arith) (grind arith) (λ _. functions_all s.functions c.eq-then-is_all.result c.eq-then-is_all.ensures) (grind arith))
