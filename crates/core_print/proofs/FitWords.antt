@@ -258,8 +258,10 @@ module _ (l : ℕ) where
         (
           (inr (inr (inr (inr (inr (inr (inr (inr (inr (inr (inr (inr (inr (inr (inr (inr (inr (inl refl)))))))))))))))))),
           noted_keep (note_of g) (plain g) (note_fits d g h.2) (plain_words d g h.2) _
-              (((inr (inr (inr (inr (inr (inr (inr (inr (inr (inr (inr (inr (inr (inl refl)))))))))))))),
-                  noted_keep (note_of t) (plain t) (note_fits d t h.3) (plain_words d t h.3) _ (closed_keep k.note h.0 _ (clauses_words d cs h.4 _ hr)))),
+              ((
+                (inr (inr (inr (inr (inr (inr (inr (inr (inr (inr (inr (inr (inr (inl refl)))))))))))))),
+                noted_keep (note_of t) (plain t) (note_fits d t h.3) (plain_words d t h.3) _ (closed_keep k.note h.0 _ (clauses_words d cs h.4 _ hr)),
+              )),
         ),
       )),
     ))
