@@ -13,3 +13,4 @@ mod Counted
 mod MadeReports
 mod SharedSources
 mod Certifying
+mod KeptReports

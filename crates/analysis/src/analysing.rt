@@ -6,9 +6,11 @@ ghost use Rattle.call_graph.specs.Calls.{functions_of};
 ghost use Rattle.cons_tree.specs.Callees.{found};
 ghost use Rattle.table_keep.specs.Model.{entries_so, sources_so};
 ghost use Rattle.sound_laws_kept.specs.Solving.{IsWritten};
+ghost use Rattle.analysis.specs.Keeping.{AreKeptOf};
 ghost use Rattle.analysis.specs.Reports.{IsSetFault};
 ghost use Rattle.analysis.specs.steps.Deciding.{AreDecided};
 
+use crate::kept::KeptReport;
 use crate::new_table::{new_entries, reports_of};
 use crate::waves::{Decided, decide_all};
 use analysis_crew::{CompMemo, discard_any, empty_memo};
@@ -63,7 +65,10 @@ pub fn analyse<R: Threads + Wait + Sync, G: Gate + Sync>(
     ensures set { IfErr result (IsSetFault (map (λ s. (module_of s.checked).name) sources.now)) }
 {
     let mut memo = None;
-    let analysis = analysis_with(rt, alloc, sources, table, &mut memo, workers, gate);
+    let mut kept = List::new(alloc);
+    let analysis = analysis_with(
+        rt, alloc, sources, table, &mut kept, &mut memo, workers, gate,
+    );
     discard_any(memo);
     analysis
 }
@@ -89,9 +94,82 @@ pub fn analyse_with<R: Threads + Wait + Sync, G: Gate + Sync>(
     ensures functions { IfOk result (λ both. both.0.functions ≡ length (functions_of (map (λ s. tree_of s.checked) sources.now))) }
     ensures set { IfErr result (IsSetFault (map (λ s. (module_of s.checked).name) sources.now)) }
 {
+    let mut kept = List::new(alloc);
+    analysis_again(rt, alloc, sources, &mut kept, memo, workers, gate)
+}
+
+/// Analyses modules together as `analyse_with`, where a report isn't made again that is kept at its module's position and still
+/// stands: the same is known of all functions that it rests on. The answer is the same whatever is kept. The reports on these modules are
+/// kept then, each at its module's position. Behind a fault some of what was kept may be kept anew.
+///
+/// `Set`: two modules have the same name.
+pub fn analyse_again<R: Threads + Wait + Sync, G: Gate + Sync>(
+    rt: &R,
+    alloc: Global,
+    sources: &[Source],
+    kept: &mut List<Option<KeptReport>>,
+    memo: CompMemo,
+    workers: u32,
+    gate: &G,
+) -> Result<(Analysis, CompMemo), Fault>
+    requires few { length sources.now < 2 ^ 32 }
+    requires places { length kept.old ≤ length sources.now }
+    requires kept { AreKeptOf (sources_so sources.now) kept.old }
+    requires least { 1 ≤ workers }
+    requires most { workers ≤ 64 }
+    ensures distinct { OnOk result ((j : ℕ) → j < length sources.now → StandsEarlier (map (λ s. (module_of s.checked).name) sources.now) j → ⊥) }
+    ensures written { IfOk result (λ both. IsWritten [] (sources_so sources.now) both.0.reports (entries_so both.0.table)) }
+    ensures functions { IfOk result (λ both. both.0.functions ≡ length (functions_of (map (λ s. tree_of s.checked) sources.now))) }
+    ensures set { IfErr result (IsSetFault (map (λ s. (module_of s.checked).name) sources.now)) }
+    ensures places { length kept.new ≤ length sources.now }
+    ensures kept { AreKeptOf (sources_so sources.now) kept.new }
+{
+    match add_places(sources, kept) {
+        Ok(()) => analysis_again(rt, alloc, sources, kept, memo, workers, gate),
+        Err(Memory) => {
+            discard_any(Some(memo));
+            Err(Fault::Memory)
+        }
+    }
+}
+
+// Adds positions for kept reports, up to one for each module.
+fn add_places(sources: &[Source], kept: &mut List<Option<KeptReport>>) -> Result<(), Memory>
+    requires places { length kept.old ≤ length sources.now }
+    requires kept { AreKeptOf (sources_so sources.now) kept.old }
+    ensures places { length kept.new ≤ length sources.now }
+    ensures kept { AreKeptOf (sources_so sources.now) kept.new }
+{
+    while kept.len() < sources.len() {
+        kept.add(None)?;
+    }
+    Ok(())
+}
+
+// Analyses modules together, with a memo and reports that are kept.
+fn analysis_again<R: Threads + Wait + Sync, G: Gate + Sync>(
+    rt: &R,
+    alloc: Global,
+    sources: &[Source],
+    kept: &mut List<Option<KeptReport>>,
+    memo: CompMemo,
+    workers: u32,
+    gate: &G,
+) -> Result<(Analysis, CompMemo), Fault>
+    requires few { length sources.now < 2 ^ 32 }
+    requires kept { AreKeptOf (sources_so sources.now) kept.old }
+    requires least { 1 ≤ workers }
+    requires most { workers ≤ 64 }
+    ensures distinct { OnOk result ((j : ℕ) → j < length sources.now → StandsEarlier (map (λ s. (module_of s.checked).name) sources.now) j → ⊥) }
+    ensures written { IfOk result (λ both. IsWritten [] (sources_so sources.now) both.0.reports (entries_so both.0.table)) }
+    ensures functions { IfOk result (λ both. both.0.functions ≡ length (functions_of (map (λ s. tree_of s.checked) sources.now))) }
+    ensures set { IfErr result (IsSetFault (map (λ s. (module_of s.checked).name) sources.now)) }
+    ensures places { length kept.new ≡ length kept.old }
+    ensures kept { AreKeptOf (sources_so sources.now) kept.new }
+{
     let table = Table::empty(alloc);
     let mut memo = Some(memo);
-    match analysis_with(rt, alloc, sources, &table, &mut memo, workers, gate) {
+    match analysis_with(rt, alloc, sources, &table, kept, &mut memo, workers, gate) {
         Ok(analysis) => Ok((analysis, memo_in(alloc, memo))),
         Err(fault) => {
             discard_any(memo);
@@ -108,19 +186,23 @@ fn memo_in(alloc: Global, memo: Option<CompMemo>) -> CompMemo {
     }
 }
 
-// Analyses modules together, with a table and perhaps with a memo.
+// Analyses modules together, with a table, with reports that are kept, and perhaps with a memo.
 fn analysis_with<R: Threads + Wait + Sync, G: Gate + Sync>(
     rt: &R,
     alloc: Global,
     sources: &[Source],
     table: &Table,
+    kept: &mut List<Option<KeptReport>>,
     memo: &mut Option<CompMemo>,
     workers: u32,
     gate: &G,
 ) -> Result<Analysis, Fault>
     requires few { length sources.now < 2 ^ 32 }
+    requires kept { AreKeptOf (sources_so sources.now) kept.old }
     requires least { 1 ≤ workers }
     requires most { workers ≤ 64 }
+    ensures places { length kept.new ≡ length kept.old }
+    ensures kept { AreKeptOf (sources_so sources.now) kept.new }
     ensures distinct { OnOk result ((j : ℕ) → j < length sources.now → StandsEarlier (map (λ s. (module_of s.checked).name) sources.now) j → ⊥) }
     ensures written { IfOk result (λ analysis. IsWritten (entries_so table.now) (sources_so sources.now) analysis.reports (entries_so analysis.table)) }
     ensures functions { IfOk result (λ analysis. analysis.functions ≡ length (functions_of (map (λ s. tree_of s.checked) sources.now))) }
@@ -129,7 +211,7 @@ fn analysis_with<R: Threads + Wait + Sync, G: Gate + Sync>(
     if let Err(fault) = check_set(sources) {
         return Err(Fault::Set(fault));
     }
-    match analysis_of(rt, alloc, sources, table, memo, workers, gate) {
+    match analysis_of(rt, alloc, sources, table, kept, memo, workers, gate) {
         Ok(analysis) => Ok(analysis),
         Err(Memory) => Err(Fault::Memory),
     }
@@ -156,18 +238,22 @@ fn analysis_of<R: Threads + Wait + Sync, G: Gate + Sync>(
     alloc: Global,
     sources: &[Source],
     table: &Table,
+    kept: &mut List<Option<KeptReport>>,
     memo: &mut Option<CompMemo>,
     workers: u32,
     gate: &G,
 ) -> Result<Analysis, Memory>
     requires least { 1 ≤ workers }
     requires most { workers ≤ 64 }
+    requires kept { AreKeptOf (sources_so sources.now) kept.old }
     requires distinct { (j : ℕ) → j < length sources.now → StandsEarlier (map (λ s. (module_of s.checked).name) sources.now) j → ⊥ }
+    ensures places { length kept.new ≡ length kept.old }
+    ensures kept { AreKeptOf (sources_so sources.now) kept.new }
     ensures written { IfOk result (λ analysis. IsWritten (entries_so table.now) (sources_so sources.now) analysis.reports (entries_so analysis.table)) }
     ensures functions { IfOk result (λ analysis. analysis.functions ≡ length (functions_of (map (λ s. tree_of s.checked) sources.now))) }
 {
     let functions = functions_count(sources)?;
-    let decided = decide_all(rt, alloc, sources, table, memo, workers, gate)?;
+    let decided = decide_all(rt, alloc, sources, table, kept, memo, workers, gate)?;
     let written = write(alloc, sources, table, &decided);
     discard_decided(decided);
     let Written { reports, table } = written?;

@@ -5,6 +5,8 @@
 mod analysing;
 mod certificate;
 mod entering;
+mod keeping;
+mod kept;
 mod new_table;
 mod reporting;
 mod reports;
@@ -12,5 +14,6 @@ mod solving;
 mod stopping;
 mod waves;
 
-pub use analysing::{Analysis, Fault, analyse, analyse_with};
+pub use analysing::{Analysis, Fault, analyse, analyse_again, analyse_with};
 pub use certificate::whole;
+pub use kept::{KeptReport, discard_kept};

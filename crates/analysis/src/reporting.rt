@@ -1,6 +1,6 @@
 //! The reports on the modules that a wave has solved, by workers: each takes the next module from a counter, and what it made is known
 //! when it has ended.
-ghost use Rattle.std.specs.Prelude.{◌≡◌, ◌<◌, All, None, IfOk, OnOk, length, replicate};
+ghost use Rattle.std.specs.Prelude.{◌≡◌, ◌<◌, All, IfOk, OnOk, length};
 ghost use Rattle.cons_tree.specs.Callees.{found};
 ghost use Rattle.table_keep.specs.Model.{sources_so};
 ghost use Rattle.analysis.specs.steps.Reporting.{AreKept, IsMade};
@@ -77,17 +77,6 @@ fn work_off(
 // Drops a report.
 fn discard(_lines: Option<Bytes>) {}
 
-// No report yet.
-fn none_yet(alloc: Global, count: usize) -> Result<List<Option<Bytes>>, Memory>
-    ensures { IfOk result (λ kept. kept ≡ replicate count None) }
-{
-    let mut kept: List<Option<Bytes>> = List::new(alloc);
-    for _ in 0..count {
-        kept.add(None)?;
-    }
-    Ok(kept)
-}
-
 // Keeps what a worker made, each report at its module's position.
 fn keep_all(
     sources: &[Source],
@@ -107,15 +96,19 @@ fn keep_all(
     }
 }
 
-/// What workers make of the reports on the modules at these positions, each at its module's position. `Memory` if allocation fails.
+/// These reports, and those that workers make on the modules at these positions, each at its module's position. `Memory` if allocation
+/// fails.
 pub fn made_by_workers<R: Threads + Sync>(
     rt: &R,
     alloc: Global,
     sources: &[Source],
     known: &Summaries,
     wanted: &[usize],
+    standing: List<Option<Bytes>>,
     workers: u32,
 ) -> Result<List<Option<Bytes>>, Memory>
+    requires counted { length standing ≡ length sources.now }
+    requires kept { AreKept (found known.now) (sources_so sources.now) standing }
     ensures counted { IfOk result (λ kept. length kept ≡ length sources.now) }
     ensures kept { IfOk result (λ kept. AreKept (found known.now) (sources_so sources.now) kept) }
 {
@@ -132,7 +125,7 @@ pub fn made_by_workers<R: Threads + Sync>(
         Ok(lists) => lists,
         Err(_) => return Err(Memory),
     };
-    let mut kept = none_yet(alloc, sources.len())?;
+    let mut kept = standing;
     for list in lists {
         keep_all(sources, known, &mut kept, list?);
     }

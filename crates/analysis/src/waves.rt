@@ -11,9 +11,11 @@ ghost use Rattle.table_keep.specs.Lists.{lists_of, member_names, IsListOf};
 ghost use Rattle.table_keep.specs.Model.{entries_so, sources_so};
 ghost use Rattle.type_kinds.specs.declared.atom.Atom.{Atom};
 ghost use Rattle.sound_laws_kept.specs.Waves.{wave_from, with_group};
+ghost use Rattle.analysis.specs.Keeping.{AreKeptOf};
 ghost use Rattle.analysis.specs.steps.Deciding.{seen, wave_so, AddsBoth, AreDecided, IsBefore, IsDecided};
 
 use crate::entering::enter_group;
+use crate::kept::KeptReport;
 use crate::solving::solve_wave;
 use crate::stopping::stops;
 use analysis_crew::CompMemo;
@@ -46,20 +48,25 @@ struct Wave {
     todo: Names<Atom>,
 }
 
-/// Decides all groups of modules that are passed and of entries. The memo, if there is one, is that of the last wave then.
+/// Decides all groups of modules that are passed and of entries. The memo, if there is one, is that of the last wave then, and at the
+/// positions for kept reports stand those of the modules that were solved.
 pub fn decide_all<R: Threads + Wait + Sync, G: Gate + Sync>(
     rt: &R,
     alloc: Global,
     sources: &[Source],
     table: &Table,
+    kept: &mut List<Option<KeptReport>>,
     memo: &mut Option<CompMemo>,
     workers: u32,
     gate: &G,
 ) -> Result<Decided, Memory>
     requires distinct { (j : ℕ) → j < length sources.now → StandsEarlier (map (λ s. (module_of s.checked).name) sources.now) j → ⊥ }
+    requires kept { AreKeptOf (sources_so sources.now) kept.old }
     requires least { 1 ≤ workers }
     requires most { workers ≤ 64 }
-    ensures { IfOk result (λ decided. AreDecided (entries_so table.now) (sources_so sources.now) (found decided.known) decided.changed decided.lines) }
+    ensures places { length kept.new ≡ length kept.old }
+    ensures kept { AreKeptOf (sources_so sources.now) kept.new }
+    ensures decided { IfOk result (λ decided. AreDecided (entries_so table.now) (sources_so sources.now) (found decided.known) decided.changed decided.lines) }
 {
     let list = groups(alloc, table, sources)?;
     let mut decided = Decided {
@@ -77,6 +84,7 @@ pub fn decide_all<R: Threads + Wait + Sync, G: Gate + Sync>(
             &list,
             next,
             &mut decided,
+            kept,
             memo,
             workers,
             gate,
@@ -94,6 +102,7 @@ fn decide_wave<R: Threads + Wait + Sync, G: Gate + Sync>(
     list: &GroupList,
     first: u32,
     decided: &mut Decided,
+    kept: &mut List<Option<KeptReport>>,
     memo: &mut Option<CompMemo>,
     workers: u32,
     gate: &G,
@@ -105,8 +114,11 @@ fn decide_wave<R: Threads + Wait + Sync, G: Gate + Sync>(
     requires below { first < length (lists_of list.now) }
     requires decided { IsDecided (entries_so table.now) (sources_so sources.now) (groups_in (lists_of list.now)) first
         (found decided.old.known) decided.old.changed decided.old.lines }
+    requires kept { AreKeptOf (sources_so sources.now) kept.old }
     requires least { 1 ≤ workers }
     requires most { workers ≤ 64 }
+    ensures places { length kept.new ≡ length kept.old }
+    ensures kept { AreKeptOf (sources_so sources.now) kept.new }
     ensures more { IfOk result (λ next. first < next) }
     ensures decided { IfOk result (λ next. IsDecided (entries_so table.now) (sources_so sources.now) (groups_in (lists_of list.now)) next
         (found decided.new.known) decided.new.changed decided.new.lines) }
@@ -132,6 +144,7 @@ fn decide_wave<R: Threads + Wait + Sync, G: Gate + Sync>(
         &wave.todo,
         &mut decided.known,
         &mut decided.lines,
+        kept,
         memo,
         workers,
         gate,

@@ -1,2 +1,3 @@
 mod Exits
 mod Places
+mod Reports

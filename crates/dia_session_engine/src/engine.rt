@@ -1,7 +1,7 @@
 //! Files that are held, and reports on them.
 ghost use Rattle.std.specs.Prelude.{◌≡◌, ℕ, ◌<◌, ◌≤◌, List as ListOf, ◌++◌, ◌∷◌, [], false, length};
-ghost use Rattle.std.specs.Prelude.{map, position, slice_get, Some, IfNone, IfOk, IfErr, OnErr, OnOk};
-ghost use Rattle.std.specs.List.{list_any};
+ghost use Rattle.std.specs.Prelude.{map, position, slice_get, slice_set, None, Some, IfNone, IfOk, IfErr, OnErr, OnOk};
+ghost use Rattle.std.specs.List.{list_any, remove};
 ghost use Rattle.std.specs.Str.{bytes_eq};
 ghost use Rattle.std.specs.String.{string_bytes};
 ghost use Rattle.analysis.specs.Reports.{IsSetFault};
@@ -9,7 +9,7 @@ ghost use Rattle.dia_session_engine.specs.Held.{AreReportsOn, HoldsOwnNames, IsP
 ghost use Rattle.dia_session_engine.specs.Held.{held_by, held_file, is_held, sources_in, with_file, without};
 ghost use Rattle.dia_session_engine.specs.steps.Holding.{HasPlace};
 
-use analysis::{Analysis, Fault, analyse_with};
+use analysis::{Analysis, Fault, KeptReport, analyse_again, discard_kept};
 use analysis_answers::MOST_FILES;
 use analysis_crew::{CompMemo, discard_memo, empty_memo};
 use analysis_sources::MOST_BYTES;
@@ -23,7 +23,7 @@ use table_keep::{Source, discard_source};
 use type_kinds::{Bytes, List, Memory};
 
 /// Files with their sources, in the order in which they were added. Contracts see the list of the files. A file is found by the hash of
-/// its name. With them is kept what was solved for the last answer, so that the next is found sooner.
+/// its name. With them is kept what was solved for the last answer, and the reports on their modules, so that the next is found sooner.
 #[derive(Drop)]
 pub struct Engine {
     alloc: Global,
@@ -31,6 +31,7 @@ pub struct Engine {
     sources: Vec<Source>,
     bytes: u64,
     memo: CompMemo,
+    kept: List<Option<KeptReport>>,
 }
 
 impl Model for Engine {
@@ -38,7 +39,7 @@ impl Model for Engine {
     ghost use Rattle.std.specs.List.{zip};
     ghost use Rattle.std.specs.String.{string_bytes};
     ghost use Rattle.table_keep.specs.declared.source.Source.{Source as HandedIn};
-    ghost use Rattle.dia_session_engine.specs.steps.Holding.{files_code, IsKept};
+    ghost use Rattle.dia_session_engine.specs.steps.Holding.{files_code, HasReports, IsKept};
 
     ghost Value = { List (List ℕ × HandedIn) };
 
@@ -46,7 +47,7 @@ impl Model for Engine {
 
     ghost view = { λ e. zip (map string_bytes e.names.keys) e.sources.items };
 
-    ghost invariant = { λ e. IsKept (map string_bytes e.names.keys) e.sources.items e.bytes };
+    ghost invariant = { λ e. IsKept (map string_bytes e.names.keys) e.sources.items e.bytes × HasReports e.sources.items e.kept };
 }
 
 /// Why a file isn't held. What is held is as before.
@@ -71,6 +72,7 @@ impl Engine {
             sources: Vec::new(alloc),
             bytes: 0,
             memo: empty_memo(alloc),
+            kept: List::new(alloc),
         }
     }
 
@@ -130,6 +132,7 @@ impl Engine {
         let length = source.length;
         let before = std::mem::replace(&mut self.sources[at], source);
         self.bytes = self.bytes - before.length + length;
+        forget_report(&mut self.kept, at);
         discard_source(before);
     }
 
@@ -163,6 +166,8 @@ impl Engine {
         let _name = self.names.shift_remove_index(at);
         let source = self.sources.remove(at);
         self.bytes -= source.length;
+        let kept = std::mem::replace(&mut self.kept, List::new(self.alloc));
+        self.kept = without_report(kept, at);
         discard_source(source);
         true
     }
@@ -185,7 +190,15 @@ impl Engine {
         ensures held { self.new ≡ self.old }
     {
         let memo = std::mem::replace(&mut self.memo, empty_memo(self.alloc));
-        match analyse_with(rt, self.alloc, self.sources.as_slice(), memo, workers, gate) {
+        match analyse_again(
+            rt,
+            self.alloc,
+            self.sources.as_slice(),
+            &mut self.kept,
+            memo,
+            workers,
+            gate,
+        ) {
             Ok((analysis, memo)) => {
                 self.keep(memo);
                 Ok(reports_of(analysis))
@@ -226,6 +239,26 @@ pub fn discard_engine(engine: Engine) {
     while let Some(source) = sources.pop() {
         discard_source(source);
     }
+}
+
+// Forgets what is kept at a place, if there is one.
+fn forget_report(kept: &mut List<Option<KeptReport>>, at: usize)
+    ensures { kept.new ≡ slice_set kept.old at None }
+{
+    if at < kept.len() {
+        discard_kept(kept.replace(at, None));
+    }
+}
+
+// Takes out what is kept at a place, if there is one, and closes up.
+fn without_report(kept: List<Option<KeptReport>>, at: usize) -> List<Option<KeptReport>>
+    ensures { result ≡ remove kept at }
+{
+    let mut slots = kept.into_vec();
+    if at < slots.len() {
+        discard_kept(slots.remove(at));
+    }
+    List::from_vec(slots)
 }
 
 // Adds a file last, whose name isn't there. If there is no memory the source is dropped, and all is as before.

@@ -1,5 +1,5 @@
 mod Again
-mod Calls
+pub mod Calls
 pub mod Folds
 pub mod Entries
 mod Found

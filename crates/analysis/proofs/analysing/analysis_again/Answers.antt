@@ -1,7 +1,7 @@
 use Rattle.std.proofs.Common.{map, ap, subst}
 use Rattle.sound_laws_kept.specs.Solving.{IsWritten}
 use Rattle.table_keep.specs.Model.{entries_so, entry_so, sources_so}
-use Rattle.analysis.proofs.analysing.analyse_with.Goals as goal
+use Rattle.analysis.proofs.analysing.analysis_again.Goals as goal
 
 pub returns-in-Ok-clause-written : goal.returns-in-Ok-clause-written
 returns-in-Ok-clause-written g c =
