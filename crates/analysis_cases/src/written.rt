@@ -27,10 +27,10 @@ fn append_typing(
 
 // The strict signature of a function, and the lenient one where it is another.
 fn append_summary(summary: &Summary, out: &mut Bytes) -> Result<(), Memory> {
-    append_signature(&summary.strict, out)?;
-    if summary.strict != summary.lenient {
+    append_signature(summary.strict.get(), out)?;
+    if summary.strict.get() != summary.lenient.get() {
         out.append(b", leniently ")?;
-        append_signature(&summary.lenient, out)?;
+        append_signature(summary.lenient.get(), out)?;
     }
     out.append(b"\n")
 }

@@ -1,12 +1,13 @@
 //! The part of a constraint that stands for a call of a built-in function.
 ghost use Rattle.std.specs.Prelude.{◌≡◌, IfOk};
 ghost use Rattle.bif_types.specs.declared.bif.Rule.TheVariants as r;
+ghost use Rattle.bif_types.specs.ArgTypes.{type_of};
 ghost use Rattle.bif_types.specs.Parts.{arg_types, part_of_row, transfer_of};
 
-use crate::bif::{Bif, Rule};
+use crate::bif::{ArgKind, Bif, Rule};
 use cons_tree::{Part, Slot, Transfer};
 use std::alloc::Global;
-use type_kinds::{List, Memory};
+use type_kinds::{List, Memory, Shared};
 use type_lattice::Ty;
 
 /// What a row of the table says of a call: the slots of the arguments have the types of the row, and
@@ -39,31 +40,41 @@ fn argument_types(alloc: Global, bif: &Bif) -> Result<List<Ty>, Memory>
     Ok(types)
 }
 
+// The type that a kind names, with one owner.
+fn shared_type(alloc: Global, kind: ArgKind) -> Result<Shared<Ty>, Memory>
+    ensures { IfOk result (λ t. t ≡ type_of kind) }
+{
+    let ty = kind.named_type(alloc)?;
+    let shared = Shared::new(alloc, ty)?;
+    Ok(shared)
+}
+
 // The transfer of a rule.
 fn transfer(alloc: Global, rule: Rule, quiet: bool) -> Result<Transfer, Memory>
     ensures { IfOk result (λ t. t ≡ transfer_of rule quiet) }
 {
     match rule {
-        Rule::Plain(kind) => Ok(Transfer::Plain(kind.named_type(alloc)?)),
+        Rule::Plain(kind) => Ok(Transfer::Plain(shared_type(alloc, kind)?)),
         Rule::Arith => Ok(Transfer::Arith),
         Rule::Abs => Ok(Transfer::Abs),
         Rule::Head => Ok(Transfer::Head),
         Rule::Tail => Ok(Transfer::Tail),
         Rule::Element => Ok(Transfer::Element),
-        Rule::Test(kind) => Ok(Transfer::Test(kind.named_type(alloc)?)),
-        Rule::TestSome(kind) => Ok(Transfer::TestSome(kind.named_type(alloc)?)),
+        Rule::Test(kind) => Ok(Transfer::Test(shared_type(alloc, kind)?)),
+        Rule::TestSome(kind) => Ok(Transfer::TestSome(shared_type(alloc, kind)?)),
         Rule::Same => Ok(Transfer::Same),
         Rule::Differ => Ok(Transfer::Differ),
-        Rule::Never => Ok(never(quiet)),
+        Rule::Never => never(alloc, quiet),
     }
 }
 
-// The transfer of a function that never gives a value. Takes no memory.
-fn never(quiet: bool) -> Transfer
-    ensures { result ≡ transfer_of r.Never quiet }
+// The transfer of a function that never gives a value.
+fn never(alloc: Global, quiet: bool) -> Result<Transfer, Memory>
+    ensures { IfOk result (λ t. t ≡ transfer_of r.Never quiet) }
 {
     if quiet {
-        return Transfer::Plain(Ty::any());
+        let every = Shared::new(alloc, Ty::any())?;
+        return Ok(Transfer::Plain(every));
     }
-    Transfer::Never
+    Ok(Transfer::Never)
 }

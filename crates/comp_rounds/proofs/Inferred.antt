@@ -3,18 +3,12 @@ use Rattle.std.proofs.Common.{◌≡◌, ℕ, Option, Some, replicate, ap, ap₂
 use Rattle.std.specs.Option.{IfSome}
 use Rattle.type_lattice.specs.Types.{any}
 use Rattle.cons_tree.specs.Constraints.{Cons}
-use Rattle.cons_tree.specs.Environments.{State, env_of}
-use Rattle.cons_tree.specs.declared.parts.Env.{Env}
 use Rattle.cons_tree.specs.declared.parts.Part.{Part}
 use Rattle.cons_tree.specs.declared.parts.Sig.{Sig}
 use Rattle.cons_solve.specs.Environments.{solution}
 use Rattle.cons_gen.specs.Made.{definition_constraint, definition_slots}
 use Rattle.cons_gen_rows.specs.Passes.{Knowledge}
 use Rattle.comp_rounds.specs.Rounds.{Function, arity, inferred, solved, signature_in}
-
-pub solved_is : (k : Cons Part) (n m : ℕ) (env : Env) (sig : Sig) → env ≡ env_of (solution k (replicate n any)) → ((s : State) → env ≡ env_of s → sig ≡ signature_in m s)
-    → sig ≡ signature_in m (solution k (replicate n any))
-solved_is k n m env sig is found = found (solution k (replicate n any)) is
 
 pub inferred_is : (P : Knowledge) (g : Function) (k : Cons Part) (n m : ℕ) (sig : Sig) → k ≡ definition_constraint P g.home g.parameters g.body → n ≡ definition_slots g.parameters g.body → m ≡ arity g
     → sig ≡ signature_in m (solution k (replicate n any)) → sig ≡ inferred P g

@@ -1,4 +1,3 @@
-mod Beginnings
 mod Defining
 pub mod Framed
 mod Gathering

@@ -14,7 +14,7 @@ fn takes(summary: &Summary, arity: u32) -> bool
     ensures { result ≡ takes summary.now arity }
 {
     let count = arity as usize;
-    summary.strict.args.len() == count && summary.lenient.args.len() == count
+    summary.strict.get().args.len() == count && summary.lenient.get().args.len() == count
 }
 
 // What is known of a listed function with this summary.

@@ -47,9 +47,9 @@ fn same_transfer(a: &Transfer, b: &Transfer) -> bool
     ensures { IsTrue result → a.now ≡ b.now }
 {
     match (a, b) {
-        (Transfer::Plain(s), Transfer::Plain(t)) => same_type(s, t),
-        (Transfer::Test(s), Transfer::Test(t)) => same_type(s, t),
-        (Transfer::TestSome(s), Transfer::TestSome(t)) => same_type(s, t),
+        (Transfer::Plain(s), Transfer::Plain(t)) => same_type(s.get(), t.get()),
+        (Transfer::Test(s), Transfer::Test(t)) => same_type(s.get(), t.get()),
+        (Transfer::TestSome(s), Transfer::TestSome(t)) => same_type(s.get(), t.get()),
         (Transfer::Arith, Transfer::Arith) => true,
         (Transfer::Abs, Transfer::Abs) => true,
         (Transfer::Head, Transfer::Head) => true,
@@ -82,7 +82,7 @@ fn same_part(a: &Part, b: &Part) -> bool
     ensures { IsTrue result → a.now ≡ b.now }
 {
     match (a, b) {
-        (Part::Bound(s, x), Part::Bound(t, y)) => *s == *t && same_type(x, y),
+        (Part::Bound(s, x), Part::Bound(t, y)) => *s == *t && same_type(x.get(), y.get()),
         (Part::Equal(s, x), Part::Equal(t, y)) => *s == *t && *x == *y,
         (Part::Tuple(s, xs), Part::Tuple(t, ys)) => {
             *s == *t && same_slots(xs.as_slice(), ys.as_slice())
@@ -94,7 +94,7 @@ fn same_part(a: &Part, b: &Part) -> bool
                 && same_transfer(f, g)
         }
         (Part::Call(s, xs, f), Part::Call(t, ys, g)) => {
-            *s == *t && same_slots(xs.as_slice(), ys.as_slice()) && same_sig(f, g)
+            *s == *t && same_slots(xs.as_slice(), ys.as_slice()) && same_sig(f.get(), g.get())
         }
         _ => false,
     }

@@ -11,7 +11,7 @@ ghost use Rattle.comp_rounds.specs.Turns.{AllWithin, AreEntered};
 use crate::members::Member;
 use cons_tree::{Callee, Sig, Summaries, Summary};
 use std::alloc::Global;
-use type_kinds::{List, Memory};
+use type_kinds::{List, Memory, Shared};
 
 // What a member is to others with its summary.
 fn callee(member: &Member, summary: Summary) -> Callee
@@ -37,8 +37,8 @@ fn enter(known: &mut Summaries, member: &Member, summary: Summary) -> Result<(),
 fn of_one(alloc: Global, sig: &Sig) -> Result<Summary, Memory>
     ensures { IfOk result (λ summary. summary ≡ of_one sig.now) }
 {
-    let strict = sig.copy(alloc)?;
-    let lenient = sig.copy(alloc)?;
+    let strict = Shared::new(alloc, sig.copy(alloc)?)?;
+    let lenient = strict.share()?;
     Ok(Summary { strict, lenient })
 }
 

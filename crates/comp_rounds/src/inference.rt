@@ -1,8 +1,7 @@
 //! The signature of one function, by what a pass knows of those that it calls.
-ghost use Rattle.std.specs.Prelude.{◌≡◌, IfOk, IfSome, IsTrue, replicate};
+ghost use Rattle.std.specs.Prelude.{◌≡◌, IfOk, IfSome, IsTrue, Some, replicate, take};
 ghost use Rattle.type_lattice.specs.Types.{any};
 ghost use Rattle.cons_tree.specs.Constraints.{constraint};
-ghost use Rattle.cons_tree.specs.Environments.{State, env_of, type_at};
 ghost use Rattle.cons_solve.specs.Environments.{solution};
 ghost use Rattle.cons_gen_rows.specs.Knowing.{knowledge};
 ghost use Rattle.comp_rounds.specs.Members.{function_of};
@@ -10,11 +9,11 @@ ghost use Rattle.comp_rounds.specs.Rounds.{inferred, signature_in};
 
 use crate::constraints::same_constraint;
 use crate::members::Member;
-use crate::signatures::{anys, no_value, signature_of};
+use crate::signatures::{no_value, signature_of};
 use cons_gen::{Made, generate};
 use cons_gen_rows::Pass;
-use cons_solve::solve;
-use cons_tree::{Env, Sig, Summaries, type_facts};
+use cons_solve::solve_slots;
+use cons_tree::{Sig, Slots, Summaries, discard_slots, own_types};
 use std::alloc::Global;
 use type_kinds::{List, Memory};
 use type_lattice::Ty;
@@ -22,42 +21,55 @@ use type_lattice::Ty;
 // Drops a constraint.
 fn discard_made(_made: Made) {}
 
-// The greatest solution of what was made, where every slot may have any value at first.
-fn solve_made(alloc: Global, made: &Made) -> Result<Env, Memory>
-    ensures { IfOk result (λ env. env ≡ env_of (solution (constraint made.now.constraint) (replicate made.now.slots any))) }
+// The types of the first `count` slots.
+fn first_types(alloc: Global, slots: &Slots, count: usize) -> Result<List<Ty>, Memory>
+    ensures { IfOk result (λ types. types ≡ take count slots.now.types) }
 {
-    type_facts();
-    let begin = anys(alloc, made.slots)?;
-    solve(alloc, &made.constraint, Env::Types(begin))
-}
-
-// The type of a slot; past the last one a slot may have any value.
-fn type_at(types: &[Ty], at: usize) -> Result<Ty, Memory>
-    ensures { IfOk result (λ t. t ≡ type_at types.now at) }
-{
-    match types.get(at) {
-        Some(ty) => ty.copy(),
-        None => Ok(Ty::any()),
+    let all = slots.types.as_slice();
+    if count >= all.len() {
+        let types = own_types(alloc, all)?;
+        return Ok(types);
     }
+    let first = own_types(alloc, &all[..count])?;
+    Ok(first)
 }
 
 // The signature of `count` arguments in the types of a solution: they have the first slots, the result the next one.
-fn signature_of_types(mut types: List<Ty>, count: usize) -> Result<Sig, Memory>
-    ensures { IfOk result (λ sig. sig ≡ signature_in count (Some types)) }
+fn signature_of_slots(alloc: Global, slots: &Slots, count: usize) -> Result<Sig, Memory>
+    ensures { IfOk result (λ sig. sig ≡ signature_in count (Some slots.now.types)) }
 {
-    let returned = type_at(types.as_slice(), count)?;
-    types.truncate(count);
-    Ok(signature_of(types, returned))
+    let returned = slots.at(count as u64).copy()?;
+    let args = first_types(alloc, slots, count)?;
+    Ok(signature_of(args, returned))
 }
 
-// The signature of `count` arguments in a solution.
-fn signature_of_solution(alloc: Global, solved: Env, count: usize) -> Result<Sig, Memory>
-    ensures { IfOk result (λ sig. (s : State) → solved ≡ env_of s → sig ≡ signature_in count s) }
+// The signature of `count` arguments in the greatest solution below the array, which is left of it.
+fn settled_signature(
+    alloc: Global,
+    made: &Made,
+    count: usize,
+    slots: &mut Slots,
+) -> Result<Sig, Memory>
+    ensures { IfOk result (λ sig. sig ≡ signature_in count (solution (constraint made.now.constraint) slots.old.types)) }
 {
-    match solved {
-        Env::Bottom => no_value(alloc, count),
-        Env::Types(types) => signature_of_types(types, count),
+    let mut visits = 0;
+    let alive = solve_slots(alloc, &made.constraint, slots, &mut visits)?;
+    if !alive {
+        let without = no_value(alloc, count)?;
+        return Ok(without);
     }
+    let sig = signature_of_slots(alloc, slots, count)?;
+    Ok(sig)
+}
+
+// The signature of `count` arguments in the greatest solution of what was made, where every slot may have any value at first.
+fn signature_once(alloc: Global, made: &Made, count: usize) -> Result<Sig, Memory>
+    ensures { IfOk result (λ sig. sig ≡ signature_in count (solution (constraint made.now.constraint) (replicate made.now.slots any))) }
+{
+    let mut slots = Slots::anys(alloc, made.slots)?;
+    let sig = settled_signature(alloc, made, count, &mut slots);
+    discard_slots(slots);
+    sig
 }
 
 /// What was solved last: what was made of a function with so many parameters, and the signature in its greatest solution.
@@ -106,8 +118,7 @@ fn solved_signature(alloc: Global, made: &Made, count: usize) -> Result<(Sig, Si
     ensures { let sig = signature_in count (solution (constraint made.now.constraint) (replicate made.now.slots any)) in IfOk result (λ both. (both.0 ≡ sig)
         × (both.1 ≡ sig)) }
 {
-    let solved = solve_made(alloc, made)?;
-    let sig = signature_of_solution(alloc, solved, count)?;
+    let sig = signature_once(alloc, made, count)?;
     let copy = sig.copy(alloc)?;
     Ok((sig, copy))
 }

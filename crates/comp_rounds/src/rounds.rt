@@ -22,7 +22,7 @@ use cons_gen_rows::{Members, Pass};
 use cons_solve::solution_laws;
 use cons_tree::{Sig, Summaries, Summary, type_facts};
 use std::alloc::Global;
-use type_kinds::{List, Memory};
+use type_kinds::{List, Memory, Shared};
 
 // How many rounds join what they give to what was there.
 const JOINED_ROUNDS: usize = 12;
@@ -264,8 +264,8 @@ fn pair_up(alloc: Global, strict: &[Sig], lenient: &[Sig]) -> Result<List<Summar
     let count = strict.len().min(lenient.len());
     for at in 0..count {
         let summary = Summary {
-            strict: strict[at].copy(alloc)?,
-            lenient: lenient[at].copy(alloc)?,
+            strict: Shared::new(alloc, strict[at].copy(alloc)?)?,
+            lenient: Shared::new(alloc, lenient[at].copy(alloc)?)?,
         };
         list.add(summary)?;
     }

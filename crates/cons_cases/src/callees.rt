@@ -10,7 +10,7 @@ use crate::texts::{atom, parted};
 use cons_tree::{Callee, Sig, Summaries, Summary};
 use core_ast::FunName;
 use std::alloc::Global;
-use type_kinds::{Atom, Bytes, List, Memory};
+use type_kinds::{Atom, Bytes, List, Memory, Shared};
 use type_lattice::Ty;
 
 /// Does what the lines say, from nothing known on, and appends what is found.
@@ -56,7 +56,10 @@ fn do_line(
 fn set(alloc: Global, home: &Atom, rest: &str, known: &mut Summaries) -> Result<(), Memory> {
     let (name, callee) = parted(rest, " ");
     let name = function(alloc, name)?;
-    let answer = known.set(home, &name, callee_of(alloc, callee));
+    let answer = match callee_of(alloc, callee) {
+        Ok(callee) => known.set(home, &name, callee),
+        Err(Memory) => Err(Memory),
+    };
     drop(name);
     answer
 }
@@ -69,25 +72,25 @@ fn function(alloc: Global, name: &str) -> Result<FunName, Memory>
     Ok(FunName { name, arity: 0 })
 }
 
-fn callee_of(alloc: Global, text: &str) -> Callee
-    ensures { Fits result 0 }
+fn callee_of(alloc: Global, text: &str) -> Result<Callee, Memory>
+    ensures { IfOk result (λ callee. Fits callee 0) }
 {
     match text {
-        "known" => Callee::Known(summary(alloc)),
-        "local" => Callee::Local(summary(alloc)),
-        "undefined" => Callee::Undefined,
-        _ => Callee::Unknown,
+        "known" => Ok(Callee::Known(summary(alloc)?)),
+        "local" => Ok(Callee::Local(summary(alloc)?)),
+        "undefined" => Ok(Callee::Undefined),
+        _ => Ok(Callee::Unknown),
     }
 }
 
 // A summary of a function without arguments.
-fn summary(alloc: Global) -> Summary
-    ensures { Takes result 0 }
+fn summary(alloc: Global) -> Result<Summary, Memory>
+    ensures { IfOk result (λ summary. Takes summary 0) }
 {
-    Summary {
-        strict: Sig::new(List::new(alloc), Ty::any()),
-        lenient: Sig::new(List::new(alloc), Ty::any()),
-    }
+    let signature = Sig::new(List::new(alloc), Ty::any());
+    let strict = Shared::new(alloc, signature)?;
+    let lenient = strict.share()?;
+    Ok(Summary { strict, lenient })
 }
 
 fn append_found(

@@ -7,7 +7,7 @@
 use crate::texts::{number, numbers, parted, types_of};
 use cons_tree::{Part, Sig, Slot, Transfer};
 use std::alloc::Global;
-use type_kinds::{Bytes, List, Memory};
+use type_kinds::{Bytes, List, Memory, Shared};
 use type_lattice::Ty;
 use type_text::{TextFault, print};
 
@@ -18,44 +18,64 @@ pub fn part_of(alloc: Global, text: &str) -> Result<Part, TextFault> {
     let (value, others) = parted(slots, " ");
     let args = numbers(alloc, others)?;
     let types = types_of(alloc, types)?;
-    Ok(made(what, number(value), args, types))
+    Ok(made(alloc, what, number(value), args, types)?)
 }
 
-fn made(what: &str, slot: Slot, others: List<Slot>, mut types: List<Ty>) -> Part {
-    match what {
-        "bound" => Part::Bound(slot, last(&mut types)),
+fn made(
+    alloc: Global,
+    what: &str,
+    slot: Slot,
+    others: List<Slot>,
+    mut types: List<Ty>,
+) -> Result<Part, Memory> {
+    let part = match what {
+        "bound" => Part::Bound(slot, shared(alloc, last(&mut types))?),
         "equal" => Part::Equal(slot, slot_at(&others, 0)),
         "tuple" => Part::Tuple(slot, others),
         "cons" => Part::Cons(slot, slot_at(&others, 0), slot_at(&others, 1)),
-        "call" => call(slot, others, types),
-        _ => built_in(what, slot, others, types),
-    }
+        "call" => call(alloc, slot, others, types)?,
+        _ => built_in(alloc, what, slot, others, types)?,
+    };
+    Ok(part)
 }
 
-fn call(value: Slot, args: List<Slot>, mut types: List<Ty>) -> Part {
+fn call(alloc: Global, value: Slot, args: List<Slot>, mut types: List<Ty>) -> Result<Part, Memory> {
     let returned = last(&mut types);
-    Part::Call(value, args, Sig::new(types, returned))
+    let sig = Shared::new(alloc, Sig::new(types, returned))?;
+    Ok(Part::Call(value, args, sig))
 }
 
-fn built_in(what: &str, value: Slot, args: List<Slot>, mut types: List<Ty>) -> Part {
-    let transfer = transfer_of(what, &mut types);
-    Part::Builtin(value, args, types, transfer)
+fn built_in(
+    alloc: Global,
+    what: &str,
+    value: Slot,
+    args: List<Slot>,
+    mut types: List<Ty>,
+) -> Result<Part, Memory> {
+    let transfer = transfer_of(alloc, what, &mut types)?;
+    Ok(Part::Builtin(value, args, types, transfer))
 }
 
-fn transfer_of(what: &str, types: &mut List<Ty>) -> Transfer {
-    match what {
-        "plain" => Transfer::Plain(last(types)),
+// A type with one owner.
+fn shared(alloc: Global, ty: Ty) -> Result<Shared<Ty>, Memory> {
+    Shared::new(alloc, ty)
+}
+
+fn transfer_of(alloc: Global, what: &str, types: &mut List<Ty>) -> Result<Transfer, Memory> {
+    let transfer = match what {
+        "plain" => Transfer::Plain(shared(alloc, last(types))?),
         "arith" => Transfer::Arith,
         "abs" => Transfer::Abs,
         "head" => Transfer::Head,
         "tail" => Transfer::Tail,
         "element" => Transfer::Element,
-        "test" => Transfer::Test(last(types)),
-        "test-some" => Transfer::TestSome(last(types)),
+        "test" => Transfer::Test(shared(alloc, last(types))?),
+        "test-some" => Transfer::TestSome(shared(alloc, last(types))?),
         "same" => Transfer::Same,
         "differ" => Transfer::Differ,
         _ => Transfer::Never,
-    }
+    };
+    Ok(transfer)
 }
 
 // Takes the last type; none, where there is no type.
@@ -93,14 +113,14 @@ pub fn append_built_in(part: &Part, out: &mut Bytes) -> Result<(), Memory> {
 // The name of a transfer, and its type.
 fn named(transfer: &Transfer) -> (&'static [u8], Option<&Ty>) {
     match transfer {
-        Transfer::Plain(ty) => (b"plain", Some(ty)),
+        Transfer::Plain(ty) => (b"plain", Some(ty.get())),
         Transfer::Arith => (b"arith", None),
         Transfer::Abs => (b"abs", None),
         Transfer::Head => (b"head", None),
         Transfer::Tail => (b"tail", None),
         Transfer::Element => (b"element", None),
-        Transfer::Test(ty) => (b"test", Some(ty)),
-        Transfer::TestSome(ty) => (b"test-some", Some(ty)),
+        Transfer::Test(ty) => (b"test", Some(ty.get())),
+        Transfer::TestSome(ty) => (b"test-some", Some(ty.get())),
         Transfer::Same => (b"same", None),
         Transfer::Differ => (b"differ", None),
         Transfer::Never => (b"never", None),

@@ -13,7 +13,7 @@ use bif_types::{Bif, lookup, part};
 use cons_tree::{Callee, Part, Sig, Slot, Summary};
 use core_ast::FunName;
 use core_scope::is_text;
-use type_kinds::{Atom, List, Memory};
+use type_kinds::{Atom, List, Memory, Shared};
 use type_lattice::Ty;
 
 // The built-in function of this name with `count` arguments.
@@ -39,9 +39,9 @@ impl<'a> Surroundings<'a> {
         ensures { result.now ≡ signature (knowing self.now) summary.now }
     {
         if self.pass.is_lenient() {
-            &summary.lenient
+            summary.lenient.get()
         } else {
-            &summary.strict
+            summary.strict.get()
         }
     }
 }
@@ -62,7 +62,8 @@ impl Generator {
         if context.pass.is_own(home, name) {
             return Ok(());
         }
-        let sig = context.signature(summary).copy(self.alloc)?;
+        let copy = context.signature(summary).copy(self.alloc)?;
+        let sig = Shared::new(self.alloc, copy)?;
         let args = List::from_slice(self.alloc, args)?;
         self.add(Part::Call(value, args, sig))
     }

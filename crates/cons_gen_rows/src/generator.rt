@@ -15,7 +15,7 @@ use cons_tree::{Constraint, Part, Slot};
 use core_ast::{FunDef, FunName, VarName};
 use core_scope::{Names, is_text};
 use std::alloc::{AllocFailed, Global};
-use type_kinds::{Atom, List, Memory};
+use type_kinds::{Atom, List, Memory, Shared};
 use type_lattice::Ty;
 
 /// What a walk through a text has made: the scope at the position where it stands, the number of the next free
@@ -98,7 +98,8 @@ impl Generator {
     pub fn bound(&mut self, slot: Slot, ty: Ty) -> Result<(), Memory>
         ensures { OnOk result (Adds self.old self.new 0 (bound slot ty)) }
     {
-        self.add(Part::Bound(slot, ty))
+        let shared = Shared::new(self.alloc, ty)?;
+        self.add(Part::Bound(slot, shared))
     }
 
     /// Adds that two slots have one value.

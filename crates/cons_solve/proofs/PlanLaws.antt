@@ -44,9 +44,6 @@ module _ (facts : TypeFacts) where
   meet_right t u v h = ((facts.both t u v).0 h).1
 
   -- a type that is below the other is the meet
-  pub meet_is : (t u : Type4) → Below u t → u ≡ meet t u
-  meet_is t u h = facts.same u (meet t u) (λ v k. (facts.both t u v).1 (h v k, k)) (meet_right t u)
-
   pub met_low : (xs : Types) (s : ℕ) (t m : Type4) → m ≡ meet (type_at xs s) t → Below m (type_at xs s)
   met_low xs s t m e = subst (λ u. Below u (type_at xs s)) (sym e) (meet_left (type_at xs s) t)
 

@@ -9,11 +9,11 @@ ghost use Rattle.cons_solve.specs.steps.Alternatives.{now_of, raised_by, best_of
 
 use cons_tree::{Slot, Slots, TrailEntry, type_facts};
 use std::alloc::Global;
-use type_kinds::{List, Memory};
+use type_kinds::{List, Memory, Shared};
 use type_lattice::{Ty, type_laws};
 
-/// Drops a type.
-pub fn discard(_ty: Ty) {}
+// Drops a type.
+fn discard(_ty: Shared<Ty>) {}
 
 // Drops an entry, or entries.
 fn discard_trail_entry(_entry: TrailEntry) {}
@@ -30,7 +30,7 @@ pub fn lowered(
 {
     let mut lows = List::new(alloc);
     for former in told {
-        let ty = slots.at(former.slot).copy()?;
+        let ty = slots.shared_at(alloc, former.slot)?;
         lows.add(TrailEntry {
             slot: former.slot,
             ty,
@@ -45,7 +45,7 @@ fn raised(alloc: Global, slots: &Slots, lows: &[TrailEntry]) -> Result<List<Trai
 {
     let mut higher = List::new(alloc);
     for low in lows {
-        let ty = low.ty.join(alloc, slots.at(low.slot))?;
+        let ty = slots.join_at(alloc, low.slot, &low.ty)?;
         higher.add(TrailEntry { slot: low.slot, ty })?;
     }
     Ok(higher)
@@ -87,14 +87,14 @@ pub fn gather(
 
 /// Puts a smaller type into a slot. The trail tells what was there, unless nothing changes. If
 /// allocation fails, the array's contents are unspecified.
-pub fn write(slots: &mut Slots, slot: Slot, ty: Ty) -> Result<(), Memory>
+pub fn write(slots: &mut Slots, slot: Slot, ty: Shared<Ty>) -> Result<(), Memory>
     requires position { slot < length slots.old.types }
     requires below { Below ty (type_at slots.old.types slot) }
     ensures value { IfOk result (λ _. slots.new.types ≡ set slots.old.types slot ty) }
     ensures trailed { IfOk result (λ _. Trailed slots.old slots.new) }
 {
     type_laws();
-    if slots.at(slot).leq(&ty) {
+    if slots.at(slot).leq(ty.get()) {
         discard(ty);
         return Ok(());
     }

@@ -2,19 +2,17 @@
 //! each alternative what its last solution lowered.
 ghost use Rattle.std.specs.Prelude.{◌≡◌, ◌<◌, ◌≤◌, [], ℕ, Some, None, IfOk, cond, drop, get_or, length, map, set};
 ghost use Rattle.cons_tree.specs.Constraints.{all_of, any_of, constraints};
-ghost use Rattle.cons_tree.specs.Environments.{Types, type_at};
+ghost use Rattle.cons_tree.specs.Environments.{Types};
 ghost use Rattle.cons_tree.specs.Trails.{Trailed, Within};
 ghost use Rattle.cons_solve.specs.declared.plan.Plan.TheVariants.{Blank};
 ghost use Rattle.cons_solve.specs.steps.Alternatives.{now_of};
 ghost use Rattle.cons_solve.specs.steps.Plans.{Good, GoodAny, listing, memo, memos, met, fallen};
-ghost use Rattle.type_lattice.specs.Types.{meet};
 
-use crate::alternatives::{discard, lowered, write};
+use crate::alternatives::{lowered, write};
 use crate::index::{Index, index_of};
-use cons_tree::{Constraint, Slot, Slots, TrailEntry, type_facts};
+use cons_tree::{Constraint, Slots, TrailEntry, type_facts};
 use std::alloc::Global;
 use type_kinds::{List, Memory};
-use type_lattice::Ty;
 
 /// What is kept of a constraint while it is solved.
 #[derive(Drop)]
@@ -140,19 +138,6 @@ pub fn note(
     Ok(Some(lows))
 }
 
-// The meet of a slot's type and another. Where the one is below the other, no type is made.
-fn meet_at(alloc: Global, slots: &Slots, slot: Slot, ty: Ty) -> Result<Ty, Memory>
-    ensures { IfOk result (λ t. t ≡ meet (type_at slots.now.types slot) ty) }
-{
-    type_facts();
-    if ty.leq(slots.at(slot)) {
-        return Ok(ty);
-    }
-    let met = slots.at(slot).meet(alloc, &ty)?;
-    discard(ty);
-    Ok(met)
-}
-
 /// Lowers the slots of the entries to their types. If allocation fails, the array's contents are unspecified.
 pub fn lower_kept(
     alloc: Global,
@@ -165,7 +150,7 @@ pub fn lower_kept(
 {
     type_facts();
     while let Some(low) = lows.pop() {
-        let met = meet_at(alloc, slots, low.slot, low.ty)?;
+        let met = slots.meet_at(alloc, low.slot, low.ty)?;
         write(slots, low.slot, met)?;
     }
     Ok(())

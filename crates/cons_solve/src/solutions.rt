@@ -9,7 +9,7 @@ ghost use Rattle.cons_solve.specs.Environments.{solution, summed_over};
 
 use crate::counted::{Steps, count_slots};
 use crate::solving::solve_slots;
-use cons_tree::{Constraint, Env, Slots, discard_slots};
+use cons_tree::{Constraint, Env, Slots, discard_slots, own_types, share_types};
 use std::alloc::Global;
 use std::sync::ledger::Ledger;
 use type_kinds::{List, Memory};
@@ -26,30 +26,34 @@ fn any_none(types: &[Ty]) -> bool
 fn discard_types(_types: List<Ty>) {}
 
 // The array of an environment, and nothing for Bottom.
-fn entered(alloc: Global, begin: Env) -> Option<Slots>
-    ensures { MatchOption result (state_of begin ≡ None) (λ slots. state_of begin ≡ Some slots.types) }
+fn entered(alloc: Global, begin: Env) -> Result<Option<Slots>, Memory>
+    ensures { IfOk result (λ found. MatchOption found (state_of begin ≡ None) (λ slots. state_of begin ≡ Some slots.types)) }
 {
     match begin {
-        Env::Bottom => None,
+        Env::Bottom => Ok(None),
         Env::Types(types) => {
             if any_none(types.as_slice()) {
                 discard_types(types);
-                return None;
+                return Ok(None);
             }
-            Some(Slots::new(alloc, types))
+            let shared = share_types(alloc, types.as_slice())?;
+            discard_types(types);
+            Ok(Some(Slots::new(alloc, shared)))
         }
     }
 }
 
 // The environment that is left.
-fn left(alive: bool, slots: Slots) -> Env
-    ensures { result ≡ env_of (answer alive slots.types) }
+fn left(alloc: Global, alive: bool, slots: Slots) -> Result<Env, Memory>
+    ensures { IfOk result (λ e. e ≡ env_of (answer alive slots.types)) }
 {
     if alive {
-        return Env::Types(slots.into_types());
+        let types = own_types(alloc, slots.types.as_slice())?;
+        discard_slots(slots);
+        return Ok(Env::Types(types));
     }
     discard_slots(slots);
-    Env::Bottom
+    Ok(Env::Bottom)
 }
 
 /// The greatest solution of the constraint below the environment: the types that are as large as the
@@ -71,11 +75,12 @@ pub fn solve_noted(
 ) -> Result<Env, Memory>
     ensures { IfOk result (λ e. e ≡ env_of (on_types (state_of begin) (solution (constraint c.now)))) }
 {
-    match entered(alloc, begin) {
+    match entered(alloc, begin)? {
         None => Ok(Env::Bottom),
         Some(mut slots) => {
             let alive = solve_slots(alloc, c, &mut slots, visits)?;
-            Ok(left(alive, slots))
+            let env = left(alloc, alive, slots)?;
+            Ok(env)
         }
     }
 }
@@ -95,12 +100,13 @@ pub fn solve_counted<L: Ledger>(
     ensures still { IfOk result (λ e. (members : List Constraint) → c.now ≡ Constraint.All members → steps.new ≡ steps.old
         → e ≡ env_of (state_of begin)) }
 {
-    match entered(alloc, begin) {
+    match entered(alloc, begin)? {
         None => Ok(Env::Bottom),
         Some(mut slots) => {
             let mut visits = 0;
             let alive = count_slots(alloc, c, &mut slots, &mut visits, steps)?;
-            Ok(left(alive, slots))
+            let env = left(alloc, alive, slots)?;
+            Ok(env)
         }
     }
 }

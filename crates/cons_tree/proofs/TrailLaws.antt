@@ -5,7 +5,7 @@ use Rattle.std.specs.Prelude.{Result, Ok, Err, IfOk, not, ◌↔◌}
 use Rattle.std.proofs.lemmas.Option.{get_or_from_slice_get}
 use Rattle.std.proofs.lemmas.List.{length-set, set-set, set-get_or, drop-append-le, take-append-le}
 use Rattle.type_lattice_model.specs.Values.{Value}
-use Rattle.type_lattice.specs.Types.{Type4, Below, HasType, any, is_none, meet}
+use Rattle.type_lattice.specs.Types.{Type4, Below, HasType, any, is_none, join, meet}
 use Rattle.cons_tree.specs.Environments.{Types, State, type_at, on_types, with_type, lowered}
 use Rattle.cons_tree.specs.Trails.{answer, laid, Within, summed, Trailed}
 use Rattle.cons_tree.specs.declared.slots.TrailEntry.{TrailEntry}
@@ -113,6 +113,10 @@ module _ (same : (s t : Type4) → Below s t → Below t s → s ≡ t) (both : 
   meet_same : (s t : Type4) → Below s t → meet s t ≡ s
   meet_same s t h = same (meet s t) s (λ v k. ((both s t v).0 k).0) (λ v k. (both s t v).1 (k, h v k))
 
+  -- the meet with a type that is below
+  pub meet_is : (t u : Type4) → Below u t → u ≡ meet t u
+  meet_is t u h = same u (meet t u) (λ v k. (both t u v).1 (h v k, k)) (λ v k. ((both t u v).0 k).1)
+
   -- nothing changes
   pub stays : (xs : Types) (s : ℕ) (t : Type4) (b : Bool) → Below (type_at xs s) t → b ≡ not (is_none (type_at xs s)) → lowered xs s t ≡ answer b xs
   unfolding lowered
@@ -125,6 +129,10 @@ module _ (same : (s t : Type4) → Below s t → Below t s → s ≡ t) (both : 
   -- the meet is smaller
   pub meet_smaller : (xs : Types) (s : ℕ) (u t m : Type4) → u ≡ type_at xs s → m ≡ meet u t → (Below u t → ⊥) → Below (type_at xs s) m → ⊥
   meet_smaller xs s u t m is e n h = n (λ v k. ((both u t v).0 (subst (HasType v) e (h v (subst (HasType v) is k)))).1)
+
+-- the join with a type that is below
+pub join_is : ((s t : Type4) → Below s t → Below t s → s ≡ t) → ((s t : Type4) → Below s (join s t)) → ((s t u : Type4) → Below s u → Below t u → Below (join s t) u) → (t u : Type4) → Below u t → t ≡ join t u
+join_is same left least t u h = same t (join t u) (left t u) (least t u t (λ v i. i) h)
 
 -- ---- going back by one entry
 

@@ -41,7 +41,8 @@ fn same_signature(a: &Sig, b: &Sig) -> bool
 pub fn same_summary(a: &Summary, b: &Summary) -> bool
     ensures { IsTrue result ↔ (a.now ≡ b.now) }
 {
-    same_signature(&a.strict, &b.strict) && same_signature(&a.lenient, &b.lenient)
+    same_signature(a.strict.get(), b.strict.get())
+        && same_signature(a.lenient.get(), b.lenient.get())
 }
 
 /// Whether two callees are the same.

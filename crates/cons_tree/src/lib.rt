@@ -13,9 +13,9 @@ mod slots;
 mod summaries;
 mod transfers;
 
-pub use copies::copy_types;
+pub use copies::{copy_types, own_types, share_types};
 pub use laws::{frame_law, narrowing_laws, type_facts};
 pub use narrowing::narrow;
 pub use parts::{Callee, Constraint, Env, Part, Sig, Slot, Summary, Transfer};
-pub use slots::{Slots, TrailEntry, discard_slots};
+pub use slots::{Slots, TrailEntry, add_anys, discard_slots};
 pub use summaries::Summaries;

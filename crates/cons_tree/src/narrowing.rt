@@ -7,7 +7,7 @@ ghost use Rattle.cons_tree.specs.Narrowing.{narrowed, each_typed, each_projected
 ghost use Rattle.cons_tree.specs.Satisfied.{SatPart};
 ghost use Rattle.cons_tree.specs.Trails.{answer, Trailed};
 
-use crate::copies::copy_types;
+use crate::copies::{own_types, share_types};
 use crate::laws::narrowing_laws;
 use crate::parts::{Env, Part, Slot};
 use crate::signatures::any_none;
@@ -93,11 +93,12 @@ impl Slots {
         ensures trailed { IfOk result (λ _. Trailed self.old self.new) }
     {
         match part {
-            Part::Bound(slot, ty) => self.lower(alloc, *slot, ty),
+            Part::Bound(slot, ty) => self.lower_shared(alloc, *slot, ty),
             Part::Equal(slot, other) => self.lower_both(alloc, *slot, *other),
             Part::Tuple(tuple, slots) => self.tuple(alloc, *tuple, slots),
             Part::Cons(list, head, tail) => self.cons(alloc, *list, *head, *tail),
             Part::Call(value, args, sig) => {
+                let sig = sig.get();
                 let alive = self.lower_each(alloc, args.as_slice(), sig.args.as_slice())?;
                 if !alive {
                     return Ok(false);
@@ -136,10 +137,13 @@ fn narrow_types(alloc: Global, part: &Part, types: &[Ty]) -> Result<Env, Memory>
     if any_none(types) {
         return Ok(Env::Bottom);
     }
-    let mut slots = Slots::new(alloc, copy_types(alloc, types)?);
+    let shared = share_types(alloc, types)?;
+    let mut slots = Slots::new(alloc, shared);
     let alive = slots.narrow(alloc, part)?;
     if alive {
-        return Ok(Env::Types(slots.into_types()));
+        let left = own_types(alloc, slots.types.as_slice())?;
+        discard_slots(slots);
+        return Ok(Env::Types(left));
     }
     discard_slots(slots);
     Ok(Env::Bottom)

@@ -2,7 +2,7 @@
 ghost use Rattle.std.specs.Prelude.{◌∷◌, IsTrue};
 ghost use Rattle.cons_tree.specs.Signatures.{agree};
 
-use type_kinds::List;
+use type_kinds::{List, Shared};
 use type_lattice::Ty;
 
 /// The number of a slot: a position of an environment, which has a type.
@@ -17,11 +17,11 @@ pub struct Sig {
 }
 
 /// What is known of a function: the signature of all calls that may return, and the one by which a
-/// call is reported.
+/// call is reported. Copies share both.
 #[derive(Drop)]
 pub struct Summary {
-    pub strict: Sig,
-    pub lenient: Sig,
+    pub strict: Shared<Sig>,
+    pub lenient: Shared<Sig>,
 }
 
 /// What a name of a function stands for.
@@ -42,7 +42,7 @@ pub enum Callee {
 #[derive(Drop)]
 pub enum Transfer {
     /// The value is of this type.
-    Plain(Ty),
+    Plain(Shared<Ty>),
     /// An integer of integers, or a float where an argument is one.
     Arith,
     /// A natural number of an integer, or a float of a float.
@@ -54,9 +54,9 @@ pub enum Transfer {
     /// The element of the second argument at the position that the first one says.
     Element,
     /// Whether the first argument is of this type.
-    Test(Ty),
+    Test(Shared<Ty>),
     /// No, or yes where the first argument is of this type.
-    TestSome(Ty),
+    TestSome(Shared<Ty>),
     /// Whether the first two arguments are one value.
     Same,
     /// Whether the first two arguments are two values.
@@ -69,7 +69,7 @@ pub enum Transfer {
 #[derive(Drop)]
 pub enum Part {
     /// The slot's value is of this type.
-    Bound(Slot, Ty),
+    Bound(Slot, Shared<Ty>),
     /// The slots have one value.
     Equal(Slot, Slot),
     /// The first slot is the tuple of the others.
@@ -79,7 +79,7 @@ pub enum Part {
     /// The slot is what a built-in function gives for these arguments, which are of these types.
     Builtin(Slot, List<Slot>, List<Ty>, Transfer),
     /// The slot is what a function of this signature gives for these arguments.
-    Call(Slot, List<Slot>, Sig),
+    Call(Slot, List<Slot>, Shared<Sig>),
 }
 
 /// A constraint: a part, all of some constraints, or at least one of some.

@@ -78,14 +78,14 @@ impl Slots {
         ensures trailed { IfOk result (λ _. Trailed self.old self.new) }
     {
         match transfer {
-            Transfer::Plain(ty) => self.lower(alloc, value, ty),
+            Transfer::Plain(ty) => self.lower_shared(alloc, value, ty),
             Transfer::Arith => self.arith(alloc, value, args),
             Transfer::Abs => self.abs(alloc, value, args),
             Transfer::Head => self.head(alloc, value, args),
             Transfer::Tail => self.tail(alloc, value, args),
             Transfer::Element => self.element(alloc, value, args),
-            Transfer::Test(ty) => self.test(alloc, ty, value, args),
-            Transfer::TestSome(ty) => self.test_some(alloc, ty, value, args),
+            Transfer::Test(ty) => self.test(alloc, ty.get(), value, args),
+            Transfer::TestSome(ty) => self.test_some(alloc, ty.get(), value, args),
             Transfer::Same => self.same(alloc, value, args),
             Transfer::Differ => self.differ(alloc, value, args),
             Transfer::Never => self.lower_to(alloc, value, Ty::none()),

@@ -173,7 +173,7 @@ fn gives_nothing(callee: &Callee) -> bool
     ensures { result ≡ gives_nothing callee.now }
 {
     match callee {
-        Callee::Known(summary) | Callee::Local(summary) => summary.lenient.result.is_none(),
+        Callee::Known(summary) | Callee::Local(summary) => summary.lenient.get().result.is_none(),
         Callee::Undefined | Callee::Unknown => false,
     }
 }

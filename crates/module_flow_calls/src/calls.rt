@@ -15,7 +15,7 @@ use cons_tree::{Callee, Constraint, Part, Sig, Slot, Slots, Summaries, copy_type
 use core_ast::FunName;
 use core_scope::is_text;
 use std::alloc::Global;
-use type_kinds::{Atom, List, Memory};
+use type_kinds::{Atom, List, Memory, Shared};
 use type_lattice::Ty;
 
 // `count` slots, from 1 on.
@@ -30,14 +30,16 @@ fn argument_slots(alloc: Global, count: usize) -> Result<List<Slot>, Memory>
 }
 
 // Any, and then the arguments.
-fn beginning(alloc: Global, args: &[Ty]) -> Result<List<Ty>, Memory>
+fn beginning(alloc: Global, args: &[Ty]) -> Result<List<Shared<Ty>>, Memory>
     ensures { IfOk result (λ types. types ≡ any ∷ args.now) }
 {
     let mut types = List::new(alloc);
-    types.add(Ty::any())?;
+    let every = Shared::new(alloc, Ty::any())?;
+    types.add(every)?;
     for arg in args {
         let copy = arg.copy()?;
-        types.add(copy)?;
+        let shared = Shared::new(alloc, copy)?;
+        types.add(shared)?;
     }
     Ok(types)
 }
@@ -69,7 +71,8 @@ fn by_signature(alloc: Global, sig: &Sig, args: &[Ty]) -> Result<Given, Memory>
     ensures { IfOk result (λ given. given ≡ by_signature sig.now args.now) }
 {
     let slots = argument_slots(alloc, args.len())?;
-    let sig = sig.copy(alloc)?;
+    let copy = sig.copy(alloc)?;
+    let sig = Shared::new(alloc, copy)?;
     by_part(alloc, Part::Call(0, slots, sig), args)
 }
 
@@ -104,9 +107,9 @@ fn by_callee(alloc: Global, lenient: bool, callee: &Callee, args: &[Ty]) -> Resu
     match callee {
         Callee::Known(summary) => {
             if lenient {
-                by_signature(alloc, &summary.lenient, args)
+                by_signature(alloc, summary.lenient.get(), args)
             } else {
-                by_signature(alloc, &summary.strict, args)
+                by_signature(alloc, summary.strict.get(), args)
             }
         }
         Callee::Local(_) | Callee::Undefined => Ok(None),
@@ -175,7 +178,7 @@ pub fn by_state(alloc: Global, returned: Ty, callee: &Callee, args: &[Ty]) -> Re
 {
     match callee {
         Callee::Known(summary) | Callee::Local(summary) => {
-            let given = by_both(alloc, &returned, &summary.strict, args);
+            let given = by_both(alloc, &returned, summary.strict.get(), args);
             discard(returned);
             given
         }
@@ -189,7 +192,7 @@ pub fn may_return(alloc: Global, callee: &Callee, args: &[Ty]) -> Result<bool, M
 {
     match callee {
         Callee::Known(summary) | Callee::Local(summary) => {
-            let given = by_signature(alloc, &summary.lenient, args)?;
+            let given = by_signature(alloc, summary.lenient.get(), args)?;
             Ok(given.is_some())
         }
         Callee::Undefined | Callee::Unknown => {

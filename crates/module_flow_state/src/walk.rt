@@ -30,15 +30,15 @@ use crate::states::{Contribution, FlowStates};
 use cons_gen::InScope;
 use cons_gen_rows::{all_naturals, function_type};
 use cons_solve::solve_slots;
-use cons_tree::{Callee, Constraint, Slot, Slots, Summaries, TrailEntry, copy_types};
+use cons_tree::{Callee, Constraint, Slot, Slots, Summaries, TrailEntry, add_anys, copy_types};
 use core_ast::{Expr, Form, FunDef, FunName, Mark, VarName};
 use core_scope::is_text;
 use module_flow_calls::{
-    Functions, Given, NodeContext, ResolvedName, add_any, as_many, by_state, called, discard,
-    discard_given, first, function_name, label_named, may_return, meets, one, value,
+    Functions, Given, NodeContext, ResolvedName, as_many, by_state, called, discard, discard_given,
+    first, function_name, label_named, may_return, meets, one, value,
 };
 use std::alloc::Global;
-use type_kinds::{Atom, List, Memory};
+use type_kinds::{Atom, List, Memory, Shared};
 use type_lattice::Ty;
 use warn_list::{CallText, Finding, FindingKind};
 
@@ -59,7 +59,7 @@ pub struct FlowWalk {
     pub alloc: Global,
     pub scope: InScope,
     pub labels: List<u32>,
-    pub types: List<Ty>,
+    pub types: List<Shared<Ty>>,
     pub contributions: List<Contribution>,
     pub found: List<Finding>,
     /// Whether it notes what it finds, as the last walk does outside of guards.
@@ -150,7 +150,8 @@ impl FlowWalk {
         ensures { OnOk result (self.new ≡ with_types self.old (self.old.types ++ types)) }
     {
         for ty in types.into_vec() {
-            self.types.add(ty)?;
+            let shared = Shared::new(self.alloc, ty)?;
+            self.types.add(shared)?;
         }
         Ok(())
     }
@@ -160,7 +161,7 @@ impl FlowWalk {
         ensures { OnOk result (self.new ≡ with_types self.old (self.old.types ++ replicate (end - length self.old.types) any)) }
     {
         let count = (end as usize).saturating_sub(self.types.len());
-        add_any(&mut self.types, count)
+        add_anys(self.alloc, &mut self.types, count as u64)
     }
 
     /// Names the functions of a `letrec`, inside all others.
@@ -189,7 +190,7 @@ impl FlowWalk {
     {
         match self.scope.variables.slot_of(name) {
             Some(slot) => match self.types.get(slot as usize) {
-                Some(ty) => value(self.alloc, ty.copy()?),
+                Some(ty) => value(self.alloc, ty.get().copy()?),
                 None => value(self.alloc, Ty::any()),
             },
             None => Ok(None),

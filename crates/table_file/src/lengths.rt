@@ -61,7 +61,7 @@ fn each_type_fits(types: &[Ty]) -> bool
 fn summary_fits(summary: &Summary) -> bool
     ensures { result ≡ is_short_summary summary.now }
 {
-    sig_fits(&summary.strict) && sig_fits(&summary.lenient)
+    sig_fits(summary.strict.get()) && sig_fits(summary.lenient.get())
 }
 
 #[tactic(auto, unfolding(crate::specs::Lengths::is_short_callee))]

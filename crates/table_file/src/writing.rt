@@ -169,8 +169,8 @@ fn put_summary(summary: &Summary, out: &mut Bytes) -> Result<(), Memory>
     requires { IsTrue (is_short_summary summary.now) }
     ensures { OnOk result (out.new ≡ out.old ++ summary_bytes summary.now) }
 {
-    put_sig(&summary.strict, out)?;
-    put_sig(&summary.lenient, out)
+    put_sig(summary.strict.get(), out)?;
+    put_sig(summary.lenient.get(), out)
 }
 
 // Appends a signature.

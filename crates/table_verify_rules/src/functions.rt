@@ -126,10 +126,10 @@ fn is_closed(
 {
     match known.find(&member.home, &member.def.get().name) {
         Callee::Known(summary) | Callee::Local(summary) => {
-            if !gives_below(alloc, member, known, &Pass::Strict, &summary.strict)? {
+            if !gives_below(alloc, member, known, &Pass::Strict, summary.strict.get())? {
                 return Ok(false);
             }
-            gives_below(alloc, member, known, lenient, &summary.lenient)
+            gives_below(alloc, member, known, lenient, summary.lenient.get())
         }
         Callee::Undefined | Callee::Unknown => Ok(false),
     }

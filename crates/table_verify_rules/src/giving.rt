@@ -46,7 +46,7 @@ fn solves_below(alloc: Global, made: &Made, sig: &Sig) -> Result<bool, Memory>
     ensures { IfOk result (λ b. IsTrue b ↔ IsWithin (length sig.now.args)
         (solution (constraint made.now.constraint) (replicate made.now.slots any)) sig.now) }
 {
-    let mut slots = Slots::new(alloc, anys(alloc, made.slots)?);
+    let mut slots = Slots::anys(alloc, made.slots)?;
     let alive = settle(alloc, &made.constraint, &mut slots)?;
     if !alive {
         discard_slots(slots);
@@ -55,17 +55,6 @@ fn solves_below(alloc: Global, made: &Made, sig: &Sig) -> Result<bool, Memory>
     let within = is_within(&slots, sig);
     discard_slots(slots);
     Ok(within)
-}
-
-// The type `any`, `count` times.
-fn anys(alloc: Global, count: u64) -> Result<List<Ty>, Memory>
-    ensures { IfOk result (λ types. types ≡ replicate count any) }
-{
-    let mut types = List::new(alloc);
-    for _ in 0..count {
-        types.add(Ty::any())?;
-    }
-    Ok(types)
 }
 
 // Whether the first slots lie below the arguments of the signature, and the next one below its result.

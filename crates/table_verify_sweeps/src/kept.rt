@@ -1,9 +1,8 @@
 //! What is kept of the members of a constraint from one sweep to the next, so that each is solved on from its last solution.
 ghost use Rattle.std.specs.Prelude.{◌≡◌, ◌≤◌, [], IfOk, IfNone, IfSome, cond, drop, get_or, length, map, set};
-ghost use Rattle.type_lattice.specs.Types.{meet};
 ghost use Rattle.cons_tree.specs.Constraints.{Cons, ConsList};
 ghost use Rattle.cons_tree.specs.declared.parts.Part.{Part};
-ghost use Rattle.cons_tree.specs.Environments.{Types, type_at};
+ghost use Rattle.cons_tree.specs.Environments.{Types};
 ghost use Rattle.cons_tree.specs.Trails.{Trailed, Within};
 ghost use Rattle.cons_solve.specs.steps.Alternatives.{now_of};
 ghost use Rattle.cons_solve.specs.steps.Plans.{fallen};
@@ -11,10 +10,9 @@ ghost use Rattle.table_verify_sweeps.specs.declared.kept.Kept.TheVariants.{Blank
 ghost use Rattle.table_verify_sweeps.specs.steps.Memos.{dead, solved, memo, memos, IsRight, AreRight};
 
 use crate::joins::{lowered, sink};
-use cons_tree::{Slot, Slots, TrailEntry, type_facts};
+use cons_tree::{Slots, TrailEntry, type_facts};
 use std::alloc::Global;
 use type_kinds::{List, Memory};
-use type_lattice::Ty;
 
 /// What is kept of a member.
 #[derive(Drop)]
@@ -31,9 +29,6 @@ pub enum Kept {
 pub fn discard_kept(_kept: Kept) {}
 
 fn discard_each(_kept: List<Kept>) {}
-
-// Drops a type.
-fn discard(_ty: Ty) {}
 
 /// Lengthens the list to so many members, of which nothing is kept yet. `Memory` if allocation fails.
 pub fn lengthen(kept: &mut List<Kept>, count: usize) -> Result<(), Memory>
@@ -104,19 +99,6 @@ pub fn close(
     Ok(Kept::Solved(lows, inner))
 }
 
-// The meet of a slot's type and another. Where the other is below the slot's, no type is made.
-fn meet_with(alloc: Global, slots: &Slots, slot: Slot, ty: Ty) -> Result<Ty, Memory>
-    ensures { IfOk result (λ t. t ≡ meet (type_at slots.now.types slot) ty) }
-{
-    type_facts();
-    if ty.leq(slots.at(slot)) {
-        return Ok(ty);
-    }
-    let met = slots.at(slot).meet(alloc, &ty)?;
-    discard(ty);
-    Ok(met)
-}
-
 /// Lowers the slots of the entries to their types. If allocation fails, the array's contents are unspecified.
 pub fn lower_all(alloc: Global, mut lows: List<TrailEntry>, slots: &mut Slots) -> Result<(), Memory>
     requires { Within (length slots.old.types) lows }
@@ -125,7 +107,7 @@ pub fn lower_all(alloc: Global, mut lows: List<TrailEntry>, slots: &mut Slots) -
 {
     type_facts();
     while let Some(low) = lows.pop() {
-        let met = meet_with(alloc, slots, low.slot, low.ty)?;
+        let met = slots.meet_at(alloc, low.slot, low.ty)?;
         sink(slots, low.slot, met)?;
     }
     Ok(())

@@ -43,7 +43,7 @@ fn append_lines(
     ensures { OnOk result (out.new ≡ out.old ++ lines_of (typings_in home.now (defined_names (all_defs defs.now)) summaries.now)) }
 {
     for (def, summary) in defs.iter().zip(summaries.iter()) {
-        append_line_of(home, &def.get().name, &summary.strict, out)?;
+        append_line_of(home, &def.get().name, summary.strict.get(), out)?;
     }
     Ok(())
 }

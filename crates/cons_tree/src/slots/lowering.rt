@@ -1,20 +1,22 @@
 //! How one slot of the array is read, lowered, and put back.
-ghost use Rattle.std.specs.Prelude.{◌≡◌, [], ◌∷◌, ◌++◌, ◌≤◌, IfOk, length, drop, take, map, not};
-ghost use Rattle.type_lattice.specs.Types.{Below, is_none};
+ghost use Rattle.std.specs.Prelude.{◌≡◌, [], ◌∷◌, ◌++◌, ◌≤◌, IfOk, IsTrue, length, drop, take, map, not, replicate};
+ghost use Rattle.type_lattice.specs.Types.{Below, Type4, any, is_none, join, meet};
 ghost use Rattle.cons_tree.specs.Environments.{type_at, with_type, lowered};
 ghost use Rattle.cons_tree.specs.Narrowing.{alike};
 ghost use Rattle.cons_tree.specs.Trails.{answer, laid, Trailed, Within};
 
 use crate::parts::Slot;
 use crate::signatures::discard;
-use crate::slots::{Slots, TrailEntry, discard_trail, discard_trail_entry};
+use crate::slots::{
+    Slots, TrailEntry, add_anys, discard_shared, discard_trail, discard_trail_entry, shared_any,
+};
 use std::alloc::Global;
-use type_kinds::{List, Memory};
+use type_kinds::{List, Memory, Shared};
 use type_lattice::{Ty, type_laws};
 
 impl Slots {
     /// An array with an empty trail. Takes no memory.
-    pub fn new(alloc: Global, types: List<Ty>) -> Slots
+    pub fn new(alloc: Global, types: List<Shared<Ty>>) -> Slots
         ensures types { result.types ≡ types }
         ensures trail { result.trail ≡ [] }
     {
@@ -25,8 +27,18 @@ impl Slots {
         }
     }
 
+    /// An array of `count` slots that may have any value, with an empty trail. `Memory` comes if allocation fails.
+    pub fn anys(alloc: Global, count: u64) -> Result<Slots, Memory>
+        ensures types { IfOk result (λ slots. slots.types ≡ replicate count any) }
+        ensures trail { IfOk result (λ slots. slots.trail ≡ []) }
+    {
+        let mut types = List::new(alloc);
+        add_anys(alloc, &mut types, count)?;
+        Ok(Slots::new(alloc, types))
+    }
+
     /// The types, without the trail. Takes no memory.
-    pub fn into_types(self) -> List<Ty>
+    pub fn into_types(self) -> List<Shared<Ty>>
         ensures { result ≡ self.types }
     {
         let Slots {
@@ -44,7 +56,7 @@ impl Slots {
         ensures { result.now ≡ type_at self.now.types slot }
     {
         match self.types.get(slot as usize) {
-            Some(ty) => ty,
+            Some(ty) => ty.get(),
             None => &self.every,
         }
     }
@@ -68,20 +80,30 @@ impl Slots {
         !self.at(slot).is_none()
     }
 
+    /// The type of a slot, with one owner more, and any past the end. `Memory` comes if allocation fails.
+    pub fn shared_at(&self, alloc: Global, slot: Slot) -> Result<Shared<Ty>, Memory>
+        ensures { IfOk result (λ ty. ty ≡ type_at self.now.types slot) }
+    {
+        match self.types.get(slot as usize) {
+            Some(ty) => ty.share(),
+            None => shared_any(alloc),
+        }
+    }
+
     // Puts a smaller type into a slot, and says whether it has a value. The trail tells what was
     // there. If allocation fails, the array's contents are unspecified.
-    fn put(&mut self, slot: Slot, ty: Ty) -> Result<bool, Memory>
+    fn put(&mut self, slot: Slot, ty: Shared<Ty>) -> Result<bool, Memory>
         requires below { Below ty (type_at self.old.types slot) }
         requires smaller { Below (type_at self.old.types slot) ty → ⊥ }
         ensures value { IfOk result (λ alive. with_type self.old.types slot ty ≡ answer alive self.new.types) }
         ensures trailed { IfOk result (λ _. Trailed self.old self.new) }
     {
-        if ty.is_none() {
-            discard(ty);
+        if ty.get().is_none() {
+            discard_shared(ty);
             return Ok(false);
         }
         if slot as usize >= self.types.len() {
-            discard(ty);
+            discard_shared(ty);
             return Ok(true);
         }
         let former = self.types.replace(slot as usize, ty);
@@ -92,6 +114,58 @@ impl Slots {
                 Err(Memory)
             }
         }
+    }
+
+    /// The meet of a slot's type and another. Where the other is below the slot's, it is the answer itself, and no
+    /// type is made. `Memory` comes if allocation fails.
+    pub fn meet_at(&self, alloc: Global, slot: Slot, ty: Shared<Ty>) -> Result<Shared<Ty>, Memory>
+        ensures { IfOk result (λ met. met ≡ meet (type_at self.now.types slot) ty) }
+    {
+        type_laws();
+        if ty.get().leq(self.at(slot)) {
+            return Ok(ty);
+        }
+        let met = self.at(slot).meet(alloc, ty.get())?;
+        discard_shared(ty);
+        let made = Shared::new(alloc, met)?;
+        Ok(made)
+    }
+
+    /// The join of a type and a slot's. Where the slot's is below, it is the type itself, and no type is made.
+    /// `Memory` comes if allocation fails.
+    pub fn join_at(&self, alloc: Global, slot: Slot, ty: &Shared<Ty>) -> Result<Shared<Ty>, Memory>
+        ensures { IfOk result (λ joined. joined ≡ join ty.now (type_at self.now.types slot)) }
+    {
+        type_laws();
+        if self.at(slot).leq(ty.get()) {
+            let shared = ty.share()?;
+            return Ok(shared);
+        }
+        let joined = ty.get().join(alloc, self.at(slot))?;
+        let made = Shared::new(alloc, joined)?;
+        Ok(made)
+    }
+
+    // Whether the slot may have any value.
+    fn is_free(&self, slot: Slot) -> bool
+        ensures { IsTrue result → (t : Type4) → Below t (type_at self.now.types slot) }
+    {
+        type_laws();
+        self.every.leq(self.at(slot))
+    }
+
+    // The meet of a slot's type and another, which is the other itself where the slot may have any value.
+    fn meet_with(&self, alloc: Global, slot: Slot, ty: Shared<Ty>) -> Result<Shared<Ty>, Memory>
+        ensures { IfOk result (λ met. met ≡ meet (type_at self.now.types slot) ty) }
+    {
+        type_laws();
+        if self.is_free(slot) {
+            return Ok(ty);
+        }
+        let met = self.at(slot).meet(alloc, ty.get())?;
+        discard_shared(ty);
+        let made = Shared::new(alloc, met)?;
+        Ok(made)
     }
 
     /// Narrows a slot to the meet of its type and another, and says whether it has a value. Where the
@@ -105,17 +179,42 @@ impl Slots {
             return Ok(self.has_value(slot));
         }
         let met = self.at(slot).meet(alloc, ty)?;
+        let shared = Shared::new(alloc, met)?;
+        self.put(slot, shared)
+    }
+
+    /// The same with a type that the slot shares where it is below the slot's.
+    pub fn lower_shared(
+        &mut self,
+        alloc: Global,
+        slot: Slot,
+        ty: &Shared<Ty>,
+    ) -> Result<bool, Memory>
+        ensures value { IfOk result (λ alive. lowered self.old.types slot ty.now ≡ answer alive self.new.types) }
+        ensures trailed { IfOk result (λ _. Trailed self.old self.new) }
+    {
+        type_laws();
+        if self.at(slot).leq(ty.get()) {
+            return Ok(self.has_value(slot));
+        }
+        let shared = ty.share()?;
+        let met = self.meet_with(alloc, slot, shared)?;
         self.put(slot, met)
     }
 
-    /// The same with a type that is then dropped.
+    /// The same with a type that was made for it.
     pub fn lower_to(&mut self, alloc: Global, slot: Slot, ty: Ty) -> Result<bool, Memory>
         ensures value { IfOk result (λ alive. lowered self.old.types slot ty ≡ answer alive self.new.types) }
         ensures trailed { IfOk result (λ _. Trailed self.old self.new) }
     {
-        let answer = self.lower(alloc, slot, &ty);
-        discard(ty);
-        answer
+        type_laws();
+        if self.at(slot).leq(&ty) {
+            discard(ty);
+            return Ok(self.has_value(slot));
+        }
+        let shared = Shared::new(alloc, ty)?;
+        let met = self.meet_with(alloc, slot, shared)?;
+        self.put(slot, met)
     }
 
     // Narrows a slot to the meet of its type and that of another slot.
@@ -127,7 +226,8 @@ impl Slots {
         if self.at(slot).leq(self.at(other)) {
             return Ok(self.has_value(slot));
         }
-        let met = self.at(slot).meet(alloc, self.at(other))?;
+        let shared = self.shared_at(alloc, other)?;
+        let met = self.meet_with(alloc, slot, shared)?;
         self.put(slot, met)
     }
 
@@ -153,7 +253,7 @@ impl Slots {
     {
         while self.trail.len() > checkpoint {
             if let Some(former) = self.trail.pop() {
-                discard(self.types.replace(former.slot as usize, former.ty));
+                discard_shared(self.types.replace(former.slot as usize, former.ty));
             }
         }
     }

@@ -12,7 +12,7 @@ use crate::laws::spelling_laws;
 use cons_tree::{Callee, Sig, Summary};
 use std::alloc::Global;
 use type_bytes::{BytesFault, bytes_laws, take};
-use type_kinds::{List, Memory};
+use type_kinds::{List, Memory, Shared};
 use type_lattice::Ty;
 
 // A type.
@@ -125,6 +125,8 @@ pub fn read_summary(
     let Some((lenient, rest)) = read_sig(alloc, count, after)? else {
         return Ok(None);
     };
+    let strict = Shared::new(alloc, strict)?;
+    let lenient = Shared::new(alloc, lenient)?;
     Ok(Some((Summary { strict, lenient }, rest)))
 }
 

@@ -14,5 +14,6 @@ returns-else-not-branch c =
     let g = function_of c.args.member.now in let K = found c.args.known.now in let lenient = knowledge c.args.lenient.now c.args.known.now in let s = c.in-Known.summary in
     let known : summary_of (K g.home g.name) ≡ Some s = ap summary_of (ap (λ d. K g.home d.name) (sym c.get.ensures) ∙ sym c.find.ensures.value) ∙ elim c.in-Known.is [ inl e ↦ ap summary_of e | inr e ↦ ap summary_of e ] in
     IfOk-weaker c.gives_below-in-Known.result (λ b. IsTrue b ↔ GivesBelow lenient g s.lenient) (λ b. IsTrue b ↔ KeepsBy K lenient g)
-    (λ b more. told_by K lenient g s known c.in_ok-gives_below-in-Known.field-0 b c.in_ok-gives_below-in-Known.ensures c.if-not-branch.false more)
-    c.gives_below-in-Known.ensures
+    (λ b more. told_by K lenient g s known c.in_ok-gives_below-in-Known.field-0 b
+    (rw c.get-in-Known.ensures at c.in_ok-gives_below-in-Known.ensures) c.if-not-branch.false more)
+    (rw c.get-in-Known-2.ensures at c.gives_below-in-Known.ensures)

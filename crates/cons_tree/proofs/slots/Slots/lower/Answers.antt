@@ -1,5 +1,6 @@
-use Rattle.std.proofs.Common.{sym, ◌∙◌, subst, true≢false}
-use Rattle.type_lattice.specs.Types.{Below}
+use Rattle.std.proofs.Common.{refl, sym, ap, ◌∙◌, subst, true≢false}
+use Rattle.type_lattice.specs.Types.{Below, meet}
+use Rattle.cons_tree.specs.Environments.{type_at}
 use Rattle.cons_tree.proofs.TrailLaws.{lowered_is, stays, meet_smaller}
 use Rattle.cons_tree.proofs.slots.Slots.lower.Goals as goal
 
@@ -11,8 +12,13 @@ returns-then-leq-clause-value c =
 pub put-requires-clause-smaller : goal.put-requires-clause-smaller
 put-requires-clause-smaller c =
     let laws = c.type_laws.ensures in
-    meet_smaller laws.same laws.both c.args.self.now.types c.args.slot c.at-2.result.now c.args.ty.now c.in_ok-met.met c.at-2.ensures c.in_ok-met.ensures.value
-    (λ h. true≢false (sym (c.leq.ensures.below.1 (subst (λ u. Below u c.args.ty.now) (c.at-2.ensures ∙ sym c.at.ensures) h)) ∙ c.if-leq.false))
+    let xs = c.args.self.now.types in
+    meet_smaller laws.same laws.both xs c.args.slot (type_at xs c.args.slot) c.args.ty.now c.in_ok-shared.shared refl
+    (c.in_ok-shared.ensures ∙ c.in_ok-met.ensures.value ∙ ap (λ u. meet u c.args.ty.now) c.at-2.ensures)
+    (λ h. true≢false (sym (c.leq.ensures.below.1 (subst (λ u. Below u c.args.ty.now) (sym c.at.ensures) h)) ∙ c.if-leq.false))
 
 pub returns-clause-value : goal.returns-clause-value
-returns-clause-value c = lowered_is c.put.result c.args.self.now.types c.put.new.self.types c.args.slot c.args.ty.now c.at-2.result.now c.in_ok-met.met c.at-2.ensures c.in_ok-met.ensures.value c.put.ensures.value
+returns-clause-value c =
+    let xs = c.args.self.now.types in
+    lowered_is c.put.result xs c.put.new.self.types c.args.slot c.args.ty.now (type_at xs c.args.slot) c.in_ok-shared.shared refl
+    (c.in_ok-shared.ensures ∙ c.in_ok-met.ensures.value ∙ ap (λ u. meet u c.args.ty.now) c.at-2.ensures) c.put.ensures.value

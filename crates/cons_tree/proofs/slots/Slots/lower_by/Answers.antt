@@ -1,4 +1,4 @@
-use Rattle.std.proofs.Common.{sym, ap, ◌∙◌, subst, true≢false}
+use Rattle.std.proofs.Common.{refl, sym, ap, ◌∙◌, subst, true≢false}
 use Rattle.type_lattice.specs.Types.{Below, meet}
 use Rattle.cons_tree.specs.Environments.{type_at}
 use Rattle.cons_tree.proofs.TrailLaws.{lowered_is, stays, meet_smaller}
@@ -16,10 +16,10 @@ put-requires-clause-smaller c =
     let laws = c.type_laws.ensures in
     let xs = c.args.self.now.types in
     let t = type_at xs c.args.other in
-    meet_smaller laws.same laws.both xs c.args.slot c.at-3.result.now t c.in_ok-met.met c.at-3.ensures (c.in_ok-met.ensures.value ∙ ap (meet c.at-3.result.now) c.at-4.ensures)
-    (λ h. true≢false (sym (c.leq.ensures.below.1 (subst (Below c.at.result.now) (sym c.at-2.ensures) (subst (λ u. Below u t) (c.at-3.ensures ∙ sym c.at.ensures) h))) ∙ c.if-leq.false))
+    meet_smaller laws.same laws.both xs c.args.slot (type_at xs c.args.slot) t c.in_ok-met.met refl (c.in_ok-met.ensures ∙ ap (meet (type_at xs c.args.slot)) c.in_ok-shared.ensures)
+    (λ h. true≢false (sym (c.leq.ensures.below.1 (subst (Below c.at.result.now) (sym c.at-2.ensures) (subst (λ u. Below u t) (sym c.at.ensures) h))) ∙ c.if-leq.false))
 
 pub returns-clause-value : goal.returns-clause-value
 returns-clause-value c =
     let xs = c.args.self.now.types in
-    lowered_is c.put.result xs c.put.new.self.types c.args.slot (type_at xs c.args.other) c.at-3.result.now c.in_ok-met.met c.at-3.ensures (c.in_ok-met.ensures.value ∙ ap (meet c.at-3.result.now) c.at-4.ensures) c.put.ensures.value
+    lowered_is c.put.result xs c.put.new.self.types c.args.slot (type_at xs c.args.other) (type_at xs c.args.slot) c.in_ok-met.met refl (c.in_ok-met.ensures ∙ ap (meet (type_at xs c.args.slot)) c.in_ok-shared.ensures) c.put.ensures.value

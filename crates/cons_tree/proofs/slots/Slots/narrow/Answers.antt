@@ -10,7 +10,7 @@ pub returns-in-Bound-clause-value : goal.returns-in-Bound-clause-value
 unfolding narrowed
 returns-in-Bound-clause-value c =
     let xs = c.args.self.now.types in
-    of_row c.lower.result (lowered xs c.in-Bound.slot c.in-Bound.ty) (narrowed c.args.part.now xs) c.lower.new.self.types (ap (λ p. narrowed p xs) c.in-Bound.is) c.lower.ensures.value
+    of_row c.lower_shared.result (lowered xs c.in-Bound.slot c.in-Bound.ty) (narrowed c.args.part.now xs) c.lower_shared.new.self.types (ap (λ p. narrowed p xs) c.in-Bound.is) c.lower_shared.ensures.value
 
 pub returns-in-Equal-clause-value : goal.returns-in-Equal-clause-value
 unfolding narrowed
@@ -27,7 +27,7 @@ returns-then-not-alive-clause-value c =
     let alive = c.in_ok-alive-in-Call.alive in
     ap (λ p. narrowed p xs) it.is
     ∙ dead_value (each_typed it.args it.sig.args) (meets it.value (λ us. it.sig.result)) xs ys ys alive c.if-not-alive.true
-    (typed_as c.as_slice.result.now it.args c.as_slice-in-Call.result.now it.sig.args xs (answer alive ys) c.as_slice.ensures c.as_slice-in-Call.ensures c.in_ok-alive-in-Call.ensures.value)
+    (typed_as c.as_slice.result.now it.args c.as_slice-in-Call.result.now it.sig.args xs (answer alive ys) c.as_slice.ensures (c.as_slice-in-Call.ensures ∙ ap (λ s. s.args) c.get-sig.ensures) c.in_ok-alive-in-Call.ensures.value)
 
 pub returns-else-not-alive-clause-value : goal.returns-else-not-alive-clause-value
 unfolding narrowed
@@ -35,15 +35,15 @@ returns-else-not-alive-clause-value c =
     let xs = c.args.self.now.types in
     let it = c.in-Call in
     let ys = c.lower_each.new.self.types in
-    let zs = c.lower-in-Call.new.self.types in
+    let zs = c.lower.new.self.types in
     let alive = c.in_ok-alive-in-Call.alive in
-    of_row c.lower-in-Call.result (on_types (each_typed it.args it.sig.args xs) (meets it.value (λ us. it.sig.result))) (narrowed c.args.part.now xs) zs (ap (λ p. narrowed p xs) it.is)
-    (tail_value c.lower-in-Call.result (each_typed it.args it.sig.args) (meets it.value (λ us. it.sig.result)) xs ys zs alive c.if-not-alive.false
-    (typed_as c.as_slice.result.now it.args c.as_slice-in-Call.result.now it.sig.args xs (answer alive ys) c.as_slice.ensures c.as_slice-in-Call.ensures c.in_ok-alive-in-Call.ensures.value)
-    c.lower-in-Call.ensures.value)
+    of_row c.lower.result (on_types (each_typed it.args it.sig.args xs) (meets it.value (λ us. it.sig.result))) (narrowed c.args.part.now xs) zs (ap (λ p. narrowed p xs) it.is)
+    (tail_value c.lower.result (each_typed it.args it.sig.args) (meets it.value (λ us. it.sig.result)) xs ys zs alive c.if-not-alive.false
+    (typed_as c.as_slice.result.now it.args c.as_slice-in-Call.result.now it.sig.args xs (answer alive ys) c.as_slice.ensures (c.as_slice-in-Call.ensures ∙ ap (λ s. s.args) c.get-sig.ensures) c.in_ok-alive-in-Call.ensures.value)
+    (of_row c.lower.result (lowered ys it.value c.get-sig.result.now.result) (lowered ys it.value it.sig.result) zs (sym (ap (λ s. lowered ys it.value s.result) c.get-sig.ensures)) c.lower.ensures.value))
 
 pub returns-else-not-alive-clause-trailed : goal.returns-else-not-alive-clause-trailed
-returns-else-not-alive-clause-trailed c = tail_trailed c.lower-in-Call.result c.args.self.now c.lower_each.new.self c.lower-in-Call.new.self c.in_ok-alive-in-Call.ensures.trailed c.lower-in-Call.ensures.trailed
+returns-else-not-alive-clause-trailed c = tail_trailed c.lower.result c.args.self.now c.lower_each.new.self c.lower.new.self c.in_ok-alive-in-Call.ensures.trailed c.lower.ensures.trailed
 
 pub returns-then-not-alive-2-clause-value : goal.returns-then-not-alive-2-clause-value
 unfolding narrowed

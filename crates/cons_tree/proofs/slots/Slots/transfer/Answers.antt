@@ -8,8 +8,8 @@ pub returns-in-Plain-clause-value : goal.returns-in-Plain-clause-value
 unfolding transferred
 returns-in-Plain-clause-value c =
     let xs = c.args.self.now.types in
-    of_row c.lower.result (lowered xs c.args.value c.in-Plain.ty) (transferred c.args.transfer.now c.args.value c.args.args.now xs) c.lower.new.self.types
-    (ap (λ f. transferred f c.args.value c.args.args.now xs) c.in-Plain.is) c.lower.ensures.value
+    of_row c.lower_shared.result (lowered xs c.args.value c.in-Plain.ty) (transferred c.args.transfer.now c.args.value c.args.args.now xs) c.lower_shared.new.self.types
+    (ap (λ f. transferred f c.args.value c.args.args.now xs) c.in-Plain.is) c.lower_shared.ensures.value
 
 pub returns-in-Never-clause-value : goal.returns-in-Never-clause-value
 unfolding transferred

@@ -11,5 +11,6 @@ returns-in_default-2-clause-none c =
 
 pub returns-clause-found : goal.returns-clause-found
 returns-clause-found c =
-    summary_found c.args.count _ (rw c.in-Some.is at c.in_ok-strict.ensures.found)
-    (rw c.in-Some-2.is at c.in_ok-lenient.ensures.found)
+    rw (c.in_ok-strict-2.ensures, c.in_ok-lenient-2.ensures)
+    (summary_found c.args.count _ (rw c.in-Some.is at c.in_ok-strict.ensures.found)
+    (rw c.in-Some-2.is at c.in_ok-lenient.ensures.found))
