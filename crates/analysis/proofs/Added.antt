@@ -1,7 +1,7 @@
 -- The entries of the new table are added member by member, and group by group.
-use Rattle.std.proofs.Common.{◌≡◌, ℕ, suc, ◌+◌, ◌<◌, ◌≤◌, Bool, true, false, cond, ◌||◌, List, [], ◌∷◌, ◌++◌, ◌⊎◌, inl, inr, map}
-use Rattle.std.proofs.Common.{length, get_or, slice_get, Contains, Option, Some, None, refl, sym, ap, ap₂, ◌∙◌, subst, arith}
-use Rattle.std.proofs.lemmas.Bool.{cases_lt, or_cases, or_left, or_right, false_from_ne_true}
+use Rattle.std.proofs.Common.{◌≡◌, ℕ, ◌+◌, ◌<◌, ◌≤◌, Bool, true, false, cond, ◌||◌, List, [], ◌∷◌, ◌++◌, ◌⊎◌, inl, inr, map}
+use Rattle.std.proofs.Common.{get_or, slice_get, Contains, Option, Some, None, refl, sym, ap, ◌∙◌, subst, arith}
+use Rattle.std.proofs.lemmas.Bool.{cases_lt, or_cases, or_left, or_right}
 use Rattle.std.proofs.lemmas.List.Folds.{list_any-append}
 use Rattle.std.proofs.lemmas.Option.{slice_get-map, slice_get-get_or}
 use Rattle.std.specs.Prelude.{option_map}
@@ -20,7 +20,6 @@ use Rattle.table_keep.specs.Groups.{Groups, IsGroups, has, group_of}
 use Rattle.table_keep.specs.Kept.{is_candidate, calls_of}
 use Rattle.table_keep.specs.Made.{made, exported, AreSummarized}
 use Rattle.sound_laws_kept.proofs.Names.{clash, itself, name_is, some_is, none_some, contained_in}
-use Rattle.sound_laws_kept.proofs.Trees.{source_stands}
 use Rattle.analysis.specs.steps.Deciding.{seen}
 use Rattle.analysis.specs.steps.Making.{IsMade, AreNew}
 use Rattle.analysis.specs.steps.Adding.{Adds, AreAdded}

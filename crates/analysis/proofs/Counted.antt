@@ -1,12 +1,11 @@
 -- How many functions modules define.
-use Rattle.std.proofs.Common.{◌≡◌, ℕ, suc, ◌+◌, ◌<◌, List, [], ◌∷◌, ◌++◌, map, length, get_or, drop, refl, sym, ap, ◌∙◌, arith}
+use Rattle.std.proofs.Common.{◌≡◌, ℕ, suc, ◌+◌, ◌<◌, List, [], ◌∷◌, map, length, get_or, drop, refl, ap, ◌∙◌, arith}
 use Rattle.std.proofs.lemmas.List.{length-append}
 use Rattle.type_kinds.proofs.Lists.{drop_next}
 use Rattle.type_kinds.specs.declared.atom.Atom.{Atom}
 use Rattle.core_ast.specs.declared.syntax.FunName.{FunName}
 use Rattle.core_ast.specs.declared.syntax.FunDefOf.{FunDefOf}
 use Rattle.core_ast.specs.declared.syntax.Expr.{Expr}
-use Rattle.core_ast.specs.Model as m
 use Rattle.core_ast.specs.Tree.{all_defs}
 use Rattle.core_scope.specs.Checked.{module_of, tree_of}
 use Rattle.call_graph.specs.Calls.{functions_in, module_functions, functions_of}

@@ -1,5 +1,5 @@
 -- Reports that workers made, and what is kept of them.
-use Rattle.std.proofs.Common.{◌≡◌, ℕ, zero, suc, ◌+◌, List, [], ◌∷◌, ◌++◌, set, length, Option, Some, None, refl, sym, ap, ◌∙◌, subst, inl, inr}
+use Rattle.std.proofs.Common.{◌≡◌, ℕ, zero, suc, List, [], ◌∷◌, ◌++◌, set, length, Option, Some, None, refl, sym, ap, ◌∙◌, subst, inl, inr}
 use Rattle.std.specs.Prelude.{All, IfSome, slice_get, ◌⊎◌}
 use Rattle.std.proofs.lemmas.List.Elements.{All-push}
 use Rattle.comp_rounds.specs.Rounds.{Callees}

@@ -1,6 +1,6 @@
 -- One wave more: what is decided up to the group with which it begins is decided up to the one behind it.
-use Rattle.std.proofs.Common.{◌≡◌, ◌↔◌, ℕ, zero, suc, ◌-◌, ◌<◌, ◌≤◌, Bool, true, false, cond, ◌||◌, List, [], ◌∷◌, ◌++◌, ◌⊎◌}
-use Rattle.std.proofs.Common.{inl, inr, Contains, length, slice_get, Option, Some, None, refl, sym, ap, ◌∙◌, subst, arith}
+use Rattle.std.proofs.Common.{◌≡◌, ◌↔◌, ℕ, zero, suc, ◌-◌, ◌<◌, ◌≤◌, Bool, true, false, cond, ◌||◌, List, [], ◌++◌, ◌⊎◌}
+use Rattle.std.proofs.Common.{inl, inr, Contains, slice_get, Option, Some, None, refl, sym, ap, ◌∙◌, subst, arith}
 use Rattle.std.proofs.lemmas.Bool.{cases_lt, or_left, or_right, or_cases, false_from_ne_true}
 use Rattle.std.proofs.lemmas.List.Folds.{list_any-append}
 use Rattle.type_kinds.proofs.Lists.{position_of, contains_at}
@@ -18,7 +18,7 @@ use Rattle.comp_rounds.specs.Rounds.{Callees}
 use Rattle.module_flow.specs.Flow.{findings}
 use Rattle.module_flow_frame.specs.Frame.{OutsideFrame, seen_by}
 use Rattle.warn_list.specs.Lines.{AreLines}
-use Rattle.sound_laws_outside.specs.Over.{is_home, IsKnownOver}
+use Rattle.sound_laws_outside.specs.Over.{IsKnownOver}
 use Rattle.sound_laws_outside.specs.Laws.{CarriedLaw}
 use Rattle.table_keep.specs.Model.{Source, Entry, Result, trees, source_of, is_in, picked, entry_of}
 use Rattle.table_keep.specs.Groups.{Groups, IsGroups, has}
@@ -26,13 +26,13 @@ use Rattle.table_keep.specs.Kept.{Standing, Results, is_candidate, calls_of, cal
 use Rattle.table_keep.specs.Made.{exported, AreSummarized, IsKnown}
 use Rattle.sound_laws_kept.specs.Laws.{WaveLaw, RestsLaw}
 use Rattle.sound_laws_kept.specs.Solving.{IsResult, IsSolved, AreSources}
-use Rattle.sound_laws_kept.specs.Waves.{Wave, stops, with_group, goes_on, wave_from, to_solve, after_wave, SolvedBetween, IsWave}
+use Rattle.sound_laws_kept.specs.Waves.{Wave, stops, with_group, goes_on, wave_from, to_solve, SolvedBetween, IsWave}
 use Rattle.sound_laws_kept.proofs.Names.{clash, picked_from, are_picked}
 use Rattle.sound_laws_kept.proofs.Folds.{kept_is, kept_candidate}
 use Rattle.sound_laws_kept.proofs.Trees.{tree_stands, source_of_tree, own_source, own_name, under, picked_stands, stands_picked, home_of_sources}
 use Rattle.table_keep.proofs.CallLaws.{exported_exactly}
 use Rattle.sound_laws_kept.proofs.Shown.{still_summarized, shown_as_called}
-use Rattle.analysis.specs.steps.Deciding.{seen, wave_so, IsBefore, IsReported, AreReported, IsDecided}
+use Rattle.analysis.specs.steps.Deciding.{seen, wave_so, IsBefore, AreReported, IsDecided}
 use Rattle.analysis.proofs.Opened.{DefinesExports, opened}
 use Rattle.analysis.proofs.Told.{known_among, are_summarized, line_of, line_at}
 

@@ -1,14 +1,13 @@
 -- Of a function that a solved module exports a summary is known that other modules may see.
-use Rattle.std.proofs.Common.{◌≡◌, true, cond, List, Contains, ◌⊎◌, inl, inr, refl, sym, ap, ap₂, ◌∙◌, subst, map}
+use Rattle.std.proofs.Common.{◌≡◌, true, cond, List, Contains, inl, inr, refl, sym, ap, ap₂, ◌∙◌, map}
 use Rattle.type_kinds.proofs.Lists.{contains_none, contains_first, contains_later, contains_cases}
 use Rattle.core_ast.specs.declared.syntax.FunName.{FunName}
 use Rattle.core_ast.specs.Model as m
-use Rattle.core_scope.specs.Names.{Distinct, defined_names, has_function}
+use Rattle.core_scope.specs.Names.{defined_names, has_function}
 use Rattle.call_graph.specs.Calls.{functions_in}
 use Rattle.cons_tree.specs.declared.parts.Callee.TheVariants.{Known, Local}
 use Rattle.comp_rounds.specs.Rounds.{Callees, Function, summaries}
-use Rattle.analysis_summaries.specs.Functions.{summarized, all_functions}
-use Rattle.analysis_summaries.specs.Known.{module_names}
+use Rattle.analysis_summaries.specs.Functions.{summarized}
 use Rattle.sound_laws_outside.specs.Over.{IsKnownOver}
 use Rattle.sound_laws_outside.proofs.Members.{functions_at, all_there, known_some}
 use Rattle.table_keep.specs.Made.{IsKnown}

@@ -1,12 +1,12 @@
 -- The reports on the modules of a wave, position by position.
-use Rattle.std.proofs.Common.{◌≡◌, ℕ, suc, ◌+◌, ◌<◌, ◌≤◌, Bool, true, false, List, length, slice_get, ◌⊎◌, inl, inr, Option, Some, refl, sym, ap, ◌∙◌, subst, arith}
+use Rattle.std.proofs.Common.{◌≡◌, ℕ, ◌+◌, ◌<◌, ◌≤◌, true, false, List, length, slice_get, ◌⊎◌, inl, inr, Some, refl, sym, ap, ◌∙◌, subst, arith}
 use Rattle.std.proofs.lemmas.Bool.{cases_lt}
 use Rattle.std.proofs.lemmas.Option.{slice_get_within}
 use Rattle.type_kinds.specs.declared.atom.Atom.{Atom}
 use Rattle.comp_rounds.specs.Rounds.{Callees}
 use Rattle.table_keep.specs.Model.{Source}
 use Rattle.table_keep.specs.Groups.{has}
-use Rattle.sound_laws_kept.proofs.Names.{clash, some_is}
+use Rattle.sound_laws_kept.proofs.Names.{some_is}
 use Rattle.analysis.specs.steps.Deciding.{IsReported, AreReported}
 
 -- so many are reported on

@@ -1,5 +1,5 @@
 -- What the code has of a module that was solved, as a result: its exports by what is known, and its lines by its position.
-use Rattle.std.proofs.Common.{◌≡◌, ℕ, zero, suc, Bool, true, false, cond, List, [], ◌∷◌, Contains, slice_get, Option, Some, None, refl, sym, ap, ◌∙◌, subst, arith}
+use Rattle.std.proofs.Common.{◌≡◌, ℕ, zero, suc, Bool, true, false, cond, List, [], ◌∷◌, Contains, slice_get, Some, refl, sym, ap, ◌∙◌, subst, arith}
 use Rattle.std.proofs.lemmas.Option.{slice_get_within}
 use Rattle.type_kinds.proofs.Lists.{contains_first, contains_later, contains_at}
 use Rattle.type_kinds.specs.declared.atom.Atom.{Atom}

@@ -1,10 +1,10 @@
 -- The code's steps of a wave are those of the definition.
-use Rattle.std.proofs.Common.{◌≡◌, ℕ, zero, suc, ◌+◌, ◌-◌, ◌<◌, ◌≤◌, Bool, true, false, cond, List, [], ◌∷◌, ◌++◌, length, refl, sym, ap, ap₂, ◌∙◌, subst, arith, append_assoc, append-nil}
+use Rattle.std.proofs.Common.{◌≡◌, ℕ, suc, ◌-◌, ◌<◌, ◌≤◌, Bool, true, false, cond, List, [], ◌++◌, refl, sym, ap, ◌∙◌, arith, append_assoc, append-nil}
 use Rattle.type_kinds.specs.declared.atom.Atom.{Atom}
 use Rattle.core_ast.specs.declared.syntax.FunName.{FunName}
 use Rattle.comp_rounds.specs.Rounds.{Callees}
 use Rattle.table_keep.specs.Model.{Source, Entry}
-use Rattle.table_keep.specs.Groups.{Groups, has}
+use Rattle.table_keep.specs.Groups.{Groups}
 use Rattle.table_keep.specs.Kept.{Standing, unchanged, with_entries}
 use Rattle.sound_laws_kept.specs.Waves.{Wave, stops, with_group, goes_on, wave_from}
 use Rattle.analysis.specs.steps.Deciding.{seen, wave_so, AddsBoth, IsBefore}

@@ -1,5 +1,5 @@
 -- What is known of functions where the entries of a group are entered, one after another.
-use Rattle.std.specs.Prelude.{Bool, cond, Option, Some, None, List, [], ◌∷◌}
+use Rattle.std.specs.Prelude.{cond, Option, Some, None, List, [], ◌∷◌}
 use Rattle.type_kinds.specs.declared.atom.Atom.{Atom}
 use Rattle.core_ast.specs.declared.syntax.FunName.{FunName}
 use Rattle.core_scope.specs.Names.{same_atom}

@@ -1,4 +1,4 @@
-use Rattle.std.proofs.Common.{◌≡◌, map, IsTrue, sym, ◌∙◌, subst}
+use Rattle.std.proofs.Common.{IsTrue, sym, ◌∙◌, subst}
 use Rattle.std.proofs.lemmas.List.{length-map}
 use Rattle.cons_tree.specs.Callees.{found}
 use Rattle.table_file.specs.Order.{rises, is_name_before}

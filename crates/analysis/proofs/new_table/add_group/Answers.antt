@@ -1,4 +1,4 @@
-use Rattle.std.proofs.Common.{◌≡◌, ◌++◌, [], ◌∷◌, ◌+◌, take, sym, ap, ◌∙◌, subst}
+use Rattle.std.proofs.Common.{[], ◌∷◌, take, sym, ap, ◌∙◌, subst}
 use Rattle.type_kinds.proofs.Lists.{map_next}
 use Rattle.cons_tree.specs.Callees.{found}
 use Rattle.table_keep.specs.Groups.{has}

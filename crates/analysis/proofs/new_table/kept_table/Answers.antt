@@ -1,7 +1,6 @@
-use Rattle.std.proofs.Common.{◌≡◌, map, ap, ◌∙◌, sym, subst, IsTrue, arith}
+use Rattle.std.proofs.Common.{map, ap, ◌∙◌, sym, subst, IsTrue, arith}
 use Rattle.table_file.specs.Order.{rises, is_name_before}
 use Rattle.table_keep.specs.Model.{entry_so}
-use Rattle.analysis.specs.steps.Keyed.{kept_among}
 use Rattle.analysis.proofs.Storing.{kept_all, kept_rises, kept_so}
 use Rattle.analysis.proofs.new_table.kept_table.Goals as goal
 

@@ -1,4 +1,4 @@
-use Rattle.std.proofs.Common.{◌≤◌, None, Some, length, sym, subst, ap, ◌∙◌, arith}
+use Rattle.std.proofs.Common.{None, Some, length, sym, subst, ap, ◌∙◌, arith}
 use Rattle.std.proofs.lemmas.List.{length-map, length-set}
 use Rattle.std.proofs.lemmas.Option.{slice_get-get_or}
 use Rattle.cons_tree.specs.Callees.{found}

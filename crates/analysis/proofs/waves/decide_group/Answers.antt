@@ -1,4 +1,4 @@
-use Rattle.std.proofs.Common.{◌≡◌, true, sym, ap, ◌∙◌, subst, Contains}
+use Rattle.std.proofs.Common.{◌≡◌, sym, ap, ◌∙◌, subst, Contains}
 use Rattle.std.proofs.lemmas.Result.{on_ok_weaker}
 use Rattle.cons_tree.specs.Callees.{found}
 use Rattle.table_keep.specs.Groups.{groups_in, group_at}

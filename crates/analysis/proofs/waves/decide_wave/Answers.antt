@@ -1,5 +1,4 @@
-use Rattle.std.proofs.Common.{◌<◌, List, ◌++◌, sym, subst}
-use Rattle.type_kinds.specs.declared.atom.Atom.{Atom}
+use Rattle.std.proofs.Common.{sym, subst}
 use Rattle.cons_tree.specs.Callees.{found}
 use Rattle.table_keep.specs.Groups.{groups_in, has}
 use Rattle.table_keep.specs.Lists.{lists_of}

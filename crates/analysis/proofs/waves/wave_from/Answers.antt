@@ -1,4 +1,4 @@
-use Rattle.std.proofs.Common.{◌≡◌, ◌+◌, ◌<◌, true, false, length, sym, ap, ◌∙◌, subst, Contains, add-one, arith}
+use Rattle.std.proofs.Common.{◌≡◌, ◌<◌, true, false, length, sym, ap, ◌∙◌, subst, Contains, add-one, arith}
 use Rattle.cons_tree.specs.Callees.{found}
 use Rattle.table_keep.specs.Groups.{groups_in, group_at}
 use Rattle.table_keep.specs.Lists.{lists_of, member_names}

@@ -1,4 +1,4 @@
-use Rattle.std.proofs.Common.{◌≡◌, map, sym, ap, ◌∙◌, subst, IsTrue}
+use Rattle.std.proofs.Common.{map, sym, ap, ◌∙◌, subst, IsTrue}
 use Rattle.std.specs.Map.{values_of}
 use Rattle.table_file.specs.Order.{rises, is_name_before}
 use Rattle.table_keep.specs.Model.{entry_so, entry_of}
